@@ -21,8 +21,7 @@ get_within (y ∷ xs) (suc n) x e = let rest = get_within xs n x e in omega (ari
 same_layers : (under other : ℕ → List Layer) (found : Option Cover)
     → ((cover : Cover) → found ≡ Some cover → under cover.below ≡ other cover.below)
     → layers_of under found ≡ layers_of other found
-same_layers under other None same = refl
-same_layers under other (Some cover) same = ap (λ (ls : List Layer). cover.layer ∷ ls) (same cover refl)
+same_layers under other x3 same = grind arith
 
 -- more fuel than covers changes nothing
 more_fuel : (covers : List Cover) (fuel more place : ℕ) → AreLinked covers → place ≤ fuel → place ≤ more
@@ -122,8 +121,7 @@ stack_set covers tops place top position inside =
   where
     by_case : (b : Bool) → found_under covers (if b then Some top else slice_get tops position)
         ≡ (if b then layers_under covers top else found_under covers (slice_get tops position))
-    by_case true = refl
-    by_case false = refl
+    by_case x1 = grind arith
 
 -- the same tops among more covers
 pub stack_later : (covers : List Cover) (one : Cover) (tops : List ℕ) (position : ℕ) → AreLinked covers
@@ -236,8 +234,7 @@ stack_take covers (top ∷ tops) zero (suc position) none =
   where
     nothing_first : (covers : List Cover) (tops : List ℕ) (position : ℕ)
         → [] ≡ stack_in (map (layers_under covers) (take 0 tops)) position
-    nothing_first covers [] position = refl
-    nothing_first covers (top ∷ tops) position = refl
+    nothing_first covers x2 position = grind arith
 stack_take covers (top ∷ tops) (suc count) zero none = refl
 stack_take covers (top ∷ tops) (suc count) (suc position) none =
     stack_take covers tops count position (λ n le. none (suc n) (omega (arith, le)))
@@ -274,8 +271,7 @@ ends_covered covers tops count linked inside within (inr some) = elim (cases_lt 
     length_map (x ∷ xs) = ap suc (length_map xs)
 
     not_none : (n : ℕ) → n ≢ 0 → 0 < n
-    not_none zero some = absurd (some refl)
-    not_none (suc n) some = omega arith
+    not_none x1 some = grind arith
 
     still_there : (xs : List ℕ) (count n x : ℕ) → n < count → slice_get xs n ≡ Some x
         → slice_get (take count xs) n ≡ Some x
@@ -311,8 +307,7 @@ stack_cover covers tops layer place below count position linked inside within is
         → (if b then layer ∷ layers_under covers below else stack_in (map (layers_under covers) tops) position)
         ≡ (if b then layer ∷ stack_in (map (layers_under covers) tops) position
         else stack_in (map (layers_under covers) tops) position)
-    by_case true same = ap (λ (ls : List Layer). layer ∷ ls) (same refl)
-    by_case false same = refl
+    by_case x1 same = grind arith
 
 -- the byte at a position
 pub byte_here : (covers : List Cover) (tops : List ℕ) (base : List ℕ) (position top : ℕ) (other : Cover)

@@ -62,14 +62,7 @@ write-change first rest number write change within is n = rw there (write-put fi
 
 pub nothing_written : (number : ℕ) → write_at number no_writes ≡ None
 unfolding write_at
-nothing_written number = go (is_first number no_writes) refl
-  where
-    none_first : (n : ℕ) → (nat_lt 0 n && nat_le n 0) ≡ true → ⊥
-    none_first n e = grind arith
-
-    go : (b : Bool) → is_first number no_writes ≡ b → write_at number no_writes ≡ None
-    go true e = absurd (none_first number e)
-    go false e = rw e refl
+nothing_written number = grind arith
 
 -- a client past the end has no writes
 pub none_past_the_end : (clients : List SeenClient) (client number : ℕ) → length clients ≤ client

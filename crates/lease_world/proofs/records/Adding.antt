@@ -91,16 +91,7 @@ not_new : (client : ℕ) (was now : SeenClient) (past : List Fact) → is_newcom
     → is_good_client was ≡ is_good client past → is_good_client now ≡ is_good client (Fact.Joined client ∷ past)
     → is_good client (Fact.Joined client ∷ past) ≡ is_good client past
 unfolding is_good is_served has_strayed
-not_new client was now past e told told_now = go (is_good_client was) refl
-  where
-    stays : (b strayed served : Bool) → b ≡ true → (not strayed && served) ≡ true → (not strayed && (b || served)) ≡ true
-    stays b strayed served e g = grind arith
-
-    go : (b : Bool) → is_good_client was ≡ b → is_good client (Fact.Joined client ∷ past) ≡ is_good client past
-    go true g =
-        let good : is_good client past ≡ true = sym told ∙ g in
-        stays (client == client) (has_strayed client past) (is_served client past) (self client) good ∙ sym good
-    go false g = sym told_now ∙ (rw g at e) ∙ sym (sym told ∙ g)
+not_new client was now past e told told_now = grind arith
 
 -- ---- what is kept of a file
 
@@ -110,21 +101,10 @@ took_held : (file : SeenFile) (seen : SeenClient) (sent : List ℕ) (high f : �
 took_held file seen [] high f r h = h
 took_held file seen (place ∷ sent) high f r h = contents-later file seen.taken place (cache_in seen.caches f) r.0 h
 
-written_held : (files : ℕ → SeenFile) (seen now : SeenClient) (number : ℕ) (write : SeenWrite) (settled : Bool)
-    → WritesCache settled number write seen.caches now.caches
-    → ((f : ℕ) → HasContents (files f) seen.taken (cache_in seen.caches f))
-    → (f : ℕ) → HasContents (files f) seen.taken (cache_in now.caches f)
-written_held files seen now number write true is held = λ f. rw (is f) (held f)
-written_held files seen now number write false is held =
-    contents-each files seen.taken write.file seen.caches now.caches
-    (with_write number write.patch (cache_in seen.caches write.file)) is
-    (contents-write (files write.file) seen.taken number write.patch (cache_in seen.caches write.file) (held write.file)) held
-
 wrote_held : (files : ℕ → SeenFile) (seen now : SeenClient) (number : ℕ) (write : SeenWrite) → Writes number write seen now
     → ((f : ℕ) → HasContents (files f) seen.taken (cache_in seen.caches f))
     → (f : ℕ) → HasContents (files f) now.taken (cache_in now.caches f)
-wrote_held files seen now number write is held f =
-    rw is.0 (written_held files seen now number write (has_settled seen number) is.2 held f)
+wrote_held files seen now number write is held f = grind arith
 
 settled_held : (files : ℕ → SeenFile) (seen now : SeenClient) (number : ℕ) → Settles number seen now
     → ((f : ℕ) → HasContents (files f) seen.taken (cache_in seen.caches f))
@@ -139,9 +119,7 @@ accepted_held file seen now f number of_file patch is h = rw is.0 h
 believed_held : (files : ℕ → SeenFile) (seen now : SeenClient) (file : ℕ) (state : State) → Believes file state seen now
     → ((f : ℕ) → HasContents (files f) seen.taken (cache_in seen.caches f))
     → (f : ℕ) → HasContents (files f) now.taken (cache_in now.caches f)
-believed_held files seen now file state is held f =
-    rw is.0 (contents-each files seen.taken file seen.caches now.caches (with_belief state (cache_in seen.caches file)) is.1
-    (held file) held f)
+believed_held files seen now file state is held f = grind arith
 
 read_held : (files : ℕ → SeenFile) (taken file : ℕ) (bytes : List ℕ) (seen now : SeenClient) (same : Bool)
     → Sees file (files file) taken bytes seen now same → is_some (files file).start ≡ true → taken_of seen ≡ Some taken
@@ -161,11 +139,7 @@ others_believe client file other of_file state past ne = rw (is_apart other clie
 other_file_belief : (client file of_file : ℕ) (state : State) (past : List Fact) → of_file ≢ file
     → believed client of_file (Fact.Believes client file state ∷ past) ≡ believed client of_file past
 unfolding believed
-other_file_belief client file of_file state past ne = skip (client == client) (file == of_file) (is_apart of_file file ne)
-  where
-    skip : (a b : Bool) → b ≡ false → (if a && b then state else believed client of_file past) ≡ believed client of_file past
-    skip true b e = rw e refl
-    skip false b e = refl
+other_file_belief client file of_file state past ne = grind arith
 
 same_good : (client file other : ℕ) (state : State) (past : List Fact)
     → is_good other (Fact.Believes client file state ∷ past) ≡ is_good other past
@@ -399,8 +373,7 @@ module _ (place : ℕ) (old new : Seen) (v : Verdict) (past : List Fact) (k : Kn
       (holders-same past (fact ∷ past) old.holders new.holders kept goods (λ c f. refl) k.holders))
     where
       newcomer : (a b : Bool) → (if a then false else b) ≡ true → (a ≡ false) × (b ≡ true)
-      newcomer true b e = let c : ⊥ = cc in absurd c
-      newcomer false b e = (refl, e)
+      newcomer x1 b e = grind arith
 
   -- ---- a file is changed
 
@@ -539,8 +512,7 @@ module _ (place : ℕ) (old new : Seen) (v : Verdict) (past : List Fact) (k : Kn
       f
     where
       second_false : (a b : Bool) → (a && b) ≡ false → a ≡ true → b ≡ false
-      second_false true b e a_is = e
-      second_false false b e a_is = let c : ⊥ = cc in absurd c
+      second_false x1 b e a_is = grind arith
 
   believes_judged : (client file : ℕ) (state : State) → BelievesAdds place client file state old new v
       → Judged (Fact.Believes client file state)
@@ -584,8 +556,7 @@ module _ (place : ℕ) (old new : Seen) (v : Verdict) (past : List Fact) (k : Kn
       (λ off e. malformed_judged fact e (sym (started_told old file past k) ∙ off))
     where
       both_true : (a b : Bool) → (a && b) ≡ true → (a ≡ true) × (b ≡ true)
-      both_true true b e = (refl, e)
-      both_true false b e = let c : ⊥ = cc in absurd c
+      both_true x1 b e = grind arith
 
   -- ---- a cached read
 

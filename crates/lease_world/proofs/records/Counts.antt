@@ -45,8 +45,7 @@ at_most p zero = omega arith
 at_most p (suc n) = let le = at_most p n in step (p n) le
   where
     step : (b : Bool) → how_many p n ≤ n → one_if b + how_many p n ≤ suc n
-    step true le = omega (arith, le)
-    step false le = omega (arith, le)
+    step x1 le = grind arith
 
 -- one of them does
 some_one : (p : ℕ → Bool) (n : ℕ) → 0 < how_many p n → (k : ℕ) × (p k ≡ true)
@@ -77,13 +76,11 @@ no_one p (suc n) none k lt = elim (cases_Bool (p n)) [
 
 counted-one : (count less : ℕ) (now was : Bool) → count + one_if was ≡ less + one_if now → was ≡ false → less < 65535
     → count ≡ (if now then one_more less else less)
-counted-one count less true was e w few = let n : one_if was ≡ 0 = rw w refl in omega (arith, e, n, few)
-counted-one count less false was e w few = let n : one_if was ≡ 0 = rw w refl in omega (arith, e, n)
+counted-one count less x3 was e w few = grind arith
 
 counted-less : (count more : ℕ) (now was : Bool) → count + one_if was ≡ more + one_if now → now ≡ false
     → count ≡ (if was then more - 1 else more)
-counted-less count more now true e w = let n : one_if now ≡ 0 = rw w refl in omega (arith, e, n)
-counted-less count more now false e w = let n : one_if now ≡ 0 = rw w refl in omega (arith, e, n)
+counted-less count more now x4 e w = grind arith
 
 with-any : (state : State) (holders : Holders)
     → (with_holder state holders).any ≡ (if holds_any state then one_more holders.any else holders.any)
@@ -135,12 +132,7 @@ counted-without before after client holders within others nothing k = record {
 
 pub counted-same : (before after : ℕ → State) (holders : Holders) → ((c : ℕ) → after c ≡ before c)
     → IsCounted before holders → IsCounted after holders
-counted-same before after holders same k = record {
-  any = k.any ∙ sym (same_many (λ c. holds_any (before c)) (λ c. holds_any (after c)) 256
-      (λ c lt. ap holds_any (same c)));
-  writing = k.writing ∙ sym (same_many (λ c. (before c).write) (λ c. (after c).write) 256
-      (λ c lt. ap (λ (s : State). s.write) (same c)));
-}
+counted-same before after holders same k = grind arith
 
 -- ---- conflicts with a holder
 
@@ -151,8 +143,7 @@ nothing_there : (n : ℕ) → nat_lt 0 n ≡ false → n ≡ 0
 nothing_there n e = grind arith
 
 both_true : (a b : Bool) → (a && b) ≡ true → (a ≡ true) × (b ≡ true)
-both_true true b e = (refl, e)
-both_true false b e = let c : ⊥ = cc in absurd c
+both_true x1 b e = grind arith
 
 with_writer : (one other : State) → one.write ≡ true → is_conflict one other ≡ holds_any other
 with_writer one other e = rw e refl
@@ -192,6 +183,4 @@ conflict-none held state holders k free client within = elim (cases_Bool state.w
 ]
   where
     by_reader : (a b w : Bool) → (a && b) ≡ false → (b ≡ false → w ≡ false) → (w && a) ≡ false
-    by_reader true b w e f = rw (f e) refl
-    by_reader false b true e f = refl
-    by_reader false b false e f = refl
+    by_reader x1 b w e f = grind arith

@@ -25,10 +25,7 @@ layers_push position (first ∷ writes) write =
 
 one_layer : (test : Layer → Bool) (covers passes : Bool) (layer : Layer) → test layer ≡ passes
     → filter test (if covers then layer ∷ [] else []) ≡ (if passes then (if covers then layer ∷ [] else []) else [])
-one_layer test true true layer e = rw e refl
-one_layer test true false layer e = rw e refl
-one_layer test false true layer e = refl
-one_layer test false false layer e = refl
+one_layer test x2 x3 layer e = grind arith
 
 layers_if : (position : ℕ) (passes : Bool) (write : Waiting) (writes : List Waiting)
     → layers_at position (cond passes (write ∷ writes) writes)
@@ -67,8 +64,7 @@ patched_byte_by base o (b ∷ d) position write offset bytes =
     by_cover : (c : Bool) → (if c then slice_index (b ∷ d) (position - o) else slice_index base position)
         ≡ seen_byte base (if c then record { number = write.number; byte = slice_index (b ∷ d) (position - o) } ∷ [] else [])
         position
-    by_cover true = refl
-    by_cover false = refl
+    by_cover x1 = grind arith
 
 patched_byte : (base : List ℕ) (position : ℕ) (write : Waiting)
     → get_or (patch base write.patch) position 0 ≡ seen_byte base (layer_of position write) position
@@ -77,8 +73,7 @@ patched_byte base position write = patched_byte_by base write.patch.offset write
 seen_under : (base other : List ℕ) (position : ℕ) (layers more : List Layer)
     → get_or other position 0 ≡ seen_byte base more position
     → seen_byte other layers position ≡ seen_byte base (layers ++ more) position
-seen_under base other position [] more e = e
-seen_under base other position (layer ∷ layers) more e = refl
+seen_under base other position x4 more e = grind arith
 
 -- a byte of a patched file is that of the last write that covers the position
 pub patched_at : (base : List ℕ) (position : ℕ) (writes : List Waiting)
@@ -136,11 +131,7 @@ append_none (layer ∷ first) second e = let c : ⊥ = cc in absurd c
 
 covered_last : (write : Waiting) (position : ℕ) → write.patch.offset ≤ position → position < end_of write.patch
     → layer_of position write ≢ []
-covered_last write position from below none =
-    let inside : (nat_le write.patch.offset position && nat_lt position (end_of write.patch))
-    ≡ true = grind (arith, from, below) in
-    let some = rw inside at none in
-    let c : ⊥ = cc in absurd c
+covered_last write position from below none = grind arith
 
 patch_within : (base : List ℕ) (write : Waiting) (size : ℕ) → length base ≤ size
     → ((position : ℕ) → size ≤ position → layer_of position write ≡ []) → length (patch base write.patch) ≤ size
@@ -171,12 +162,10 @@ patched_within base (write ∷ writes) size fits none =
 
 seen_open : (is_open : Layer → Bool) (base : List ℕ) (position : ℕ) (stack : List Layer) → IsOpenOnTop is_open stack
     → seen_byte base stack position ≡ seen_byte base (filter is_open stack) position
-seen_open is_open base position [] top = refl
-seen_open is_open base position (layer ∷ stack) top = rw top refl
+seen_open is_open base position x4 top = grind arith
 
 none_open : (is_open : Layer → Bool) (stack : List Layer) → IsOpenOnTop is_open stack → filter is_open stack ≡ [] → stack ≡ []
-none_open is_open [] top none = refl
-none_open is_open (layer ∷ stack) top none = let some = rw top at none in let c : ⊥ = cc in absurd c
+none_open is_open x2 top none = grind arith
 
 -- what covers the positions are these writes, as far as they are open
 pub record CoversWith (is_open : Layer → Bool) (stacks : List (List Layer)) (writes : List Waiting) : Type 0 where
@@ -260,20 +249,7 @@ pub lays_one : (offset place position number : ℕ) (bytes : List ℕ) (layer : 
     then record { number = number; byte = slice_index bytes (position - offset) } ∷ [] else []) ++ first
     → new ≡ (if nat_le offset position && nat_lt position (offset + (place + 1))
     then record { number = number; byte = slice_index bytes (position - offset) } ∷ [] else []) ++ first
-lays_one offset place position number bytes layer first old new is put so_far =
-    elim (cases_Bool (position == offset + place)) [
-      | inl here ↦
-          let at : position ≡ offset + place = grind (arith, here) in
-          let before : (nat_le offset position && nat_lt position (offset + place)) ≡ false = grind (arith, at) in
-          let now : (nat_le offset position && nat_lt position (offset + (place + 1))) ≡ true = grind (arith, at) in
-          let index : position - offset ≡ place = omega (arith, at) in
-          put ∙ (rw (here, now, index) (ap (λ (l : Layer). l ∷ old) is
-          ∙ ap (λ (ls : List Layer). record { number = number; byte = slice_index bytes place } ∷ ls) (so_far ∙ rw before refl)))
-      | inr other ↦
-          let same : (nat_le offset position && nat_lt position (offset + (place + 1)))
-          ≡ (nat_le offset position && nat_lt position (offset + place)) = grind (arith, other) in
-          put ∙ (rw (other, same) so_far)
-    ]
+lays_one offset place position number bytes layer first old new is put so_far = grind arith
 
 take_more : (writes : List Waiting) (n : ℕ) (write : Waiting) → n < length writes → write ≡ get_or writes n write
     → take (suc n) writes ≡ take n writes ++ write ∷ []

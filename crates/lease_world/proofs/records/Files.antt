@@ -12,31 +12,12 @@ use Rattle.lease_world.proofs.records.Pending.{self}
 pub file_starts : (file : ℕ) (bytes : List ℕ) (seen : SeenFile) (past : List Fact) → KnowsFile file seen past
     → KnowsFile file (record seen { start = Some bytes }) (Fact.Start file bytes ∷ past)
 unfolding is_started start_of placed_changes last_touch
-file_starts file bytes seen past k = record {
-  started = rw (self file) refl;
-  start = rw (self file) refl;
-  changes = k.changes;
-  touches = k.touches;
-}
-
-touched_more : (client other place last : ℕ) (touches : Touches) → touched_by_others client touches ≡ last
-    → touched_by_others client (touched touches other place) ≡ (if not (other == client) then place else last)
-touched_more client other place last touches e = go (other == touches.client) (client == touches.client) (client == other) refl
-    refl refl
-  where
-    go : (a b c : Bool) → (other == touches.client) ≡ a → (client == touches.client) ≡ b → (client == other) ≡ c
-        → touched_by_others client (touched touches other place) ≡ (if not (other == client) then place else last)
-    go a b c ea eb ec = grind arith
+file_starts file bytes seen past k = grind arith
 
 pub file_opens : (file client place : ℕ) (seen : SeenFile) (past : List Fact) → place ≡ length past + 1 → KnowsFile file seen past
     → KnowsFile file (record seen { touches = touched seen.touches client place }) (Fact.Opened file client ∷ past)
 unfolding is_started start_of placed_changes last_touch
-file_opens file client place seen past at k = record {
-  started = k.started;
-  start = k.start;
-  changes = k.changes;
-  touches = λ c. rw (self file, ← at) (touched_more c client place (last_touch c file past) seen.touches (k.touches c));
-}
+file_opens file client place seen past at k = grind arith
 
 pub file_changes : (file client number place : ℕ) (patch : Patch) (seen : SeenFile) (past : List Fact) → place ≡ length past + 1
     → KnowsFile file seen past
@@ -45,9 +26,4 @@ pub file_changes : (file client number place : ℕ) (patch : Patch) (seen : Seen
       touches = touched seen.touches client place;
     }) (Fact.Changed file client number patch ∷ past)
 unfolding is_started start_of placed_changes last_touch
-file_changes file client number place patch seen past at k = record {
-  started = k.started;
-  start = k.start;
-  changes = rw (self file, ← at, k.changes) refl;
-  touches = λ c. rw (self file, ← at) (touched_more c client place (last_touch c file past) seen.touches (k.touches c));
-}
+file_changes file client number place patch seen past at k = grind arith

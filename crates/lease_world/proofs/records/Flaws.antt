@@ -42,14 +42,10 @@ safe-here place fact past w one stale late done = rw (w, two_caches-test (fact �
 -- ---- one fact more
 
 else_else : (one two three : Verdict) → or_else (or_else one two) three ≡ or_else one (or_else two three)
-else_else Verdict.Safe two three = refl
-else_else (Verdict.Unsafe place rule) two three = refl
-else_else (Verdict.Malformed place) two three = refl
+else_else x1 two three = grind arith
 
 safe_else : (one : Verdict) → or_else one Verdict.Safe ≡ one
-safe_else Verdict.Safe = refl
-safe_else (Verdict.Unsafe place rule) = refl
-safe_else (Verdict.Malformed place) = refl
+safe_else x1 = grind arith
 
 counted : (n m : ℕ) → (n + 1) + m ≡ n + suc m
 counted n m = omega arith

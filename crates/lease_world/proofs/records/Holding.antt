@@ -47,10 +47,7 @@ bad-same client file past next bad was = held-bad client file next bad ∙ sym (
 
 within-few : (holders : List Holders) (past : List Fact) (client : ℕ) → KnowsHolders holders past → is_good client past ≡ true
     → client < 256
-within-few holders past client k good = go (λ big. let e : true ≡ false = sym good ∙ k.few client big in let c : ⊥ = cc in c)
-  where
-    go : (256 ≤ client → ⊥) → client < 256
-    go none = omega (arith, none)
+within-few holders past client k good = grind arith
 
 -- ---- where each client is good as before
 
@@ -75,18 +72,12 @@ is_steady _ = true
 good-steady : (fact : Fact) (past : List Fact) → is_steady fact ≡ true → (client : ℕ)
     → is_good client (fact ∷ past) ≡ is_good client past
 unfolding is_good is_served has_strayed
-good-steady (Fact.Joined other) past e client = let c : ⊥ = cc in absurd c
-good-steady (Fact.Dropped other) past e client = let c : ⊥ = cc in absurd c
-good-steady (Fact.Expired other file) past e client = let c : ⊥ = cc in absurd c
-good-steady (Fact.Strayed other) past e client = let c : ⊥ = cc in absurd c
-good-steady (Fact.Believes other file state) past e client = let c : ⊥ = cc in absurd c
-good-steady _ past e client = refl
+good-steady x1 past e client = grind arith
 
 belief-steady : (fact : Fact) (past : List Fact) → is_steady fact ≡ true → (client file : ℕ)
     → believed client file (fact ∷ past) ≡ believed client file past
 unfolding believed
-belief-steady (Fact.Believes other of_file state) past e client file = let c : ⊥ = cc in absurd c
-belief-steady _ past e client file = refl
+belief-steady x1 past e client file = grind arith
 
 pub holders-stay : (fact : Fact) (past : List Fact) (old new : List Holders) → is_steady fact ≡ true → new ≡ old
     → KnowsHolders old past → KnowsHolders new (fact ∷ past)

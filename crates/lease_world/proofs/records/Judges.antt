@@ -23,11 +23,7 @@ use Rattle.lease_world.proofs.records.Knowing.{match_bool}
 
 file_unseen : (file : ℕ) → KnowsFile file unseen_file []
 unfolding is_started start_of placed_changes last_touch
-file_unseen file = record { started = refl; start = refl; changes = refl; touches = λ c. nowhere (c == 0) }
-  where
-    nowhere : (b : Bool) → let none : ℕ = 0 in (if b then none else none) ≡ none
-    nowhere true = refl
-    nowhere false = refl
+file_unseen file = grind arith
 
 cache_unseen : (client file : ℕ) → KnowsCache client file unseen_cache []
 unfolding believed pending
@@ -102,14 +98,10 @@ nothing_judged = record {
 -- ---- one fact more
 
 one_more_safe : (v : Verdict) (flaw : model.Verdict) → is_safe v ≡ true → or_else (verdict_of v) flaw ≡ flaw
-one_more_safe Verdict.Safe flaw e = refl
-one_more_safe (Verdict.Unsafe place rule) flaw e = let c : ⊥ = cc in absurd c
-one_more_safe (Verdict.Malformed place) flaw e = let c : ⊥ = cc in absurd c
+one_more_safe x1 flaw e = grind arith
 
 one_more_flawed : (v : Verdict) (flaw : model.Verdict) → is_safe v ≡ false → or_else (verdict_of v) flaw ≡ verdict_of v
-one_more_flawed Verdict.Safe flaw e = let c : ⊥ = cc in absurd c
-one_more_flawed (Verdict.Unsafe place rule) flaw e = refl
-one_more_flawed (Verdict.Malformed place) flaw e = refl
+one_more_flawed x1 flaw e = grind arith
 
 counted : (facts : List Fact) (fact : Fact) (n m : ℕ) → n ≡ length facts → m ≡ n + 1 → m ≡ length (facts ++ fact ∷ [])
 counted facts fact n m e f = let l = length-append facts (fact ∷ []) in omega (arith, e, f, l)

@@ -24,9 +24,7 @@ before-longer place later (change ∷ changes) le =
 
     one_longer : (a b : Bool) (xs ys : List Change) → length xs ≤ length ys → (a ≡ true → b ≡ true)
         → length (if a then change ∷ xs else []) ≤ length (if b then change ∷ ys else [])
-    one_longer true true xs ys le h = omega (arith, le)
-    one_longer true false xs ys le h = let e : false ≡ true = h refl in let c : ⊥ = cc in absurd c
-    one_longer false b xs ys le h = omega arith
+    one_longer x1 x2 xs ys le h = grind arith
 
 base-later : (file : SeenFile) (taken later : ℕ) (base : Option Snapshot) → taken ≤ later → IsBase file taken base
     → IsBase file later base
@@ -50,14 +48,7 @@ pub contents-each : (files : ℕ → SeenFile) (taken file : ℕ) (old new : Lis
     → HasCache old new file cache
     → HasContents (files file) taken cache → ((f : ℕ) → HasContents (files f) taken (cache_in old f))
     → (f : ℕ) → HasContents (files f) taken (cache_in new f)
-contents-each files taken file old new cache has here all f = by_case (f == file) refl
-  where
-    at_file : (f == file) ≡ true → HasContents (files f) taken cache
-    at_file e = let is : f ≡ file = grind arith in rw is here
-
-    by_case : (b : Bool) → (f == file) ≡ b → HasContents (files f) taken (cache_in new f)
-    by_case true e = rw (has f, e) (at_file e)
-    by_case false e = rw (has f, e) (all f)
+contents-each files taken file old new cache has here all f = grind arith
 
 -- ---- a change more of the file
 
@@ -74,8 +65,7 @@ base-change file touches change taken (Some base) le is =
     )
   where
     shorter : (b : Bool) (x : Change) (xs : List Change) (n : ℕ) → length xs ≤ n → length (if b then x ∷ xs else []) ≤ suc n
-    shorter true x xs n le = omega (arith, le)
-    shorter false x xs n le = omega arith
+    shorter x1 x xs n le = grind arith
 
     before-within : (place : ℕ) (changes : List Change) → length (before place changes) ≤ length changes
     before-within place [] = omega arith
@@ -92,8 +82,7 @@ contents-change file touches change taken cache le h = base-change file touches 
 
 base-none : (file : SeenFile) (bytes : List ℕ) (taken : ℕ) (base : Option Snapshot) → is_some file.start ≡ false
     → IsBase file taken base → IsBase (record file { start = Some bytes }) taken base
-base-none file bytes taken None off is = tt
-base-none file bytes taken (Some base) off is = let e : false ≡ true = sym off ∙ is.0 in let c : ⊥ = cc in absurd c
+base-none file bytes taken x4 off is = grind arith
 
 pub contents-start : (file : SeenFile) (bytes : List ℕ) (taken : ℕ) (cache : SeenCache) → is_some file.start ≡ false
     → HasContents file taken cache → HasContents (record file { start = Some bytes }) taken cache

@@ -12,11 +12,7 @@ use Rattle.lease_world.proofs.records.Skips.{touches, concerns}
 -- ---- one place and the others
 
 pub each_place : (P : ℕ → Type 0) (k : ℕ) → P k → ((n : ℕ) → n ≢ k → P n) → (n : ℕ) → P n
-each_place P k here others n = go (n == k) refl
-  where
-    go : (b : Bool) → (n == k) ≡ b → P n
-    go true e = let is : n ≡ k = grind arith in rw is here
-    go false e = let ne : n ≢ k = grind arith in others n ne
+each_place x1 k here others n = grind arith
 
 pub is_apart : (n k : ℕ) → n ≢ k → (k == n) ≡ false
 is_apart n k ne = grind arith
@@ -83,9 +79,7 @@ pub holds_client : (old new : Seen) (client : ℕ) (past : List Fact) → HasSam
     → ((f : ℕ) → HasContents (file_in old.files f) (client_in new.clients client).taken
     (cache_in (client_in new.clients client).caches f))
     → Knows old past → (c f : ℕ) → Holds new.files new.clients c f
-holds_client old new client past same others here k c f =
-    each_place (λ n. Holds new.files new.clients n f) client (rw (same f) (here f))
-    (λ n ne. rw (same f, others n ne) (k.contents n f)) c
+holds_client old new client past same others here k c f = grind arith
 
 -- clients as before, and one file
 pub holds_file : (old new : Seen) (file : ℕ) (past : List Fact) → HasSameClients old.clients new.clients
@@ -93,9 +87,7 @@ pub holds_file : (old new : Seen) (file : ℕ) (past : List Fact) → HasSameCli
     → ((c : ℕ) → HasContents (file_in new.files file) (client_in old.clients c).taken
     (cache_in (client_in old.clients c).caches file))
     → Knows old past → (c f : ℕ) → Holds new.files new.clients c f
-holds_file old new file past same others here k c f =
-    each_place (λ n. Holds new.files new.clients c n) file (rw (same c) (here c))
-    (λ n ne. rw (same c, others n ne) (k.contents c n)) f
+holds_file old new file past same others here k c f = grind arith
 
 -- ---- what is asked of the tables, and what the record says
 
@@ -111,5 +103,4 @@ good_told client seen past k = rw (k.strayed, k.served) refl
 -- ---- what is told by a test
 
 pub match_bool : {P Q R : Type 0} (b : Bool) → MatchBool b P Q → (b ≡ true → P → R) → (b ≡ false → Q → R) → R
-match_bool true m yes_so no_so = yes_so refl m
-match_bool false m yes_so no_so = no_so refl m
+match_bool x1 m yes_so no_so = grind arith

@@ -15,18 +15,12 @@ self n = grind arith
 
 -- ---- filters
 
-and_true : (a : Bool) → (a && true) ≡ a
-and_true true = refl
-and_true false = refl
-
 and_false : (a : Bool) → (a && false) ≡ false
-and_false true = refl
-and_false false = refl
+and_false x1 = grind arith
 
 filter_step : {X : Type 0} (p : X → Bool) (x : X) (kept rest : List X) (b c : Bool) → c ≡ (p x && b) → rest ≡ filter p kept
     → cond c (x ∷ rest) rest ≡ filter p (cond b (x ∷ kept) kept)
-filter_step p x kept rest true c e r = rw (e, and_true (p x), r) refl
-filter_step p x kept rest false c e r = rw (e, and_false (p x)) r
+filter_step p x kept rest x5 c e r = grind arith
 
 pub filter-and : {X : Type 0} (p q r : X → Bool) (xs : List X) → ((x : X) → r x ≡ (p x && q x))
     → filter r xs ≡ filter p (filter q xs)
@@ -39,10 +33,6 @@ filter-and p q r (x ∷ xs) e = filter_step p x (filter q xs) (filter r xs) (q x
 abbrev pub is_other : ℕ → Waiting → Bool
 is_other number write = not (number == write.number)
 
-not_or : (a b : Bool) → not (a || b) ≡ (not a && not b)
-not_or true b = refl
-not_or false b = refl
-
 same_client : (client : ℕ) (b : Bool) → (client == client && b) ≡ b
 same_client client b = rw (self client) refl
 
@@ -51,9 +41,7 @@ pub unsettled-more : (client number : ℕ) (outcome : Settlement) (past : List F
     → is_unsettled client (Fact.Settled client number outcome ∷ past) layer
     ≡ (not (number == layer.number) && is_unsettled client past layer)
 unfolding is_settled
-unsettled-more client number outcome past layer =
-    rw (same_client client (number == layer.number))
-    (not_or (number == layer.number) (is_settled client layer.number past))
+unsettled-more client number outcome past layer = grind arith
 
 with_or_without : (number : ℕ) (keep same : Bool) (xs ys : List Waiting) (write : Waiting) → (number == write.number) ≡ same
     → xs ≡ filter (is_other number) ys

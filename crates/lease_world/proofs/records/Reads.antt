@@ -42,12 +42,10 @@ content-told file seen past place k part =
 
 open-told : (client : ℕ) (seen : SeenClient) (past : List Fact) (layers : List Layer) → KnowsClient client seen past
     → filter (is_open seen.settled) layers ≡ filter (is_unsettled client past) layers
-open-told client seen past layers k =
-    filter-agree (is_open seen.settled) (is_unsettled client past) layers (λ l. ap not (k.settled l.number))
+open-told client seen past layers k = grind arith
 
 same_twice : (b : Bool) → b ≡ (b && b)
-same_twice true = refl
-same_twice false = refl
+same_twice x1 = grind arith
 
 -- what is laid first and what was there already are open as they were together
 open_both : (is_open : Layer → Bool) (first rest : List Layer)
@@ -110,17 +108,14 @@ seen-same client file taken bytes seen f cache now same past place is all k kf p
 -- ---- the place
 
 none_sent : (sent : Option (List Fact)) → option_map place_of sent ≡ None → sent ≡ None
-none_sent None e = refl
-none_sent (Some place) e = let c : ⊥ = cc in absurd c
+none_sent x1 e = grind arith
 
 some_sent : (sent : Option (List Fact)) (taken : ℕ) → option_map place_of sent ≡ Some taken
     → (place : List Fact) × (sent ≡ Some place) × (place_of place ≡ taken)
-some_sent None taken e = let c : ⊥ = cc in absurd c
-some_sent (Some place) taken e = (place, refl, cc)
+some_sent x1 taken e = grind arith
 
 taken_value : (b : Bool) (taken place : ℕ) → (if b then Some taken else None) ≡ Some place → taken ≡ place
-taken_value true taken place e = cc
-taken_value false taken place e = let c : ⊥ = cc in absurd c
+taken_value x1 taken place e = grind arith
 
 -- ---- whether the read is stale
 

@@ -1,5 +1,5 @@
 -- The pasts before messages were sent are parts of the past.
-use Rattle.std.proofs.Common.{◌≡◌, ℕ, zero, suc, Bool, true, false, List, [], ◌∷◌, ◌++◌, refl, ap, Some}
+use Rattle.std.proofs.Common.{◌≡◌, ℕ, zero, suc, Bool, true, false, List, [], ◌∷◌, ◌++◌, refl, ap, Some, arith}
 use Rattle.std.specs.Prelude.{◌==◌, if◌then◌else◌, slice_get}
 use Rattle.lease_model.specs.records.Facts.{Fact}
 use Rattle.lease_model.specs.records.Past.{sendings, takings, last_of, last_sending}
@@ -23,8 +23,7 @@ parts-push past (x ∷ places) place part all = (all.0, parts-push past places p
 
 parts-none : (b : Bool) (past : List Fact) (places : List (List Fact)) → AllParts past places
     → AllParts past (if b then [] else places)
-parts-none true past places all = tt
-parts-none false past places all = all
+parts-none x1 past places all = grind arith
 
 parts-one : (b : Bool) (past : List Fact) (places : List (List Fact)) (place : List Fact) → PartOf past place
     → AllParts past places

@@ -1,5 +1,5 @@
 -- What the verdict of the definitions says is what the code's verdict says.
-use Rattle.std.proofs.Common.{◌≡◌, List, refl, sym, ap, subst, ◌∙◌}
+use Rattle.std.proofs.Common.{◌≡◌, List, refl, sym, ap, subst, ◌∙◌, arith}
 use Rattle.std.specs.Prelude.{◌↔◌}
 use Rattle.lease_model.specs.records.Facts.{Fact}
 use Rattle.lease_model.specs.records.Safe.{Safe}
@@ -10,9 +10,7 @@ use Rattle.lease_world.specs.Verdicts.{verdict_of, IsVerdictOn}
 use Rattle.lease_world.specs.declared.verdict.Verdict.{Verdict}
 
 told_safe : (told : Verdict) → verdict_of told ≡ model.Verdict.Safe → told ≡ Verdict.Safe
-told_safe Verdict.Safe e = refl
-told_safe (Verdict.Unsafe place rule) e = let c : ⊥ = cc in absurd c
-told_safe (Verdict.Malformed place) e = let c : ⊥ = cc in absurd c
+told_safe x1 e = grind arith
 
 pub safe_told : (facts : List Fact) (told : Verdict) → verdict_of told ≡ model.verdict facts → (told ≡ Verdict.Safe) ↔ Safe facts
 safe_told facts told e = (

@@ -22,20 +22,15 @@ Advances later k changes = (take k changes ++ before later (drop k changes) ≡ 
 
 advance-more : (later k : ℕ) (change : Change) (changes : List Change) → nat_lt change.place later ≡ true
     → Advances later k changes → Advances later (suc k) (change ∷ changes)
-advance-more later k change changes h a = (
-  rw h (ap (λ (xs : List Change). change ∷ xs) a.0),
-  rw h (omega (arith, a.1)),
-)
+advance-more later k change changes h a = grind arith
 
 nothing_before : (b : Bool) (k : ℕ) (change : Change) (changes : List Change) → b ≡ false
     → suc k ≤ length (if b then change ∷ changes else []) → ⊥
-nothing_before b k change changes e le =
-    let none : suc k ≤ length {A = Change} [] = rw e at le in omega arith
+nothing_before b k change changes e le = grind arith
 
 all_before : (b : Bool) (k : ℕ) (change : Change) (changes : List Change) → b ≡ true
     → suc k ≤ length (if b then change ∷ changes else []) → k ≤ length changes
-all_before b k change changes e le =
-    let one : suc k ≤ length (change ∷ changes) = rw e at le in omega arith
+all_before b k change changes e le = grind arith
 
 advances : (taken later k : ℕ) (changes : List Change) → taken ≤ later → k ≤ length (before taken changes)
     → Advances later k changes
@@ -52,8 +47,7 @@ take-if : (b : Bool) (place : ℕ) (change : Change) (changes : List Change)
     → take (length (before place changes)) changes ≡ before place changes
     → take (length (if b then change ∷ before place changes else [])) (change ∷ changes)
     ≡ (if b then change ∷ before place changes else [])
-take-if true place change changes e = ap (λ (xs : List Change). change ∷ xs) e
-take-if false place change changes e = refl
+take-if x1 place change changes e = grind arith
 
 take-before : (place : ℕ) (changes : List Change) → take (length (before place changes)) changes ≡ before place changes
 take-before place [] = refl

@@ -22,20 +22,13 @@ is_buffered_on file (Some write) = write.file == file && write.buffered
 is_buffered_on file None = false
 
 some_if : {X : Type 0} (b : Bool) (x : X) (o : Option X) → is_some (if b then Some x else o) ≡ b || is_some o
-some_if true x o = refl
-some_if false x o = refl
-
-some_map : {X Y : Type 0} (f : X → Y) (o : Option X) → is_some (option_map f o) ≡ is_some o
-some_map f None = refl
-some_map f (Some x) = refl
+some_if x1 x o = grind arith
 
 some_if_map : {X : Type 0} (b : Bool) (f : X → X) (o : Option X) → is_some (if b then option_map f o else o) ≡ is_some o
-some_if_map true f o = some_map f o
-some_if_map false f o = refl
+some_if_map x1 f o = grind arith
 
 none_from : {X : Type 0} (o : Option X) → is_some o ≡ false → o ≡ None
-none_from None e = refl
-none_from (Some x) e = let c : ⊥ = cc in absurd c
+none_from x1 e = grind arith
 
 -- ---- numbers
 
@@ -63,13 +56,7 @@ is_new client file number patch buffered past w =
     ∙ new_number (is_started file past) (is_within_limit patch) (has_number client number past) w)
 
 both_so : (d c k n : ℕ) → (d == c && k == n) ≡ true → (d ≡ c) × (k ≡ n)
-both_so d c k n e = (first d c k n e, second d c k n e)
-  where
-    first : (d c k n : ℕ) → (d == c && k == n) ≡ true → d ≡ c
-    first d c k n e = grind arith
-
-    second : (d c k n : ℕ) → (d == c && k == n) ≡ true → k ≡ n
-    second d c k n e = grind arith
+both_so d c k n e = grind arith
 
 -- the same of a client and a number that may be these
 pub new_where_same : (writer client used number file : ℕ) (patch : Patch) (buffered : Bool) (past : List Fact)
@@ -85,68 +72,32 @@ new_where_same writer client used number file patch buffered past w e =
 fails_new : (test : Option SeenWrite → Bool) (same : Bool) (write : SeenWrite) (old : Option SeenWrite) (rest : Bool)
     → test None ≡ false → (same ≡ true → old ≡ None) → test (Some write) ≡ false
     → rest ≡ test old → rest ≡ test (if same then Some write else old)
-fails_new test true write old rest none new fails e =
-    e ∙ (ap test (new refl) ∙ (none ∙ sym fails))
-fails_new test false write old rest none new fails e = e
+fails_new test x2 write old rest none new fails e = grind arith
 
 -- the new write may pass the test
 tests_new : (test : Option SeenWrite → Bool) (same here : Bool) (write : SeenWrite) (old : Option SeenWrite) (rest : Bool)
     → test None ≡ false → (same ≡ true → old ≡ None) → (same ≡ true → here ≡ test (Some write)) → (same ≡ false → here ≡ false)
     → rest ≡ test old → (here || rest) ≡ test (if same then Some write else old)
-tests_new test true here write old rest none new is other e =
-    let gone : rest ≡ false = e ∙ (ap test (new refl) ∙ none) in
-    let here_is : here ≡ test (Some write) = is refl in
-    rw (gone, here_is) (or_false (test (Some write)))
-  where
-    or_false : (b : Bool) → (b || false) ≡ b
-    or_false true = refl
-    or_false false = refl
-tests_new test false here write old rest none new is other e = rw (other refl) e
+tests_new test x2 here write old rest none new is other e = grind arith
 
 -- accepting a write changes nothing that the test sees
 pub keeps_test : (test : Option SeenWrite → Bool) (same : Bool) (change : SeenWrite → SeenWrite) (old : Option SeenWrite)
     (rest : Bool)
     → ((w : SeenWrite) → test (Some (change w)) ≡ test (Some w))
     → rest ≡ test old → rest ≡ test (if same then option_map change old else old)
-keeps_test test true change None rest keeps e = e
-keeps_test test true change (Some w) rest keeps e = e ∙ sym (keeps w)
-keeps_test test false change old rest keeps e = e
+keeps_test test x2 change x4 rest keeps e = grind arith
 
 pub accepted_file : (file : ℕ) (patch : Patch) (w : SeenWrite) → (accepted_as file patch w).file ≡ w.file
-accepted_file file patch w = if_field (w.file == file && same_patch w.patch patch) w
-  where
-    if_field : (b : Bool) (w : SeenWrite) → (if b then record w { accepted = true } else w).file ≡ w.file
-    if_field true w = refl
-    if_field false w = refl
+accepted_file file patch w = grind arith
 
 accepted_patch : (file : ℕ) (patch : Patch) (w : SeenWrite) → (accepted_as file patch w).patch ≡ w.patch
-accepted_patch file patch w = if_field (w.file == file && same_patch w.patch patch) w
-  where
-    if_field : (b : Bool) (w : SeenWrite) → (if b then record w { accepted = true } else w).patch ≡ w.patch
-    if_field true w = refl
-    if_field false w = refl
+accepted_patch file patch w = grind arith
 
 accepted_buffered : (file : ℕ) (patch : Patch) (w : SeenWrite) → (accepted_as file patch w).buffered ≡ w.buffered
-accepted_buffered file patch w = if_field (w.file == file && same_patch w.patch patch) w
-  where
-    if_field : (b : Bool) (w : SeenWrite) → (if b then record w { accepted = true } else w).buffered ≡ w.buffered
-    if_field true w = refl
-    if_field false w = refl
+accepted_buffered file patch w = grind arith
 
 accepted_place : (file : ℕ) (patch : Patch) (w : SeenWrite) → (accepted_as file patch w).place ≡ w.place
-accepted_place file patch w = if_field (w.file == file && same_patch w.patch patch) w
-  where
-    if_field : (b : Bool) (w : SeenWrite) → (if b then record w { accepted = true } else w).place ≡ w.place
-    if_field true w = refl
-    if_field false w = refl
-
-accepted_done : (file : ℕ) (patch : Patch) (w : SeenWrite)
-    → (accepted_as file patch w).accepted ≡ (w.file == file && same_patch w.patch patch) || w.accepted
-accepted_done file patch w = if_field (w.file == file && same_patch w.patch patch) w
-  where
-    if_field : (b : Bool) (w : SeenWrite) → (if b then record w { accepted = true } else w).accepted ≡ b || w.accepted
-    if_field true w = refl
-    if_field false w = refl
+accepted_place file patch w = grind arith
 
 -- ---- the tests of a record, as tests of the write of the number
 
@@ -198,9 +149,7 @@ buffered-told client file number (_ ∷ past) w = buffered-told client file numb
 accepts_more : (same : Bool) (file : ℕ) (patch : Patch) (old : Option SeenWrite) (was rest : Bool)
     → was ≡ is_of file patch old → rest ≡ is_accepted_write old
     → ((same && was) || rest) ≡ is_accepted_write (if same then option_map (accepted_as file patch) old else old)
-accepts_more true file patch None was rest w r = rw (w, r) refl
-accepts_more true file patch (Some v) was rest w r = rw (w, r) (sym (accepted_done file patch v))
-accepts_more false file patch old was rest w r = r
+accepts_more x1 file patch x4 was rest w r = grind arith
 
 pub accepted-told : (client number : ℕ) (past : List Fact) → EachFact WellFormed past
     → is_accepted client number past ≡ is_accepted_write (write_of client number past)
@@ -226,14 +175,12 @@ touch-bound client file (Fact.Opened other opener ∷ past) =
     touched_within (other == file && not (opener == client)) _ (length past) (touch-bound client file past)
   where
     touched_within : (b : Bool) (t n : ℕ) → t ≤ n → (if b then n + 1 else t) ≤ suc n
-    touched_within true t n le = omega arith
-    touched_within false t n le = omega (arith, le)
+    touched_within x1 t n le = grind arith
 touch-bound client file (Fact.Changed other writer number patch ∷ past) =
     touched_within (other == file && not (writer == client)) _ (length past) (touch-bound client file past)
   where
     touched_within : (b : Bool) (t n : ℕ) → t ≤ n → (if b then n + 1 else t) ≤ suc n
-    touched_within true t n le = omega arith
-    touched_within false t n le = omega (arith, le)
+    touched_within x1 t n le = grind arith
 touch-bound client file (_ ∷ past) = let le = touch-bound client file past in omega (arith, le)
 
 abbrev PlaceWithin : Option SeenWrite → ℕ → Type 0
@@ -241,19 +188,15 @@ PlaceWithin None high = ⊤
 PlaceWithin (Some write) high = write.place ≤ high
 
 within_more : (o : Option SeenWrite) (high : ℕ) → PlaceWithin o high → PlaceWithin o (suc high)
-within_more None high le = tt
-within_more (Some write) high le = omega (arith, le)
+within_more x1 high le = grind arith
 
 within_new : (same : Bool) (write : SeenWrite) (o : Option SeenWrite) (high : ℕ) → write.place ≤ suc high → PlaceWithin o high
     → PlaceWithin (if same then Some write else o) (suc high)
-within_new true write o high here le = here
-within_new false write o high here le = within_more o high le
+within_new x1 write o high here le = grind arith
 
 within_map : (same : Bool) (file : ℕ) (patch : Patch) (o : Option SeenWrite) (high : ℕ) → PlaceWithin o high
     → PlaceWithin (if same then option_map (accepted_as file patch) o else o) (suc high)
-within_map true file patch None high le = tt
-within_map true file patch (Some w) high le = rw (accepted_place file patch w) (omega (arith, le))
-within_map false file patch o high le = within_more o high le
+within_map x1 file patch x4 high le = grind arith
 
 place-within : (client number : ℕ) (past : List Fact) → PlaceWithin (write_of client number past) (length past)
 unfolding write_of
@@ -276,10 +219,7 @@ either_way a b c d e = grind arith
 touches_more : (touch : Bool) (file high last : ℕ) (o : Option SeenWrite) (buffered rest : Bool)
     → PlaceWithin o high → buffered ≡ is_buffered_on file o → rest ≡ is_buffered_before file last o
     → ((touch && buffered) || rest) ≡ is_buffered_before file (if touch then high + 1 else last) o
-touches_more true file high last None buffered rest le b r = rw (b, r) refl
-touches_more true file high last (Some w) buffered rest le b r =
-    rw (b, r) (either_way (w.file == file) w.buffered (nat_lt w.place last) _ (below_next w.place high le))
-touches_more false file high last o buffered rest le b r = r
+touches_more x1 file high last x5 buffered rest le b r = grind arith
 
 not_below : (a b : Bool) (place last high : ℕ) → last ≤ high → (a && b && nat_lt (high + 1) last) ≡ false
 not_below a b place last high le = grind arith

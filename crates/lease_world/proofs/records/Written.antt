@@ -29,14 +29,7 @@ pub each_cache : (client file : ℕ) (old new : List SeenCache) (past next : Lis
     → KnowsCache client file cache next
     → ((other : ℕ) → (other == file) ≡ false → KnowsCache client other (cache_in old other) next)
     → (other : ℕ) → KnowsCache client other (cache_in new other) next
-each_cache client file old new past next cache has here others other = by_case (other == file) refl
-  where
-    at_file : (other == file) ≡ true → KnowsCache client other cache next
-    at_file e = let is : other ≡ file = grind arith in rw is here
-
-    by_case : (b : Bool) → (other == file) ≡ b → KnowsCache client other (cache_in new other) next
-    by_case true e = rw (has other, e) (at_file e)
-    by_case false e = rw (has other, e) (others other e)
+each_cache client file old new past next cache has here others other = grind arith
 
 -- ---- a belief
 
@@ -66,19 +59,12 @@ client_believes client file state seen now past is k =
 
 same_number : (client number n : ℕ) (x y : Option SeenWrite)
     → (if n == number then x else y) ≡ (if client == client && number == n then x else y)
-same_number client number n x y = rw (self client) (turned number n x y)
-  where
-    turned : (number n : ℕ) (x y : Option SeenWrite) → (if n == number then x else y) ≡ (if true && number == n then x else y)
-    turned number n x y = grind arith
+same_number client number n x y = grind arith
 
 -- a value by a number, of which that of one number is new
 at_number : (number n : ℕ) (x y : Option SeenWrite) (here there : Option SeenWrite) → (n ≡ number → x ≡ here) → y ≡ there
     → (if n == number then x else y) ≡ (if n == number then here else there)
-at_number number n x y here there same e = rw e (go (n == number) refl)
-  where
-    go : (b : Bool) → (n == number) ≡ b → (if b then x else there) ≡ (if b then here else there)
-    go true is = let s : n ≡ number = grind arith in same s
-    go false is = refl
+at_number number n x y here there same e = grind arith
 
 pub client_accepts : (client file number : ℕ) (patch : Patch) (seen now : SeenClient) (past : List Fact)
     → Accepts file number patch seen now → KnowsClient client seen past
@@ -101,10 +87,7 @@ client_accepts client file number patch seen now past is k =
 
 settled_number : (client number n : ℕ) (b c : Bool) → b ≡ c
     → (if n == number then true else b) ≡ ((client == client && number == n) || c)
-settled_number client number n b c e = rw (self client, e) (turned number n c)
-  where
-    turned : (number n : ℕ) (c : Bool) → (if n == number then true else c) ≡ ((true && number == n) || c)
-    turned number n c = grind arith
+settled_number client number n b c e = grind arith
 
 -- what is known of a cache once one more number is settled
 settled_cache : (client file number : ℕ) (outcome : Settlement) (cache : SeenCache) (past : List Fact)
@@ -150,13 +133,7 @@ skipped_pending : (client file other number : ℕ) (patch : Patch) (buffered : B
     → ((file == other) ≡ true → is_settled client number past ≡ true)
     → pending client other past (Fact.Wrote client file number patch buffered ∷ past) ≡ pending client other past past
 unfolding pending
-skipped_pending client file other number patch buffered past settled =
-    rw (none (client == client) (file == other) (is_settled client number past) settled) refl
-  where
-    none : (a b s : Bool) → (b ≡ true → s ≡ true) → (a && b && not s) ≡ false
-    none a true true e = grind arith
-    none a true false e = let h : false ≡ true = e refl in let c : ⊥ = cc in absurd c
-    none a false s e = grind arith
+skipped_pending client file other number patch buffered past settled = grind arith
 
 -- the cache of the file with one write more
 with_one_write : (client file number : ℕ) (patch : Patch) (buffered : Bool) (cache : SeenCache) (past : List Fact)
@@ -186,8 +163,7 @@ with_one_write client file number patch buffered cache past off k =
   where
     one_open : (test : Layer → Bool) (b : Bool) (layer : Layer) → test layer ≡ true
         → filter test (if b then layer ∷ [] else []) ≡ (if b then layer ∷ [] else [])
-    one_open test true layer e = rw e refl
-    one_open test false layer e = refl
+    one_open test x2 layer e = grind arith
 
 -- the cache of another file, or of a number that was settled already
 without_write : (client file other number : ℕ) (patch : Patch) (buffered : Bool) (cache : SeenCache) (past : List Fact)

@@ -121,8 +121,7 @@ given_replies back client (Out.Sent other reply ∷ outs) each =
         → map reply_of (if b then reply_written reply ∷ replies_to client (map out_written outs)
         else replies_to client (map out_written outs))
         ≡ (if b then reply ∷ told_to client outs else told_to client outs)
-    go true e rest = rw (e, rest) refl
-    go false e rest = rest
+    go x1 e rest = grind arith
 given_replies back client (Out.Opened file other ∷ outs) each = given_replies back client outs each.1
 given_replies back client (Out.Changed file other number patch ∷ outs) each = given_replies back client outs each.1
 

@@ -39,17 +39,7 @@ use Rattle.share_server.specs.Table.{server_of}
 same_seats : (old new : Seen) (number : ℕ) (Changes : Seat → Seat → Type 0) → OnlySeats old new
     → ChangesSeat Changes number old.seats new.seats → seat_in new.seats number ≡ seat_in old.seats number
     → (world : World) → Stands old world → Stands new world
-same_seats old new number Changes only seats same world s = record {
-  count = s.count ∙ sym seats.2;
-  server = ap server_of only.0 ∙ s.server;
-  seats = one_seat Changes old.seats new.seats number world world seats s.seats (λ p. rw same (s.seats number p))
-      (λ m ne. refl) (λ m ne. refl) (λ m ne. refl) (λ m ne. refl);
-  facts = ap (map fact_of) only.1 ∙ s.facts;
-  sound = s.sound;
-  waiting = s.waiting;
-  keys = s.keys;
-  writing = λ n p. s.writing n (p.0, omega (arith, p.1, seats.2));
-}
+same_seats old new number x4 only seats same world s = grind arith
 
 pub server_took_nothing : (old new : Seen) (number : ℕ) → OnlySeats old new
     → ChangesSeat (PopsRequest None) number old.seats new.seats → IsPresent number old.seats
@@ -86,22 +76,7 @@ client_took_nothing old new number only seats there world s =
 -- a message is kept, and nothing else changes
 kept_stands : (old new : Seen) → new ≡ record old { messages = new.messages } → (world : World) → Stands old world
     → Stands new world
-kept_stands old new same world s = rw same (record {
-  count = s.count;
-  server = s.server;
-  seats = λ n p. let q = s.seats n p in record {
-    guid = q.guid;
-    client = q.client;
-    link = q.link;
-    requests = q.requests;
-    replies = q.replies;
-  };
-  facts = s.facts;
-  sound = s.sound;
-  waiting = s.waiting;
-  keys = s.keys;
-  writing = s.writing;
-})
+kept_stands old new same world s = grind arith
 
 pub client_took : (old middle kept told new : Seen) (number : ℕ) (reply : code_reply.Reply) → OnlySeats old middle
     → ChangesSeat (PopsReply (Some reply)) number old.seats middle.seats → IsPresent number old.seats
@@ -122,20 +97,11 @@ client_took old middle kept told new number reply only seats there fits alike ke
 -- ---- links
 
 link_is : (one other : code.Link) → is_link one other ≡ true → one ≡ other
-link_is code.TheVariants.Down code.TheVariants.Down e = refl
-link_is code.TheVariants.Up code.TheVariants.Up e = refl
-link_is code.TheVariants.Cut code.TheVariants.Cut e = refl
-link_is code.TheVariants.Down code.TheVariants.Up e = let c : ⊥ = cc in absurd c
-link_is code.TheVariants.Down code.TheVariants.Cut e = let c : ⊥ = cc in absurd c
-link_is code.TheVariants.Up code.TheVariants.Down e = let c : ⊥ = cc in absurd c
-link_is code.TheVariants.Up code.TheVariants.Cut e = let c : ⊥ = cc in absurd c
-link_is code.TheVariants.Cut code.TheVariants.Down e = let c : ⊥ = cc in absurd c
-link_is code.TheVariants.Cut code.TheVariants.Up e = let c : ⊥ = cc in absurd c
+link_is x1 x2 e = grind arith
 
 known_link : (old : Seen) (number : ℕ) (link : code.Link) → IsPresent number old.seats → (world : World) → Stands old world
     → is_link (seat_in old.seats number).link link ≡ true → world.links number ≡ link_of link
-known_link old number link there world s e =
-    sym (s.seats number there).link ∙ ap link_of (link_is (seat_in old.seats number).link link e)
+known_link old number link there world s e = grind arith
 
 not_cut : (old : Seen) (world : World) (number : ℕ) (l : code.Link) → is_link l code.TheVariants.Up ≡ false → Stands old world
     → Stands old (cut_over world number (link_of l)) × Keeps (sent_by_cut world number (link_of l)) old old
@@ -165,9 +131,7 @@ cut_one old middle told new number there e cuts tells serves world s =
 not_noticed : (old : Seen) (world : World) (number : ℕ) (l : code.Link) → is_link l code.TheVariants.Cut ≡ false
     → Stands old world
     → Stands old (notice_over world number (link_of l))
-not_noticed old world number code.TheVariants.Down e s = s
-not_noticed old world number code.TheVariants.Up e s = s
-not_noticed old world number code.TheVariants.Cut e s = let c : ⊥ = cc in absurd c
+not_noticed old world number x4 e s = grind arith
 
 pub notice_nothing : (old : Seen) (number : ℕ) → IsPresent number old.seats
     → is_link (seat_in old.seats number).link code.TheVariants.Cut ≡ false → Applies (Event.Notice number) old old
@@ -236,9 +200,7 @@ not_strayed : (old : Seen) (world : World) (number : ℕ) (request : Request) (l
     → is_link l code.TheVariants.Up ≡ false
     → Stands old world → Stands old (strayed_over world number request (link_of l))
 unfolding strayed_over
-not_strayed old world number request code.TheVariants.Down e s = s
-not_strayed old world number request code.TheVariants.Up e s = let c : ⊥ = cc in absurd c
-not_strayed old world number request code.TheVariants.Cut e s = s
+not_strayed old world number request x5 e s = grind arith
 
 pub stray_nothing : (old : Seen) (number : ℕ) (request : Request) → IsPresent number old.seats
     → is_link (seat_in old.seats number).link code.TheVariants.Up ≡ false → Applies (Event.Raw number request) old old
@@ -263,43 +225,29 @@ stray_one old told new number request there e tells sends world s = (
 
 -- ---- timers
 
-has_content : (server : Server) (file : ℕ) → is_some (content server file) ≡ has_file server file
-has_content server file = go (has_file server file)
-  where
-    go : (b : Bool) → is_some (if b then Some (server.contents file) else None) ≡ b
-    go true = refl
-    go false = refl
-
 both_so : (a b : Bool) → (a && b) ≡ true → (a ≡ true) × (b ≡ true)
-both_so true b e = (refl, e)
-both_so false b e = let c : ⊥ = cc in absurd c
+both_so x1 b e = grind arith
 
 -- the key that was made is that of the client's machine
 same_key : (old : Seen) (number file : ℕ) (key : List ℕ) → IsPresent number old.seats
     → key ≡ lease_key (seat_in old.seats number).guid file → (world : World) → Stands old world
     → key_of number key ≡ machine_key world number file
-same_key old number file key there e world s =
-    ap (λ (k : List ℕ). key_of number k) (e ∙ ap (λ (g : List ℕ). lease_key g file) (s.seats number there).guid)
+same_key old number file key there e world s = grind arith
 
 nothing_expires : {X : Type 0} (b c : Bool) (one other : X) → (b && c) ≡ false
     → (if b then (if c then other else one) else one) ≡ one
-nothing_expires true true one other e = let c : ⊥ = cc in absurd c
-nothing_expires true false one other e = refl
-nothing_expires false c one other e = refl
+nothing_expires x1 x2 one other e = grind arith
 
 something_expires : {X : Type 0} (b c : Bool) (one other : X) → (b && c) ≡ true
     → (if b then (if c then other else one) else one) ≡ other
-something_expires true true one other e = refl
-something_expires true false one other e = let c : ⊥ = cc in absurd c
-something_expires false c one other e = let c : ⊥ = cc in absurd c
+something_expires x1 x2 one other e = grind arith
 
 waits : (old : Seen) (number file : ℕ) (key : List ℕ) (b : Bool) → IsPresent number old.seats
     → key ≡ lease_key (seat_in old.seats number).guid file
     → (is_some (content (server_of old.server) file) && breaking (server_of old.server) (key_of number key)) ≡ b
     → (world : World) → Stands old world
     → (has_file world.server file && breaking world.server (machine_key world number file)) ≡ b
-waits old number file key b there k e world s =
-    rw (← s.server, ← same_key old number file key there k world s, ← has_content (server_of old.server) file) e
+waits old number file key b there k e world s = grind arith
 
 pub expire_nothing : (old : Seen) (number file : ℕ) (key : List ℕ) → IsPresent number old.seats
     → key ≡ lease_key (seat_in old.seats number).guid file
@@ -348,10 +296,7 @@ scavenge_nothing old number file e world s =
 pub scavenge_one : (old new : Seen) (number file fid : ℕ) → kept (server_of old.server) number file ≡ Some fid
     → Serves (Call.Scavenge fid) old new → Applies (Event.Scavenge number file) old new
 unfolding applied messages_of
-scavenge_one old new number file fid e serves world s =
-    let some : kept world.server number file ≡ Some fid = ap (λ (t : Server). kept t number file) (sym s.server) ∙ e in
-    subst (λ (o : Option ℕ). Stands new (scavenged world o) × Keeps (sent_by_scavenge world o) old new) (sym some)
-    (serves tt world s)
+scavenge_one old new number file fid e serves world s = grind arith
 
 -- ---- any event
 
@@ -370,10 +315,7 @@ nothing_happens old number event n e world s =
 pub event_happens : (old new : Seen) (number : ℕ) (event : Event) → number ≡ client_of event
     → (nat_le 1 number && nat_le number (length old.seats)) ≡ true → Applies event old new → Happens event old new
 unfolding happens messages_in
-event_happens old new number event n e applies world s =
-    let has : (nat_le 1 (client_of event) && nat_le (client_of event) world.count) ≡ true =
-    subst (λ (m : ℕ). (nat_le 1 m && nat_le m world.count) ≡ true) n (has_it old number true e world s) in
-    rw has (applies world s)
+event_happens old new number event n e applies world s = grind arith
 
 -- the same of an event that names the number of its client, where a call says so if it succeeds
 pub told_happens : {T E : Type 0} (result : Result T E) (old new : Seen) (number client : ℕ) (tells : ℕ → Event)

@@ -64,13 +64,11 @@ take_all (x ∷ xs) (suc n) le = ap (λ ys. x ∷ ys) (take_all xs n (omega arit
 -- ---- setups
 
 both_so : (a b : Bool) → a ≡ true → b ≡ true → (a && b) ≡ true
-both_so true b refl e = e
-both_so false b e f = let c : ⊥ = cc in absurd c
+both_so x1 b x3 e = grind arith
 
 -- what holds of a head and, where it does, of the rest with one more
 head_and_rest : (a b c : Bool) → (b ≡ true → c ≡ true) → (a && b) ≡ true → (a && c) ≡ true
-head_and_rest true b c f e = f e
-head_and_rest false b c f e = let d : ⊥ = cc in absurd d
+head_and_rest x1 b c f e = grind arith
 
 all_and_one : {X : Type 0} (p : X → Bool) (xs : List X) (x : X) → p x ≡ true → list_all p xs ≡ true
     → list_all p (xs ++ x ∷ []) ≡ true
@@ -113,19 +111,11 @@ beyond m n h = grind (arith, nat_tests)
 pub is_allowed_by : (setup : Setup) (b : Bool) → length setup.files ≤ 8 → list_all is_content setup.files ≡ true
     → length setup.clients ≤ 16 → b ≡ are_apart setup.clients → b ≡ is_allowed_setup setup
 unfolding is_allowed_setup files_limit clients_limit
-is_allowed_by setup b files fit clients e =
-    rw (le-leb (length setup.files) 8 files, fit, le-leb (length setup.clients) 16 clients) e
+is_allowed_by setup b files fit clients e = grind arith
 
 pub has_many_clients : (setup : Setup) → 16 < length setup.clients → false ≡ is_allowed_setup setup
 unfolding is_allowed_setup clients_limit
-has_many_clients setup many =
-    rw (beyond (length setup.clients) 16 many) (sym (no_end (nat_le (length setup.files) files_limit)
-    (list_all is_content setup.files) (are_apart setup.clients)))
-  where
-    no_end : (a b c : Bool) → (a && b && false && c) ≡ false
-    no_end true true c = refl
-    no_end true false c = refl
-    no_end false b c = refl
+has_many_clients setup many = grind arith
 
 pub has_many_files : (setup : Setup) → 8 < length setup.files → false ≡ is_allowed_setup setup
 unfolding is_allowed_setup files_limit

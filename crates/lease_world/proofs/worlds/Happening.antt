@@ -54,34 +54,7 @@ pub cut_stands : (old new : Seen) (number : ℕ) → OnlySeats old new
       replies = put world.replies number [];
     })
 unfolding put
-cut_stands old new number only seats world s = record {
-  count = s.count ∙ sym seats.2;
-  server = ap server_of only.0 ∙ s.server;
-  seats = one_seat (λ before after. after ≡ record before { link = code.TheVariants.Cut; requests = []; replies = [] })
-      old.seats new.seats number world
-      (record world {
-        links = put world.links number Link.Cut;
-        requests = put world.requests number [];
-        replies = put world.replies number [];
-      }) seats s.seats
-      (λ p. let q : IsSeat (seat_in old.seats number) world number = s.seats number p in
-      rw seats.0 (record {
-        guid = q.guid;
-        client = q.client;
-        link = sym (at_place number Link.Cut (world.links number));
-        requests = sym (at_place number [] (world.requests number));
-        replies = sym (at_place number [] (world.replies number));
-      }))
-      (λ m ne. refl)
-      (λ m ne. off_place m number Link.Cut (world.links m) ne)
-      (λ m ne. off_place m number [] (world.requests m) ne)
-      (λ m ne. off_place m number [] (world.replies m) ne);
-  facts = ap (map fact_of) only.1 ∙ s.facts;
-  sound = s.sound;
-  waiting = s.waiting;
-  keys = s.keys;
-  writing = λ n p. s.writing n (p.0, omega (arith, p.1, seats.2));
-}
+cut_stands old new number only seats world s = grind arith
 
 -- ---- queues
 
@@ -96,33 +69,7 @@ pub popped_request : (old new : Seen) (number : ℕ) (request : code_request.Req
     → (world.requests number ≡ request_of request ∷ map request_of (seat_in new.seats number).requests)
     × Stands new (record world { requests = put world.requests number (map request_of (seat_in new.seats number).requests) })
 unfolding put
-popped_request old new number request only seats there world s =
-    let rest : List Request = map request_of (seat_in new.seats number).requests in
-    let q : IsSeat (seat_in old.seats number) world number = s.seats number there in
-    let was : IsSeat (record (seat_in new.seats number) { requests = request ∷ (seat_in new.seats number).requests }) world
-    number =
-    subst (λ (x : Seat). IsSeat x world number) seats.0 q in (
-      sym was.requests,
-      record {
-        count = s.count ∙ sym seats.2;
-        server = ap server_of only.0 ∙ s.server;
-        seats = one_seat (PopsRequest (Some request)) old.seats new.seats number world
-            (record world { requests = put world.requests number rest }) seats s.seats
-            (λ p. record {
-              guid = was.guid;
-              client = was.client;
-              link = was.link;
-              requests = sym (at_place number rest (world.requests number));
-              replies = was.replies;
-            })
-            (λ m ne. refl) (λ m ne. refl) (λ m ne. off_place m number rest (world.requests m) ne) (λ m ne. refl);
-        facts = ap (map fact_of) only.1 ∙ s.facts;
-        sound = s.sound;
-        waiting = s.waiting;
-        keys = s.keys;
-        writing = λ n p. s.writing n (p.0, omega (arith, p.1, seats.2));
-      },
-    )
+popped_request old new number request only seats there world s = grind arith
 
 pub no_reply : (old new : Seen) (number : ℕ) → ChangesSeat (PopsReply None) number old.seats new.seats
     → IsPresent number old.seats → (world : World) → Stands old world → world.replies number ≡ []
@@ -134,32 +81,7 @@ pub popped_reply : (old new : Seen) (number : ℕ) (reply : code_reply.Reply) �
     → (world.replies number ≡ reply_of reply ∷ map reply_of (seat_in new.seats number).replies)
     × Stands new (record world { replies = put world.replies number (map reply_of (seat_in new.seats number).replies) })
 unfolding put
-popped_reply old new number reply only seats there world s =
-    let rest : List Reply = map reply_of (seat_in new.seats number).replies in
-    let q : IsSeat (seat_in old.seats number) world number = s.seats number there in
-    let was : IsSeat (record (seat_in new.seats number) { replies = reply ∷ (seat_in new.seats number).replies }) world number =
-    subst (λ (x : Seat). IsSeat x world number) seats.0 q in (
-      sym was.replies,
-      record {
-        count = s.count ∙ sym seats.2;
-        server = ap server_of only.0 ∙ s.server;
-        seats = one_seat (PopsReply (Some reply)) old.seats new.seats number world
-            (record world { replies = put world.replies number rest }) seats s.seats
-            (λ p. record {
-              guid = was.guid;
-              client = was.client;
-              link = was.link;
-              requests = was.requests;
-              replies = sym (at_place number rest (world.replies number));
-            })
-            (λ m ne. refl) (λ m ne. refl) (λ m ne. refl) (λ m ne. off_place m number rest (world.replies m) ne);
-        facts = ap (map fact_of) only.1 ∙ s.facts;
-        sound = s.sound;
-        waiting = s.waiting;
-        keys = s.keys;
-        writing = λ n p. s.writing n (p.0, omega (arith, p.1, seats.2));
-      },
-    )
+popped_reply old new number reply only seats there world s = grind arith
 
 -- a request is sent in a client's name
 pub sent_stands : (old new : Seen) (number : ℕ) (request : code_request.Request) → OnlySeats old new

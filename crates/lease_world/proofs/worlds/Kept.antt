@@ -1,5 +1,5 @@
 -- Messages that are kept with what happens.
-use Rattle.std.proofs.Common.{◌≡◌, List, [], ◌++◌, map, Option, Some, None, refl, sym, ap, ◌∙◌}
+use Rattle.std.proofs.Common.{◌≡◌, List, [], ◌++◌, map, Option, Some, None, refl, sym, ap, ◌∙◌, arith}
 use Rattle.std.specs.Option.{option_map}
 use Rattle.std.proofs.lemmas.List.{append-nil, append_assoc, map-append}
 use Rattle.lease_laws.proofs.messages.ReadBack as readback
@@ -47,8 +47,7 @@ quiet_first old middle new more quiet keeps = keeps_both old middle new [] more 
 
 -- nothing is kept after it
 pub quiet_last : (old middle new : Seen) (more : List Reply) → Keeps more old middle → IsQuiet middle new → Keeps more old new
-quiet_last old middle new more keeps quiet =
-    ap (λ (o : Option (List code.Reply)). option_map (map reply_of) o) quiet ∙ keeps
+quiet_last old middle new more keeps quiet = grind arith
 
 as_rules : (o : Option (List code.Reply)) (more : List code.Reply)
     → option_map (map reply_of) (option_map (λ kept. kept ++ more) o)

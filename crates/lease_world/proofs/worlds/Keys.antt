@@ -32,38 +32,18 @@ abbrev ResultIsFull : Result CreateView WireFault → Type 0
 ResultIsFull (Ok v) = ViewIsFull v
 ResultIsFull (Err fault) = ⊤
 
-first_sixteen : (body : List ℕ) → length body ≡ 32 → length (bytes_at 0 16 body) ≡ 16
-first_sixteen body e = grind (arith, length-take-le)
-
 lease_full : (direction : Direction) (body : List ℕ) (b : Bool) → (length body == 32) ≡ b
     → MeansFull (if b then Meaning.Lease (lease_view direction body) else Meaning.Unknown)
-lease_full Direction.Request body true e = let l : length body ≡ 32 = grind arith in first_sixteen body l
-lease_full Direction.Reply body true e = let l : length body ≡ 32 = grind arith in first_sixteen body l
-lease_full direction body false e = tt
+lease_full x1 body x3 e = grind arith
 
 durable_full : (direction : Direction) (body : List ℕ) → MeansFull (durable_meaning direction body)
-durable_full Direction.Request body = go (length body == 16)
-  where
-    go : (b : Bool) → MeansFull (if b then Meaning.Durable else Meaning.WrongLength)
-    go true = tt
-    go false = tt
-durable_full Direction.Reply body = go (length body == 8)
-  where
-    go : (b : Bool) → MeansFull (if b then Meaning.Durable else Meaning.WrongLength)
-    go true = tt
-    go false = tt
+durable_full x1 body = grind arith
 
 reconnect_full : (direction : Direction) (body : List ℕ) → MeansFull (reconnect_meaning direction body)
-reconnect_full Direction.Request body = go (length body == 16) _
-  where
-    go : (b : Bool) (n : ℕ) → MeansFull (if b then Meaning.Reconnect n else Meaning.WrongLength)
-    go true n = tt
-    go false n = tt
-reconnect_full Direction.Reply body = tt
+reconnect_full x1 body = grind arith
 
 one_of : (b : Bool) (x y : Meaning) → MeansFull x → MeansFull y → MeansFull (if b then x else y)
-one_of true x y f g = f
-one_of false x y f g = g
+one_of x1 x y f g = grind arith
 
 meaning_full : (direction : Direction) (context : ContextView) → MeansFull (meaning_of direction context)
 unfolding meaning_of
@@ -74,28 +54,11 @@ meaning_full direction context =
 
 with_full : (v : CreateView) (place : ℕ) (meaning : Meaning) → ViewIsFull v → MeansFull meaning
     → ResultIsFull (with_meaning v place meaning)
-with_full v place Meaning.Unknown h m = h
-with_full v place Meaning.WrongLength h m = tt
-with_full v place (Meaning.Lease lease) h m = go v.lease
-  where
-    go : (o : Option LeaseView) → ResultIsFull (with_lease v place lease o)
-    go None = m
-    go (Some other) = tt
-with_full v place Meaning.Durable h m = go v.durable
-  where
-    go : (b : Bool) → ResultIsFull (with_durable v place b)
-    go false = h
-    go true = tt
-with_full v place (Meaning.Reconnect file_id) h m = go v.reconnect
-  where
-    go : (o : Option ℕ) → ResultIsFull (with_reconnect v place file_id o)
-    go None = h
-    go (Some other) = tt
+with_full v place x3 h m = grind arith
 
 carried_full : (r : Result CreateView WireFault) (further : CreateView → Result CreateView WireFault) → ResultIsFull r
     → ((v : CreateView) → ViewIsFull v → ResultIsFull (further v)) → ResultIsFull (carried r further)
-carried_full (Ok v) further h f = f v h
-carried_full (Err fault) further h f = tt
+carried_full x1 further h f = grind arith
 
 gathered_full : (direction : Direction) (v : CreateView) (items : List Item) → ViewIsFull v
     → ResultIsFull (gathered direction v items)
@@ -107,14 +70,9 @@ gathered_full direction v (Ok context ∷ items) h =
     (with_full v context.place (meaning_of direction context) h (meaning_full direction context))
     (λ w k. gathered_full direction w items k)
 
-lease_kept : (o : Option LeaseView) → IfSome o IsFull → IfSome (option_map lease_wanted o) (λ lease. length lease.key ≡ 16)
-lease_kept None h = tt
-lease_kept (Some lease) h = h
-
 ask_full : (file : ℕ) (access : Access) (share : Share) (r : Result CreateView WireFault) → ResultIsFull r
     → HasFullKey (FileRequest.Create file access share (ask_found r))
-ask_full file access share (Ok v) h = lease_kept v.lease h
-ask_full file access share (Err fault) h = tt
+ask_full file access share x4 h = grind arith
 
 pub request_keys : (client : ℕ) (request : real.Request) → CallHasFullKey (Call.Receive client (request_of request))
 request_keys client (real.TheVariants.Create file access share contexts) =

@@ -29,19 +29,7 @@ speaking_both (fact ∷ xs) ys = let rest = speaking_both xs ys in go fact rest
   where
     go : (f : Fact) → speaking (xs ++ ys) ≡ speaking xs + speaking ys
         → speaking ((f ∷ xs) ++ ys) ≡ speaking (f ∷ xs) + speaking ys
-    go (Fact.Start a b) e = e
-    go (Fact.Joined a) e = e
-    go (Fact.Dropped a) e = e
-    go (Fact.Expired a b) e = e
-    go (Fact.Sent a) e = omega (arith, e)
-    go (Fact.Took a) e = omega (arith, e)
-    go (Fact.Opened a b) e = e
-    go (Fact.Changed a b c d) e = e
-    go (Fact.Wrote a b c d f) e = e
-    go (Fact.Settled a b c) e = e
-    go (Fact.Believes a b c) e = e
-    go (Fact.CachedRead a b c) e = e
-    go (Fact.Strayed a) e = e
+    go x1 e = grind arith
 
 -- as many facts of a world speak of a message
 abbrev said : World → ℕ
@@ -156,9 +144,7 @@ stray_says world client request Link.Up = happened_says world (Fact.Strayed clie
 if_says : (b c : Bool) (world other : World) (messages : List Reply) → said other ≡ said world + length messages
     → said (if b then (if c then other else world) else world)
     ≡ said world + length (if b then (if c then messages else []) else [])
-if_says true true world other messages e = e
-if_says true false world other messages e = omega arith
-if_says false c world other messages e = omega arith
+if_says x1 x2 world other messages e = grind arith
 
 applied_says : (world : World) (event : Event) → said (applied world event) ≡ said world + length (messages_of world event)
 unfolding applied messages_of
