@@ -47,12 +47,13 @@ into_loose_spec 𝓤 𝓛 𝓜 𝓡 wired =
       Goes-dropped 𝓛 0 (plain (λ _. handle.the_row)) yes (λ κs x w. refl),
       (Goes-dropped 𝓛 0 (plain (λ _. Z)) yes (λ κs x w. refl), tt),
     ) #self fn (code.unfolded 𝓤 H 𝓜 𝓡 wired) (λ z are.
-    let κs = z.0.0 in let v = z.0.3.0 in let a = z.0.3.1.0 in let Post : Val
+    let (κs, qs, sides, args, places) = z.0 in let v = args.0 in let other_args = args.1 in
+    let a = other_args.0 in let other_places = places.1 in let Post : Val
     → SProp 𝓤 = (walk_of 𝓛 ended hs c).post z in let Run : List Val
     → SProp 𝓤 = λ ws. WpFn 𝓤 H 𝓣.C 𝓣.Λ fn ws Post in let Out : RattleType = type_at ended.signature.result κs in
-    qed 𝓛 ((‵ ftrue ⊛ ‵ (owns (types_at ended.signature.params κs) z.0.3 z.0.4)) ∷ raw ((c κs z.0.3).requires z.1) ∷ []) ∵ split !
-    $ move ! (1 ∷ []) $ fsplit ! $ handle_out ! v z.0.4.0 (λ ws. move ! (1 ∷ []) $ fsplit ! $ handle_tells (al R Z LZ ghosts)
-    ! a z.0.4.1.0 (λ h ea fits.
+    qed 𝓛 ((‵ ftrue ⊛ ‵ (owns (types_at ended.signature.params κs) args places)) ∷ raw ((c κs args).requires z.1) ∷ []) ∵ split !
+    $ move ! (1 ∷ []) $ fsplit ! $ handle_out ! v places.0 (λ ws. move ! (1 ∷ []) $ fsplit ! $ handle_tells (al R Z LZ ghosts)
+    ! a other_places.0 (λ h ea fits.
     -- [the handle's memory; the allocator; nothing; the tokens; what was asked]
     move ! (2 ∷ 0 ∷ []) $ either_owned R a ! v.held v.at
     (λ is empty. let w : Val = word null_ptr in let out : Val = live 0 vnil in

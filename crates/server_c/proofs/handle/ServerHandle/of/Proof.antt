@@ -36,10 +36,10 @@ of_spec 𝓤 𝓛 𝓜 𝓡 wired =
     ended.kept = (stay_dropped (plain (λ _. Lr)) yes, tt) in
     proved_at 𝓛 ended hs c 𝓜 𝓡 (Goes-dropped 𝓛 0 (plain (λ _. Lr)) yes (λ κs x w. refl), tt) #self fn
     (code.unfolded 𝓤 H 𝓜 𝓡 wired) (λ z are.
-    let κs = z.0.0 in let v = z.0.3.0 in let Post : Val → SProp 𝓤 = (walk_of 𝓛 ended hs c).post z in let Run : List Val
+    let (κs, qs, sides, args, places) = z.0 in let v = args.0 in let Post : Val → SProp 𝓤 = (walk_of 𝓛 ended hs c).post z in let Run : List Val
     → SProp 𝓤 = λ ws. WpFn 𝓤 H 𝓣.C 𝓣.Λ fn ws Post in
-    qed 𝓛 ((‵ ftrue ⊛ ‵ (owns (types_at ended.signature.params κs) z.0.3 z.0.4)) ∷ raw ((c κs z.0.3).requires z.1) ∷ []) ∵ split !
-    $ move ! (1 ∷ []) $ fsplit ! $ loose_out R Z LZ ghosts ! v z.0.4.0 (λ b o h e ws fits.
+    qed 𝓛 ((‵ ftrue ⊛ ‵ (owns (types_at ended.signature.params κs) args places)) ∷ raw ((c κs args).requires z.1) ∷ []) ∵ split !
+    $ move ! (1 ∷ []) $ fsplit ! $ loose_out R Z LZ ghosts ! v places.0 (λ b o h e ws fits.
     let w : Val = both (vptr b o) h in let typed = loose_good R Z LZ ghosts b o h fits in
     suffices ! (Run (w ∷ [])) (subst (λ (us : List Val). ent 𝓤 (Run (w ∷ [])) (Run us)) (sym (λ i. ws i ++ []))
     (id⊢ 𝓤 (Run (w ∷ [])))) $
