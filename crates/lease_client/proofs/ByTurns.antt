@@ -1,5 +1,5 @@
 -- Commands and replies as turns of one entry.
-use Rattle.std.proofs.Common.{◌≡◌, ℕ, ◌==◌, ◌&&◌, ◌||◌, nat_lt, Bool, true, false, not, Option, Some, None, List, [], ◌∷◌, ◌++◌, if◌then◌else◌, refl, ap, sym, ◌∙◌, subst}
+use Rattle.std.proofs.Common.{◌≡◌, ℕ, ◌==◌, ◌&&◌, ◌||◌, nat_lt, Bool, true, false, not, Option, Some, None, List, [], ◌∷◌, ◌++◌, if◌then◌else◌, refl, ap, sym, ◌∙◌, subst, arith}
 use Rattle.lease_state.specs.declared.patch.Patch.{Patch}
 use Rattle.lease_model.specs.client.Commanded as model
 use Rattle.lease_model.specs.client.Commanded.{commanded, turn_of, on_entry, file_of, is_asking, has_unanswered}
@@ -24,8 +24,7 @@ still_step client file entry answer e =
 
 either : (F : Turn → Step) (b : Bool) (one other : Step) (first second : Turn) → one ≡ F first → other ≡ F second
     → (if b then one else other) ≡ F (if b then first else second)
-either F true one other first second a b = a
-either F false one other first second a b = b
+either x1 x2 one other first second a b = grind arith
 
 -- ---- Open
 
@@ -137,10 +136,7 @@ wrote_on : (client : Client) (file : ℕ) (old new : Entry) (answer : Answer) (r
     → model.wrote_step client file new answer requests write
     ≡ wrote client file (rules.wrote_turn file new answer requests write)
 unfolding turned
-wrote_on client file old new answer requests write taken e same =
-    let unsaid : believes_noted file (belief_of (client.entries file)) (belief_of new) ≡ [] =
-    rw (e, same) (unnoted file (belief_of new)) in
-    rw (taken, unsaid) refl
+wrote_on client file old new answer requests write taken e same = grind arith
 
 write_live : (client : Client) (file : ℕ) (live : LiveEntry) (sent : List Pending) (patch : Patch)
     → client.entries file ≡ live_entry live sent

@@ -126,22 +126,13 @@ notes_more turn entries k =
 
 -- ---- the two links
 
-same_connect : (client : Client) (file : ℕ) (sent : List Pending) (phase : Phase)
-    → model.connect_turn client file sent phase ≡ connected_in (lease_key client.guid file) file sent phase
-same_connect client file sent Phase.Closed = refl
-same_connect client file sent phase = refl
-
 pub linked_is : (client : Client) (link : Link)
     → linked client link ≡ all_turned client (is_made link) (link_turn link client.guid)
 unfolding model.noticed model.connection_made
-linked_is client Lost = refl
-linked_is client Made =
-    ap (λ (turn : ℕ → Entry → Turn). all_turned client true turn)
-    (fun_ext (λ file. fun_ext (λ (entry : Entry). same_connect client file entry.sent entry.phase)))
+linked_is client x2 = grind arith
 
 pub leaves_closed : (link : Link) (guid : List ℕ) → LeavesClosed (link_turn link guid)
-leaves_closed Lost guid file = refl
-leaves_closed Made guid file = refl
+leaves_closed x1 guid file = grind arith
 
 -- ---- one turn more of the machine
 

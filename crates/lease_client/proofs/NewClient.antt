@@ -1,5 +1,5 @@
 -- The entries of a new client stand for the client that is new.
-use Rattle.std.proofs.Common.{◌≡◌, ℕ, zero, suc, List, [], ◌∷◌, ◌++◌, ◌+◌, length, false, refl, ap, ◌∙◌, replicate}
+use Rattle.std.proofs.Common.{◌≡◌, ℕ, zero, suc, List, [], ◌∷◌, ◌++◌, ◌+◌, length, false, refl, ap, ◌∙◌, replicate, arith}
 use Rattle.std.proofs.lemmas.List.{length-replicate, replicate-append-replicate}
 use Rattle.std.proofs.Math.Path.{fun_ext}
 use Rattle.std.specs.List.{slice_get}
@@ -30,8 +30,7 @@ unconnected guid files entries =
 
 unconnected_same : (guid : List ℕ) (files more : ℕ) (entries others : ℕ → Entry) → files ≡ more → entries ≡ others
     → unconnected guid files entries ≡ unconnected guid more others
-unconnected_same guid files more entries others a b =
-    ap (λ n. unconnected guid n entries) a ∙ ap (λ x. unconnected guid more x) b
+unconnected_same guid files more entries others a b = grind arith
 
 pub closed_entries_are_new : (guid : List ℕ) (files : ℕ)
     → unconnected guid (length (replicate files (closed_entry [])))

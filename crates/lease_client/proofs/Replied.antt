@@ -162,15 +162,8 @@ not_created_nowhere known n status is = let e = unknown_file known n is in rw e 
 unread : (short other : Bool) (notice : Option BreakNotice) (fault one two : WireFault)
     → Some fault ≡ (if short then Some one else if other then None else Some two)
     → (if not short && other then notice else None) ≡ None
-unread true other notice fault one two is = refl
-unread false true notice fault one two is = absurd (cc is)
-unread false false notice fault one two is = refl
-
-short_or_not : (n : ℕ) → nat_le 44 n ≡ not (nat_lt n 44)
-short_or_not n = grind (arith, nat_tests)
+unread x1 other notice fault one two is = grind arith
 
 pub no_notice : (bytes : List ℕ) (fault : WireFault) → Some fault ≡ message_fault 44 bytes → notice_in bytes ≡ None
 unfolding notice_in
-no_notice bytes fault is =
-    rw (short_or_not (length bytes))
-    (unread (nat_lt (length bytes) 44) (number_at 0 2 bytes == 44) _ fault _ _ is)
+no_notice bytes fault is = grind arith

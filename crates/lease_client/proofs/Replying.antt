@@ -1,5 +1,5 @@
 -- A reply raises no belief, but that of the file whose create it answers.
-use Rattle.std.proofs.Common.{◌≡◌, ℕ, Bool, true, false, not, Option, Some, None, List, [], ◌==◌, ◌&&◌, if◌then◌else◌, bytes_eq, nat_le, length, find, refl, sym, ◌⊎◌, inl, inr, subst}
+use Rattle.std.proofs.Common.{◌≡◌, ℕ, Bool, true, false, not, Option, Some, None, List, [], ◌==◌, ◌&&◌, if◌then◌else◌, bytes_eq, nat_le, length, find, refl, sym, ◌⊎◌, inl, inr, subst, arith}
 use Rattle.lease_client.specs.Links.{linked}
 use Rattle.lease_client.specs.Searches.{is_read_under}
 use Rattle.lease_client.specs.declared.links.Link.{Link}
@@ -25,37 +25,21 @@ use Rattle.lease_client.proofs.Rising.{IsLower, Lowers, lower_if, within_self, m
 -- ---- what a reply to a create gives
 
 never : (b : Bool) → (b && false) ≡ false
-never true = refl
-never false = refl
-
-opposite : (b : Bool) → not b ≡ false → b ≡ true
-opposite true is = refl
-opposite false is = absurd (cc is)
+never x1 = grind arith
 
 either_free : (here free : Bool) → (here && free) ≡ false → (here ≡ false) ⊎ (free ≡ false)
-either_free true free is = inr is
-either_free false free is = inl refl
+either_free x1 free is = grind arith
 
 first_belief_none : (key : List ℕ) (given : Option LeaseGiven) → is_free given ≡ false
     → model.given_state key given ≡ nothing_cached
-first_belief_none key None free = refl
-first_belief_none key (Some given) free =
-    rw (free, never (bytes_eq given.key key)) refl
-
-promoted_within : (key : List ℕ) (old : State) (given : Option LeaseGiven) → is_free given ≡ false
-    → is_state_within (model.promoted_belief key old given) old ≡ true
-promoted_within key old None free = refl
-promoted_within key old (Some given) free =
-    let asked : given.in_progress ≡ true = opposite given.in_progress free in
-    rw asked (within_self old)
+first_belief_none key x2 free = grind arith
 
 created_live : (key : List ℕ) (live : LiveEntry) (sent : List Pending) (file_id : ℕ) (answer : CreateAnswer)
     (asking : Option Asked)
     → is_free answer.lease ≡ false
     → Lowers (live_entry live sent) (created_for key live sent file_id answer asking)
 unfolding model.promoted_turn
-created_live key live sent file_id answer None free = within_self live.belief
-created_live key live sent file_id answer (Some asked) free = promoted_within key live.belief answer.lease free
+created_live key live sent file_id answer x6 free = grind arith
 
 created_lowers : (key : List ℕ) (file_id : ℕ) (answer : CreateAnswer) (sent : List Pending) (phase : Phase)
     → is_free answer.lease ≡ false
@@ -73,60 +57,35 @@ created_lowers key file_id answer sent phase free = refl
 
 not_created_live : (live : LiveEntry) (sent : List Pending) (status : Status) (asking : Option Asked)
     → Lowers (live_entry live sent) (not_created_for live sent status asking)
-not_created_live live sent status None = within_self live.belief
-not_created_live live sent status (Some asked) = within_self live.belief
+not_created_live live sent status x4 = grind arith
 
 not_created_lowers : (status : Status) (sent : List Pending) (phase : Phase)
     → Lowers (record { phase = phase; sent = sent }) (not_created_in status sent phase)
-not_created_lowers status sent (Phase.Live live) = not_created_live live sent status live.asking
-not_created_lowers status sent phase = refl
+not_created_lowers status sent x3 = grind arith
 
 read_lowers : (bytes : List ℕ) (sent : List Pending) (phase : Phase)
     → Lowers (record { phase = phase; sent = sent }) (read_in bytes sent phase)
 unfolding model.read_turn
-read_lowers bytes sent (Phase.Live live) = within_self live.belief
-read_lowers bytes sent phase = refl
-
--- an entry without its open believes nothing
-closed_lowers : (live : LiveEntry) (sent : List Pending) (notes : List Note) (status : Status) (asking : Option Asked)
-    → IsLower (live_entry live sent) (model.without_open asking sent)
-closed_lowers live sent notes status None = refl
-closed_lowers live sent notes status (Some asked) = refl
+read_lowers bytes sent x3 = grind arith
 
 not_read_lowers : (status : Status) (sent : List Pending) (phase : Phase)
     → Lowers (record { phase = phase; sent = sent }) (not_read_in status sent phase)
 unfolding model.read_failed_turn model.closed_by_server
-not_read_lowers status sent (Phase.Live live) =
-    lower_if (live_entry live sent) (model.is_file_closed status) _ _ (closed_lowers live sent [] status live.asking)
-    (within_self live.belief)
-not_read_lowers status sent phase = refl
+not_read_lowers status sent x3 = grind arith
 
 broken_lowers : (notice : BreakNotice) (sent : List Pending) (phase : Phase)
     → Lowers (record { phase = phase; sent = sent }) (broken_in notice sent phase)
 unfolding model.break_turn model.parked_closed model.belief_lowered
-broken_lowers notice sent (Phase.Live live) =
-    lower_if (live_entry live sent) (live.handles == 0 && (live.belief.handle && not (meet live.belief notice.lowered).handle)) _
-    _
-    refl (meet_within live.belief notice.lowered)
-broken_lowers notice sent phase = refl
-
-phase_lowers : (write : Option Pending) (sent more : List Pending) (phase : Phase)
-    → IsLower (record { phase = phase; sent = sent }) (record { phase = model.phase_with write phase; sent = more })
-phase_lowers write sent more (Phase.Live live) = within_self live.belief
-phase_lowers write sent more phase = refl
+broken_lowers notice sent x3 = grind arith
 
 written_lowers : (number : ℕ) (entry : Entry) → Lowers entry (model.write_done_turn number entry)
 unfolding model.write_done_turn
-written_lowers number entry = phase_lowers (find (model.is_numbered number) entry.sent) entry.sent
-    (model.sent_without number entry.sent) entry.phase
+written_lowers number entry = grind arith
 
 not_written_lowers : (file_id number : ℕ) (status : Status) (sent more : List Pending) (phase : Phase)
     → Lowers (record { phase = phase; sent = sent }) (model.write_failed_in file_id number status more phase)
 unfolding model.closed_by_server
-not_written_lowers file_id number status sent more (Phase.Live live) =
-    lower_if (live_entry live sent) (model.is_file_closed status && live.file_id == file_id) _ _
-    (closed_lowers live more [] status live.asking) (within_self live.belief)
-not_written_lowers file_id number status sent more phase = refl
+not_written_lowers file_id number status sent more x6 = grind arith
 
 -- ---- steps
 
@@ -136,13 +95,11 @@ quiet_none client file = within_self (belief_of (client.entries file))
 found_none : (client : Client) (file : Option ℕ) (step : ℕ → Step)
     → ((n : ℕ) → NoneRose client (step n).client)
     → NoneRose client (model.on_file client file step).client
-found_none client None step none = quiet_none client
-found_none client (Some file) step none = none file
+found_none client x2 step none = grind arith
 
 none_if : (client : Client) (b : Bool) (one other : Step) → NoneRose client one.client → NoneRose client other.client
     → NoneRose client (if b then one else other).client
-none_if client true one other a b = a
-none_if client false one other a b = b
+none_if client x2 one other a b = grind arith
 
 -- a reply to a create raises the belief of no other file
 created_rises : (client : Client) (file file_id : ℕ) (answer : Option CreateAnswer)
@@ -241,8 +198,7 @@ replies_raise client reply n other = quiet_none client n
 
 live_none : (live : LiveEntry) (sent : List Pending) → Lowers (live_entry live sent) (connection.live_noticed live sent)
 unfolding connection.live_noticed connection.live_parted
-live_none live sent = lower_if (live_entry live sent) live.durable _ _ (lower_if (live_entry live sent) live.belief.write _ _ refl
-    refl) refl
+live_none live sent = grind arith
 
 notice_lowers : (sent : List Pending) (phase : Phase)
     → Lowers (record { phase = phase; sent = sent }) (connection.notice_turn sent phase)
@@ -251,8 +207,7 @@ notice_lowers sent phase = refl
 
 connect_lowers : (client : Client) (file : ℕ) (sent : List Pending) (phase : Phase)
     → Lowers (record { phase = phase; sent = sent }) (connection.connect_turn client file sent phase)
-connect_lowers client file sent (Phase.Live live) = within_self live.belief
-connect_lowers client file sent phase = refl
+connect_lowers client file sent x4 = grind arith
 
 pub notices_raise_none : (client : Client) → NoneRose client (connection.noticed client).client
 unfolding connection.noticed connection.all_turned

@@ -35,28 +35,19 @@ Lowers entry turn = IsLower entry turn.entry
 
 pub lower_if : (entry : Entry) (b : Bool) (first second : Turn) → Lowers entry first → Lowers entry second
     → Lowers entry (if b then first else second)
-lower_if entry true first second one other = one
-lower_if entry false first second one other = other
+lower_if entry x2 first second one other = grind arith
 
 -- a turn of one entry raises no belief where it doesn't raise the entry's
 pub turned_lower : (client : Client) (file : ℕ) (turn : Turn) → Lowers (client.entries file) turn
     → NoneRose client (turned client file turn).client
 unfolding turned put
-turned_lower client file turn lower n =
-    elim (cases_eq n file) [
-      | inl same ↦ let e : eqb n file ≡ true = grind (arith, nat_tests, same) in
-          rw (e, same) lower
-      | inr apart ↦ let e : eqb n file ≡ false = grind (arith, nat_tests, apart) in
-          rw e (within_self (belief_of (client.entries n)))
-    ]
+turned_lower client file turn lower n = grind arith
 
 -- and that of no other file
 pub turned_apart : (client : Client) (file : ℕ) (turn : Turn) (n : ℕ) → (file == n) ≡ false
     → IsNoMore client (turned client file turn).client n
 unfolding turned put
-turned_apart client file turn n apart =
-    let e : eqb n file ≡ false = grind (arith, nat_tests, apart) in
-    rw e (within_self (belief_of (client.entries n)))
+turned_apart client file turn n apart = grind arith
 
 -- ---- commands
 
@@ -76,24 +67,15 @@ open_lowers online key file terms sent phase = refl
 heard_lowers : (turn : LiveEntry → List Pending → Turn) (sent : List Pending) (phase : Phase)
     → ((live : LiveEntry) → Lowers (live_entry live sent) (turn live sent))
     → Lowers (record { phase = phase; sent = sent }) (rules.heard_in turn sent phase)
-heard_lowers turn sent (Phase.Live live) lowers =
-    lower_if (live_entry live sent) (live.handles == 0) _ _ (within_self live.belief) (lowers live)
-heard_lowers turn sent phase lowers = refl
+heard_lowers turn sent x3 lowers = grind arith
 
 close_lowers : (sent : List Pending) (live : LiveEntry) → Lowers (live_entry live sent) (rules.close_turn live sent)
 unfolding rules.close_turn rules.last_close_turn
-close_lowers sent live =
-    let same = within_self live.belief in
-    lower_if (live_entry live sent) (nat_lt 1 live.handles) _ _ same
-    (lower_if (live_entry live sent) (is_asking live || has_unanswered live sent) _ _ same
-    (lower_if (live_entry live sent) live.belief.handle _ _ same refl))
+close_lowers sent live = grind arith
 
 read_sent_lowers : (sent : List Pending) (live : LiveEntry) → Lowers (live_entry live sent) (rules.read_sent_turn live sent)
 unfolding rules.read_sent_turn
-read_sent_lowers sent live =
-    let same = within_self live.belief in
-    lower_if (live_entry live sent) (is_asking live) _ _ same (lower_if (live_entry live sent) (live.reads == count_limit) _ _
-    same same)
+read_sent_lowers sent live = grind arith
 
 read_from_lowers : (file : ℕ) (sent : List Pending) (live : LiveEntry) (reads : Bool) (base : Option (List ℕ))
     → Lowers (live_entry live sent) (rules.read_from_turn file live sent reads base)
@@ -111,12 +93,7 @@ read_lowers file sent live =
 write_lowers : (file last : ℕ) (patch : Patch) (sent : List Pending) (live : LiveEntry)
     → Lowers (live_entry live sent) (rules.write_turn file live sent last patch)
 unfolding rules.write_turn rules.taken_turn rules.buffered_turn rules.through_turn
-write_lowers file last patch sent live =
-    let same = within_self live.belief in
-    lower_if (live_entry live sent) (not (may_write live.access)) _ _ same
-    (lower_if (live_entry live sent) (not (is_within_limit patch)) _ _ same
-    (lower_if (live_entry live sent) (last == last_write_number) _ _ same
-    (lower_if (live_entry live sent) live.belief.write _ _ same same)))
+write_lowers file last patch sent live = grind arith
 
 flush_lowers : (sent : List Pending) (live : LiveEntry) → Lowers (live_entry live sent) (rules.flush_turn live sent)
 unfolding rules.flush_turn

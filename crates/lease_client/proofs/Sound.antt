@@ -1,5 +1,5 @@
 -- What a call leaves behind keeps the laws of clients.
-use Rattle.std.proofs.Common.{◌≡◌, refl, ap, sym, subst, ◌∙◌}
+use Rattle.std.proofs.Common.{◌≡◌, refl, ap, sym, subst, ◌∙◌, arith}
 use Rattle.lease_laws.specs.client.Laws.{IsSoundClient, ClientsStaySound}
 use Rattle.lease_model.specs.client.Calls.{ClientCall, client_called}
 use Rattle.lease_model.specs.client.State.{Client}
@@ -17,8 +17,7 @@ call_of Lost = ClientCall.Noticed
 call_of Made = ClientCall.Connected
 
 called_is : (client : Client) (link : Link) → linked client link ≡ client_called client (call_of link)
-called_is client Lost = refl
-called_is client Made = refl
+called_is client x2 = grind arith
 
 pub sound_linked : ClientsStaySound → (client : Client) (link : Link) (after : Client) → IsSoundClient client
     → after ≡ (linked client link).client → IsSoundClient after

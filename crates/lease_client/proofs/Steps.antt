@@ -1,5 +1,5 @@
 -- Calls that go by one entry.
-use Rattle.std.proofs.Common.{◌≡◌, ℕ, true, List, [], refl, ap, ◌∙◌}
+use Rattle.std.proofs.Common.{◌≡◌, ℕ, true, List, [], refl, ap, ◌∙◌, arith}
 use Rattle.lease_state.specs.State.{State}
 use Rattle.lease_laws.specs.client.Laws.{RefusedCommandsDoNothing}
 use Rattle.lease_model.specs.client.Commanded.{commanded, file_of}
@@ -61,16 +61,10 @@ turn_refused known command n key is of k refused =
     let there : knows_file (client_of known) (file_of command) ≡ true = rw (← of) is in
     rw (k, of) (rw (commanded_by (client_of known) command there) at refused)
 
-refused_is : (answer : Answer) → is_refused answer ≡ true → (refusal : Refusal) × (answer ≡ Answer.Refused refusal)
-refused_is (Answer.Refused refusal) is = (refusal, refl)
-refused_is answer is = absurd (cc is)
-
 -- a refused command notes nothing
 unnoted_refusal : RefusedCommandsDoNothing → (client : Client) (command : Command)
     → is_refused (commanded client command).answer ≡ true → (commanded client command).notes ≡ []
-unnoted_refusal law client command refused =
-    let r = refused_is (commanded client command).answer refused in
-    ap (λ (s : Step). s.notes) (law client command r.0 r.1)
+unnoted_refusal law client command refused = grind arith
 
 pub belief_stays : RefusedCommandsDoNothing → (known : Known) (command : Command) (n : ℕ) (key : List ℕ)
     (old new : State) (final : Known)

@@ -19,8 +19,7 @@ use Rattle.lease_client.proofs.Entries.{client_set, file_there, number_set}
 -- ---- a turn that leaves the entry as it is
 
 beq_same : (b : Bool) → beq b b ≡ true
-beq_same true = refl
-beq_same false = refl
+beq_same x1 = grind arith
 
 pub state_same : (state : State) → same_state state state ≡ true
 state_same state = rw (beq_same state.read, beq_same state.write, beq_same state.handle) refl
@@ -133,8 +132,7 @@ nothing_after known answer given is = rw is (record { client = refl; answer = re
 
 unsaid_if : (same : Bool) (file : ℕ) (new : State)
     → (if same then [] else Note.Believes file new ∷ []) ≡ [] → same ≡ true
-unsaid_if true file new none = refl
-unsaid_if false file new none = absurd (cc none)
+unsaid_if x1 file new none = grind arith
 
 unsaid : (notes : List Note) (file : ℕ) (old new : State)
     → notes ++ believes_noted file old new ≡ [] → same_state old new ≡ true
