@@ -74,27 +74,13 @@ flaw_of place w t s l d =
     else Verdict.Safe))))
 
 malformed-of : (n p : ℕ) (w t s l d : Bool) → flaw_of n w t s l d ≡ Verdict.Malformed p → (p ≡ n) × (w ≡ false)
-malformed-of n p false t s l d e = let same : n ≡ p = cc in (sym same, refl)
-malformed-of n p true true s l d e = let no : ⊥ = cc in absurd no
-malformed-of n p true false true l d e = let no : ⊥ = cc in absurd no
-malformed-of n p true false false true d e = let no : ⊥ = cc in absurd no
-malformed-of n p true false false false true e = let no : ⊥ = cc in absurd no
-malformed-of n p true false false false false e = let no : ⊥ = cc in absurd no
+malformed-of n p x3 t s l d e = grind arith
 
 abbrev ByRule : ℕ → Bool → Bool → Bool → Bool → Type 0
 ByRule r t s l d = ((r ≡ 1) × (t ≡ true)) ⊎ (((r ≡ 2) × (s ≡ true)) ⊎ (((r ≡ 3) × (l ≡ true)) ⊎ ((r ≡ 4) × (d ≡ true))))
 
 unsafe-of : (n p r : ℕ) (w t s l d : Bool) → flaw_of n w t s l d ≡ Verdict.Unsafe p r → (p ≡ n) × ByRule r t s l d
-unsafe-of n p r false t s l d e = let no : ⊥ = cc in absurd no
-unsafe-of n p r true true s l d e =
-    let same : n ≡ p = cc in let rule : 1 ≡ r = cc in (sym same, inl (sym rule, refl))
-unsafe-of n p r true false true l d e =
-    let same : n ≡ p = cc in let rule : 2 ≡ r = cc in (sym same, inr (inl (sym rule, refl)))
-unsafe-of n p r true false false true d e =
-    let same : n ≡ p = cc in let rule : 3 ≡ r = cc in (sym same, inr (inr (inl (sym rule, refl))))
-unsafe-of n p r true false false false true e =
-    let same : n ≡ p = cc in let rule : 4 ≡ r = cc in (sym same, inr (inr (inr (sym rule, refl))))
-unsafe-of n p r true false false false false e = let no : ⊥ = cc in absurd no
+unsafe-of n p r x4 t s l d e = grind arith
 
 -- ---- the fact at an index
 
@@ -154,28 +140,16 @@ unsafe-at xs k x r inside is e =
     (flaw-at xs k x (Verdict.Unsafe (k + 1) r) inside is bad (omega (arith, place)))).1
 
 pub by-one : (r : ℕ) (t s l d : Bool) → r ≡ 1 → ByRule r t s l d → t ≡ true
-by-one r t s l d e (inl h) = h.1
-by-one r t s l d e (inr (inl h)) = absurd (omega (arith, h.0))
-by-one r t s l d e (inr (inr (inl h))) = absurd (omega (arith, h.0))
-by-one r t s l d e (inr (inr (inr h))) = absurd (omega (arith, h.0))
+by-one r t s l d e x7 = grind arith
 
 pub by-two : (r : ℕ) (t s l d : Bool) → r ≡ 2 → ByRule r t s l d → s ≡ true
-by-two r t s l d e (inl h) = absurd (omega (arith, h.0))
-by-two r t s l d e (inr (inl h)) = h.1
-by-two r t s l d e (inr (inr (inl h))) = absurd (omega (arith, h.0))
-by-two r t s l d e (inr (inr (inr h))) = absurd (omega (arith, h.0))
+by-two r t s l d e x7 = grind arith
 
 pub by-three : (r : ℕ) (t s l d : Bool) → r ≡ 3 → ByRule r t s l d → l ≡ true
-by-three r t s l d e (inl h) = absurd (omega (arith, h.0))
-by-three r t s l d e (inr (inl h)) = absurd (omega (arith, h.0))
-by-three r t s l d e (inr (inr (inl h))) = h.1
-by-three r t s l d e (inr (inr (inr h))) = absurd (omega (arith, h.0))
+by-three r t s l d e x7 = grind arith
 
 pub by-four : (r : ℕ) (t s l d : Bool) → r ≡ 4 → ByRule r t s l d → d ≡ true
-by-four r t s l d e (inl h) = absurd (omega (arith, h.0))
-by-four r t s l d e (inr (inl h)) = absurd (omega (arith, h.0))
-by-four r t s l d e (inr (inr (inl h))) = absurd (omega (arith, h.0))
-by-four r t s l d e (inr (inr (inr h))) = h.1
+by-four r t s l d e x7 = grind arith
 
 -- the reason of a fact is one of its place
 pub reason-at : (xs : List code.Fact) (k : ℕ) (x : code.Fact) (broken : Option Rule) (told : Option Reason) → k < length xs

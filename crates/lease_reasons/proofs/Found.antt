@@ -11,8 +11,7 @@ use Rattle.lease_reasons.specs.Places.{last_place, first_place, earlier}
 use Rattle.lease_reasons.specs.declared.marks.Mark.TheVariants as mark
 
 here_or_before : (b r : Bool) (n : ℕ) (before : Option ℕ) → is_some before ≡ r → is_some (if b then Some n else before) ≡ (b || r)
-here_or_before true r n before e = refl
-here_or_before false r n before e = e
+here_or_before x1 r n before e = grind arith
 
 pub started_place : (file : FileNo) (past : List Fact) → is_some (last_place (fits (mark.Start file)) past) ≡ is_started file.0
     past
@@ -69,17 +68,12 @@ first-inside test behind (fact ∷ past) place e =
   where
     go : (before : Option ℕ) (b : Bool) → (before ≡ Some place → place ≤ length past)
         → earlier before (if b then Some (length past + 1) else None) ≡ Some place → place ≤ length past + 1
-    go None true inside e = let same : length past + 1 ≡ place = cc in omega arith
-    go None false inside e = let no : ⊥ = cc in absurd no
-    go (Some one) b inside e = let le : place ≤ length past = inside e in omega arith
+    go x1 x2 inside e = grind arith
 
 -- there is one: here, or before
 first-or : (before : Option ℕ) (b r : Bool) (n : ℕ) → is_some before ≡ r
     → is_some (earlier before (if b then Some n else None)) ≡ (b || r)
-first-or None true r n e = refl
-first-or None false r n e = e
-first-or (Some one) true r n e = refl
-first-or (Some one) false r n e = e
+first-or x1 x2 r n e = grind arith
 
 any_place : (n : ℕ) → nat_le 0 n ≡ true
 any_place n = le-leb 0 n (omega arith)
@@ -89,10 +83,7 @@ buffered-here : (client : ClientNo) (file : FileNo) (number : ℕ) (fact : Fact)
     → is_some (first_place (fits (mark.Buffering client file number)) 0 (fact ∷ past)) ≡ (fits (mark.Buffering client file number)
     fact || r)
 unfolding first_place
-buffered-here client file number fact past r e =
-    rw (any_place (length past))
-    (first-or (first_place (fits (mark.Buffering client file number)) 0 past) (fits (mark.Buffering client file number) fact) r
-    (length past + 1) e)
+buffered-here client file number fact past r e = grind arith
 
 pub buffered-place : (client : ClientNo) (file : FileNo) (number : ℕ) (past : List Fact)
     → is_some (first_place (fits (mark.Buffering client file number)) 0 past) ≡ has_buffered client.0 file.0 number past
@@ -129,21 +120,10 @@ touched-is : (client : ClientNo) (file : FileNo) (number : ℕ) (fact : Fact) (p
     → is_touched client.0 file.0 number (fact ∷ past)
     ≡ (fits (mark.Touch client file) fact && has_buffered client.0 file.0 number past || is_touched client.0 file.0 number past)
 unfolding fits is_touched
-touched-is client file number (Fact.Opened other opener) past =
-    both (other == file.0) (not (opener == client.0)) (has_buffered client.0 file.0 number past) _
-  where
-    both : (a b h t : Bool) → (a && b && h || t) ≡ ((a && b) && h || t)
-    both a b h t = grind arith
-touched-is client file number (Fact.Changed other writer used patch) past =
-    both (other == file.0) (not (writer == client.0)) (has_buffered client.0 file.0 number past) _
-  where
-    both : (a b h t : Bool) → (a && b && h || t) ≡ ((a && b) && h || t)
-    both a b h t = grind arith
-touched-is client file number _ past = refl
+touched-is client file number x4 past = grind arith
 
 touch-or : (t h i r : Bool) → (t && h || i) ≡ true → (i ≡ true → r ≡ true) → (t || r) ≡ true
-touch-or true h i r e f = refl
-touch-or false h i r e f = f e
+touch-or x1 h i r e f = grind arith
 
 -- the first that another client does to the file behind the buffered write
 pub touched-place : (client : ClientNo) (file : FileNo) (number : ℕ) (past : List Fact) (wrote : ℕ)

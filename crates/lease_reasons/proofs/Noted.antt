@@ -33,8 +33,7 @@ each-filter P t [] all = tt
 each-filter P t (x ∷ xs) all = go (t x) refl (each-filter P t xs all.1)
   where
     go : (b : Bool) → t x ≡ b → Each (λ x. P x × (t x ≡ true)) (filter t xs) → Each (λ x. P x × (t x ≡ true)) (filter t (x ∷ xs))
-    go true e rest = rw e ((all.0, e), rest)
-    go false e rest = rw e rest
+    go x1 e rest = grind arith
 
 any-append : {X : Type 0} (t : X → Bool) (xs ys : List X) → list_any t (xs ++ ys) ≡ (list_any t xs || list_any t ys)
 any-append t [] ys = refl
@@ -59,10 +58,7 @@ last-there client other state past file c e = rw e refl
 last-of_other : (client other : ℕ) (state : State) (past : List Fact) (file c : ℕ) → (other == file) ≡ false
     → last_noted c file (Fact.Believes client other state ∷ past) ≡ last_noted c file past
 unfolding last_noted
-last-of_other client other state past file c e = rw (e, no_and (client == c)) refl
-  where
-    no_and : (a : Bool) → (a && false) ≡ false
-    no_and a = grind arith
+last-of_other client other state past file c e = grind arith
 
 flipped : (a b : ℕ) → not (a == b) ≡ true → (b == a) ≡ false
 flipped a b e = grind arith
@@ -177,8 +173,7 @@ believed-is client file (Fact.Believes other of_file state ∷ past) = go (other
     go : (b : Bool) → believed client file past ≡ state_in (last_noted client file past)
         → (if b then state else believed client file past)
         ≡ state_in (if b then Some (record { place = length past + 1; state = state }) else last_noted client file past)
-    go true e = refl
-    go false e = e
+    go x1 e = grind arith
 believed-is client file (_ ∷ past) = believed-is client file past
 
 holds-write : (s : State) → s.write ≡ true → holds_any s ≡ true
@@ -194,8 +189,7 @@ noted-if_holds client file past holds = go (last_noted client file past) (sym (a
     file past)) ∙ holds)
   where
     go : (o : Option Noted) → holds_any (state_in o) ≡ true → is_some o ≡ true
-    go None h = absurd (both_ways _ refl h)
-    go (Some noted) h = refl
+    go x1 h = grind arith
 
 -- among beliefs that were gathered is that of a client that has one, and it is what the client believes
 pub any-noted : (past : List Fact) (file c : ℕ) (t : Belief → Bool) (beliefs : List Belief)
@@ -212,11 +206,7 @@ any-noted past file c t (b ∷ beliefs) each there holds good passes =
   where
     rest : (m : Bool) → list_any t (filter (may_clash past) beliefs) ≡ true
         → list_any t (if m then b ∷ filter (may_clash past) beliefs else filter (may_clash past) beliefs) ≡ true
-    rest true e = right (t b) _ e
-      where
-        right : (a r : Bool) → r ≡ true → (a || r) ≡ true
-        right a r e = grind arith
-    rest false e = e
+    rest x1 e = grind arith
 
     first : is_of c b ≡ true → list_any t (filter (may_clash past) (b ∷ beliefs)) ≡ true
     first here =
@@ -233,8 +223,7 @@ find-some t [] there none = both_ways _ refl there
 find-some t (x ∷ xs) there none = go (t x) refl (λ e n. find-some t xs e n)
   where
     go : (b : Bool) → t x ≡ b → (list_any t xs ≡ true → find t xs ≡ None → ⊥) → ⊥
-    go true e later = let f : find t (x ∷ xs) ≡ Some x = rw e refl in let no : ⊥ = cc in no
-    go false e later = later (sym (ap (λ (b : Bool). b || list_any t xs) e) ∙ there) (rw e at none)
+    go x1 e later = grind arith
 
 find-each : {X : Type 0} (P : X → Type 0) (t : X → Bool) (xs : List X) (found : X) → Each P xs → find t xs ≡ Some found
     → P found × (t found ≡ true)
@@ -242,11 +231,7 @@ find-each P t [] found all e = let no : ⊥ = cc in absurd no
 find-each P t (x ∷ xs) found all e = go (t x) refl (λ f. find-each P t xs found all.1 f)
   where
     go : (b : Bool) → t x ≡ b → (find t xs ≡ Some found → P found × (t found ≡ true)) → P found × (t found ≡ true)
-    go true h later =
-        let f : find t (x ∷ xs) ≡ Some x = rw h refl in
-        let same : x ≡ found = cc in
-        (subst P same all.0, ap t (sym same) ∙ h)
-    go false h later = later (rw h at e)
+    go x1 h later = grind arith
 
 -- what is true of each belief that may clash
 Clashes : List Fact → ℕ → Belief → Type 0
@@ -289,13 +274,13 @@ rivals-found past file beliefs n = by_writer (find (λ b. (state_of b.state).wri
     by_other w at (Some o) found =
         let one : Clashes past file w × ((state_of w.state).write ≡ true) = find-each (Clashes past file) _ _ w each at in
         let two : Clashes past file o × (not (o.client.0 == w.client.0) ≡ true) = find-each (Clashes past file) _ _ o each found
-        in
+        in let (noted, may) = one.0 in let (noted_too, may_too) = two.0 in
         record {
           apart = differ o.client.0 w.client.0 two.1;
-          one = record { good = (and_parts _ _ one.0.1).1; noted = one.0.0 };
-          two = record { good = (and_parts _ _ two.0.1).1; noted = two.0.0 };
+          one = record { good = (and_parts _ _ may).1; noted = noted };
+          two = record { good = (and_parts _ _ may_too).1; noted = noted_too };
           writes = one.1;
-          caches = (and_parts _ _ two.0.1).0;
+          caches = (and_parts _ _ may_too).0;
         }
       where
         differ : (a b : ℕ) → not (a == b) ≡ true → a ≢ b
@@ -328,10 +313,3 @@ none-on_files past files all none file client other apart good write good_too =
     each-any (λ f. HasNoRivals past f.0) file files none (all client file (noted-if_holds client file past (holds-write _ write)))
     in
     subst (λ (n : ℕ). HasNoRivals past n) there.1 there.2 client other apart good write good_too
-
--- one file more has none
-pub each-next : (P : FileNo → Type 0) (xs : List FileNo) (i : ℕ) (x : FileNo) → i < length xs → x ≡ get_or xs i x
-    → Each P (take i xs) → P x → Each P (take (i + 1) xs)
-each-next P xs i x inside is all one =
-    subst (λ (ys : List FileNo). Each P ys) (sym (take_more xs i x inside ∙ ap (λ (y : FileNo). take i xs ++ y ∷ []) (sym is)))
-    (each-append P (take i xs) x all one)

@@ -28,13 +28,7 @@ settled-none client n = refl
 pub settled-more : (client n : ℕ) (fact : Fact) (past : List Fact)
     → is_settled client n (fact ∷ past) ≡ (is_settled_by n (settled_told client fact) || is_settled client n past)
 unfolding is_settled
-settled-more client n (Fact.Settled other settled outcome) past = go (other == client)
-  where
-    go : (b : Bool) → ((b && settled == n) || is_settled client n past)
-        ≡ (is_settled_by n (if b then Some settled else None) || is_settled client n past)
-    go true = refl
-    go false = refl
-settled-more client n _ past = refl
+settled-more client n x3 past = grind arith
 
 -- ---- bytes
 
@@ -45,8 +39,7 @@ start-none file = refl
 pub start-more : (file : ℕ) (fact : Fact) (past : List Fact) → start_of file (fact ∷ past) ≡ with_start file fact (start_of file
     past)
 unfolding start_of
-start-more file (Fact.Start other bytes) past = refl
-start-more file _ past = refl
+start-more file x2 past = grind arith
 
 pub changes-none : (file : ℕ) (bytes : List ℕ) → patches bytes (changes_of file []) ≡ bytes
 unfolding changes_of
@@ -88,8 +81,7 @@ pub places-more : (client file : ℕ) (whole : List Fact) (numbers : List ℕ) (
     ≡ (if is_waiting client file numbers fact then unsettled_places client file whole past ++ (length past + 1) ∷ []
     else unsettled_places client file whole past)
 unfolding unsettled_places
-places-more client file whole numbers (Fact.Wrote writer other number write buffered) past all = rw (all number) refl
-places-more client file whole numbers _ past all = refl
+places-more client file whole numbers x5 past all = grind arith
 
 -- ---- the message that was taken last
 
@@ -119,13 +111,11 @@ none-taken client (Fact.Took other ∷ past) e = go (other == client.0) e (λ n.
     go : (b : Bool) → (if b then Some (length past + 1) else last_place (fits (mark.Taking client)) past) ≡ None
         → (last_place (fits (mark.Taking client)) past ≡ None → takings client.0 past ≡ 0)
         → (if b then takings client.0 past + 1 else takings client.0 past) ≡ 0
-    go true e before = let no : ⊥ = cc in absurd no
-    go false e before = before e
+    go x1 e before = grind arith
 none-taken client (Fact.Joined other ∷ past) e = go (other == client.0) (none-taken client past e)
   where
     go : (b : Bool) → takings client.0 past ≡ 0 → (if b then 0 else takings client.0 past) ≡ 0
-    go true z = refl
-    go false z = z
+    go x1 z = grind arith
 none-taken client (_ ∷ past) e = none-taken client past e
 
 pub unsent-if_none_taken : (client : ClientNo) (past : List Fact) → last_place (fits (mark.Taking client)) past ≡ None
@@ -193,5 +183,4 @@ pub unsent-at : (client : ClientNo) (xs : List code.Fact)
 unsent-at client xs e = go (last_sending client.0 (past_of xs)) (sym (last-mail client.0 (past_of xs)) ∙ e)
   where
     go : (o : Option (List Fact)) → option_map place_behind o ≡ None → o ≡ None
-    go None f = refl
-    go (Some place) f = let no : ⊥ = cc in absurd no
+    go x1 f = grind arith

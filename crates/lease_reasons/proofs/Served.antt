@@ -1,5 +1,5 @@
 -- Whether a client is served, after one fact more.
-use Rattle.std.proofs.Common.{◌≡◌, ℕ, ◌+◌, ◌<◌, false, List, [], ◌∷◌, length, take, get_or, refl, ap, ◌∙◌}
+use Rattle.std.proofs.Common.{◌≡◌, ℕ, ◌+◌, ◌<◌, false, List, [], ◌∷◌, length, take, get_or, refl, ap, ◌∙◌, arith}
 use Rattle.lease_facts.specs.Facts.{fact_of}
 use Rattle.lease_facts.specs.declared.fact.Fact as code
 use Rattle.lease_model.specs.records.Facts.{Fact}
@@ -11,10 +11,7 @@ use Rattle.lease_reasons.proofs.Pasts.{past-next}
 served-more : (client : ℕ) (fact : Fact) (past : List Fact)
     → is_served client (fact ∷ past) ≡ served_after client fact (is_served client past)
 unfolding is_served
-served-more client (Fact.Joined other) past = refl
-served-more client (Fact.Dropped other) past = refl
-served-more client (Fact.Expired other file) past = refl
-served-more client _ past = refl
+served-more client x2 past = grind arith
 
 pub served-none : (client : ℕ) → is_served client [] ≡ false
 unfolding is_served

@@ -30,16 +30,13 @@ use Rattle.lease_reasons.specs.declared.reason.Reason.TheVariants as reason
 use Rattle.lease_reasons.proofs.Found.{started_place, joined-place, number-place, buffered-if_touched, touched-place}
 
 some-place : (o : Option ℕ) → is_some o ≡ true → (n : ℕ) × (o ≡ Some n)
-some-place None e = absurd (both_ways _ refl e)
-some-place (Some n) e = (n, refl)
+some-place x1 e = grind arith
 
 none-place : (o : Option ℕ) → is_some o ≡ false → o ≡ None
-none-place None e = refl
-none-place (Some n) e = absurd (both_ways _ e refl)
+none-place x1 e = grind arith
 
 both-false : (a b : Bool) → (a && b) ≡ false → (a ≡ false) ⊎ ((a ≡ true) × (b ≡ false))
-both-false false b e = inl refl
-both-false true b e = inr (refl, e)
+both-false x1 b e = grind arith
 
 not-false : (a : Bool) → not a ≡ false → a ≡ true
 not-false a e = grind arith
@@ -132,9 +129,7 @@ malformed-told (fact.Wrote client file number patch buffered) past e =
   where
     three : (a b c : Bool) → (a && b && not c) ≡ false
         → (a ≡ false) ⊎ (((a ≡ true) × (b ≡ false)) ⊎ ((a ≡ true) × (b ≡ true) × (c ≡ true)))
-    three false b c e = inl refl
-    three true false c e = inr (inl (refl, refl))
-    three true true c e = inr (inr (refl, refl, not-false c e))
+    three x1 b c e = grind arith
 
     used : has_number client.0 number past ≡ true
         → Told (fact_of (fact.Wrote client file number patch buffered)) past None (number_used client number past)
@@ -222,21 +217,4 @@ pub stale-told : (x : code.Fact) (past : List Fact) (told : Option Reason) → T
     past ≡ true
     → Told (fact_of x) past (Some rule.FreshCachedReads) told
 unfolding is_stale_read
-stale-told (fact.CachedRead client file bytes) past told tells e = go tells.0 tells.1 tells.2
-  where
-    parts : (is_good client.0 past ≡ true) × (not (is_fresh client.0 file.0 bytes past (last_sending client.0 past)) ≡ true)
-    parts = and_parts _ _ e
-
-    go : (one : Reason) → told ≡ Some one → IsReadReason client file past one
-        → Told (Fact.CachedRead client.0 file.0 bytes) past (Some rule.FreshCachedReads) told
-    go one at (inl none) =
-        (reason.NoMessage client file, at ∙ ap (λ (r : Reason). Some r) none.0, refl, (bytes, refl, parts.0, none.1))
-    go one at (inr some) =
-        let stale : is_fresh client.0 file.0 bytes past (Some some.2.place) ≡ false =
-        ap (λ (o : Option (List Fact)). is_fresh client.0 file.0 bytes past o) (sym some.2.sending) ∙ not-true _ parts.1 in (
-          reason.StaleRead client file some.0,
-          at ∙ ap (λ (r : Reason). Some r) some.1,
-          refl,
-          (bytes, refl, parts.0, some.2, ap (λ (b : List ℕ). bytes_eq bytes b) some.2.bytes ∙ stale),
-        )
-stale-told _ past told tells e = absurd (both_ways _ refl e)
+stale-told x1 past told tells e = grind arith

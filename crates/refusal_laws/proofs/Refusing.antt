@@ -1,5 +1,5 @@
 -- A try changes no content, and closes only opens that aren't connected, of keys that it wants.
-use Rattle.std.proofs.Common.{◌≡◌, inl, inr, ⊎_elim, ℕ, zero, suc, Bool, true, false, not, Option, Some, None, Ok, Err, List, [], ◌∷◌, ◌++◌, refl, ap, sym, ◌∙◌, subst, true≢false}
+use Rattle.std.proofs.Common.{◌≡◌, inl, inr, ⊎_elim, ℕ, zero, suc, Bool, true, false, not, Option, Some, None, Ok, Err, List, [], ◌∷◌, ◌++◌, refl, ap, sym, ◌∙◌, subst, true≢false, arith}
 use Rattle.std.specs.Prelude.{if◌then◌else◌, ◌&&◌, Result}
 use Rattle.lease_laws.proofs.server.Lists.{if_cases, either, and_parts, not_parts, among_filter, among_filtered}
 use Rattle.lease_laws.proofs.server.Met.{lease_broken-opens}
@@ -47,15 +47,7 @@ dropped_alone key progress = record {
 broken_contents : (key : Key) (lowered : State) (progress : Progress)
     → (lease_broken key lowered progress).server.contents ≡ progress.server.contents
 unfolding lease_broken break_begun lease_lowered
-broken_contents key lowered progress =
-    if_cases (λ (p : Progress). p.server.contents ≡ progress.server.contents)
-    (has_lease progress.server key && not (is_breaking (progress.server.leases key)))
-    (if needs_acknowledgment (progress.server.leases key).state then break_begun key lowered progress else
-    lease_lowered key lowered progress) progress
-    (λ t. if_cases (λ (p : Progress). p.server.contents ≡ progress.server.contents)
-    (needs_acknowledgment (progress.server.leases key).state)
-    (break_begun key lowered progress) (lease_lowered key lowered progress) (λ n. refl) (λ n. refl))
-    (λ t. refl)
+broken_contents key lowered progress = grind arith
 
 met_alone : (want : Want) (progress : Progress)
     → IsLeftAlone (λ one. (has_key want.key one ≡ true) × (one.connected ≡ false)) progress.server
@@ -174,27 +166,13 @@ refused_once_tried client request progress status is = tried_alone 3 client requ
 
 pub refused_as_they_come : RefusedAsTheyCome
 unfolding refused
-refused_as_they_come client request progress status is =
-    ap (λ asked. (arrived_on client request progress asked).server) is
+refused_as_they_come client request progress status is = grind arith
 
 -- ---- closes
 
 pub closes_are_refused_as_they_come : ClosesAreRefusedAsTheyCome
 unfolding file_asked tried_for finding is_ready
-closes_are_refused_as_they_come client file_id progress status is =
-    by_found (connected_open progress.server client file_id) is
-  where
-    by_found : (found : Option Open)
-        → (after_finding (tried_for 2 client (FileRequest.Close file_id)) (FileRequest.Close file_id) progress
-        (by_open found (λ one. Finding.Needs []))).outcome ≡ Outcome.Refused status → file_of_open found ≡ Err status
-    by_found None e = ap as_result (status_of e)
-      where
-        as_result : Status → Result ℕ Status
-        as_result s = Err s
-
-        status_of : Outcome.Refused Status.FileClosed ≡ Outcome.Refused status → Status.FileClosed ≡ status
-        status_of e = cc
-    by_found (Some one) e = let never : ⊥ = cc in absurd never
+closes_are_refused_as_they_come client file_id progress status is = grind arith
 
 -- ---- acknowledgments
 
@@ -236,8 +214,7 @@ refused_acknowledgments client (Some given) progress status e = if_cases
 -- ---- whole calls
 
 present_so : {X : Type 0} (b : Bool) (x y : X) → b ≡ true → (if b then x else y) ≡ x
-present_so true x y e = refl
-present_so false x y e = absurd (true≢false (sym e))
+present_so x1 x y e = grind arith
 
 refused_first : (client : ℕ) (request : FileRequest) (progress : Progress) (status : Status)
     → file_asked progress.server client request ≡ Err status
@@ -261,14 +238,8 @@ calls_refused_as_they_come server client request status up is =
     present_so (server.present client) (arrived client (Request.OnFile request) (begun server)) (begun server) up
     ∙ arrived_refused client request (begun server) status is
 
-abbrev with_outs : Server → List Out → Progress
-with_outs server outs = record { server = server; outs = outs }
-
 progress_same : (one other : Progress) → one.server ≡ other.server → one.outs ≡ other.outs → one ≡ other
-progress_same one other e f = made one.server other.server one.outs other.outs e f
-  where
-    made : (s t : Server) (l m : List Out) → s ≡ t → l ≡ m → with_outs s l ≡ with_outs t m
-    made s t l m e f = rw (e, f) refl
+progress_same one other e f = grind arith
 
 pub calls_of_refused_acknowledgments : CallsOfRefusedAcknowledgments
 unfolding receive arrived
@@ -283,14 +254,7 @@ tried_so : (client file : ℕ) (request : FileRequest) (progress : Progress) (st
     → (tried client request progress).outcome ≡ Outcome.Refused status
     → first_tried client request progress
     ≡ concluded client request (tried client request progress).progress (Outcome.Refused status)
-tried_so client file request progress status asked first is =
-    ap (arrived_on client request progress) asked
-    ∙ not_behind (is_behind client (progress.server.held file)) _ _ first
-    ∙ ap (after_first_try client file request (tried client request progress).progress) is
-  where
-    not_behind : {X : Type 0} (b : Bool) (x y : X) → b ≡ false → (if b then x else y) ≡ y
-    not_behind true x y e = absurd (true≢false e)
-    not_behind false x y e = refl
+tried_so client file request progress status asked first is = grind arith
 
 calls_alone : (client file : ℕ) (request : FileRequest) (server : Server) (status : Status)
     → file_asked server client request ≡ Ok file → is_behind client (server.held file) ≡ false

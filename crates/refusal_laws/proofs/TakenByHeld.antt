@@ -1,5 +1,5 @@
 -- What passes over held requests change is the doing of these requests.
-use Rattle.std.proofs.Common.{◌≡◌, inl, inr, ⊎_elim, ℕ, ◌+◌, zero, suc, Bool, true, false, not, Option, Some, None, List, [], ◌∷◌, ◌++◌, length, map, refl, ap, sym, ◌∙◌, subst, append_assoc, ◌==◌}
+use Rattle.std.proofs.Common.{◌≡◌, inl, inr, ⊎_elim, ℕ, ◌+◌, zero, suc, Bool, true, false, not, Option, Some, None, List, [], ◌∷◌, ◌++◌, length, map, refl, ap, sym, ◌∙◌, subst, append_assoc, ◌==◌, arith}
 use Rattle.std.proofs.lemmas.Bool.{eqb-true, eq-eqb}
 use Rattle.lease_laws.proofs.client.Thin.{put_same, put_other}
 use Rattle.lease_laws.proofs.server.Held.{concluded-held, tried_for-held}
@@ -28,12 +28,7 @@ itself : (one : Open) → IsSameOpen one one
 itself one = record { file_id = refl; client = refl; file = refl; lease_key = refl }
 
 same_then : (one two three : Open) → IsSameOpen one two → IsSameOpen two three → IsSameOpen one three
-same_then one two three a b = record {
-  file_id = b.file_id ∙ a.file_id;
-  client = b.client ∙ a.client;
-  file = b.file ∙ a.file;
-  lease_key = b.lease_key ∙ a.lease_key;
-}
+same_then one two three a b = grind arith
 
 same_left : (requests : ℕ → List Held) (server : Server) → IsLeftToHeld requests server server
 same_left requests server = record { contents = λ file. inl refl; stay = λ one a. inl (one, itself one, a) }
@@ -41,19 +36,7 @@ same_left requests server = record { contents = λ file. inl refl; stay = λ one
 -- what is said of an open is said of it as it was
 taken_before : (requests : ℕ → List Held) (one now : Open) → IsSameOpen one now → IsTakenByHeld requests now
     → IsTakenByHeld requests one
-taken_before requests one now same t = record {
-  file = t.file;
-  held = t.held;
-  was_held = t.was_held;
-  why = ⊎_elim (λ closes. inl (closes ∙ ap FileRequest.Close same.file_id)) (λ c. inr (record {
-    at = c.at;
-    still_held = c.still_held;
-    now = c.now;
-    same = same_then one now c.now same c.same;
-    still_there = c.still_there;
-    closed = c.closed;
-  })) t.why;
-}
+taken_before requests one now same t = grind arith
 
 left_then : (requests : ℕ → List Held) (one two three : Server) → IsLeftToHeld requests one two
     → IsLeftToHeld requests two three → IsLeftToHeld requests one three
@@ -99,23 +82,18 @@ tried_left requests progress file held h =
 kept_opens : (requests : ℕ → List Held) (before after : Server) → after.contents ≡ before.contents
     → ((one : Open) → Among one before.opens → (now : Open) × IsSameOpen one now × Among now after.opens)
     → IsLeftToHeld requests before after
-kept_opens requests before after same stay = record {
-  contents = λ at. inl (ap (λ (c : ℕ → List ℕ). c at) same);
-  stay = λ one there. inl (stay one there);
-}
+kept_opens requests before after same stay = grind arith
 
 put_contents : (server : Server) (client : ℕ) (asked : Option LeaseOf) (lease : Lease)
     → (lease_put server client asked lease).contents ≡ server.contents
-put_contents server client None lease = refl
-put_contents server client (Some asked) lease = refl
+put_contents server client x3 lease = grind arith
 
 mapped : {X Y : Type 0} (f : X → Y) (x : X) (xs : List X) → Among x xs → Among (f x) (map f xs)
 mapped f x [] a = a
 mapped f x (y ∷ xs) a = ⊎_elim (λ same. inl (ap f same)) (λ later. inr (mapped f x xs later)) a
 
 again_same : (file_id : ℕ) (one : Open) → IsSameOpen one (connected_again file_id one)
-again_same file_id one = if_cases (λ o. IsSameOpen one o) (one.file_id == file_id) (record one { connected = true }) one
-    (λ here. record { file_id = refl; client = refl; file = refl; lease_key = refl }) (λ there. itself one)
+again_same file_id one = grind arith
 
 created_left : (requests : ℕ → List Held) (client file : ℕ) (access : Access) (share : Share) (asked : Option LeaseOf)
     (durable : Bool) (again : Option ℕ) (progress : Progress)

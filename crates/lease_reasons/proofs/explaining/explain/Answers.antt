@@ -11,8 +11,7 @@ use Rattle.lease_reasons.proofs.Telling.{malformed-told}
 use Rattle.lease_reasons.proofs.explaining.explain.Goals as goal
 
 outside : (p n : ℕ) → 1 ≤ p → p ≤ n → (p ≡ 0) ⊎ (n < p) → ⊥
-outside p n a b (inl e) = omega arith
-outside p n a b (inr e) = omega arith
+outside p n a b x5 = grind arith
 
 pub returns-in-None : goal.returns-in-None
 returns-in-None c =
