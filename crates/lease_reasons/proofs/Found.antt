@@ -75,9 +75,6 @@ first-or : (before : Option ℕ) (b r : Bool) (n : ℕ) → is_some before ≡ r
     → is_some (earlier before (if b then Some n else None)) ≡ (b || r)
 first-or x1 x2 r n e = grind arith
 
-any_place : (n : ℕ) → nat_le 0 n ≡ true
-any_place n = le-leb 0 n (omega arith)
-
 buffered-here : (client : ClientNo) (file : FileNo) (number : ℕ) (fact : Fact) (past : List Fact) (r : Bool)
     → is_some (first_place (fits (mark.Buffering client file number)) 0 past) ≡ r
     → is_some (first_place (fits (mark.Buffering client file number)) 0 (fact ∷ past)) ≡ (fits (mark.Buffering client file number)
