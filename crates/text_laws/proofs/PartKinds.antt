@@ -20,6 +20,11 @@ use Rattle.text_laws.proofs.FactKinds.{client_no, file_no, client_reads, file_re
 use Rattle.text_laws.proofs.Apart.{word_of, differ, fields_apart, apart, all_apart, none_told}
 use Rattle.text_laws.proofs.Grammar.{Reads, Goes, ends, step, Fits, fits_alone, Unnamed, by_fields, reads_exactly}
 
+infixr 4 ◌also◌
+-- one of a row, and the others
+◌also◌ : {A B : Type 0} → A → B → A × B
+◌also◌ one others = (one, others)
+
 -- ---- words
 
 abbrev fid_no : ℕ → FileId
@@ -212,69 +217,39 @@ open_told words told e = ⊎_elim (λ say. row_at part_kinds 2 refl say) (λ say
     ((open_goes.same words told).0 e)
 
 requests_fit : Each (Fits named part_kinds) (drop 15 part_kinds)
-requests_fit = (
-  raw_fits _ _ _ create_goes,
-  (
-    raw_fits _ _ _ read_goes,
-    (
-      raw_fits _ _ _ close_goes,
-      (raw_fits _ _ _ raw_write_goes, (raw_fits _ _ _ ack_goes, tt)),
-    ),
-  ),
-)
+requests_fit =
+    raw_fits _ _ _ create_goes also raw_fits _ _ _ read_goes also raw_fits _ _ _ close_goes
+    also raw_fits _ _ _ raw_write_goes also raw_fits _ _ _ ack_goes also tt
 
 clients_fit : Each (Fits named part_kinds) (drop 8 part_kinds)
 unfolding named part_named event_of
-clients_fit = (
-  fits_alone (among_at part_kinds 8 refl) (of_client (codes "serve") event.ServerTakes (λ client words. refl)),
-  (
-    fits_alone (among_at part_kinds 9 refl) (of_client (codes "take") event.ClientTakes (λ client words. refl)),
-    (
-      fits_alone (among_at part_kinds 10 refl) (of_client (codes "cut") event.Cut (λ client words. refl)),
-      (
-        fits_alone (among_at part_kinds 11 refl) (of_client (codes "notice") event.Notice (λ client words. refl)),
-        (
-          fits_alone (among_at part_kinds 12 refl) (of_client (codes "connect") event.Connect (λ client words. refl)),
-          (
-            fits_alone (among_at part_kinds 13 refl) (of_both (codes "expire") event.Expire (λ client words. refl)),
-            (
-              fits_alone (among_at part_kinds 14 refl) (of_both (codes "scavenge") event.Scavenge (λ client words. refl)),
-              requests_fit,
-            ),
-          ),
-        ),
-      ),
-    ),
-  ),
-)
+clients_fit =
+    fits_alone (among_at part_kinds 8 refl) (of_client (codes "serve") event.ServerTakes (λ client words. refl))
+    also fits_alone (among_at part_kinds 9 refl) (of_client (codes "take") event.ClientTakes (λ client words. refl))
+    also fits_alone (among_at part_kinds 10 refl) (of_client (codes "cut") event.Cut (λ client words. refl))
+    also fits_alone (among_at part_kinds 11 refl) (of_client (codes "notice") event.Notice (λ client words. refl))
+    also fits_alone (among_at part_kinds 12 refl) (of_client (codes "connect") event.Connect (λ client words. refl))
+    also fits_alone (among_at part_kinds 13 refl) (of_both (codes "expire") event.Expire (λ client words. refl))
+    also fits_alone (among_at part_kinds 14 refl) (of_both (codes "scavenge") event.Scavenge (λ client words. refl))
+    also requests_fit
 
 commands_fit : Each (Fits named part_kinds) (drop 4 part_kinds)
 unfolding named part_named event_of
-commands_fit = (
-  fits_alone (among_at part_kinds 4 refl)
-      (of_both (codes "close") (λ client file. event.App client (command.Close file)) (λ client words. refl)),
-  (
-    fits_alone (among_at part_kinds 5 refl)
-        (of_both (codes "read") (λ client file. event.App client (command.Read file)) (λ client words. refl)),
-    (
-      fits_alone (among_at part_kinds 6 refl)
-          (of_both (codes "flush") (λ client file. event.App client (command.Flush file)) (λ client words. refl)),
-      (fits_alone (among_at part_kinds 7 refl) write_goes, clients_fit),
-    ),
-  ),
-)
+commands_fit =
+    fits_alone (among_at part_kinds 4 refl)
+    (of_both (codes "close") (λ client file. event.App client (command.Close file)) (λ client words. refl))
+    also fits_alone (among_at part_kinds 5 refl)
+    (of_both (codes "read") (λ client file. event.App client (command.Read file)) (λ client words. refl))
+    also fits_alone (among_at part_kinds 6 refl)
+    (of_both (codes "flush") (λ client file. event.App client (command.Flush file)) (λ client words. refl))
+    also fits_alone (among_at part_kinds 7 refl) write_goes also clients_fit
 
 each_fits : Each (Fits named part_kinds) part_kinds
-each_fits = (
-  fits_alone (among_at part_kinds 0 refl) file_goes,
-  (
-    fits_alone (among_at part_kinds 1 refl) client_goes,
-    (
-      record { told = open_told; tells = λ words told say. (open_goes.same words told).1 (inl say) },
-      (record { told = open_told; tells = λ words told say. (open_goes.same words told).1 (inr say) }, commands_fit),
-    ),
-  ),
-)
+each_fits =
+    fits_alone (among_at part_kinds 0 refl) file_goes also fits_alone (among_at part_kinds 1 refl) client_goes
+    also record { told = open_told; tells = λ words told say. (open_goes.same words told).1 (inl say) }
+    also record { told = open_told; tells = λ words told say. (open_goes.same words told).1 (inr say) }
+    also commands_fit
 
 by_names : (line : List ℕ) → part_in line ≡ by_fields named (fields_of line)
 unfolding named part_in
