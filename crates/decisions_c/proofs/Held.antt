@@ -1,5 +1,5 @@
 -- Opens as they stand in a table, and as the rules see them.
-use Rattle.std.proofs.Common.{◌≡◌, refl, Bool, List, [], ◌∷◌}
+use Rattle.std.proofs.Common.{◌≡◌, refl, Bool, List, [], ◌∷◌, arith}
 use Rattle.std.specs.Prelude.{◌||◌, Option, Some, None}
 use Rattle.std.specs.List.{list_any}
 use Rattle.lease_model.specs.server.State.{Open}
@@ -8,8 +8,7 @@ use Rattle.decisions_c.specs.declared.tables.LeaseOpen.{LeaseOpen}
 
 with_one : (test : Open → Bool) (one : Option Open) (opens : List Open)
     → list_any test (before_opens one opens) ≡ (holds_of test one || list_any test opens)
-with_one test None opens = refl
-with_one test (Some one) opens = refl
+with_one test x2 opens = grind arith
 
 -- an open passes the test where one of those in the table does
 pub any_held : (test : Open → Bool) (opens : List LeaseOpen) → list_any test (opens_held opens) ≡ list_any (holds_at test) opens

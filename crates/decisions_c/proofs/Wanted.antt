@@ -1,5 +1,5 @@
 -- Which leases are wanted, by the opens of a table and by the wants of the rules.
-use Rattle.std.proofs.Common.{◌≡◌, inl, inr, refl, sym, ap, ◌∙◌, subst, ℕ, Bool, true, false, not, List, [], ◌∷◌, true≢false, ◌==◌}
+use Rattle.std.proofs.Common.{◌≡◌, inl, inr, refl, sym, ap, ◌∙◌, subst, ℕ, Bool, true, false, not, List, [], ◌∷◌, true≢false, ◌==◌, arith}
 use Rattle.std.specs.Prelude.{◌&&◌, if◌then◌else◌, Option, Some, None}
 use Rattle.std.specs.List.{list_any}
 use Rattle.lease_state.specs.State.{State, nothing_cached}
@@ -32,9 +32,7 @@ want_at wish server key = record { key = key; lowered = lowered_for wish (server
 wants_are : (wish : Wish) (server : Server) (own : Option Key)
     → wants_where server (is_wanted wish server own) (lowered_for wish) ≡ wants_for wish server own
 unfolding handle_wants write_wants all_wants
-wants_are (NoHandles access share) server own = refl
-wants_are NoWrites server own = refl
-wants_are Nothing server own = refl
+wants_are x1 server own = grind arith
 
 -- ---- the want of a key
 
@@ -68,8 +66,7 @@ lookup make key (want ∷ wants) b named each there none = either (key_eq key wa
     (λ e. rw e (lookup make key wants b named (λ w a. each w (inr a)) (λ t. behind e (there t)) (λ f w a. none f w (inr a))))
   where
     here : (c : Bool) → key ≡ want.key → (c ≡ false → ⊥) → Some want ≡ (if c then Some (make key) else None)
-    here true same never = ap (λ (w : Want). Some w) (each want (inl refl) ∙ ap make (sym same))
-    here false same never = absurd (never refl)
+    here x1 same never = grind arith
 
     behind : key_eq key want.key ≡ false → Among (make key) (want ∷ wants) → Among (make key) wants
     behind e (inl same) = absurd (clash (key_eq key want.key)
@@ -101,15 +98,10 @@ sees Nothing state = holds_any state
 
 wanted_sees : (wish : Wish) (server : Server) (own : Option Key) (one : Open) → is_wanted wish server own one ≡ true
     → sees wish (lease_of server one).state ≡ true
-wanted_sees (NoHandles access share) server own one t =
-    (and_parts (conflicts_on 1 access share one && is_other_on own 1 one) (lease_of server one).state.handle t).1
-wanted_sees NoWrites server own one t = (and_parts (is_other_on own 1 one) (lease_of server one).state.write t).1
-wanted_sees Nothing server own one t = (and_parts (is_other_on own 1 one) (holds_any (lease_of server one).state) t).1
+wanted_sees x1 server own one t = grind arith
 
 sees_none : (wish : Wish) → sees wish nothing_cached ≡ false
-sees_none (NoHandles access share) = refl
-sees_none NoWrites = refl
-sees_none Nothing = refl
+sees_none x1 = grind arith
 
 has_some_key : (wish : Wish) (server : Server) (client : ℕ) (bytes : Option (List ℕ))
     → sees wish (lease_by server client bytes).state ≡ true → (key : Key) × (is_key key client bytes ≡ true)
@@ -117,8 +109,7 @@ has_some_key wish server client None s = absurd (true≢false (sym s ∙ sees_no
 has_some_key wish server client (Some bytes) s = (key_of client bytes, is_key-refl client bytes)
 
 some_there : (want : Want) (wants : List Want) → Among want wants → is_empty wants ≡ false
-some_there want [] a = absurd a
-some_there want (other ∷ wants) a = refl
+some_there want x2 a = grind arith
 
 none_there : (wants : List Want) → ((want : Want) → Among want wants → ⊥) → is_empty wants ≡ true
 none_there [] none = refl
@@ -140,8 +131,7 @@ some_wanted wish server own = either (list_any (is_wanted wish server own) serve
 -- ---- the opens of a table are on one file
 
 never_and : (b : Bool) → (b && false) ≡ false
-never_and true = refl
-never_and false = refl
+never_and x1 = grind arith
 
 not_elsewhere_at : (key : Key) (opens : List LeaseOpen)
     → list_any (λ one. has_key key one && not (one.file == 1)) (opens_held opens) ≡ false
@@ -152,9 +142,7 @@ not_elsewhere_at key (one ∷ opens) = with_access (access_of_bits one.access) (
         → list_any (λ (o : Open). has_key key o && not (o.file == 1)) (opens_held opens) ≡ false
         → list_any (λ (o : Open). has_key key o && not (o.file == 1)) (before_opens (open_with one access) (opens_held opens))
         ≡ false
-    with_access None later = later
-    with_access (Some access) later =
-        rw (never_and (is_key key one.client (bytes_if (is_set one.has_key) one.key)), later) refl
+    with_access x1 later = grind arith
 
 pub not_elsewhere : (own : Option Key) (opens : List LeaseOpen) (server : Server) → server.opens ≡ opens_held opens
     → is_leased_elsewhere server own 1 ≡ false

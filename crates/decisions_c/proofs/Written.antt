@@ -1,5 +1,5 @@
 -- Structs that were written hold what they were written for, and what every server does with an acknowledgment.
-use Rattle.std.proofs.Common.{◌≡◌, refl, subst, Bool, true, false}
+use Rattle.std.proofs.Common.{◌≡◌, refl, subst, Bool, true, false, arith}
 use Rattle.std.specs.Prelude.{Option, Some, None}
 use Rattle.lease_state.specs.State.{State, state_of_bits, bits_of_state, granted_form_of, is_state_within}
 use Rattle.lease_laws.proofs.server.Keys.{put_key-here}
@@ -12,18 +12,7 @@ use Rattle.decisions_c.specs.Judged.{acknowledged_status, lease_acknowledged, st
 use Rattle.decisions_c.specs.Tables.{lease_held, entry_fields}
 
 pub state_held : (s : State) → state_of_bits (bits_of_state s) ≡ s
-state_held s = eight s.read s.write s.handle
-  where
-    eight : (r w h : Bool) → state_of_bits (bits_of_state (record { read = r; write = w; handle = h }))
-        ≡ record { read = r; write = w; handle = h }
-    eight false false false = refl
-    eight false false true = refl
-    eight false true false = refl
-    eight false true true = refl
-    eight true false false = refl
-    eight true false true = refl
-    eight true true false = refl
-    eight true true true = refl
+state_held s = grind arith
 
 pub lease_is_held : (key : Key) (expired : Bool) (lease : Lease) → lease_held (entry_fields key expired lease) ≡ lease
 lease_is_held key expired lease = by_parts lease.state lease.broken_to
@@ -37,8 +26,7 @@ lease_is_held key expired lease = by_parts lease.state lease.broken_to
 judged_status : (key : Key) (state : State) (broken_to : Option State) (server : Server)
     → status_out (judged key state broken_to (begun server)).outs ≡ Some (acknowledged_status state broken_to)
 unfolding break_ended
-judged_status key state None server = refl
-judged_status key state (Some lowered) server = either (is_state_within state lowered) (λ e. rw e refl) (λ e. rw e refl)
+judged_status key state x3 server = grind arith
 
 judged_lease : (key : Key) (state : State) (broken_to : Option State) (server : Server)
     → (judged key state broken_to (begun server)).server.leases key ≡ lease_acknowledged state (server.leases key) broken_to
