@@ -130,9 +130,6 @@ some_wanted wish server own = either (list_any (is_wanted wish server own) serve
 
 -- ---- the opens of a table are on one file
 
-never_and : (b : Bool) → (b && false) ≡ false
-never_and x1 = grind arith
-
 not_elsewhere_at : (key : Key) (opens : List LeaseOpen)
     → list_any (λ one. has_key key one && not (one.file == 1)) (opens_held opens) ≡ false
 not_elsewhere_at key [] = refl

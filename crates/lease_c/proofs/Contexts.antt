@@ -42,11 +42,7 @@ name_is_within place text here none =
 
 data_end : (place offset count left : ℕ) → (count ≢ 0 → offset + count ≤ left)
     → (if count == 0 then 0 else place + offset) + count ≤ place + left
-data_end place offset count left inside =
-    elim (eqb_tells count 0) [
-      | inl zero ↦ rw (zero.1) (omega arith)
-      | inr more ↦ let within = inside more.1 in rw (more.0) (omega (arith, within))
-    ]
+data_end place offset count left inside = grind arith
 
 pub data_is_within : (place : ℕ) (text : List ℕ) → place ≤ length text → fault_at place text ≡ None
     → (context_fields place (drop place text)).data_place + (context_fields place (drop place text)).data_length ≤ length text
@@ -54,22 +50,6 @@ unfolding layout_fault
 data_is_within place text here none =
     let end = data_end place (data_offset_of (drop place text)) (data_length_of (drop place text)) (length (drop place text))
     (data_inside place (length (drop place text)) (header_of (drop place text)) none) in
-    let left : length (drop place text) ≡ length text - place = length-drop place text in
-    omega (arith, end, left, here)
-
-next_end : (place next left : ℕ) → next ≤ left → (if next == 0 then 0 else place + next) ≤ place + left
-next_end place next left inside =
-    elim (eqb_tells next 0) [
-      | inl zero ↦ rw (zero.1) (omega arith)
-      | inr more ↦ rw (more.0) (omega (arith, inside))
-    ]
-
-pub next_is_within : (place : ℕ) (text : List ℕ) → place ≤ length text → fault_at place text ≡ None
-    → (context_fields place (drop place text)).next_place ≤ length text
-unfolding layout_fault
-next_is_within place text here none =
-    let end = next_end place (next_of (drop place text)) (length (drop place text))
-    (next_inside place (length (drop place text)) (header_of (drop place text)) none) in
     let left : length (drop place text) ≡ length text - place = length-drop place text in
     omega (arith, end, left, here)
 
@@ -84,8 +64,3 @@ items_are_read place text none =
           rw (none, context_is_held place text, more.0, far, ← drop-drop (next_of (drop place text)) place text)
           (items_behind-more place (drop place text) none more.1)
     ]
-
-pub fault_is_read : (place : ℕ) (text : List ℕ) (fault : WireFault) (context : ContextView) (next : ℕ) (others : List Item)
-    → fault_at place text ≡ Some fault
-    → items_from place text ≡ item_before (fault_at place text) context next others
-fault_is_read place text fault context next others e = rw e (items_behind-fault place (drop place text) fault e)

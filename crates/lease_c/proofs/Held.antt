@@ -1,5 +1,5 @@
 -- A struct whose fields were written for a value holds that value.
-use Rattle.std.proofs.Common.{◌≡◌, Bool, true, false, Option, Some, None, refl}
+use Rattle.std.proofs.Common.{◌≡◌, Bool, true, false, Option, Some, None, refl, arith}
 use Rattle.lease_state.specs.State.{State, state_of, state_of_bits, bits_of_state}
 use Rattle.lease_state.specs.declared.key.LeaseKey.{LeaseKey}
 use Rattle.lease_state.specs.declared.number.FileId.{FileId}
@@ -14,22 +14,10 @@ use Rattle.lease_c.specs.Create.{ask_held, ask_fields, answer_held, answer_field
 use Rattle.lease_c.specs.Messages.{notice_held, notice_fields, acknowledged_held, acknowledged_fields, responded_held, responded_fields}
 
 pub state_held : (s : State) → state_of_bits (bits_of_state s) ≡ s
-state_held s = eight s.read s.write s.handle
-  where
-    eight : (r w h : Bool) → state_of_bits (bits_of_state (record { read = r; write = w; handle = h }))
-        ≡ record { read = r; write = w; handle = h }
-    eight false false false = refl
-    eight false false true = refl
-    eight false true false = refl
-    eight false true true = refl
-    eight true false false = refl
-    eight true false true = refl
-    eight true true false = refl
-    eight true true true = refl
+state_held s = grind arith
 
 pub flag_held : (b : Bool) → is_set (flag_of b) ≡ b
-flag_held false = refl
-flag_held true = refl
+flag_held x1 = grind arith
 
 pub notice_is_held : (v : Notice) → notice_held (notice_fields v) ≡ v
 notice_is_held v = rw (flag_held v.ack_required, state_held v.current, state_held v.new) refl
