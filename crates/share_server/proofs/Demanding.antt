@@ -147,9 +147,7 @@ others_counted own (key ∷ keys) sorted = either (key_eq key own)
     below : (own key : Key) (keys : List Key)
         → nat_lt (if list_any (is_at (key_order own)) keys then 1 else 0) (length (key ∷ keys)) ≡ true
     below own key [] = grind (arith, nat_tests)
-    below own key (other ∷ keys) = either (list_any (is_at (key_order own)) (other ∷ keys))
-        (λ t. rw t (grind (arith, nat_tests)))
-        (λ t. rw t (grind (arith, nat_tests)))
+    below own key (other ∷ keys) = grind arith
 
 -- ---- keys of opens
 

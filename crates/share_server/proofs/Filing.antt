@@ -28,15 +28,12 @@ here n id one filed = at_id n id.0 ∙ ap (λ m. m == n) (sym filed)
 pub find_filed : (n : ℕ) (entries : List (FileId × Open)) → AreFiled entries
     → lookup (test_at n) entries ≡ find (has_id n) (values_of entries)
 find_filed n [] filed = refl
-find_filed n (e ∷ entries) filed =
-    rw (here n e.0 e.1 filed.0, find_filed n entries filed.1) refl
+find_filed n (e ∷ entries) filed = let e1 = find_filed n entries filed.1 in grind arith
 
 pub filed_removed : (n : ℕ) (entries : List (FileId × Open)) → AreFiled entries
     → AreFiled (remove_entry (test_at n) entries)
 filed_removed n [] filed = tt
-filed_removed n (e ∷ entries) filed = either (test_at n e.0)
-    (λ at. rw at filed.1)
-    (λ at. rw at (filed.0, filed_removed n entries filed.1))
+filed_removed n (e ∷ entries) filed = let e1 = filed_removed n entries filed.1 in grind arith
 
 pub some_same : {x y : Open} → Some x ≡ Some y → x ≡ y
 some_same e = cc e
@@ -91,11 +88,7 @@ above_all : (n : ℕ) (entries : List (FileId × Open)) → AreFiled entries
     → AllByRecursion (λ y. file_id_order (record { 0 = n }) y ≡ Less) (keys_of entries)
     → (other : Open) → Among other (values_of entries) → n < other.file_id
 above_all n [] filed less other among = absurd among
-above_all n ((id, one) ∷ entries) filed less other (inl same) =
-    subst (λ (o : Open). n < o.file_id) (sym same) (subst (λ m. n < m) (sym filed.0) (is_less n id.0 less.0))
-  where
-    is_less : (a b : ℕ) → nat_cmp a b ≡ Less → a < b
-    is_less a b e = grind (arith, nat_tests, e)
+above_all n ((id, one) ∷ entries) filed less other (inl same) = grind arith
 above_all n (e ∷ entries) filed less other (inr among) = above_all n entries filed.1 less.1 other among
 
 pub in_order : (entries : List (FileId × Open)) → AreFiled entries → IsStrictlySortedBy file_id_order (keys_of entries)

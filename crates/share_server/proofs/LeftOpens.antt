@@ -82,10 +82,7 @@ ordered x1 less equal more = grind arith
 inserted_id : (fid : FileId) (ids : List FileId)
     → numbers (insert_key file_id_order ids fid) ≡ insert_key nat_cmp (numbers ids) fid.0
 inserted_id fid [] = refl
-inserted_id fid (x ∷ ids) = ordered (nat_cmp fid.0 x.0)
-    (λ o. rw o refl)
-    (λ o. rw o refl)
-    (λ o. rw o (ap (λ l. x.0 ∷ l) (inserted_id fid ids)))
+inserted_id fid (x ∷ ids) = let e1 = inserted_id fid ids in grind arith
 
 less_is : (n m : ℕ) → n < m → nat_cmp n m ≡ Less
 less_is n m less = grind (arith, nat_tests, less)
@@ -103,22 +100,14 @@ inserted_first n (one ∷ opens) above = rw (less_is n one.file_id (above one (i
 pub none_more : (owner : Owner) (opens : List Open) (one : Open) → one.connected ≡ true
     → filter (waits owner) (opens ++ one ∷ []) ≡ filter (waits owner) opens
 none_more owner [] one here = rw (present owner one here) refl
-none_more owner (x ∷ opens) one here = either (waits owner x)
-    (λ w. rw w (ap (λ l. x ∷ l) (none_more owner opens one here)))
-    (λ w. rw w (none_more owner opens one here))
+none_more owner (x ∷ opens) one here = let e1 = none_more owner opens one here in grind arith
 
 -- ---- an open goes
 
 waiting_without : (n : ℕ) (owner : Owner) (opens : List Open)
     → filter (waits owner) (without (has_id n) opens) ≡ without (has_id n) (filter (waits owner) opens)
 waiting_without n owner [] = refl
-waiting_without n owner (x ∷ opens) = either (waits owner x)
-    (λ w. either (has_id n x)
-    (λ its. rw (w, its) (waiting_without n owner opens))
-    (λ its. rw (w, its, w) (ap (λ l. x ∷ l) (waiting_without n owner opens))))
-    (λ w. either (has_id n x)
-    (λ its. rw (w, its) (waiting_without n owner opens))
-    (λ its. rw (w, its, w) (waiting_without n owner opens)))
+waiting_without n owner (x ∷ opens) = let e1 = waiting_without n owner opens in grind arith
 
 none_waits : (n : ℕ) (owner : Owner) (opens : List Open) (one : Open) → AreInOrder opens
     → find (has_id n) opens ≡ Some one → waits owner one ≡ false
@@ -174,15 +163,7 @@ waiting_taken old new n owner opens one order found client file waiting changed 
 connected_now : (n : ℕ) (owner : Owner) (opens : List Open)
     → filter (waits owner) (map (connected_at n true) opens) ≡ without (has_id n) (filter (waits owner) opens)
 connected_now n owner [] = refl
-connected_now n owner (x ∷ opens) = either (has_id n x)
-    (λ its.
-    let now : waits owner (record x { connected = true }) ≡ false = present owner (record x { connected = true }) refl in
-    either (waits owner x)
-    (λ w. rw (its, now, w, its) (connected_now n owner opens))
-    (λ w. rw (its, now, w) (connected_now n owner opens)))
-    (λ its. either (waits owner x)
-    (λ w. rw (its, w, its) (ap (λ l. x ∷ l) (connected_now n owner opens)))
-    (λ w. rw (its, w) (connected_now n owner opens)))
+connected_now n owner (x ∷ opens) = let e1 = connected_now n owner opens in grind arith
 
 pub waiting_again : (old new : LeftOpens) (n : ℕ) (owner : Owner) (opens : List Open) (one : Open) → AreInOrder opens
     → find (has_id n) opens ≡ Some one → owner.client.0 ≡ one.client → owner.file.0 ≡ one.file → AreWaiting old opens
@@ -285,9 +266,7 @@ first_waiting ids test opens same =
 found_itself : (opens : List Open) (one : Open) → AreInOrder opens → Among one opens
     → find (has_id one.file_id) opens ≡ Some one
 found_itself [] one order among = absurd among
-found_itself (x ∷ opens) one order (inl same) =
-    let its : has_id one.file_id x ≡ true = (Decides-eqb x.file_id one.file_id).1 (ap (λ (o : Open). o.file_id) (sym same)) in
-    rw its (ap (λ o. Some o) (sym same))
+found_itself (x ∷ opens) one order (inl same) = grind arith
 found_itself (x ∷ opens) one order (inr among) =
     let its : has_id one.file_id x ≡ false = below x.file_id one.file_id (order.0 one among) in
     rw its (found_itself opens one order.1 among)

@@ -97,15 +97,7 @@ pub decided : (server : Server) (client : ℕ) (request : FileRequest)
 unfolding finding create_finding reconnect_finding write_finding is_leased_elsewhere handle_wants write_wants all_wants
     wants_where
 decided server client (FileRequest.Create file access share None) = refl
-decided server client (FileRequest.Create file access share (Some ask)) = again ask.lease ask.reconnect
-  where
-    asking : Option LeaseOf → Option ℕ → FileRequest
-    asking lease reconnect = FileRequest.Create file access share
-        (Some (record { lease = lease; durable = ask.durable; reconnect = reconnect }))
-
-    again : (lease : Option LeaseOf) (reconnect : Option ℕ)
-        → finding (decider server) client (asking lease reconnect) ≡ finding server client (asking lease reconnect)
-    again x1 x2 = grind arith
+decided server client (FileRequest.Create file access share (Some ask)) = grind arith
 decided server client (FileRequest.Read file_id) = refl
 decided server client (FileRequest.Write file_id number patch) = refl
 decided server client (FileRequest.Close file_id) = refl
@@ -140,10 +132,7 @@ about_same a b file client (FileRequest.Create other access share None) same abo
 about_same a b file client (FileRequest.Create other access share (Some ask)) same about =
     (about.0, sym (elsewhere_same a b (own_key client ask.lease) file same) ∙ about.1)
 about_same a b file client (FileRequest.Read file_id) same about = about
-about_same a b file client (FileRequest.Write file_id number patch) same about =
-    ap (λ opens. option_map (λ one. one.file)
-    (find (λ one. one.file_id == file_id && one.client == client && one.connected) opens)) (sym same)
-    ∙ about
+about_same a b file client (FileRequest.Write file_id number patch) same about = grind arith
 about_same a b file client (FileRequest.Close file_id) same about = about
 
 -- ---- counts
@@ -180,8 +169,7 @@ taken_before : (queue : List Held) (one : Held) (place : ℕ) → place < length
     → take place (queue ++ one ∷ []) ≡ take place queue
 taken_before [] one place inside = absurd (omega (arith, inside))
 taken_before (first ∷ queue) one zero inside = refl
-taken_before (first ∷ queue) one (suc place) inside =
-    ap (λ xs. first ∷ xs) (taken_before queue one place (omega (arith, inside)))
+taken_before (first ∷ queue) one (suc place) inside = let e1 = taken_before queue one place (omega (arith, inside)) in grind arith
 
 longer : (queue : List Held) (one : Held) → length (queue ++ one ∷ []) ≡ length queue + 1
 longer [] one = refl

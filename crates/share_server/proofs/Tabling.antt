@@ -70,9 +70,7 @@ none_above : (n : ℕ) (test : Open → Bool) (opens : List Open)
     → ((one : Open) → test one ≡ true → has_id n one ≡ true)
     → ((one : Open) → Among one opens → has_id n one ≡ false) → list_any test opens ≡ false
 none_above n test [] only apart = refl
-none_above n test (one ∷ opens) only apart =
-    let here = not_true (test one) (λ t. clash (has_id n one) (only one t) (apart one (inl refl))) in
-    rw here (none_above n test opens only (λ other a. apart other (inr a)))
+none_above n test (one ∷ opens) only apart = let e1 = none_above n test opens only (λ other a. apart other (inr a)) in grind arith
 
 find_none : (test : Open → Bool) (opens : List Open) → list_any test opens ≡ false → find test opens ≡ None
 find_none test [] none = refl
@@ -135,26 +133,17 @@ chosen test opens one order among = either (test one)
 pub filter_alike : (f g : Open → Bool) (opens : List Open) → ((one : Open) → Among one opens → f one ≡ g one)
     → without f opens ≡ without g opens
 filter_alike f g [] same = refl
-filter_alike f g (one ∷ opens) same =
-    let here = same one (inl refl) in
-    let later = filter_alike f g opens (λ other a. same other (inr a)) in
-    rw (here, later) refl
+filter_alike f g (one ∷ opens) same = let e1 = filter_alike f g opens (λ other a. same other (inr a)) in grind arith
 
 pub map_alike : (f g : Open → Open) (opens : List Open) → ((one : Open) → Among one opens → f one ≡ g one)
     → map f opens ≡ map g opens
 map_alike f g [] same = refl
-map_alike f g (one ∷ opens) same =
-    let here = same one (inl refl) in
-    let later = map_alike f g opens (λ other a. same other (inr a)) in
-    rw (here, later) refl
+map_alike f g (one ∷ opens) same = let e1 = map_alike f g opens (λ other a. same other (inr a)) in grind arith
 
 -- ---- opens that are closed
 
 pub one_more : (ids : List ℕ) (id : ℕ) (one : Open) → is_one_of (ids ++ id ∷ []) one ≡ (is_one_of ids one || has_id id one)
-one_more [] id one = or_false (has_id id one)
-  where
-    or_false : (b : Bool) → (b || false) ≡ b
-    or_false x1 = grind arith
+one_more [] id one = grind arith
 one_more (x ∷ ids) id one = let e = one_more ids id one in grind (arith, e)
 
 without_more : (ids : List ℕ) (id : ℕ) (opens : List Open)
@@ -408,9 +397,7 @@ pub ids_more : (ids : List FileId) (i : ℕ) (d : FileId) → i < length ids
     → map (λ id. id.0) (take (i + 1) ids) ≡ map (λ id. id.0) (take i ids) ++ (get_or ids i d).0 ∷ []
 ids_more [] i d inside = absurd (omega (arith, inside))
 ids_more (id ∷ ids) zero d inside = refl
-ids_more (id ∷ ids) (suc i) d inside =
-    let e : suc i + 1 ≡ suc (i + 1) = omega arith in
-    rw e (ap (λ x. id.0 ∷ x) (ids_more ids i d (omega (arith, inside))))
+ids_more (id ∷ ids) (suc i) d inside = let e1 = ids_more ids i d (omega (arith, inside)) in grind arith
 
 pub ids_all : (ids : List FileId) (i : ℕ) → length ids ≤ i → map (λ id. id.0) (take i ids) ≡ map (λ id. id.0) ids
 ids_all [] zero less = refl
