@@ -1,15 +1,11 @@
 -- Commands and replies as turns of one entry.
-use Rattle.std.proofs.Common.{◌≡◌, ℕ, ◌==◌, ◌&&◌, ◌||◌, nat_lt, Bool, true, false, not, Option, Some, None, List, [], ◌∷◌, ◌++◌, if◌then◌else◌, refl, ap, sym, ◌∙◌, subst, arith}
-use Rattle.lease_state.specs.declared.patch.Patch.{Patch}
+use Rattle.lease_laws.proofs.Words.{◌&&◌, ◌++◌, ◌==◌, ◌||◌, ◌∙◌, ◌∷◌, ◌≡◌, Answer, Bool, Client, Command, Entry, List, LiveEntry}
+use Rattle.lease_laws.proofs.Words.{None, Note, OpenTerms, Option, Patch, Pending, Phase, Refusal, Request, Some, Step, Turn, ℕ}
+use Rattle.lease_laws.proofs.Words.{[], ap, arith, belief_of, believes_noted, commanded, count_limit, false, file_of}
+use Rattle.lease_laws.proofs.Words.{has_unanswered, if◌then◌else◌, is_asking, is_within_limit, knows_file, last_write_number}
+use Rattle.lease_laws.proofs.Words.{lease_key, live_entry, may_read, may_write, nat_lt, not, on_entry, refl, refused_step}
+use Rattle.lease_laws.proofs.Words.{same_access, same_share, subst, sym, true, turn_of, turned, view}
 use Rattle.lease_model.specs.client.Commanded as model
-use Rattle.lease_model.specs.client.Commanded.{commanded, turn_of, on_entry, file_of, is_asking, has_unanswered}
-use Rattle.lease_model.specs.client.Commands.{Command, OpenTerms, Answer, Refusal, Note}
-use Rattle.lease_model.specs.client.State.{Client, Entry, LiveEntry, Pending, Phase, live_entry, lease_key, knows_file, belief_of, view}
-use Rattle.lease_model.specs.client.Step.{Step, Turn, turned, believes_noted, refused_step}
-use Rattle.lease_model.specs.messages.Requests.{Request}
-use Rattle.lease_model.specs.values.Limits.{count_limit, last_write_number}
-use Rattle.lease_model.specs.values.Patches.{is_within_limit}
-use Rattle.lease_model.specs.values.Sharing.{may_read, may_write, same_access, same_share}
 use Rattle.lease_client.specs.Commanded as rules
 use Rattle.lease_client.specs.Calls.{with_number, step_by}
 use Rattle.lease_client.proofs.Turned.{turned_still, answered, unnoted, same_numbered}

@@ -1,14 +1,11 @@
 -- An entry that is put in the place of its file: the other files have what they had.
-use Rattle.std.proofs.Common.{◌≡◌, ℕ, ◌-◌, ◌<◌, ◌≤◌, zero, suc, true, false, cond, eqb, List, [], ◌∷◌, length, get_or, refl, ap, sym, ◌∙◌, arith}
-use Rattle.std.proofs.lemmas.List.{length-set}
+use Rattle.lease_laws.proofs.Words.{◌-◌, ◌<◌, ◌∙◌, ◌∷◌, ◌≡◌, ◌≤◌, Client, Entry, List, ℕ, [], ap, arith, closed_entry, cond}
+use Rattle.lease_laws.proofs.Words.{false, fun_ext, get_or, knows_file, length, length-set, nat_tests, numbered, put, refl, suc}
+use Rattle.lease_laws.proofs.Words.{sym, true, unwrap_or, zero}
+use Rattle.std.proofs.Common.{eqb}
 use Rattle.std.proofs.lemmas.Option.{slice_get_cases}
 use Rattle.std.proofs.Math.ListN.{set}
-use Rattle.std.proofs.Math.Path.{fun_ext}
 use Rattle.std.specs.List.{slice_get}
-use Rattle.std.specs.Prelude.{unwrap_or}
-use Rattle.std.proofs.lemmas.Bool.Decides.{nat_tests}
-use Rattle.lease_model.specs.client.State.{Client, Entry, closed_entry, knows_file}
-use Rattle.lease_model.specs.values.Tables.{numbered, put}
 use Rattle.lease_client.specs.Known.{Known, client_of}
 
 place_set : (entries : List Entry) (i n : ℕ) (entry : Entry) → i < length entries

@@ -1,7 +1,6 @@
 -- The first file of which something is so, as far as files were looked at.
-use Rattle.std.proofs.Common.{◌≡◌, ℕ, zero, suc, ◌+◌, ◌<◌, Bool, true, false, Some, None, List, [], ◌∷◌, ◌++◌, find, refl, arith, inl, inr, add-one}
-use Rattle.std.proofs.lemmas.Bool.{cases_lt}
-use Rattle.lease_model.specs.values.Lists.{numbers_to}
+use Rattle.lease_laws.proofs.Words.{◌++◌, ◌+◌, ◌<◌, ◌∷◌, ◌≡◌, Bool, List, None, Some, ℕ, [], add-one, arith, cases_lt, false}
+use Rattle.lease_laws.proofs.Words.{find, inl, inr, numbers_to, refl, suc, true, zero}
 
 find_behind : (test : ℕ → Bool) (numbers : List ℕ) (n : ℕ) → find test numbers ≡ None → test n ≡ true
     → find test (numbers ++ n ∷ []) ≡ Some n

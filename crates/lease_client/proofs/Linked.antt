@@ -1,18 +1,11 @@
 -- All entries have their turns, in the order of their files.
-use Rattle.std.proofs.Common.{◌≡◌, ℕ, ◌-◌, ◌+◌, ◌<◌, ◌≤◌, zero, suc, Bool, true, List, [], ◌++◌, length, map, refl, ap, sym, ◌∙◌, arith, add-one, inl, inr}
-use Rattle.std.proofs.lemmas.Bool.{cases_lt}
-use Rattle.std.proofs.lemmas.Bool.Decides.{nat_tests}
-use Rattle.std.proofs.lemmas.List.{length-set, map-append, flat_map_more}
+use Rattle.lease_laws.proofs.Words.{◌++◌, ◌+◌, ◌-◌, ◌<◌, ◌∙◌, ◌≡◌, ◌≤◌, Answer, Bool, Client, Entry, List, Note, Pending, Phase}
+use Rattle.lease_laws.proofs.Words.{Turn, ℕ, [], add-one, all_turned, ap, arith, belief_of, believes_noted, cases_lt}
+use Rattle.lease_laws.proofs.Words.{closed_entry, fun_ext, inl, inr, knows_file, lease_key, length, length-set, map, map-append}
+use Rattle.lease_laws.proofs.Words.{nat_tests, numbered, numbers_to, refl, request_written, suc, sym, true, zero}
+use Rattle.std.proofs.lemmas.List.{flat_map_more}
 use Rattle.std.proofs.lemmas.Option.{slice_get_cases}
-use Rattle.std.proofs.Math.Path.{fun_ext}
-use Rattle.lease_model.specs.client.Commands.{Note, Answer}
 use Rattle.lease_model.specs.client.Connection as model
-use Rattle.lease_model.specs.client.Connection.{all_turned}
-use Rattle.lease_model.specs.client.State.{Client, Entry, Pending, Phase, closed_entry, lease_key, knows_file, belief_of}
-use Rattle.lease_model.specs.client.Step.{Turn, believes_noted}
-use Rattle.lease_model.specs.messages.ToBytes.{request_written}
-use Rattle.lease_model.specs.values.Lists.{numbers_to}
-use Rattle.lease_model.specs.values.Tables.{numbered}
 use Rattle.lease_client.specs.Connected.{connected_in}
 use Rattle.lease_client.specs.Known.{Known, client_of}
 use Rattle.lease_client.specs.Links.{link_turn, is_made, linked, entries_to, requests_to, notes_to}

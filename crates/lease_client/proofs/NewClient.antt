@@ -1,11 +1,9 @@
 -- The entries of a new client stand for the client that is new.
-use Rattle.std.proofs.Common.{◌≡◌, ℕ, zero, suc, List, [], ◌∷◌, ◌++◌, ◌+◌, length, false, refl, ap, ◌∙◌, replicate, arith}
+use Rattle.lease_laws.proofs.Words.{◌++◌, ◌+◌, ◌∙◌, ◌∷◌, ◌≡◌, Client, Entry, List, ℕ, [], ap, arith, closed_entry, false, fun_ext}
+use Rattle.lease_laws.proofs.Words.{length, new_client, numbered, refl, suc, unwrap_or, zero}
+use Rattle.std.proofs.Common.{replicate}
 use Rattle.std.proofs.lemmas.List.{length-replicate, replicate-append-replicate}
-use Rattle.std.proofs.Math.Path.{fun_ext}
 use Rattle.std.specs.List.{slice_get}
-use Rattle.std.specs.Prelude.{unwrap_or}
-use Rattle.lease_model.specs.values.Tables.{numbered}
-use Rattle.lease_model.specs.client.State.{Client, Entry, closed_entry, new_client}
 
 pub closed_more : (files : ℕ)
     → replicate files (closed_entry []) ++ closed_entry [] ∷ [] ≡ replicate (files + 1) (closed_entry [])

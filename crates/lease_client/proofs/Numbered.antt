@@ -1,10 +1,7 @@
 -- A write that is taken out by its number.
-use Rattle.std.proofs.Common.{◌≡◌, ◌∙◌, ℕ, suc, Bool, true, false, cond, Option, Some, None, List, [], ◌∷◌, find, get_or, refl, ap, sym, subst, arith}
-use Rattle.std.proofs.lemmas.Bool.Decides.{nat_tests}
+use Rattle.lease_laws.proofs.Words.{◌∙◌, ◌∷◌, ◌≡◌, Bool, List, None, Option, Pending, Some, ℕ, [], ap, arith, cond, false, find}
+use Rattle.lease_laws.proofs.Words.{get_or, is_numbered, nat_tests, option_map, refl, sent_without, subst, suc, sym, true}
 use Rattle.std.specs.List.{position, remove}
-use Rattle.std.specs.Option.{option_map}
-use Rattle.lease_model.specs.client.State.{Pending}
-use Rattle.lease_model.specs.client.Taken.{is_numbered, sent_without}
 
 abbrev place_in : ℕ → List Pending → Option ℕ
 place_in number [] = None

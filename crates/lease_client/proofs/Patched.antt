@@ -1,10 +1,11 @@
 -- A patch put onto bytes: over those that are there, or behind them.
-use Rattle.std.proofs.Common.{◌≡◌, ◌≤◌, ◌<◌, ℕ, ◌+◌, ◌-◌, ◌∙◌, arith, sym, ap, List, [], ◌∷◌, ◌++◌, length, take, drop, replicate, inl, inr, length-append}
-use Rattle.std.proofs.lemmas.Bool.{cases_lt}
-use Rattle.std.proofs.lemmas.List.{drop_all, take_all, append-nil, take_at, take-append-le, take-replicate, length-replicate}
+use Rattle.lease_laws.proofs.Words.{◌++◌, ◌+◌, ◌-◌, ◌<◌, ◌∙◌, ◌∷◌, ◌≡◌, ◌≤◌, List, ℕ, [], ap, append-nil, arith, cases_lt, drop}
+use Rattle.lease_laws.proofs.Words.{inl, inr, length, length-append, length-written, patch_at, sym, take}
+use Rattle.std.proofs.Common.{replicate}
+use Rattle.std.proofs.lemmas.List.{drop_all, take_all, take_at, take-append-le, take-replicate, length-replicate}
 use Rattle.std.proofs.Math.Seq.{take-append-add}
-use Rattle.lease_state.specs.Content.{written, patch_at}
-use Rattle.lease_state.proofs.ContentLemmas.{length-written, over, over-zeros}
+use Rattle.lease_state.specs.Content.{written}
+use Rattle.lease_state.proofs.ContentLemmas.{over, over-zeros}
 
 no_zeros : (x : List ℕ) (n : ℕ) → n ≡ 0 → x ≡ x ++ replicate n 0
 no_zeros x n none = sym (append-nil x) ∙ ap (λ (k : ℕ). x ++ replicate k 0) (sym none)

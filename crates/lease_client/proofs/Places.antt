@@ -1,9 +1,6 @@
 -- Entries by the number of their file, from 1.
-use Rattle.std.proofs.Common.{◌≡◌, ℕ, ◌-◌, ◌≤◌, zero, suc, List, [], refl, arith}
-use Rattle.std.specs.Prelude.{unwrap_or}
+use Rattle.lease_laws.proofs.Words.{◌-◌, ◌≡◌, ◌≤◌, Entry, List, ℕ, [], arith, closed_entry, numbered, refl, suc, unwrap_or, zero}
 use Rattle.std.specs.List.{slice_get}
-use Rattle.lease_model.specs.values.Tables.{numbered}
-use Rattle.lease_model.specs.client.State.{Entry, closed_entry}
 use Rattle.lease_client.specs.Known.{entry_at}
 
 pub entry_at_place : (entries : List Entry) (n : ℕ) → 1 ≤ n → entry_at entries n ≡ slice_get entries (n - 1)

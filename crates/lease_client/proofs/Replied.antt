@@ -1,20 +1,16 @@
 -- Replies as turns of one entry.
-use Rattle.std.proofs.Common.{◌≡◌, ℕ, ◌==◌, ◌&&◌, Bool, true, false, not, if◌then◌else◌, Option, Some, None, List, length, nat_le, nat_lt, refl, arith}
-use Rattle.std.proofs.lemmas.Bool.Decides.{nat_tests}
+use Rattle.lease_laws.proofs.Words.{◌&&◌, ◌==◌, ◌≡◌, Answer, Asked, Bool, BreakNotice, Client, CreateAnswer, FILE_LIMIT, List}
+use Rattle.lease_laws.proofs.Words.{LiveEntry, None, Option, Pending, Phase, Some, Status, ℕ, arith, false, if◌then◌else◌}
+use Rattle.lease_laws.proofs.Words.{knows_file, lease_key, length, live_entry, nat_le, nat_lt, nat_tests, not, notice_in}
+use Rattle.lease_laws.proofs.Words.{quiet_step, refl, true, turned}
 use Rattle.lease_wire.specs.Field.{number_at}
 use Rattle.lease_wire.specs.WireFaults.{message_fault}
 use Rattle.lease_wire.specs.declared.fault.WireFault.{WireFault}
-use Rattle.lease_model.specs.messages.FromBytes.{notice_in}
-use Rattle.lease_state.specs.declared.status.Status.{Status}
-use Rattle.lease_model.specs.client.Commands.{Answer}
-use Rattle.lease_model.specs.client.State.{Client, LiveEntry, Asked, Pending, Phase, live_entry, lease_key, knows_file}
-use Rattle.lease_model.specs.client.Step.{turned, quiet_step}
 use Rattle.lease_model.specs.client.Taken as model
-use Rattle.lease_model.specs.messages.Replies.{CreateAnswer, BreakNotice}
 use Rattle.lease_client.specs.Answered.{read_done_turn, read_in, not_read_turn, not_read_in}
 use Rattle.lease_client.specs.Broken.{broken_turn, broken_in}
-use Rattle.lease_client.specs.Created.{created_turn, created_in, created_for, not_created_turn, not_created_in, not_created_for, quiet_turn}
-use Rattle.lease_state.specs.declared.content.TheConstants.{FILE_LIMIT}
+use Rattle.lease_client.specs.Created.{created_turn, created_in, created_for, not_created_turn, not_created_in, not_created_for}
+use Rattle.lease_client.specs.Created.{quiet_turn}
 use Rattle.lease_client.specs.Known.{Known, client_of}
 use Rattle.lease_client.specs.Searches.{is_read_under}
 use Rattle.lease_client.proofs.ByTurns.{still_step}

@@ -1,20 +1,15 @@
 -- A reply raises no belief, but that of the file whose create it answers.
-use Rattle.std.proofs.Common.{◌≡◌, ℕ, Bool, true, false, not, Option, Some, None, List, [], ◌==◌, ◌&&◌, if◌then◌else◌, bytes_eq, nat_le, length, find, refl, sym, ◌⊎◌, inl, inr, subst, arith}
+use Rattle.lease_laws.proofs.Words.{◌&&◌, ◌==◌, ◌≡◌, ◌⊎◌, Asked, Bool, BreakNotice, Client, CreateAnswer, Entry, FILE_LIMIT}
+use Rattle.lease_laws.proofs.Words.{LeaseGiven, List, LiveEntry, None, Note, Option, Pending, Phase, Reply, Some, State, Status}
+use Rattle.lease_laws.proofs.Words.{Step, ℕ, [], arith, belief_of, bytes_eq, false, find, if◌then◌else◌, inl, inr}
+use Rattle.lease_laws.proofs.Words.{is_state_within, lease_key, length, live_entry, meet, nat_le, not, nothing_cached, refl}
+use Rattle.lease_laws.proofs.Words.{subst, sym, taken, true, turned}
 use Rattle.lease_client.specs.Links.{linked}
 use Rattle.lease_client.specs.Searches.{is_read_under}
 use Rattle.lease_client.specs.declared.links.Link.{Link}
 use Rattle.lease_client.specs.declared.links.Link.TheVariants.{Lost, Made}
-use Rattle.lease_state.specs.State.{State, is_state_within, nothing_cached}
-use Rattle.lease_state.specs.declared.content.TheConstants.{FILE_LIMIT}
-use Rattle.lease_state.specs.declared.status.Status.{Status}
-use Rattle.lease_model.specs.client.Commands.{Note}
 use Rattle.lease_model.specs.client.Connection as connection
-use Rattle.lease_model.specs.client.State.{Client, Entry, LiveEntry, Asked, Pending, Phase, live_entry, lease_key, belief_of}
-use Rattle.lease_model.specs.client.Step.{Step, turned}
 use Rattle.lease_model.specs.client.Taken as model
-use Rattle.lease_model.specs.client.Taken.{taken}
-use Rattle.lease_model.specs.messages.Replies.{Reply, CreateAnswer, LeaseGiven, BreakNotice}
-use Rattle.lease_model.specs.values.LeaseStates.{meet}
 use Rattle.lease_client.specs.Answered.{read_in, read_done_turn, not_read_in, not_read_turn, not_written_turn}
 use Rattle.lease_client.specs.Beliefs.{NoneRose, is_free, RoseBy}
 use Rattle.lease_client.specs.Broken.{broken_in, broken_turn}

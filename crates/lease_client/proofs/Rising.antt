@@ -1,18 +1,11 @@
 -- No call raises a belief, but a reply to a create that tells of no break in progress.
-use Rattle.std.proofs.Common.{◌≡◌, ℕ, Bool, true, false, not, eqb, Option, Some, None, List, ◌==◌, ◌&&◌, ◌||◌, if◌then◌else◌, nat_lt, refl, inl, inr, arith}
+use Rattle.lease_laws.proofs.Words.{◌&&◌, ◌==◌, ◌||◌, ◌≡◌, Bool, Client, Command, Entry, List, LiveEntry, None, OpenTerms, Option}
+use Rattle.lease_laws.proofs.Words.{Patch, Pending, Phase, Some, State, Turn, ℕ, arith, belief_of, commanded, count_limit, false}
+use Rattle.lease_laws.proofs.Words.{file_of, has_unanswered, if◌then◌else◌, inl, inr, is_asking, is_state_within, is_within_limit}
+use Rattle.lease_laws.proofs.Words.{knows_file, last_write_number, lease_key, live_entry, may_read, may_write, meet, nat_lt}
+use Rattle.lease_laws.proofs.Words.{nat_tests, not, put, refl, same_access, same_share, true, turned}
+use Rattle.std.proofs.Common.{eqb}
 use Rattle.std.proofs.lemmas.Bool.{cases_eq}
-use Rattle.std.proofs.lemmas.Bool.Decides.{nat_tests}
-use Rattle.lease_state.specs.State.{State, is_state_within}
-use Rattle.lease_state.specs.declared.patch.Patch.{Patch}
-use Rattle.lease_model.specs.client.Commanded.{commanded, file_of, is_asking, has_unanswered}
-use Rattle.lease_model.specs.client.Commands.{Command, OpenTerms}
-use Rattle.lease_model.specs.client.State.{Client, Entry, LiveEntry, Pending, Phase, live_entry, lease_key, knows_file, belief_of}
-use Rattle.lease_model.specs.client.Step.{Turn, turned}
-use Rattle.lease_model.specs.values.LeaseStates.{meet}
-use Rattle.lease_model.specs.values.Limits.{count_limit, last_write_number}
-use Rattle.lease_model.specs.values.Patches.{is_within_limit}
-use Rattle.lease_model.specs.values.Sharing.{may_read, may_write, same_access, same_share}
-use Rattle.lease_model.specs.values.Tables.{put}
 use Rattle.lease_client.specs.Beliefs.{IsNoMore, NoneRose}
 use Rattle.lease_client.specs.Commanded as rules
 use Rattle.lease_client.proofs.ByTurns.{commanded_by, commanded_nowhere}

@@ -1,9 +1,6 @@
 -- What a call leaves behind keeps the laws of clients.
-use Rattle.std.proofs.Common.{◌≡◌, refl, ap, sym, subst, ◌∙◌, arith}
-use Rattle.lease_laws.specs.client.Laws.{IsSoundClient, ClientsStaySound}
-use Rattle.lease_model.specs.client.Calls.{ClientCall, client_called}
-use Rattle.lease_model.specs.client.State.{Client}
-use Rattle.lease_model.specs.client.Step.{Step}
+use Rattle.lease_laws.proofs.Words.{◌∙◌, ◌≡◌, Client, ClientCall, IsSoundClient, Step, ap, arith, client_called, refl, subst, sym}
+use Rattle.lease_laws.specs.client.Laws.{ClientsStaySound}
 use Rattle.lease_client.specs.Links.{linked}
 use Rattle.lease_client.specs.declared.links.Link.{Link}
 use Rattle.lease_client.specs.declared.links.Link.TheVariants.{Lost, Made}

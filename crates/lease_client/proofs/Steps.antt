@@ -1,12 +1,7 @@
 -- Calls that go by one entry.
-use Rattle.std.proofs.Common.{◌≡◌, ℕ, true, List, [], refl, ap, ◌∙◌, arith}
-use Rattle.lease_state.specs.State.{State}
+use Rattle.lease_laws.proofs.Words.{◌∙◌, ◌≡◌, Answer, Client, Command, List, Refusal, State, Step, Turn, ℕ, [], ap, arith}
+use Rattle.lease_laws.proofs.Words.{belief_of, commanded, file_of, knows_file, lease_key, refl, same_state, true, turned}
 use Rattle.lease_laws.specs.client.Laws.{RefusedCommandsDoNothing}
-use Rattle.lease_model.specs.client.Commanded.{commanded, file_of}
-use Rattle.lease_model.specs.client.Commands.{Command, Answer, Refusal}
-use Rattle.lease_model.specs.client.State.{Client, lease_key, knows_file, belief_of}
-use Rattle.lease_model.specs.client.Step.{Step, Turn, turned}
-use Rattle.lease_model.specs.values.LeaseStates.{same_state}
 use Rattle.lease_client.specs.Calls.{turn_by, last_by}
 use Rattle.lease_client.specs.Commanded.{commanded_turn, last_after, is_refused}
 use Rattle.lease_client.specs.Known.{Known, client_of}

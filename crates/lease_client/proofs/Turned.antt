@@ -1,16 +1,8 @@
 -- A turn of one entry, and what it makes of the client.
-use Rattle.std.proofs.Common.{◌≡◌, ℕ, ◌-◌, ◌<◌, zero, suc, Bool, true, false, List, [], ◌∷◌, ◌++◌, length, if◌then◌else◌, refl, ap, sym, ◌∙◌, arith}
-use mathlib.Core.Bool.{beq}
+use Rattle.lease_laws.proofs.Words.{◌++◌, ◌-◌, ◌<◌, ◌∙◌, ◌∷◌, ◌≡◌, Answer, Bool, Client, Entry, List, Note, State, Step, Turn, ℕ}
+use Rattle.lease_laws.proofs.Words.{[], ap, arith, belief_of, believes_noted, beq, false, fun_ext, if◌then◌else◌, knows_file}
+use Rattle.lease_laws.proofs.Words.{length, nat_tests, put, refl, same_state, suc, sym, true, turn_of, turned, zero}
 use Rattle.std.proofs.Math.ListN.{set}
-use Rattle.std.proofs.Math.Path.{fun_ext}
-use Rattle.std.proofs.lemmas.Bool.Decides.{nat_tests}
-use Rattle.lease_state.specs.State.{State}
-use Rattle.lease_model.specs.client.Commanded.{turn_of}
-use Rattle.lease_model.specs.client.Commands.{Answer, Note}
-use Rattle.lease_model.specs.client.State.{Client, Entry, knows_file, belief_of}
-use Rattle.lease_model.specs.client.Step.{Step, Turn, turned, believes_noted}
-use Rattle.lease_model.specs.values.LeaseStates.{same_state}
-use Rattle.lease_model.specs.values.Tables.{put}
 use Rattle.lease_client.specs.Calls.{with_number}
 use Rattle.lease_client.specs.Known.{Known, client_of}
 use Rattle.lease_client.specs.Turns.{Given, turn_written, given_in, given_by, IsAfter}

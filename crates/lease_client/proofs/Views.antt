@@ -1,8 +1,7 @@
 -- A file with the unanswered writes.
-use Rattle.std.proofs.Common.{◌≡◌, ◌∙◌, ℕ, ◌-◌, List, [], ◌∷◌, ◌++◌, refl, sym, ap, arith, length, length-drop, take, drop}
+use Rattle.lease_laws.proofs.Words.{◌++◌, ◌-◌, ◌∙◌, ◌∷◌, ◌≡◌, List, Pending, ℕ, [], ap, arith, drop, length, length-drop, patch}
+use Rattle.lease_laws.proofs.Words.{patches, patches_of, refl, sym, take}
 use Rattle.std.proofs.lemmas.List.{take_all, take-append-drop}
-use Rattle.lease_state.specs.Content.{patch, patches}
-use Rattle.lease_model.specs.client.State.{Pending, patches_of}
 
 -- the sent writes first, and then those that aren't sent
 pub patched_on : (base : List ℕ) (sent unsent : List Pending)

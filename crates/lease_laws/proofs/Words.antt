@@ -1,26 +1,35 @@
 -- The words of std, of lease states, of the model and of the laws, for the files of lemmas.
-pub use Rattle.std.proofs.Common.{◌&&◌, ◌++◌, ◌+◌, ◌<◌, ◌==◌, ◌||◌, ◌∙◌, ◌∷◌, ◌≡◌, ◌≢◌, ◌≤◌, ◌⊎◌, Bool, List, None, Option, Some}
-pub use Rattle.std.proofs.Common.{T, [], ℕ, ⊎_elim, ap, append-nil, append_assoc, ap₂, arith, cond, false, filter, flat_map}
-pub use Rattle.std.proofs.Common.{if◌then◌else◌, inl, inr, leb→le, length, length-append, map, max, nat_le, nat_lt, not, refl}
-pub use Rattle.std.proofs.Common.{reverse, subst, suc, sym, take, true, true≢false, zero}
+pub use Rattle.std.proofs.Common.{◌&&◌, ◌++◌, ◌+◌, ◌-◌, ◌<◌, ◌==◌, ◌||◌, ◌∙◌, ◌∷◌, ◌≡◌, ◌≢◌, ◌≤◌, ◌⊎◌, Bool, List, None, Option}
+pub use Rattle.std.proofs.Common.{Some, T, [], ℕ, ⊎_elim, add-one, ap, append-nil, append_assoc, ap₂, arith, codes, cond, false}
+pub use Rattle.std.proofs.Common.{filter, flat_map, get_or, if◌then◌else◌, inl, inr, leb→le, length, length-append, length-drop}
+pub use Rattle.std.proofs.Common.{map, max, nat_le, nat_lt, not, refl, reverse, rules, slice_index, subst, suc, sym, take, true}
+pub use Rattle.std.proofs.Common.{true≢false, vec_len, zero}
+pub use Rattle.std.proofs.Math.Path.{fun_ext}
 pub use Rattle.std.proofs.Math.Seq.{take-length}
-pub use Rattle.std.proofs.lemmas.Bool.{and_from, and_parts, both_ways, cases_Bool, eq-eqb, eqb-true, not-true, or_cases}
+pub use Rattle.std.proofs.lemmas.Bool.{and_from, and_parts, both_ways, cases_Bool, cases_lt, eq-eqb, eqb-true, not-true, or_cases}
 pub use Rattle.std.proofs.lemmas.Bool.Decides.{Decides-eqb, nat_tests}
 pub use Rattle.std.proofs.lemmas.Grind.{flat_map-append}
-pub use Rattle.std.proofs.lemmas.List.{length-reverse, length-take, length-take-le, reverse-reverse}
+pub use Rattle.std.proofs.lemmas.List.{length-map, length-reverse, length-set, length-take, length-take-le, map-append}
+pub use Rattle.std.proofs.lemmas.List.{reverse-append, reverse-reverse}
+pub use Rattle.std.proofs.lemmas.List.Elements.{filter-append}
 pub use Rattle.std.proofs.lemmas.List.Folds.{list_any-append}
+pub use Rattle.std.proofs.lemmas.Result.{on_ok_weaker}
 pub use Rattle.std.proofs.lemmas.Slice.Eq.{bytes_eq-Decides}
-pub use Rattle.std.specs.List.{list_all, list_any}
-pub use Rattle.std.specs.Prelude.{Err, IfSome, Ok, Result, ⊤, bytes_eq, drop, find, is_some, slice_get, unwrap_or}
+pub use Rattle.std.specs.Fmt.{decimal}
+pub use Rattle.std.specs.List.{list_all, list_any, slice_set}
+pub use Rattle.std.specs.Option.{option_map}
+pub use Rattle.std.specs.Prelude.{Err, IfOk, IfSome, Ok, Result, ⊤, bytes_eq, drop, find, is_some, slice_get, unwrap_or}
 pub use mathlib.Core.Bool.{beq}
 pub use mathlib.Core.List.{reverse_aux, reverse_aux-eq}
 pub use Rattle.lease_state.proofs.ContentLemmas.{length-written}
 pub use Rattle.lease_state.specs.Access.{allowed_by, conflict, is_within, uses_of}
 pub use Rattle.lease_state.specs.Content.{patch, patch_at, patches}
-pub use Rattle.lease_state.specs.State.{State, granted_form_of, is_state_within, needs_acknowledgment, nothing_cached}
+pub use Rattle.lease_state.specs.State.{State, granted_form_of, is_state_within, needs_acknowledgment, nothing_cached, state_of}
 pub use Rattle.lease_state.specs.declared.access.Access.{Access}
 pub use Rattle.lease_state.specs.declared.access.Share.{Share}
 pub use Rattle.lease_state.specs.declared.content.TheConstants.{FILE_LIMIT}
+pub use Rattle.lease_state.specs.declared.number.ClientNo.{ClientNo}
+pub use Rattle.lease_state.specs.declared.number.FileNo.{FileNo}
 pub use Rattle.lease_state.specs.declared.patch.Patch.{Patch}
 pub use Rattle.lease_state.specs.declared.status.Status.{Status}
 pub use Rattle.lease_model.specs.client.Calls.{ClientCall, client_called}
@@ -105,8 +114,8 @@ unfoldable pub use Rattle.lease_model.specs.server.Wants.{all_wants, handle_want
 pub use Rattle.lease_model.specs.values.Keys.{Key}
 unfoldable pub use Rattle.lease_model.specs.values.Keys.{bytes_before, key_before, key_eq}
 pub use Rattle.lease_model.specs.values.LeaseStates.{holds_any, meet, same_state, without_handle, without_write}
-pub use Rattle.lease_model.specs.values.Limits.{count_limit, last_file_id, last_write_number}
-unfoldable pub use Rattle.lease_model.specs.values.Limits.{files_limit, last_file_number}
+pub use Rattle.lease_model.specs.values.Limits.{count_limit}
+unfoldable pub use Rattle.lease_model.specs.values.Limits.{files_limit, last_file_id, last_file_number, last_write_number}
 pub use Rattle.lease_model.specs.values.Lists.{is_empty, numbers_to, without}
 pub use Rattle.lease_model.specs.values.Patches.{is_within_limit, same_patch}
 pub use Rattle.lease_model.specs.values.Sharing.{may_read, may_write, same_access, same_share}

@@ -1,18 +1,16 @@
 -- The first bad fact of a record, by what is known of the verdict.
-use Rattle.std.proofs.Common.{◌≡◌, ◌⊎◌, inl, inr, ℕ, suc, ◌+◌, ◌<◌, ◌≤◌, Bool, true, false, List, [], ◌∷◌, ◌++◌, length, map, reverse, take, drop, get_or, refl, sym, ap, ◌∙◌, arith}
-use Rattle.std.specs.Prelude.{if◌then◌else◌, not}
-use mathlib.Core.List.{reverse_aux}
-use Rattle.std.proofs.lemmas.List.{take-append-drop, map-append, length-append, length-map, length-take-le}
+use Rattle.lease_laws.proofs.Words.{◌++◌, ◌+◌, ◌<◌, ◌∙◌, ◌∷◌, ◌≡◌, ◌≤◌, ◌⊎◌, Bool, Fact, List, Option, Verdict, ℕ, [], ap, arith}
+use Rattle.lease_laws.proofs.Words.{drop, false, flaw_at, get_or, has_two_caches, if◌then◌else◌, inl, inr, is_false_done}
+use Rattle.lease_laws.proofs.Words.{is_late_write, is_stale_read, is_well_formed, length, length-append, length-map}
+use Rattle.lease_laws.proofs.Words.{length-take-le, map, map-append, not, or_else, refl, reverse, reverse_aux, suc, sym, take}
+use Rattle.lease_laws.proofs.Words.{true, verdict, verdict_from}
+use Rattle.std.proofs.lemmas.List.{take-append-drop}
 use Rattle.lease_facts.specs.Facts.{fact_of}
 use Rattle.lease_facts.specs.declared.fact.Fact as code
-use Rattle.lease_model.specs.records.Facts.{Fact}
-use Rattle.lease_model.specs.records.Safe.{is_well_formed}
-use Rattle.lease_model.specs.records.Verdict.{Verdict, has_two_caches, is_stale_read, is_late_write, is_false_done, flaw_at, or_else, verdict_from, verdict}
 use Rattle.lease_world.proofs.worlds.First.{drop_rest}
 use Rattle.lease_world.specs.declared.verdict.Rule.{Rule}
 use Rattle.lease_reasons.specs.Places.{past_of}
 use Rattle.lease_reasons.specs.Reasons.{Told, IsReasonAt}
-use Rattle.std.specs.Prelude.{Option}
 use Rattle.lease_reasons.specs.declared.reason.Reason.{Reason}
 
 -- a fact behind others has this flaw, whose place counts on from one

@@ -1,11 +1,10 @@
 -- Places that are found, against what the definitions say of a past.
-use Rattle.std.proofs.Common.{◌≡◌, ℕ, ◌+◌, ◌≤◌, Bool, true, false, List, [], ◌∷◌, Option, Some, None, length, refl, sym, ap, ◌∙◌, arith}
-use Rattle.std.specs.Prelude.{if◌then◌else◌, ◌&&◌, ◌||◌, ◌==◌, not, nat_le, is_some}
-use Rattle.std.proofs.lemmas.Bool.{both_ways, le-leb}
-use Rattle.lease_model.specs.records.Facts.{Fact}
-use Rattle.lease_model.specs.records.Past.{is_started, has_joined, has_strayed, has_number, has_buffered, is_touched, is_served, is_good}
-use Rattle.lease_state.specs.declared.number.ClientNo.{ClientNo}
-use Rattle.lease_state.specs.declared.number.FileNo.{FileNo}
+use Rattle.lease_laws.proofs.Words.{◌&&◌, ◌+◌, ◌==◌, ◌||◌, ◌∙◌, ◌∷◌, ◌≡◌, ◌≤◌, Bool, ClientNo, Fact, FileNo, List, None, Option}
+use Rattle.lease_laws.proofs.Words.{Some, ℕ, [], ap, arith, both_ways, false, has_buffered, has_joined, has_strayed}
+use Rattle.lease_laws.proofs.Words.{if◌then◌else◌, is_good, is_served, is_some, is_started, is_touched, length, nat_le, not, refl}
+use Rattle.lease_laws.proofs.Words.{sym, true}
+use Rattle.std.proofs.lemmas.Bool.{le-leb}
+use Rattle.lease_model.specs.records.Past.{has_number}
 use Rattle.lease_reasons.specs.Marks.{fits}
 use Rattle.lease_reasons.specs.Places.{last_place, first_place, earlier}
 use Rattle.lease_reasons.specs.declared.marks.Mark.TheVariants as mark

@@ -1,12 +1,8 @@
 -- The clients that facts are about.
-use Rattle.std.proofs.Common.{◌≡◌, ℕ, ◌+◌, ◌<◌, Bool, true, false, List, [], ◌∷◌, ◌++◌, Some, length, take, get_or, refl, ap, ◌∙◌}
-use Rattle.std.specs.Prelude.{◌||◌, ◌==◌}
-use Rattle.std.specs.List.{list_any}
-use Rattle.std.proofs.lemmas.List.{map-append}
+use Rattle.lease_laws.proofs.Words.{◌++◌, ◌+◌, ◌<◌, ◌==◌, ◌||◌, ◌∙◌, ◌∷◌, ◌≡◌, Bool, ClientNo, Fact, List, Some, ℕ, [], ap, false}
+use Rattle.lease_laws.proofs.Words.{get_or, length, list_any, map-append, refl, take, true}
 use Rattle.lease_facts.specs.Facts.{fact_of}
 use Rattle.lease_facts.specs.declared.fact.Fact as code
-use Rattle.lease_model.specs.records.Facts.{Fact}
-use Rattle.lease_state.specs.declared.number.ClientNo.{ClientNo}
 use Rattle.lease_reasons.specs.Extent.{client_of, with_client, clients_named, numbers}
 use Rattle.lease_reasons.specs.Places.{past_of}
 use Rattle.lease_reasons.proofs.Pasts.{past-next}

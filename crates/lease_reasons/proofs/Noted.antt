@@ -1,20 +1,19 @@
 -- What is gathered of beliefs, after one fact more, and what follows from it.
-use Rattle.std.proofs.Common.{◌≡◌, ◌≢◌, inl, inr, ℕ, ◌+◌, ◌<◌, Bool, true, false, List, [], ◌∷◌, ◌++◌, Option, Some, None, length, take, get_or, refl, sym, ap, subst, ◌∙◌, arith}
-use Rattle.std.specs.Prelude.{if◌then◌else◌, ◌&&◌, ◌||◌, ◌==◌, not, is_some, MatchOption}
-use Rattle.std.specs.List.{list_any, filter, find}
-use Rattle.std.proofs.lemmas.Bool.{both_ways, and_parts, and_from, or_cases, eqb-true, eq-eqb, cases_Bool}
+use Rattle.lease_laws.proofs.Words.{◌&&◌, ◌++◌, ◌+◌, ◌<◌, ◌==◌, ◌||◌, ◌∙◌, ◌∷◌, ◌≡◌, ◌≢◌, Bool, Fact, FileNo, List, None}
+use Rattle.lease_laws.proofs.Words.{OneWriteCache, Option, Some, State, ℕ, [], and_from, and_parts, ap, arith, believed}
+use Rattle.lease_laws.proofs.Words.{both_ways, cases_Bool, eq-eqb, eqb-true, false, get_or, holds_any, if◌then◌else◌, inl, inr}
+use Rattle.lease_laws.proofs.Words.{is_good, is_some, length, list_any, not, nothing_cached, or_cases, refl, state_of, subst, sym}
+use Rattle.lease_laws.proofs.Words.{take, true}
+use Rattle.std.specs.Prelude.{MatchOption}
+use Rattle.std.specs.List.{filter, find}
 use Rattle.std.proofs.lemmas.List.{take_more}
 use Rattle.std.proofs.lemmas.Map.Views.{any-filter_same}
-use Rattle.lease_state.specs.State.{State, state_of, nothing_cached}
-use Rattle.lease_state.specs.declared.number.FileNo.{FileNo}
 use Rattle.lease_facts.specs.Facts.{fact_of}
 use Rattle.lease_facts.specs.declared.fact.Fact as code
 use Rattle.lease_facts.specs.declared.fact.Fact.TheVariants as fact
-use Rattle.lease_model.specs.records.Facts.{Fact}
-use Rattle.lease_model.specs.records.Past.{is_good, believed}
-use Rattle.lease_model.specs.records.Safe.{OneWriteCache}
-use Rattle.lease_model.specs.values.LeaseStates.{holds_any}
-use Rattle.lease_reasons.specs.Beliefs.{Noted, last_noted, Each, noted_of, AreNoted, AreFiles, belief_told, with_belief, put_belief, file_told, with_file, may_clash, rivals_of, rivals_with, rivals_among, HasNoRivals, AreRivals}
+use Rattle.lease_reasons.specs.Beliefs.{Noted, last_noted, Each, noted_of, AreNoted, AreFiles, belief_told, with_belief}
+use Rattle.lease_reasons.specs.Beliefs.{put_belief, file_told, with_file, may_clash, rivals_of, rivals_with, rivals_among}
+use Rattle.lease_reasons.specs.Beliefs.{HasNoRivals, AreRivals}
 use Rattle.lease_reasons.specs.declared.reason.Belief.{Belief}
 
 -- ---- each of a list

@@ -1,8 +1,8 @@
 -- Facts as a past, one more after the other.
-use Rattle.std.proofs.Common.{◌≡◌, ℕ, ◌+◌, ◌<◌, ◌≤◌, List, [], ◌∷◌, ◌++◌, length, map, reverse, take, get_or, sym, ap, ◌∙◌}
-use Rattle.std.proofs.lemmas.List.{take_more, map-append, length-map, length-reverse, length-take-le}
-use Rattle.std.proofs.Math.Seq.{take-length}
-use Rattle.std.proofs.lemmas.List.{reverse-append}
+use Rattle.lease_laws.proofs.Words.{◌++◌, ◌+◌, ◌<◌, ◌∙◌, ◌∷◌, ◌≡◌, ◌≤◌, List, ℕ, [], ap, get_or, length, length-map}
+use Rattle.lease_laws.proofs.Words.{length-reverse, length-take-le, map, map-append, reverse, reverse-append, sym, take}
+use Rattle.lease_laws.proofs.Words.{take-length}
+use Rattle.std.proofs.lemmas.List.{take_more}
 use Rattle.lease_facts.specs.Facts.{fact_of}
 use Rattle.lease_facts.specs.declared.fact.Fact as code
 use Rattle.lease_reasons.specs.Places.{past_of}

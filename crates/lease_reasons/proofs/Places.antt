@@ -1,9 +1,8 @@
 -- Places that are looked for, after one fact more.
-use Rattle.std.proofs.Common.{◌≡◌, ℕ, ◌+◌, ◌<◌, Bool, List, [], Some, None, length, take, get_or, refl, arith}
-use Rattle.std.specs.Prelude.{if◌then◌else◌, ◌&&◌, nat_le}
+use Rattle.lease_laws.proofs.Words.{◌&&◌, ◌+◌, ◌<◌, ◌≡◌, Bool, Fact, List, None, Some, ℕ, [], arith, get_or, if◌then◌else◌}
+use Rattle.lease_laws.proofs.Words.{length, nat_le, refl, take}
 use Rattle.lease_facts.specs.Facts.{fact_of}
 use Rattle.lease_facts.specs.declared.fact.Fact as code
-use Rattle.lease_model.specs.records.Facts.{Fact}
 use Rattle.lease_reasons.specs.Places.{past_of, last_place, first_place, earlier}
 use Rattle.lease_reasons.proofs.Pasts.{past-next, taken-length}
 

@@ -1,11 +1,8 @@
 -- The messages to a client, after one fact more.
-use Rattle.std.proofs.Common.{◌≡◌, ℕ, ◌+◌, ◌<◌, ◌≤◌, Bool, true, false, List, [], ◌∷◌, ◌++◌, length, map, take, get_or, refl, ap, ◌∙◌, arith}
-use Rattle.std.specs.Prelude.{if◌then◌else◌, ◌==◌}
-use Rattle.std.proofs.lemmas.List.{map-append}
+use Rattle.lease_laws.proofs.Words.{◌++◌, ◌+◌, ◌<◌, ◌==◌, ◌∙◌, ◌∷◌, ◌≡◌, ◌≤◌, Bool, Fact, List, ℕ, [], ap, arith, false, get_or}
+use Rattle.lease_laws.proofs.Words.{if◌then◌else◌, length, map, map-append, refl, sendings, take, takings, true}
 use Rattle.lease_facts.specs.Facts.{fact_of}
 use Rattle.lease_facts.specs.declared.fact.Fact as code
-use Rattle.lease_model.specs.records.Facts.{Fact}
-use Rattle.lease_model.specs.records.Past.{sendings, takings}
 use Rattle.lease_reasons.specs.Messages.{Mail, mail_of, mail_after, place_behind}
 use Rattle.lease_reasons.specs.Places.{past_of}
 use Rattle.lease_reasons.proofs.Pasts.{past-next, taken-length}

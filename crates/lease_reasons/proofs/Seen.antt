@@ -1,21 +1,19 @@
 -- What a cached read should have given, after one fact more.
-use Rattle.std.proofs.Common.{◌≡◌, ℕ, zero, suc, ◌+◌, ◌-◌, ◌≤◌, Bool, true, false, List, [], ◌∷◌, ◌++◌, Option, Some, None, length, map, reverse, take, drop, refl, sym, ap, ◌∙◌, arith}
-use Rattle.std.specs.Prelude.{if◌then◌else◌, ◌&&◌, ◌||◌, ◌==◌, not, slice_get}
-use Rattle.std.specs.Option.{option_map}
-use Rattle.std.proofs.lemmas.List.{map-append, length-append, length-drop, reverse-append, take-append-drop}
+use Rattle.lease_laws.proofs.Words.{◌&&◌, ◌++◌, ◌+◌, ◌-◌, ◌==◌, ◌||◌, ◌∙◌, ◌∷◌, ◌≡◌, ◌≤◌, Bool, ClientNo, Fact, List, None}
+use Rattle.lease_laws.proofs.Words.{Option, Patch, Some, ℕ, [], ap, arith, changes_of, drop, false, if◌then◌else◌, is_settled}
+use Rattle.lease_laws.proofs.Words.{last_of, last_sending, length, length-append, length-drop, map, map-append, not, option_map}
+use Rattle.lease_laws.proofs.Words.{patch, patches, refl, reverse, reverse-append, sendings, slice_get, start_of, suc, sym, take}
+use Rattle.lease_laws.proofs.Words.{takings, true, unsettled, zero}
+use Rattle.std.proofs.lemmas.List.{take-append-drop}
 use Rattle.lease_facts.specs.Facts.{fact_of}
 use Rattle.lease_facts.specs.declared.fact.Fact as code
-use Rattle.lease_model.specs.records.Facts.{Fact}
-use Rattle.lease_model.specs.records.Past.{start_of, changes_of, unsettled, is_settled, takings, sendings, last_of, last_sending}
-use Rattle.lease_state.specs.Content.{patch, patches}
-use Rattle.lease_state.specs.declared.number.ClientNo.{ClientNo}
-use Rattle.lease_state.specs.declared.patch.Patch.{Patch}
 use Rattle.lease_state.proofs.PatchLemmas.{patches-append}
 use Rattle.lease_world.proofs.records.Sendings.{last-part, PartOf}
 use Rattle.lease_reasons.specs.Marks.{fits}
 use Rattle.lease_reasons.specs.Messages.{mail_of, last_sent, place_behind}
 use Rattle.lease_reasons.specs.Places.{past_of, last_place}
-use Rattle.lease_reasons.specs.Reads.{AreSettled, settled_told, is_settled_by, is_waiting, with_start, with_change, with_write, unsettled_places}
+use Rattle.lease_reasons.specs.Reads.{AreSettled, settled_told, is_settled_by, is_waiting, with_start, with_change, with_write}
+use Rattle.lease_reasons.specs.Reads.{unsettled_places}
 use Rattle.lease_reasons.specs.declared.marks.Mark.TheVariants as mark
 use Rattle.lease_reasons.proofs.Pasts.{past-length}
 

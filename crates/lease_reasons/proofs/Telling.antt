@@ -1,29 +1,23 @@
 -- The reasons that are found are reasons.
-use Rattle.std.proofs.Common.{◌≡◌, ◌⊎◌, inl, inr, ℕ, ◌≤◌, Bool, true, false, List, Option, Some, None, length, refl, sym, ap, subst, ◌∙◌, arith}
-use Rattle.std.specs.Prelude.{if◌then◌else◌, ◌&&◌, not, is_some, nat_lt, bytes_eq}
-use Rattle.std.proofs.lemmas.Bool.{both_ways, and_parts, not-true}
-use Rattle.std.proofs.lemmas.Bool.Decides.{nat_tests}
-use Rattle.std.proofs.lemmas.List.{length-map}
+use Rattle.lease_laws.proofs.Words.{◌&&◌, ◌∙◌, ◌≡◌, ◌≤◌, ◌⊎◌, Bool, Fact, FileNo, List, None, Option, Patch, Some, ℕ, and_parts}
+use Rattle.lease_laws.proofs.Words.{ap, arith, both_ways, bytes_eq, false, has_joined, has_strayed, if◌then◌else◌, inl, inr}
+use Rattle.lease_laws.proofs.Words.{is_accepted, is_false_done, is_fresh, is_good, is_late_write, is_some, is_stale_read}
+use Rattle.lease_laws.proofs.Words.{is_started, is_touched, is_well_formed, is_within_limit, last_sending, length, length-map}
+use Rattle.lease_laws.proofs.Words.{nat_lt, nat_tests, not, not-true, refl, sendings, state_of, subst, sym, takings, true}
 use Rattle.lease_client.specs.declared.note.Settlement.TheVariants as settlement
 use Rattle.lease_facts.specs.Facts.{fact_of}
 use Rattle.lease_facts.specs.declared.fact.Fact as code
 use Rattle.lease_facts.specs.declared.fact.Fact.TheVariants as fact
-use Rattle.lease_model.specs.records.Facts.{Fact}
-use Rattle.lease_model.specs.records.Past.{is_started, is_good, has_joined, has_strayed, has_number, is_accepted, is_touched, last_sending, sendings, takings}
-use Rattle.lease_model.specs.records.Safe.{is_well_formed}
-use Rattle.lease_model.specs.records.Verdict.{is_fresh, is_stale_read, is_late_write, is_false_done}
-use Rattle.lease_model.specs.values.Patches.{is_within_limit}
+use Rattle.lease_model.specs.records.Past.{has_number}
 use Rattle.lease_state.specs.Content.{end_of}
-use Rattle.lease_state.specs.State.{state_of}
-use Rattle.lease_state.specs.declared.number.FileNo.{FileNo}
-use Rattle.lease_state.specs.declared.patch.Patch.{Patch}
 use Rattle.lease_world.specs.declared.verdict.Rule.{Rule}
 use Rattle.lease_world.specs.declared.verdict.Rule.TheVariants as rule
 use Rattle.lease_reasons.specs.Marks.{fits}
 use Rattle.lease_reasons.specs.Messages.{mail_of, place_behind}
 use Rattle.lease_reasons.specs.Places.{last_place, first_place}
 use Rattle.lease_reasons.specs.Reasons.{named_file, told_patch, Told}
-use Rattle.lease_reasons.specs.Searches.{or_reason, unless_place, with_place, not_started, past_limit, number_used, taken_none, malformed, late, done, IsReadReason, TellsRead}
+use Rattle.lease_reasons.specs.Searches.{or_reason, unless_place, with_place, not_started, past_limit, number_used, taken_none}
+use Rattle.lease_reasons.specs.Searches.{malformed, late, done, IsReadReason, TellsRead}
 use Rattle.lease_reasons.specs.declared.marks.Mark.TheVariants as mark
 use Rattle.lease_reasons.specs.declared.reason.Reason.{Reason}
 use Rattle.lease_reasons.specs.declared.reason.Reason.TheVariants as reason

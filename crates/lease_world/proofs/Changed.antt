@@ -1,10 +1,10 @@
 -- A value of a list that changes in its place.
-use Rattle.std.proofs.Common.{◌≡◌, ◌∙◌, ℕ, ◌<◌, Bool, true, false, List, Result, Ok, Err, length, get_or, refl, sym, ap, subst, arith}
-use Rattle.std.specs.List.{slice_set}
-use Rattle.std.specs.Prelude.{◌==◌, if◌then◌else◌, IfOk}
+use Rattle.lease_laws.proofs.Words.{◌<◌, ◌==◌, ◌∙◌, ◌≡◌, Bool, Err, IfOk, List, Ok, Result, ℕ, ap, arith, false, get_or}
+use Rattle.lease_laws.proofs.Words.{if◌then◌else◌, length, refl, slice_set, subst, sym, true}
 use Rattle.lease_world.specs.judge.Caches.{IsShown}
 use Rattle.lease_world.specs.judge.Clients.{SeesCache}
-use Rattle.lease_world.specs.judge.Seen.{Numbers, SeenFile, SeenCache, SeenClient, cache_in, client_in, unseen_cache, unseen_client}
+use Rattle.lease_world.specs.judge.Seen.{Numbers, SeenFile, SeenCache, SeenClient, cache_in, client_in, unseen_cache}
+use Rattle.lease_world.specs.judge.Seen.{unseen_client}
 use Rattle.lease_world.specs.judge.Tables.{ChangesClient}
 use Rattle.lease_world.proofs.Places.{value_put, value_there}
 

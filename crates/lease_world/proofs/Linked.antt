@@ -1,13 +1,14 @@
 -- Covers that are linked, each to one that came before it, as stacks of layers.
-use Rattle.std.proofs.Common.{◌≡◌, ◌≢◌, ◌≤◌, ◌<◌, ℕ, zero, suc, ◌+◌, ◌-◌, Bool, true, false, List, [], ◌∷◌, ◌++◌, Option, Some, None, length, map, filter, take, not, get_or, refl, sym, ap, subst, ◌∙◌, arith, add-one, inl, inr}
-use Rattle.std.specs.List.{slice_get, slice_set}
-use Rattle.std.specs.Prelude.{◌==◌, if◌then◌else◌, ◌⊎◌}
-use Rattle.std.proofs.lemmas.Bool.{cases_Bool, cases_lt}
-use Rattle.std.proofs.lemmas.List.{length-append, length-take-le}
+use Rattle.lease_laws.proofs.Words.{◌++◌, ◌+◌, ◌-◌, ◌<◌, ◌==◌, ◌∙◌, ◌∷◌, ◌≡◌, ◌≢◌, ◌≤◌, ◌⊎◌, Bool, List, None, Option, Some, ℕ}
+use Rattle.lease_laws.proofs.Words.{[], add-one, ap, arith, cases_Bool, cases_lt, false, filter, get_or, if◌then◌else◌, inl, inr}
+use Rattle.lease_laws.proofs.Words.{length, length-append, length-take-le, map, not, refl, slice_set, subst, suc, sym, take, true}
+use Rattle.lease_laws.proofs.Words.{zero}
+use Rattle.std.specs.List.{slice_get}
 use Rattle.std.proofs.lemmas.Option.{slice_get-get_or}
 use Rattle.lease_world.specs.declared.judging.covers.Cover.{Cover}
 use Rattle.lease_world.specs.declared.judging.covers.Layer.{Layer}
-use Rattle.lease_world.specs.judge.Covers.{stack_in, seen_byte, layers_of, layers_from, layers_under, IsOpenOnTop, IsUncovered, EndsCovered, AreLinked, AreTops}
+use Rattle.lease_world.specs.judge.Covers.{stack_in, seen_byte, layers_of, layers_from, layers_under, IsOpenOnTop, IsUncovered}
+use Rattle.lease_world.specs.judge.Covers.{EndsCovered, AreLinked, AreTops}
 use Rattle.lease_world.specs.judge.Seen.{Numbers, is_among, is_open}
 use Rattle.lease_world.proofs.Places.{get-put, get-push}
 

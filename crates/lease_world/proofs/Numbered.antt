@@ -1,12 +1,12 @@
 -- Writes by their numbers.
-use Rattle.std.proofs.Common.{◌≡◌, ℕ, ◌+◌, ◌-◌, ◌<◌, ◌≤◌, Bool, true, false, List, [], ◌∷◌, ◌++◌, Some, None, length, get_or, refl, sym, ap, ◌∙◌, arith}
-use Rattle.std.specs.List.{slice_get, slice_set}
-use Rattle.std.specs.Option.{option_map}
-use Rattle.std.specs.Prelude.{if◌then◌else◌, ◌==◌, ◌&&◌, nat_lt, nat_le}
-use Rattle.std.proofs.lemmas.List.{length-append, length-set}
+use Rattle.lease_laws.proofs.Words.{◌&&◌, ◌++◌, ◌+◌, ◌-◌, ◌<◌, ◌==◌, ◌∙◌, ◌∷◌, ◌≡◌, ◌≤◌, Bool, List, None, Some, ℕ, [], ap, arith}
+use Rattle.lease_laws.proofs.Words.{false, get_or, if◌then◌else◌, length, length-append, length-set, nat_le, nat_lt, option_map}
+use Rattle.lease_laws.proofs.Words.{refl, slice_set, sym, true}
+use Rattle.std.specs.List.{slice_get}
 use Rattle.std.proofs.lemmas.Option.{slice_get-get_or}
 use Rattle.lease_world.specs.judge.Clients.{HasWrites}
-use Rattle.lease_world.specs.judge.Seen.{SeenWrite, SeenClient, unseen_client, no_writes, client_in, write_in, is_first, write_at, write_by}
+use Rattle.lease_world.specs.judge.Seen.{SeenWrite, SeenClient, unseen_client, no_writes, client_in, write_in, is_first, write_at}
+use Rattle.lease_world.specs.judge.Seen.{write_by}
 use Rattle.lease_world.proofs.Places.{get-put, get-push, past_the_end}
 
 -- ---- writes

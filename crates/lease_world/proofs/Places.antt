@@ -1,9 +1,8 @@
 -- Lists by numbers, where a number past the end has a value of its own.
-use Rattle.std.proofs.Common.{◌≡◌, ℕ, ◌<◌, ◌≤◌, zero, suc, List, [], ◌∷◌, ◌++◌, Some, length, get_or, cond, refl, arith}
-use Rattle.std.specs.List.{slice_get, slice_set}
+use Rattle.lease_laws.proofs.Words.{◌++◌, ◌<◌, ◌==◌, ◌∷◌, ◌≡◌, ◌≤◌, List, Some, ℕ, [], arith, cond, get_or, if◌then◌else◌, length}
+use Rattle.lease_laws.proofs.Words.{nat_tests, refl, slice_set, suc, unwrap_or, zero}
+use Rattle.std.specs.List.{slice_get}
 use Rattle.std.specs.Ordering.{is_eq, nat_cmp}
-use Rattle.std.proofs.lemmas.Bool.Decides.{nat_tests}
-use Rattle.std.specs.Prelude.{unwrap_or, if◌then◌else◌, ◌==◌}
 
 -- what was read from its place is what is in it
 pub value_there : {X : Type 0} (other : X) (xs : List X) (n : ℕ) (x : X) → n < length xs → x ≡ get_or xs n x

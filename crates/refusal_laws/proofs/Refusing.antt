@@ -1,26 +1,19 @@
 -- A try changes no content, and closes only opens that aren't connected, of keys that it wants.
-use Rattle.std.proofs.Common.{◌≡◌, inl, inr, ⊎_elim, ℕ, zero, suc, Bool, true, false, not, Option, Some, None, Ok, Err, List, [], ◌∷◌, ◌++◌, refl, ap, sym, ◌∙◌, subst, true≢false, arith}
-use Rattle.std.specs.Prelude.{if◌then◌else◌, ◌&&◌, Result}
+use Rattle.lease_laws.proofs.Words.{◌&&◌, ◌++◌, ◌∙◌, ◌∷◌, ◌≡◌, Among, Bool, Err, FileRequest, Finding, Key, List, None, Ok, Open}
+use Rattle.lease_laws.proofs.Words.{Option, Out, Outcome, Progress, Reply, Request, Result, Server, Some, State, Status, Tried}
+use Rattle.lease_laws.proofs.Words.{Want, ℕ, ⊎_elim, [], acknowledged, after_breaks, after_finding, after_first_try, all_passes}
+use Rattle.lease_laws.proofs.Words.{ap, arith, arrived, arrived_on, begun, break_begun, break_ended, by_open, concluded}
+use Rattle.lease_laws.proofs.Words.{connected_open, ended, false, file_asked, file_of_open, finding, granted_form_of, has_key}
+use Rattle.lease_laws.proofs.Words.{has_lease, if◌then◌else◌, inl, inr, is_behind, is_breaking, is_left_open, is_ready}
+use Rattle.lease_laws.proofs.Words.{is_state_within, judged, key_of, lease_broken, lease_lowered, must_wait, needs_acknowledgment}
+use Rattle.lease_laws.proofs.Words.{not, opens_dropped, receive, refl, refusal_of, refused, replied, subst, suc, sym, tried}
+use Rattle.lease_laws.proofs.Words.{tried_for, true, true≢false, want_met, wants_met, with_opens, zero}
 use Rattle.lease_laws.proofs.server.Lists.{if_cases, either, and_parts, not_parts, among_filter, among_filtered}
 use Rattle.lease_laws.proofs.server.Met.{lease_broken-opens}
-use Rattle.lease_laws.specs.server.Laws.{Among}
-use Rattle.lease_model.specs.messages.Replies.{Reply, Out}
-use Rattle.lease_model.specs.messages.Requests.{FileRequest, Request}
-use Rattle.lease_model.specs.server.Acknowledge.{acknowledged, judged, break_ended}
-use Rattle.lease_model.specs.server.Answers.{concluded}
-use Rattle.lease_model.specs.server.Attempt.{Outcome, Tried, is_left_open, lease_broken, want_met, wants_met, ended, must_wait, after_breaks, after_finding, tried, tried_for}
-use Rattle.lease_model.specs.server.Calls.{after_first_try, arrived, arrived_on, file_asked, file_of_open, first_tried, receive}
-use Rattle.lease_model.specs.server.Findings.{Finding, by_open, connected_open, finding}
-use Rattle.lease_model.specs.server.Naming.{key_of}
-use Rattle.lease_model.specs.server.Passes.{all_passes, is_behind}
-use Rattle.lease_model.specs.server.Progress.{Progress, begun, opens_dropped, with_opens, break_begun, lease_lowered, refused, replied, refusal_of}
-use Rattle.lease_model.specs.server.Ready.{is_ready}
-use Rattle.lease_model.specs.server.State.{Server, Open, has_key, has_lease, is_breaking}
-use Rattle.lease_model.specs.server.Wants.{Want}
-use Rattle.lease_model.specs.values.Keys.{Key}
-use Rattle.lease_state.specs.State.{State, needs_acknowledgment, granted_form_of, is_state_within}
-use Rattle.lease_state.specs.declared.status.Status.{Status}
-use Rattle.refusal_laws.specs.Refusals.{NeedsRound, IsClosedByBreak, IsLeftAlone, RefusedAsTheyCome, RefusedOnceTried, ClosesAreRefusedAsTheyCome, RefusedAcknowledgments, passes_behind, CallsRefusedAsTheyCome, CallsOfRefusedAcknowledgments, CallsRefusedOnceTried}
+use Rattle.lease_model.specs.server.Calls.{first_tried}
+use Rattle.refusal_laws.specs.Refusals.{NeedsRound, IsClosedByBreak, IsLeftAlone, RefusedAsTheyCome, RefusedOnceTried}
+use Rattle.refusal_laws.specs.Refusals.{ClosesAreRefusedAsTheyCome, RefusedAcknowledgments, passes_behind, CallsRefusedAsTheyCome}
+use Rattle.refusal_laws.specs.Refusals.{CallsOfRefusedAcknowledgments, CallsRefusedOnceTried}
 
 -- ---- what is met
 

@@ -1,24 +1,16 @@
 -- What passes over held requests change is the doing of these requests.
-use Rattle.std.proofs.Common.{◌≡◌, inl, inr, ⊎_elim, ℕ, ◌+◌, zero, suc, Bool, true, false, not, Option, Some, None, List, [], ◌∷◌, ◌++◌, length, map, refl, ap, sym, ◌∙◌, subst, append_assoc, ◌==◌, arith}
-use Rattle.std.proofs.lemmas.Bool.{eqb-true, eq-eqb}
+use Rattle.lease_laws.proofs.Words.{◌++◌, ◌+◌, ◌==◌, ◌∙◌, ◌∷◌, ◌≡◌, Access, Among, Bool, FileRequest, Held, Lease, LeaseOf, List}
+use Rattle.lease_laws.proofs.Words.{None, Open, Option, Outcome, Pass, Progress, Server, Share, Some, ℕ, ⊎_elim, [], after_try}
+use Rattle.lease_laws.proofs.Words.{all_passes, answered, ap, append_assoc, arith, changed, closed, concluded, connected_again}
+use Rattle.lease_laws.proofs.Words.{connected_open, created, eq-eqb, eqb-true, false, granted, granted_with, held_left, inl, inr}
+use Rattle.lease_laws.proofs.Words.{is_behind, last_file_id, lease_after, lease_put, left_waiting, length, map, not, numbers_to}
+use Rattle.lease_laws.proofs.Words.{on_open, one_pass, opens_dropped, pass_answered, pass_over, passes, passes_for, passes_over}
+use Rattle.lease_laws.proofs.Words.{put, read_done, reconnected, refl, refused, replied, subst, suc, sym, tried, tried_again}
+use Rattle.lease_laws.proofs.Words.{true, with_opens, zero}
 use Rattle.lease_laws.proofs.client.Thin.{put_same, put_other}
 use Rattle.lease_laws.proofs.server.Held.{concluded-held, tried_for-held}
 use Rattle.lease_laws.proofs.server.Lists.{if_cases, either, clash, among_append, among_before, among_behind, among_filtered}
-use Rattle.lease_laws.specs.server.Laws.{Among}
-use Rattle.lease_model.specs.messages.Requests.{FileRequest, LeaseOf}
-use Rattle.lease_model.specs.server.Answers.{concluded, answered, created, changed, closed, read_done, on_open}
-use Rattle.lease_model.specs.server.Attempt.{Outcome, tried}
-use Rattle.lease_model.specs.server.Findings.{connected_open}
-use Rattle.lease_model.specs.server.Grant.{connected_again, granted, granted_with, lease_after, lease_put, reconnected}
-use Rattle.lease_model.specs.server.Passes.{Pass, is_behind, left_waiting, pass_answered, after_try, tried_again, pass_over, one_pass, passes_for, passes, passes_over, all_passes}
-use Rattle.lease_model.specs.server.Progress.{Progress, held_left, opens_dropped, refused, replied, with_opens}
-use Rattle.lease_model.specs.server.State.{Server, Open, Held, Lease}
-use Rattle.lease_model.specs.values.Limits.{last_file_id}
-use Rattle.lease_model.specs.values.Lists.{numbers_to}
-use Rattle.lease_model.specs.values.Tables.{put}
 use Rattle.lease_state.specs.Content.{patch as patched}
-use Rattle.lease_state.specs.declared.access.Access.{Access}
-use Rattle.lease_state.specs.declared.access.Share.{Share}
 use Rattle.refusal_laws.proofs.Refusing.{tried_alone}
 use Rattle.refusal_laws.specs.Refusals.{IsSameOpen, IsTakenByHeld, IsLeftToHeld, PassesAreOfHeld}
 

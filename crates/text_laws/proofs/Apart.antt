@@ -1,9 +1,6 @@
 -- No line is of two kinds of a table whose kinds stand apart.
-use Rattle.std.proofs.Common.{◌≡◌, inl, inr, ℕ, List, [], ◌∷◌, refl, sym, ap, ◌∙◌, subst, true, false, Bool, not, ◌&&◌, ◌||◌, Option, Some, None, bytes_eq, arith}
-use Rattle.std.proofs.lemmas.Bool.{and_parts}
-use Rattle.std.proofs.lemmas.Slice.Eq.{bytes_eq-Decides}
-use Rattle.std.specs.List.{list_all}
-use Rattle.lease_laws.specs.server.Laws.{Among}
+use Rattle.lease_laws.proofs.Words.{◌&&◌, ◌||◌, ◌∙◌, ◌∷◌, ◌≡◌, Among, Bool, List, None, Option, Some, ℕ, [], and_parts, ap, arith}
+use Rattle.lease_laws.proofs.Words.{bytes_eq, bytes_eq-Decides, false, inl, inr, list_all, not, refl, subst, sym, true}
 use Rattle.lease_texts.specs.Fields.{Words}
 use Rattle.text_laws.specs.Kinds.{Field, Value, Says, Telling, Kind, Say, Tells}
 

@@ -1,8 +1,7 @@
 -- Kinds of lines that begin with one name.
-use Rattle.std.proofs.Common.{◌≡◌, ◌↔◌, ◌⊎◌, inl, inr, ℕ, zero, suc, List, [], ◌∷◌, drop, refl, sym, ap, ◌∙◌, subst, true, false, Bool, Option, Some, None, bytes_eq, arith}
-use Rattle.std.specs.Prelude.{⊤}
-use Rattle.std.proofs.lemmas.Slice.Eq.{bytes_eq-Decides}
-use Rattle.lease_laws.specs.server.Laws.{Among}
+use Rattle.lease_laws.proofs.Words.{◌∙◌, ◌∷◌, ◌≡◌, ◌⊎◌, Among, Bool, List, None, Option, Some, ℕ, ⊤, [], ap, arith, bytes_eq}
+use Rattle.lease_laws.proofs.Words.{bytes_eq-Decides, drop, false, inl, inr, refl, subst, suc, sym, true, zero}
+use Rattle.std.proofs.Common.{◌↔◌}
 use Rattle.lease_texts.specs.Fields.{Words, last}
 use Rattle.text_laws.specs.Kinds.{Field, Value, Telling, Kind, Say}
 use Rattle.text_laws.proofs.Apart.{none_told, same_told}

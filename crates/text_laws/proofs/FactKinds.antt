@@ -1,13 +1,12 @@
 -- The facts that lines are read as are those that they mean.
-use Rattle.std.proofs.Common.{◌≡◌, ℕ, true, drop, List, [], ◌∷◌, refl, Option, None, arith}
-use Rattle.lease_state.specs.declared.number.ClientNo.{ClientNo}
-use Rattle.lease_state.specs.declared.number.FileNo.{FileNo}
+use Rattle.lease_laws.proofs.Words.{◌∷◌, ◌≡◌, ClientNo, FileNo, List, None, Option, ℕ, [], arith, drop, refl, true}
 use Rattle.lease_state.specs.declared.state.LeaseState.{LeaseState}
 use Rattle.lease_facts.specs.declared.fact.Fact.{Fact}
 use Rattle.lease_facts.specs.declared.fact.Fact.TheVariants as fact
 use Rattle.lease_texts.specs.Fields.{Words, whole, ordinal_in, number_in, offset_in, bytes_in, content_in, state_in}
 use Rattle.lease_texts.specs.Pieces.{fields_of}
-use Rattle.lease_texts.specs.Records.{way_in, outcome_in, of_client, of_both, start_in, changed_in, wrote_in, settled_in, believes_in, read_in, fact_named, fact_told, fact_in}
+use Rattle.lease_texts.specs.Records.{way_in, outcome_in, of_client, of_both, start_in, changed_in, wrote_in, settled_in}
+use Rattle.lease_texts.specs.Records.{believes_in, read_in, fact_named, fact_told, fact_in}
 use Rattle.text_laws.specs.Kinds.{Field}
 use Rattle.text_laws.specs.FactKinds.{fact_kinds, LinesTellFacts}
 use Rattle.text_laws.specs.Told.{Each}

@@ -1,7 +1,7 @@
 -- A reader that fits a table of kinds reads exactly what lines mean by it.
-use Rattle.std.proofs.Common.{◌≡◌, ◌↔◌, ◌⊎◌, inl, inr, ℕ, List, [], ◌∷◌, refl, sym, ap, ◌∙◌, subst, true, false, Bool, Option, Some, None, bytes_eq, arith}
-use Rattle.std.proofs.lemmas.Slice.Eq.{bytes_eq-Decides}
-use Rattle.lease_laws.specs.server.Laws.{Among}
+use Rattle.lease_laws.proofs.Words.{◌∙◌, ◌∷◌, ◌≡◌, ◌⊎◌, Among, Bool, List, None, Option, Some, ℕ, [], ap, arith, bytes_eq}
+use Rattle.lease_laws.proofs.Words.{bytes_eq-Decides, false, inl, inr, refl, subst, sym, true}
+use Rattle.std.proofs.Common.{◌↔◌}
 use Rattle.lease_texts.specs.Fields.{Words, last}
 use Rattle.lease_texts.specs.Pieces.{fields_of}
 use Rattle.text_laws.specs.Kinds.{Field, Value, Says, Telling, Kind, Say, Tells, ReadsExactly}

@@ -1,22 +1,8 @@
 -- In the record of every run what the server gives out names clients that have joined.
-use Rattle.std.proofs.Common.{◌≡◌, ℕ, Bool, true, List, [], ◌∷◌, Option, Some, None, refl, sym, ap, ◌∙◌, subst, true≢false, arith}
-use Rattle.std.specs.Prelude.{◌==◌, bytes_eq}
-use Rattle.std.specs.List.{list_all}
-use Rattle.std.proofs.lemmas.Bool.Decides.{Decides-eqb}
-use mathlib.Core.List.{reverse_aux}
-use Rattle.lease_model.specs.client.Commands.{Note}
-use Rattle.lease_model.specs.client.Step.{Step}
-use Rattle.lease_model.specs.messages.Requests.{FileRequest}
-use Rattle.lease_model.specs.records.Facts.{Fact}
-use Rattle.lease_model.specs.records.Past.{has_joined}
-use Rattle.lease_model.specs.records.Safe.{EachFact}
-use Rattle.lease_model.specs.server.State.{is_key, has_key}
-use Rattle.lease_model.specs.values.Keys.{Key}
-use Rattle.lease_model.specs.world.Allowed.{is_allowed_setup}
-use Rattle.lease_model.specs.world.Events.{Event, stepped_in, after}
-use Rattle.lease_model.specs.world.World.{World, Setup, starts_from, first_world, requests_sent}
-use Rattle.lease_laws.specs.records.Runs.{is_start}
-use Rattle.lease_laws.specs.server.SmallSteps.{MayLower}
+use Rattle.lease_laws.proofs.Words.{◌==◌, ◌∙◌, ◌∷◌, ◌≡◌, Bool, Decides-eqb, EachFact, Event, Fact, FileRequest, Key, List}
+use Rattle.lease_laws.proofs.Words.{MayLower, None, Note, Option, Setup, Some, Step, World, ℕ, [], after, ap, arith, bytes_eq}
+use Rattle.lease_laws.proofs.Words.{first_world, has_joined, has_key, is_allowed_setup, is_key, is_start, list_all, refl}
+use Rattle.lease_laws.proofs.Words.{requests_sent, reverse_aux, starts_from, stepped_in, subst, sym, true, true≢false}
 use Rattle.lease_laws.proofs.records.Runs.{all_starts}
 use Rattle.lease_laws.proofs.server.Lists.{any_has, and_parts}
 use Rattle.lease_coherence.proofs.moves.Deeds.{HasDeeds, IsSource, step_deed}

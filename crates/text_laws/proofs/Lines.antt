@@ -1,10 +1,6 @@
 -- The line of each fact is read as that fact.
-use Rattle.std.proofs.Common.{◌≡◌, ℕ, ◌<◌, List, [], ◌∷◌, ◌++◌, drop, refl, ap, arith, subst, true, false}
-use Rattle.std.specs.Prelude.{codes}
-use Rattle.std.specs.Fmt.{decimal}
-use Rattle.std.proofs.lemmas.List.{append_assoc}
-use Rattle.lease_state.specs.declared.number.FileNo.{FileNo}
-use Rattle.lease_state.specs.declared.number.ClientNo.{ClientNo}
+use Rattle.lease_laws.proofs.Words.{◌++◌, ◌<◌, ◌∷◌, ◌≡◌, ClientNo, FileNo, List, ℕ, [], ap, append_assoc, arith, codes, decimal}
+use Rattle.lease_laws.proofs.Words.{drop, false, refl, subst, true}
 use Rattle.lease_state.specs.declared.state.LeaseState.{LeaseState}
 use Rattle.lease_facts.specs.declared.fact.Fact.{Fact}
 use Rattle.lease_facts.specs.declared.fact.Fact.TheVariants as fact
@@ -16,7 +12,9 @@ use Rattle.text_laws.specs.Kinds.{Kind}
 use Rattle.text_laws.specs.Told.{CanBeNamed, CanBeTold, IsLettered, IsReadAs, as_lettered}
 use Rattle.text_laws.proofs.Bytes.{all_above}
 use Rattle.text_laws.proofs.FactKinds.{facts_told}
-use Rattle.text_laws.proofs.Spoken.{AllSpoken, Said, ◌&◌, told_of, words_of, line_of, IsLine, row_line, two_behind, client_said, file_said, number_said, offset_said, bytes_said, content_said, letters_said, way_said, outcome_said}
+use Rattle.text_laws.proofs.Spoken.{AllSpoken, Said, ◌&◌, told_of, words_of, line_of, IsLine, row_line, two_behind, client_said}
+use Rattle.text_laws.proofs.Spoken.{file_said, number_said, offset_said, bytes_said, content_said, letters_said, way_said}
+use Rattle.text_laws.proofs.Spoken.{outcome_said}
 
 row : {text : List ℕ} (place : ℕ) {kind : Kind Fact} {rest : List (Kind Fact)} → drop place fact_kinds ≡ kind ∷ rest
     → all_above 32 kind.name ≡ true → is_passed_over kind.name ≡ false → (said : AllSpoken kind.fields)

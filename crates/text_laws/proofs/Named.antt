@@ -1,26 +1,13 @@
 -- In the record of every run the clients that its facts name, but for what the server gives out, are numbered from 1, and so are
 -- the files that it starts, none longer than a file may be.
-use Rattle.std.proofs.Common.{◌≡◌, ℕ, ◌+◌, Bool, true, List, [], ◌∷◌, Option, Some, None, refl, arith}
-use Rattle.std.specs.Prelude.{◌&&◌, nat_le, if◌then◌else◌}
-use Rattle.std.specs.List.{list_all}
-use Rattle.std.proofs.lemmas.Bool.Decides.{nat_tests}
-use mathlib.Core.List.{reverse_aux}
-use Rattle.lease_model.specs.client.Commanded.{commanded}
-use Rattle.lease_model.specs.client.Commands.{Note}
-use Rattle.lease_model.specs.client.Connection.{noticed, connection_made}
-use Rattle.lease_model.specs.client.Step.{Step}
-use Rattle.lease_model.specs.client.Taken.{taken}
-use Rattle.lease_model.specs.messages.Replies.{Reply, Out}
-use Rattle.lease_model.specs.messages.Requests.{Request}
-use Rattle.lease_model.specs.records.Facts.{Fact}
-use Rattle.lease_model.specs.server.Calls.{receive, join, cut, expire, scavenge}
-use Rattle.lease_model.specs.server.Progress.{Progress}
-use Rattle.lease_model.specs.server.Queries.{breaking, kept}
-use Rattle.lease_model.specs.server.State.{has_file}
-use Rattle.lease_model.specs.values.Tables.{put}
-use Rattle.lease_model.specs.world.Allowed.{is_allowed_setup, is_content}
-use Rattle.lease_model.specs.world.Events.{Event, served, stepped_in, server_takes, client_takes, link_cut, cut_over, link_noticed, notice_over, link_connected, connect_over, machine_key, timer_expired, scavenged, strayed_over, applied, client_of, happens, after}
-use Rattle.lease_model.specs.world.World.{World, Setup, Link, starts_from, first_world, has_client, happened, delivered, all_delivered, requests_sent, noted}
+use Rattle.lease_laws.proofs.Words.{◌&&◌, ◌+◌, ◌∷◌, ◌≡◌, Bool, Event, Fact, Link, List, None, Note, Option, Out, Progress, Reply}
+use Rattle.lease_laws.proofs.Words.{Request, Setup, Some, Step, World, ℕ, [], after, all_delivered, applied, arith, breaking}
+use Rattle.lease_laws.proofs.Words.{client_of, client_takes, commanded, connect_over, connection_made, cut, cut_over, delivered}
+use Rattle.lease_laws.proofs.Words.{expire, first_world, happened, happens, has_client, has_file, if◌then◌else◌, is_allowed_setup}
+use Rattle.lease_laws.proofs.Words.{is_content, join, kept, link_connected, link_cut, link_noticed, list_all, machine_key, nat_le}
+use Rattle.lease_laws.proofs.Words.{nat_tests, noted, notice_over, noticed, put, receive, refl, requests_sent, reverse_aux}
+use Rattle.lease_laws.proofs.Words.{scavenge, scavenged, served, server_takes, starts_from, stepped_in, strayed_over, taken}
+use Rattle.lease_laws.proofs.Words.{timer_expired, true}
 use Rattle.lease_laws.proofs.server.Lists.{if_cases, and_parts, and_both}
 
 unfoldable pub is_named : Fact → Bool

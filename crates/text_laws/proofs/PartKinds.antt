@@ -1,22 +1,22 @@
 -- The parts of schedules that lines are read as are those that they mean.
-use Rattle.std.proofs.Common.{◌≡◌, inl, inr, ℕ, drop, List, [], ◌∷◌, refl, codes, true, false, Option, Some, None, sym, ap, ◌∙◌, bytes_eq, ⊎_elim, arith}
+use Rattle.lease_laws.proofs.Words.{◌∙◌, ◌∷◌, ◌≡◌, Among, ClientNo, FileNo, List, None, Option, Some, ℕ, ⊎_elim, [], ap, arith}
+use Rattle.lease_laws.proofs.Words.{bytes_eq, codes, drop, false, inl, inr, refl, sym, true}
 use Rattle.uuid.specs.Text.{parsed}
 use Rattle.lease_client.specs.declared.command.Command.TheVariants as command
-use Rattle.lease_laws.specs.server.Laws.{Among}
 use Rattle.lease_facts.specs.declared.setup.Event.{Event}
 use Rattle.lease_facts.specs.declared.setup.Event.TheVariants as event
-use Rattle.lease_state.specs.declared.number.ClientNo.{ClientNo}
 use Rattle.lease_state.specs.declared.number.FileId.{FileId}
-use Rattle.lease_state.specs.declared.number.FileNo.{FileNo}
 use Rattle.lease_state.specs.declared.request.Request.TheVariants as request
 use Rattle.lease_texts.specs.Fields.{Words, and_then, whole, ordinal_in, number_in, access_in, share_in}
 use Rattle.lease_texts.specs.Pieces.{fields_of}
-use Rattle.lease_texts.specs.Schedules.{Part, message_in, open_in, write_in, create_in, raw_write_in, request_named, on_file, event_of, event_named, part_named, part_told, part_in}
+use Rattle.lease_texts.specs.Schedules.{Part, message_in, open_in, write_in, create_in, raw_write_in, request_named, on_file}
+use Rattle.lease_texts.specs.Schedules.{event_of, event_named, part_named, part_told, part_in}
 use Rattle.text_laws.specs.Kinds.{Field, Telling, Kind, kind, Say}
 use Rattle.text_laws.specs.PartKinds.{app, raw, part_kinds, LinesTellParts}
 use Rattle.text_laws.specs.Told.{Each}
 use Rattle.text_laws.proofs.Either.{GoesEither, step_either, ends_either, among_at, row_at, decided}
-use Rattle.text_laws.proofs.FactKinds.{client_no, file_no, client_reads, file_reads, state_reads, number_reads, offset_reads, bytes_reads, content_reads}
+use Rattle.text_laws.proofs.FactKinds.{client_no, file_no, client_reads, file_reads, state_reads, number_reads, offset_reads}
+use Rattle.text_laws.proofs.FactKinds.{bytes_reads, content_reads}
 use Rattle.text_laws.proofs.Apart.{word_of, differ, fields_apart, apart, all_apart, none_told}
 use Rattle.text_laws.proofs.Grammar.{Reads, Goes, ends, step, Fits, fits_alone, Unnamed, by_fields, reads_exactly}
 

@@ -1,8 +1,5 @@
 -- The line of each file, client and event is read as that.
-use Rattle.std.proofs.Common.{◌≡◌, ℕ, List, [], ◌∷◌, ◌++◌, drop, refl, true, false}
-use Rattle.std.specs.Prelude.{codes}
-use Rattle.std.specs.Fmt.{decimal}
-use Rattle.std.proofs.lemmas.List.{append_assoc}
+use Rattle.lease_laws.proofs.Words.{◌++◌, ◌∷◌, ◌≡◌, List, ℕ, [], append_assoc, codes, decimal, drop, false, refl, state_of, true}
 use Rattle.hex.specs.Hex.{encode_lower}
 use Rattle.lease_client.specs.declared.command.Command.TheVariants as command
 use Rattle.lease_state.specs.declared.request.Request.TheVariants as request
@@ -11,14 +8,15 @@ use Rattle.lease_facts.specs.declared.setup.Event.TheVariants as event
 use Rattle.lease_texts.specs.Reading.{is_passed_over}
 use Rattle.lease_texts.specs.Records.{digits_word}
 use Rattle.lease_texts.specs.Words.{state_word}
-use Rattle.lease_state.specs.State.{state_of}
 use Rattle.lease_texts.specs.Schedules.{access_word, share_word, Part, part_in, event_line, file_line, client_line}
 use Rattle.text_laws.specs.Kinds.{Kind}
 use Rattle.text_laws.specs.PartKinds.{part_kinds}
 use Rattle.text_laws.specs.Schedules.{CanHappen, IsFile, IsGuid}
 use Rattle.text_laws.proofs.Bytes.{all_above}
 use Rattle.text_laws.proofs.PartKinds.{parts_told}
-use Rattle.text_laws.proofs.Spoken.{AllSpoken, Said, ◌&◌, told_of, words_of, line_of, IsLine, row_line, two_behind, client_said, file_said, number_said, fid_said, offset_said, bytes_said, content_said, access_said, share_said, state_said, guid_said, message_said, alone_said}
+use Rattle.text_laws.proofs.Spoken.{AllSpoken, Said, ◌&◌, told_of, words_of, line_of, IsLine, row_line, two_behind, client_said}
+use Rattle.text_laws.proofs.Spoken.{file_said, number_said, fid_said, offset_said, bytes_said, content_said, access_said}
+use Rattle.text_laws.proofs.Spoken.{share_said, state_said, guid_said, message_said, alone_said}
 
 row : {text : List ℕ} (place : ℕ) {kind : Kind Part} {rest : List (Kind Part)} → drop place part_kinds ≡ kind ∷ rest
     → all_above 32 kind.name ≡ true → is_passed_over kind.name ≡ false → (said : AllSpoken kind.fields)

@@ -1,19 +1,12 @@
 -- The record of a run can be written as lines, and is read back as a record that is safe.
-use Rattle.std.proofs.Common.{◌≡◌, ⊎_elim, ℕ, ◌+◌, ◌≤◌, Bool, true, false, List, [], ◌∷◌, ◌++◌, length, refl, sym, ap, ◌∙◌, subst, arith, ◌==◌, map, Ok}
-use Rattle.std.specs.Prelude.{◌&&◌, nat_le, codes}
-use Rattle.std.specs.List.{list_all}
-use Rattle.std.proofs.lemmas.Bool.{eqb-true}
-use Rattle.std.proofs.lemmas.Bool.Decides.{nat_tests}
-use Rattle.std.proofs.lemmas.List.{append_assoc, append-nil, reverse-reverse}
-use mathlib.Core.List.{reverse_aux}
+use Rattle.lease_laws.proofs.Words.{◌&&◌, ◌++◌, ◌+◌, ◌==◌, ◌∙◌, ◌∷◌, ◌≡◌, ◌≤◌, Bool, EachFact, Event, List, Ok, Safe, Setup}
+use Rattle.lease_laws.proofs.Words.{State, Verdict, WellFormed, ℕ, ⊎_elim, [], after, ap, append-nil, append_assoc, arith, codes}
+use Rattle.lease_laws.proofs.Words.{eqb-true, false, first_world, has_joined, is_allowed_setup, is_content, is_started}
+use Rattle.lease_laws.proofs.Words.{is_well_formed, length, list_all, map, nat_le, nat_tests, refl, reverse-reverse, reverse_aux}
+use Rattle.lease_laws.proofs.Words.{subst, sym, true, verdict}
 use Rattle.lease_model.specs.records.Facts as model
-use Rattle.lease_model.specs.records.Past.{is_started, has_joined}
-use Rattle.lease_model.specs.records.Safe.{EachFact, WellFormed, is_well_formed, Safe}
-use Rattle.lease_model.specs.records.Verdict.{Verdict, verdict}
-use Rattle.lease_model.specs.world.Allowed.{is_allowed_setup, is_content}
-use Rattle.lease_model.specs.world.Events.{Event, after, recorded}
-use Rattle.lease_model.specs.world.World.{Setup, first_world}
-use Rattle.lease_state.specs.State.{State, state_of_bits, bits_of_state}
+use Rattle.lease_model.specs.world.Events.{recorded}
+use Rattle.lease_state.specs.State.{state_of_bits, bits_of_state}
 use Rattle.lease_laws.proofs.records.VerdictLemmas.{safe-verdict}
 use Rattle.lease_laws.proofs.server.Lists.{and_parts, and_both, or_true}
 use Rattle.lease_coherence.specs.Parts.{EveryRunIsSafe}

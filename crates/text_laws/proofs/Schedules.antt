@@ -1,10 +1,11 @@
 -- The text of a schedule is read as that schedule.
-use Rattle.std.proofs.Common.{◌≡◌, ℕ, ◌+◌, List, [], ◌∷◌, ◌++◌, refl, sym, ap, ◌∙◌, flat_map, Some}
-use Rattle.std.proofs.lemmas.List.{append_assoc, append-nil}
+use Rattle.lease_laws.proofs.Words.{◌++◌, ◌+◌, ◌∙◌, ◌∷◌, ◌≡◌, List, Some, ℕ, [], ap, append-nil, append_assoc, flat_map, refl}
+use Rattle.lease_laws.proofs.Words.{sym}
 use Rattle.lease_facts.specs.declared.setup.Event.{Event}
 use Rattle.lease_texts.specs.Pieces.{pieces, lines_of}
 use Rattle.lease_texts.specs.Reading.{reads_on}
-use Rattle.lease_texts.specs.Schedules.{Draft, Part, part_in, with_part, with_line, schedule_in, event_line, file_line, client_line}
+use Rattle.lease_texts.specs.Schedules.{Draft, Part, part_in, with_part, with_line, schedule_in, event_line, file_line}
+use Rattle.lease_texts.specs.Schedules.{client_line}
 use Rattle.text_laws.specs.Told.{Each}
 use Rattle.text_laws.specs.Schedules.{CanHappen, IsFile, IsGuid, SchedulesAreReadBack}
 use Rattle.text_laws.proofs.Parts.{file_back, client_back, event_back}

@@ -1,22 +1,18 @@
 -- Words that say the values of fields, and the lines that they are.
-use Rattle.std.proofs.Common.{◌≡◌, ℕ, ◌≤◌, ◌<◌, ◌^◌, List, [], ◌∷◌, ◌++◌, drop, length, refl, sym, ap, ◌∙◌, arith, subst, All, inl, true, false, Bool, Option, Some}
-use Rattle.std.specs.Prelude.{⊤, codes}
-use Rattle.std.specs.Fmt.{decimal}
-use Rattle.std.proofs.lemmas.List.{append_assoc, get_or_default}
+use Rattle.lease_laws.proofs.Words.{◌++◌, ◌<◌, ◌∙◌, ◌∷◌, ◌≡◌, ◌≤◌, Access, Bool, ClientNo, FILE_LIMIT, FileNo, List, Option}
+use Rattle.lease_laws.proofs.Words.{Share, Some, ℕ, ⊤, [], ap, append_assoc, arith, codes, decimal, drop, false, inl, length}
+use Rattle.lease_laws.proofs.Words.{refl, state_of, subst, sym, true}
+use Rattle.std.proofs.Common.{◌^◌, All}
+use Rattle.std.proofs.lemmas.List.{get_or_default}
 use Rattle.hex.specs.Hex.{IsBytes, encode_lower}
 use Rattle.hex.proofs.HexLemmas.{decode_sized-encode_lower}
 use Rattle.uuid.specs.Text.{hyphenated_text, lower, parsed}
 use Rattle.uuid.proofs.RoundTrips.{parses_hyphenated}
 use Rattle.lease_client.specs.declared.note.Settlement.{Settlement}
-use Rattle.lease_state.specs.State.{state_of, bits_of_state}
-use Rattle.lease_state.specs.declared.access.Access.{Access}
+use Rattle.lease_state.specs.State.{bits_of_state}
 use Rattle.lease_state.specs.declared.access.Access.TheVariants as access
-use Rattle.lease_state.specs.declared.access.Share.{Share}
 use Rattle.lease_state.specs.declared.access.Share.TheVariants as share
-use Rattle.lease_state.specs.declared.content.TheConstants.{FILE_LIMIT}
-use Rattle.lease_state.specs.declared.number.ClientNo.{ClientNo}
 use Rattle.lease_state.specs.declared.number.FileId.{FileId}
-use Rattle.lease_state.specs.declared.number.FileNo.{FileNo}
 use Rattle.lease_state.specs.declared.state.LeaseState.{LeaseState}
 use Rattle.lease_texts.proofs.Cut.{bits_named}
 use Rattle.lease_texts.specs.Fields.{Words, access_in, share_in, state_in}
@@ -28,9 +24,11 @@ use Rattle.lease_texts.specs.Words.{state_word}
 use Rattle.text_laws.specs.Kinds.{Field, Value, Says, Telling, Kind, Say, ReadsExactly}
 use Rattle.text_laws.specs.Schedules.{IsGuid}
 use Rattle.text_laws.specs.Told.{IsNumber, IsOrdinal}
-use Rattle.text_laws.proofs.Bytes.{all_above, above-append, above-line, hexadecimal_above, hyphenated_above, piece_first, piece_last}
+use Rattle.text_laws.proofs.Bytes.{all_above, above-append, above-line, hexadecimal_above, hyphenated_above, piece_first}
+use Rattle.text_laws.proofs.Bytes.{piece_last}
 use Rattle.text_laws.proofs.Either.{among_at}
-use Rattle.text_laws.proofs.Numbers.{ordinal_back, number_back, offset_back, bytes_back, content_back, state_back, outcome_back, decimal_above, digits_above, state_above, outcome_above}
+use Rattle.text_laws.proofs.Numbers.{ordinal_back, number_back, offset_back, bytes_back, content_back, state_back, outcome_back}
+use Rattle.text_laws.proofs.Numbers.{decimal_above, digits_above, state_above, outcome_above}
 
 -- ---- words that say a value
 

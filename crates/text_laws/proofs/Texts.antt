@@ -1,6 +1,6 @@
 -- The text of a record is read as that record.
-use Rattle.std.proofs.Common.{◌≡◌, ℕ, suc, ◌+◌, List, [], ◌∷◌, ◌++◌, length, refl, sym, ap, ◌∙◌, arith, map, Some, Ok}
-use Rattle.std.proofs.lemmas.List.{append_assoc, append-nil}
+use Rattle.lease_laws.proofs.Words.{◌++◌, ◌+◌, ◌∙◌, ◌∷◌, ◌≡◌, List, Ok, Some, ℕ, [], ap, append-nil, append_assoc, arith, length}
+use Rattle.lease_laws.proofs.Words.{map, refl, suc, sym}
 use Rattle.lease_facts.specs.declared.fact.Fact.{Fact}
 use Rattle.lease_texts.specs.Pieces.{pieces, lines_of}
 use Rattle.lease_texts.specs.Reading.{reads_on}

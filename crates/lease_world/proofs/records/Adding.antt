@@ -1,30 +1,33 @@
 -- What a judge makes of one fact is what the definitions say of it.
-use Rattle.std.proofs.Common.{◌≡◌, ◌≢◌, ℕ, ◌+◌, Bool, true, false, List, [], ◌∷◌, ◌++◌, Option, Some, None, length, refl, sym, ap, ◌∙◌, arith}
-use Rattle.std.specs.Prelude.{◌==◌, ◌&&◌, ◌||◌, not, if◌then◌else◌, is_some}
-use Rattle.lease_state.specs.State.{State}
-use Rattle.lease_state.specs.declared.patch.Patch.{Patch}
-use Rattle.lease_model.specs.client.Commands.{Settlement}
-use Rattle.lease_model.specs.values.Patches.{is_within_limit}
-use Rattle.lease_model.specs.records.Facts.{Fact}
-use Rattle.lease_model.specs.records.Past.{is_started, is_good, is_served, has_strayed, believed}
-use Rattle.lease_model.specs.records.Safe.{is_well_formed, OneWriteCache}
-use Rattle.lease_model.specs.records.Verdict.{flaw_at, is_stale_read, is_late_write, is_false_done, has_two_caches}
+use Rattle.lease_laws.proofs.Words.{◌&&◌, ◌++◌, ◌+◌, ◌==◌, ◌||◌, ◌∙◌, ◌∷◌, ◌≡◌, ◌≢◌, Bool, Fact, List, None, OneWriteCache}
+use Rattle.lease_laws.proofs.Words.{Option, Patch, Settlement, Some, State, ℕ, [], ap, arith, believed, false, flaw_at}
+use Rattle.lease_laws.proofs.Words.{has_strayed, has_two_caches, if◌then◌else◌, is_false_done, is_good, is_late_write, is_served}
+use Rattle.lease_laws.proofs.Words.{is_some, is_stale_read, is_started, is_well_formed, is_within_limit, length, not, refl, sym}
+use Rattle.lease_laws.proofs.Words.{true}
 use Rattle.lease_world.specs.Verdicts.{verdict_of}
 use Rattle.lease_world.specs.declared.verdict.Rule.{Rule}
 use Rattle.lease_world.specs.declared.verdict.Verdict.{Verdict}
-use Rattle.lease_world.specs.judge.Added.{PutsClient, PutsFile, IsSafe, StartAdds, JoinedAdds, LeavingAdds, ExpiredAdds, StrayedAdds, SentAdds, TookAdds, OpenedAdds, ChangedAdds, WroteAdds, SettledAdds, BelievesAdds, CachedReadAdds, ShowsAt, Adds, is_late, is_false, is_rival}
-use Rattle.lease_world.specs.judge.Clients.{can_take, took_from, after_taking, taken_of, Accepts, Writes, WritesCache, Settles, Believes, Sees, with_write, with_belief}
+use Rattle.lease_world.specs.judge.Added.{PutsClient, PutsFile, IsSafe, StartAdds, JoinedAdds, LeavingAdds, ExpiredAdds}
+use Rattle.lease_world.specs.judge.Added.{StrayedAdds, SentAdds, TookAdds, OpenedAdds, ChangedAdds, WroteAdds, SettledAdds}
+use Rattle.lease_world.specs.judge.Added.{BelievesAdds, CachedReadAdds, ShowsAt, Adds, is_late, is_false, is_rival}
+use Rattle.lease_world.specs.judge.Clients.{can_take, took_from, after_taking, taken_of, Accepts, Writes, WritesCache, Settles}
+use Rattle.lease_world.specs.judge.Clients.{Believes, Sees, with_write, with_belief}
 use Rattle.lease_world.specs.judge.Holders.{is_newcomer, Leaves}
 use Rattle.lease_world.specs.judge.Judged.{is_safe}
 use Rattle.lease_world.specs.judge.Knows.{KnowsFile, KnowsClient, HasContents, RisesTo, KnowsHolders, Knows}
-use Rattle.lease_world.specs.judge.Seen.{Seen, SeenFile, SeenClient, SeenWrite, joined, touched, has_settled, file_in, client_in, cache_in, write_in, is_good_client, is_conflict}
+use Rattle.lease_world.specs.judge.Seen.{Seen, SeenFile, SeenClient, SeenWrite, joined, touched, has_settled, file_in, client_in}
+use Rattle.lease_world.specs.judge.Seen.{cache_in, write_in, is_good_client, is_conflict}
 use Rattle.lease_world.specs.judge.Tables.{is_started_in, HasSameFiles}
-use Rattle.lease_world.proofs.records.Clients.{client_joins, client_drops, client_expires, client_strays, client_sent, client_took, took-formed, took-malformed}
+use Rattle.lease_world.proofs.records.Clients.{client_joins, client_drops, client_expires, client_strays, client_sent}
+use Rattle.lease_world.proofs.records.Clients.{client_took, took-formed, took-malformed}
 use Rattle.lease_world.proofs.records.Files.{file_starts, file_opens, file_changes}
 use Rattle.lease_world.proofs.records.Flaws.{malformed-here, two-here, stale-here, late-here, false-here, safe-here}
-use Rattle.lease_world.proofs.records.Holding.{is_steady, holders-same, holders-stay, holders-leave, holders-enter, holders-move, enter-rival, enter-free, believe-rival, believe-free}
+use Rattle.lease_world.proofs.records.Holding.{is_steady, holders-same, holders-stay, holders-leave, holders-enter, holders-move}
+use Rattle.lease_world.proofs.records.Holding.{enter-rival, enter-free, believe-rival, believe-free}
 use Rattle.lease_world.proofs.records.Keeping.{contents-later, contents-write, contents-each, contents-change, contents-start}
-use Rattle.lease_world.proofs.records.Knowing.{each_place, is_apart, client-here, client-others, file-here, file-others, same_files, one_file, same_clients, one_client, Holds, holds_client, holds_file, started_told, good_told, match_bool}
+use Rattle.lease_world.proofs.records.Knowing.{each_place, is_apart, client-here, client-others, file-here, file-others}
+use Rattle.lease_world.proofs.records.Knowing.{same_files, one_file, same_clients, one_client, Holds, holds_client, holds_file}
+use Rattle.lease_world.proofs.records.Knowing.{started_told, good_told, match_bool}
 use Rattle.lease_world.proofs.records.OneCache.{is_quiet, same_belief, one-stays, one-after, two-where, none-conflicts}
 use Rattle.lease_world.proofs.records.Others.{rises-low}
 use Rattle.lease_world.proofs.records.Pending.{self}

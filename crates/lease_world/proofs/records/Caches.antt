@@ -1,8 +1,6 @@
 -- What is kept of a client and a file, over one fact more.
-use Rattle.std.proofs.Common.{◌≡◌, ℕ, Bool, List, [], ◌∷◌, ◌++◌, refl, sym, ap, ◌∙◌}
-use Rattle.std.specs.Prelude.{filter, not}
-use Rattle.lease_model.specs.records.Facts.{Fact}
-use Rattle.lease_model.specs.records.Past.{is_settled, believed}
+use Rattle.lease_laws.proofs.Words.{◌++◌, ◌∙◌, ◌∷◌, ◌≡◌, Bool, Fact, List, ℕ, [], ap, believed, filter, is_settled, not, refl}
+use Rattle.lease_laws.proofs.Words.{sym}
 use Rattle.lease_world.specs.judge.Knows.{KnowsCache}
 use Rattle.lease_world.specs.judge.Covers.{layers_at, stack_in}
 use Rattle.lease_world.specs.judge.Seen.{SeenCache, Waiting}

@@ -1,11 +1,9 @@
 -- What is known of the client that a fact is about.
-use Rattle.std.proofs.Common.{◌≡◌, ℕ, zero, suc, ◌+◌, ◌<◌, ◌≤◌, Bool, true, false, List, [], ◌∷◌, ◌++◌, Some, length, drop, map, refl, sym, ap, subst, ◌∙◌, arith}
-use Rattle.std.specs.Prelude.{◌&&◌, not, slice_get, nat_lt}
-use Rattle.std.proofs.lemmas.List.{map-append, length-append, drop-append-le}
-use Rattle.lease_model.specs.values.Lists.{is_empty}
-use Rattle.lease_model.specs.records.Facts.{Fact}
-use Rattle.lease_model.specs.records.Past.{has_joined, is_served, has_strayed, sendings, takings, last_of, last_sending, is_settled, believed}
-use Rattle.lease_model.specs.records.Safe.{is_well_formed}
+use Rattle.lease_laws.proofs.Words.{◌&&◌, ◌++◌, ◌+◌, ◌<◌, ◌∙◌, ◌∷◌, ◌≡◌, ◌≤◌, Bool, Fact, List, Some, ℕ, [], ap, arith, believed}
+use Rattle.lease_laws.proofs.Words.{drop, false, has_joined, has_strayed, is_empty, is_served, is_settled, is_well_formed}
+use Rattle.lease_laws.proofs.Words.{last_of, last_sending, length, length-append, map, map-append, nat_lt, not, refl, sendings}
+use Rattle.lease_laws.proofs.Words.{slice_get, subst, suc, sym, takings, true, zero}
+use Rattle.std.proofs.lemmas.List.{drop-append-le}
 use Rattle.lease_world.specs.judge.Clients.{can_take, took_from, after_taking}
 use Rattle.lease_world.specs.judge.Knows.{KnowsClient, RisesTo}
 use Rattle.lease_world.specs.judge.Seen.{SeenClient, joined, cache_in}

@@ -1,10 +1,7 @@
 -- The content of a file at a place, and what is kept of it.
-use Rattle.std.proofs.Common.{◌≡◌, ℕ, suc, ◌+◌, ◌<◌, ◌≤◌, Bool, true, false, List, [], ◌∷◌, ◌++◌, length, refl, sym, ap, ◌∙◌, arith}
-use Rattle.std.specs.Prelude.{◌==◌, ◌&&◌, not, if◌then◌else◌, nat_lt}
-use Rattle.std.proofs.lemmas.List.{map-append}
-use Rattle.lease_state.specs.declared.patch.Patch.{Patch}
-use Rattle.lease_model.specs.records.Facts.{Fact}
-use Rattle.lease_model.specs.records.Past.{changes_of, unsettled, is_settled}
+use Rattle.lease_laws.proofs.Words.{◌&&◌, ◌++◌, ◌+◌, ◌<◌, ◌==◌, ◌∙◌, ◌∷◌, ◌≡◌, ◌≤◌, Bool, Fact, List, Patch, ℕ, [], ap, arith}
+use Rattle.lease_laws.proofs.Words.{changes_of, false, if◌then◌else◌, is_settled, length, map-append, nat_lt, not, refl, suc, sym}
+use Rattle.lease_laws.proofs.Words.{true, unsettled}
 use Rattle.lease_world.specs.judge.Before.{before, patches_of, patches_waiting}
 use Rattle.lease_world.specs.judge.Seen.{Change, Waiting}
 use Rattle.lease_world.specs.judge.Told.{placed_changes, pending, place_of}

@@ -1,9 +1,7 @@
 -- Counts of the holders of a file.
-use Rattle.std.proofs.Common.{◌≡◌, ◌≢◌, ℕ, zero, suc, ◌+◌, ◌-◌, ◌<◌, ◌≤◌, Bool, true, false, refl, sym, ap, ◌∙◌, arith, inl, inr}
-use Rattle.std.specs.Prelude.{◌==◌, ◌&&◌, if◌then◌else◌, nat_lt}
-use Rattle.std.proofs.lemmas.Bool.{cases_Bool, eqb-true}
-use Rattle.lease_state.specs.State.{State, nothing_cached}
-use Rattle.lease_model.specs.values.LeaseStates.{holds_any}
+use Rattle.lease_laws.proofs.Words.{◌&&◌, ◌+◌, ◌-◌, ◌<◌, ◌==◌, ◌∙◌, ◌≡◌, ◌≢◌, ◌≤◌, Bool, State, ℕ, ap, arith, cases_Bool}
+use Rattle.lease_laws.proofs.Words.{eqb-true, false, holds_any, if◌then◌else◌, inl, inr, nat_lt, nothing_cached, refl, suc, sym}
+use Rattle.lease_laws.proofs.Words.{true, zero}
 use Rattle.lease_world.specs.judge.Holders.{one_more, with_holder, without_holder, conflicts_with}
 use Rattle.lease_world.specs.judge.Knows.{how_many, IsCounted}
 use Rattle.lease_world.specs.judge.Seen.{Holders, is_conflict}

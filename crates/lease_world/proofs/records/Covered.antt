@@ -1,17 +1,19 @@
 -- Writes by the positions that they cover, and the bytes that they make.
-use Rattle.std.proofs.Common.{◌≡◌, ◌≢◌, ◌≤◌, ◌<◌, ℕ, zero, suc, ◌+◌, ◌-◌, max, Bool, true, false, cond, List, [], ◌∷◌, ◌++◌, length, take, drop, length-drop, min, add-one, get_or, refl, sym, ap, ◌∙◌, arith, inl, inr}
-use Rattle.std.specs.Prelude.{◌==◌, ◌&&◌, if◌then◌else◌, nat_le, nat_lt, filter, slice_index, bytes_eq, MatchBool}
-use Rattle.std.proofs.lemmas.Bool.{cases_Bool, cases_lt}
+use Rattle.lease_laws.proofs.Words.{◌&&◌, ◌++◌, ◌+◌, ◌-◌, ◌<◌, ◌==◌, ◌∙◌, ◌∷◌, ◌≡◌, ◌≢◌, ◌≤◌, Bool, List, Patch, ℕ, [], add-one}
+use Rattle.lease_laws.proofs.Words.{ap, append-nil, append_assoc, arith, bytes_eq, bytes_eq-Decides, cases_Bool, cases_lt, cond}
+use Rattle.lease_laws.proofs.Words.{drop, false, filter, filter-append, get_or, if◌then◌else◌, inl, inr, length, length-drop}
+use Rattle.lease_laws.proofs.Words.{length-written, max, nat_le, nat_lt, patch, patches, refl, slice_index, suc, sym, take, true}
+use Rattle.lease_laws.proofs.Words.{zero}
+use Rattle.std.proofs.Common.{min}
+use Rattle.std.specs.Prelude.{MatchBool}
 use Rattle.std.proofs.lemmas.Grind.{same_number_lists}
-use Rattle.std.proofs.lemmas.List.{append_assoc, append-nil, take_all, get_or-drop}
-use Rattle.std.proofs.lemmas.List.Elements.{filter-append}
-use Rattle.std.proofs.lemmas.Slice.Eq.{bytes_eq-Decides}
-use Rattle.lease_state.specs.Content.{patch, patches, end_of}
-use Rattle.lease_state.specs.declared.patch.Patch.{Patch}
-use Rattle.lease_state.proofs.ContentLemmas.{length-written, get_or-written}
+use Rattle.std.proofs.lemmas.List.{take_all, get_or-drop}
+use Rattle.lease_state.specs.Content.{end_of}
+use Rattle.lease_state.proofs.ContentLemmas.{get_or-written}
 use Rattle.lease_world.specs.declared.judging.covers.Layer.{Layer}
 use Rattle.lease_world.specs.judge.Before.{patches_waiting}
-use Rattle.lease_world.specs.judge.Covers.{layer_of, layers_at, stack_in, seen_byte, Shows, ShowsCovered, IsOpenOnTop, EndsCovered}
+use Rattle.lease_world.specs.judge.Covers.{layer_of, layers_at, stack_in, seen_byte, Shows, ShowsCovered, IsOpenOnTop}
+use Rattle.lease_world.specs.judge.Covers.{EndsCovered}
 use Rattle.lease_world.specs.judge.Seen.{Waiting}
 
 -- ---- layers of several writes

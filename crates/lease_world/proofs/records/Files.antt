@@ -1,9 +1,6 @@
 -- What is known of the file that a fact is about.
-use Rattle.std.proofs.Common.{◌≡◌, ℕ, ◌+◌, Bool, List, [], ◌∷◌, ◌++◌, Some, length, refl, arith}
-use Rattle.std.specs.Prelude.{◌==◌, not, if◌then◌else◌}
-use Rattle.lease_state.specs.declared.patch.Patch.{Patch}
-use Rattle.lease_model.specs.records.Facts.{Fact}
-use Rattle.lease_model.specs.records.Past.{is_started, start_of}
+use Rattle.lease_laws.proofs.Words.{◌++◌, ◌+◌, ◌==◌, ◌∷◌, ◌≡◌, Bool, Fact, List, Patch, Some, ℕ, [], arith, if◌then◌else◌}
+use Rattle.lease_laws.proofs.Words.{is_started, length, not, refl, start_of}
 use Rattle.lease_world.specs.judge.Knows.{KnowsFile}
 use Rattle.lease_world.specs.judge.Seen.{SeenFile, Touches, touched, touched_by_others}
 use Rattle.lease_world.specs.judge.Told.{placed_changes, last_touch}

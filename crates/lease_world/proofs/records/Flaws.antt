@@ -1,11 +1,8 @@
 -- What the definitions say of one fact, from what is known of each of the tests.
-use Rattle.std.proofs.Common.{◌≡◌, ℕ, suc, ◌+◌, true, false, List, [], ◌∷◌, ◌++◌, length, refl, sym, ap, ◌∙◌, arith}
-use Rattle.std.specs.Prelude.{reverse}
-use mathlib.Core.List.{reverse_aux}
+use Rattle.lease_laws.proofs.Words.{◌++◌, ◌+◌, ◌∙◌, ◌∷◌, ◌≡◌, Fact, List, OneWriteCache, Verdict, ℕ, [], ap, arith, false}
+use Rattle.lease_laws.proofs.Words.{flaw_at, has_two_caches, is_false_done, is_late_write, is_stale_read, is_well_formed, length}
+use Rattle.lease_laws.proofs.Words.{or_else, refl, reverse, reverse_aux, suc, sym, true, verdict, verdict_from}
 use Rattle.lease_laws.proofs.records.VerdictLemmas.{two_caches-test}
-use Rattle.lease_model.specs.records.Facts.{Fact}
-use Rattle.lease_model.specs.records.Safe.{is_well_formed, OneWriteCache}
-use Rattle.lease_model.specs.records.Verdict.{Verdict, has_two_caches, is_stale_read, is_late_write, is_false_done, flaw_at, or_else, verdict_from, verdict}
 
 pub malformed-here : (place : ℕ) (fact : Fact) (past : List Fact) → is_well_formed fact past ≡ false
     → flaw_at place fact past ≡ Verdict.Malformed place

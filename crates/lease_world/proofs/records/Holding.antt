@@ -1,10 +1,7 @@
 -- Holders of files, over one fact more.
-use Rattle.std.proofs.Common.{◌≡◌, ◌≢◌, ℕ, ◌<◌, ◌≤◌, Bool, true, false, List, ◌∷◌, refl, sym, ap, ◌∙◌, arith, inl, inr}
-use Rattle.std.specs.Prelude.{◌==◌, if◌then◌else◌}
-use Rattle.std.proofs.lemmas.Bool.{cases_Bool, eqb-true}
-use Rattle.lease_state.specs.State.{State, nothing_cached}
-use Rattle.lease_model.specs.records.Facts.{Fact}
-use Rattle.lease_model.specs.records.Past.{is_good, is_served, has_strayed, believed}
+use Rattle.lease_laws.proofs.Words.{◌<◌, ◌==◌, ◌∙◌, ◌∷◌, ◌≡◌, ◌≢◌, ◌≤◌, Bool, Fact, List, State, ℕ, ap, arith, believed}
+use Rattle.lease_laws.proofs.Words.{cases_Bool, eqb-true, false, has_strayed, if◌then◌else◌, inl, inr, is_good, is_served}
+use Rattle.lease_laws.proofs.Words.{nothing_cached, refl, sym, true}
 use Rattle.lease_world.specs.judge.Holders.{without_holder, conflicts_with, believed_by, HasEntered, Leaves, Moves}
 use Rattle.lease_world.specs.judge.Knows.{held, IsCounted, KnowsHolders}
 use Rattle.lease_world.specs.judge.Seen.{SeenCache, SeenClient, Holders, holders_in, cache_in, is_good_client, is_conflict}

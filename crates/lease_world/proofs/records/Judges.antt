@@ -1,17 +1,15 @@
 -- A judge that was given facts, and is given one more.
-use Rattle.std.proofs.Common.{◌≡◌, ℕ, zero, suc, ◌+◌, Bool, true, false, List, [], ◌∷◌, ◌++◌, length, refl, sym, ap, subst, ◌∙◌, arith}
-use Rattle.std.specs.Prelude.{◌==◌, if◌then◌else◌, reverse}
-use Rattle.std.proofs.lemmas.List.{length-append, length-reverse, reverse-append}
-use Rattle.lease_model.specs.records.Facts.{Fact}
-use Rattle.lease_model.specs.records.Past.{is_started, start_of, has_joined, is_served, has_strayed, is_good, sendings, takings, last_sending, is_settled, believed}
-use Rattle.lease_model.specs.records.Safe.{OneWriteCache}
+use Rattle.lease_laws.proofs.Words.{◌++◌, ◌+◌, ◌==◌, ◌∙◌, ◌∷◌, ◌≡◌, Bool, Fact, List, OneWriteCache, ℕ, [], ap, arith, believed}
+use Rattle.lease_laws.proofs.Words.{false, flaw_at, has_joined, has_strayed, if◌then◌else◌, is_good, is_served, is_settled}
+use Rattle.lease_laws.proofs.Words.{is_started, last_sending, length, length-append, length-reverse, or_else, refl, reverse}
+use Rattle.lease_laws.proofs.Words.{reverse-append, sendings, start_of, subst, suc, sym, takings, true, verdict_from, zero}
 use Rattle.lease_model.specs.records.Verdict as model
-use Rattle.lease_model.specs.records.Verdict.{or_else, flaw_at, verdict_from}
 use Rattle.lease_world.specs.Verdicts.{verdict_of}
 use Rattle.lease_world.specs.declared.verdict.Verdict.{Verdict}
 use Rattle.lease_world.specs.judge.Judged.{Judging, is_safe, Steps, HasJudged, JudgesOneMore}
 use Rattle.lease_world.specs.judge.Knows.{KnowsFile, KnowsCache, KnowsClient, HasContents, KnowsHolders, Knows, held, how_many}
-use Rattle.lease_world.specs.judge.Seen.{unseen_file, unseen_cache, unseen_client, unheld, is_among, has_settled, file_in, client_in, cache_in}
+use Rattle.lease_world.specs.judge.Seen.{unseen_file, unseen_cache, unseen_client, unheld, is_among, has_settled, file_in}
+use Rattle.lease_world.specs.judge.Seen.{client_in, cache_in}
 use Rattle.lease_world.specs.judge.Told.{placed_changes, last_touch, write_of, pending}
 use Rattle.lease_world.proofs.Numbered.{nothing_written}
 use Rattle.lease_world.proofs.Places.{past_the_end}

@@ -1,9 +1,7 @@
 -- What is kept of a file for a client, over facts that change the file or the client.
-use Rattle.std.proofs.Common.{◌≡◌, ℕ, suc, ◌≤◌, Bool, true, false, List, [], ◌∷◌, ◌++◌, Option, Some, None, length, refl, sym, ap, ◌∙◌, arith}
-use Rattle.std.specs.Prelude.{◌==◌, if◌then◌else◌, is_some, unwrap_or, nat_lt}
+use Rattle.lease_laws.proofs.Words.{◌++◌, ◌==◌, ◌∙◌, ◌∷◌, ◌≡◌, ◌≤◌, Bool, List, None, Option, Patch, Some, ℕ, [], ap, arith}
+use Rattle.lease_laws.proofs.Words.{false, if◌then◌else◌, is_some, length, nat_lt, patches, refl, suc, sym, true, unwrap_or}
 use Rattle.std.proofs.lemmas.List.{take-append-le}
-use Rattle.lease_state.specs.Content.{patches}
-use Rattle.lease_state.specs.declared.patch.Patch.{Patch}
 use Rattle.lease_world.specs.judge.Before.{before, patches_of}
 use Rattle.lease_world.specs.judge.Clients.{HasCache, with_write}
 use Rattle.lease_world.specs.judge.Knows.{IsBase, HasContents}

@@ -1,8 +1,7 @@
 -- What is known after one fact more, from what is known of the file and the client that it is about.
-use Rattle.std.proofs.Common.{◌≡◌, ◌≢◌, ℕ, Bool, true, false, List, ◌∷◌, refl, ◌∙◌, arith}
-use Rattle.std.specs.Prelude.{◌==◌, if◌then◌else◌, MatchBool}
-use Rattle.lease_model.specs.records.Facts.{Fact}
-use Rattle.lease_model.specs.records.Past.{is_started, is_good}
+use Rattle.lease_laws.proofs.Words.{◌==◌, ◌∙◌, ◌∷◌, ◌≡◌, ◌≢◌, Bool, Fact, List, ℕ, arith, false, if◌then◌else◌, is_good}
+use Rattle.lease_laws.proofs.Words.{is_started, refl, true}
+use Rattle.std.specs.Prelude.{MatchBool}
 use Rattle.lease_world.specs.judge.Knows.{KnowsFile, KnowsClient, HasContents, Knows}
 use Rattle.lease_world.specs.judge.Seen.{Seen, SeenFile, SeenClient, file_in, client_in, cache_in, is_good_client}
 use Rattle.lease_world.specs.judge.Tables.{HasClient, HasFile, HasSameClients, HasSameFiles, is_started_in}

@@ -1,13 +1,8 @@
 -- One write cache, over one fact more.
-use Rattle.std.proofs.Common.{◌≡◌, ◌≢◌, ℕ, Bool, true, false, List, ◌∷◌, refl, sym, subst, ◌∙◌, arith, inl, inr}
-use Rattle.std.specs.Prelude.{◌==◌, ◌&&◌, ◌||◌, not}
-use Rattle.std.proofs.lemmas.Bool.{cases_Bool, both_ways, eqb-true, eq-eqb}
+use Rattle.lease_laws.proofs.Words.{◌&&◌, ◌==◌, ◌||◌, ◌∙◌, ◌∷◌, ◌≡◌, ◌≢◌, Bool, Fact, List, OneWriteCache, State, ℕ, arith}
+use Rattle.lease_laws.proofs.Words.{believed, both_ways, cases_Bool, eq-eqb, eqb-true, false, has_strayed, has_two_caches, inl}
+use Rattle.lease_laws.proofs.Words.{inr, is_good, is_served, not, nothing_cached, refl, subst, sym, true}
 use Rattle.lease_laws.proofs.records.VerdictLemmas.{one_cache-test}
-use Rattle.lease_state.specs.State.{State, nothing_cached}
-use Rattle.lease_model.specs.records.Facts.{Fact}
-use Rattle.lease_model.specs.records.Past.{is_good, is_served, has_strayed, believed}
-use Rattle.lease_model.specs.records.Safe.{OneWriteCache}
-use Rattle.lease_model.specs.records.Verdict.{has_two_caches}
 use Rattle.lease_world.specs.judge.Seen.{is_conflict}
 
 -- ---- facts by which no client becomes good and no belief changes

@@ -1,12 +1,13 @@
 -- Files and clients that a fact leaves alone.
-use Rattle.std.proofs.Common.{◌≡◌, ℕ, ◌≤◌, false, List, [], ◌∷◌, ◌++◌, length, drop, refl, sym, ◌∙◌, arith}
-use Rattle.lease_model.specs.records.Facts.{Fact}
-use Rattle.lease_model.specs.records.Past.{has_joined, is_served, has_strayed, sendings, takings, last_sending, is_settled}
+use Rattle.lease_laws.proofs.Words.{◌++◌, ◌∙◌, ◌∷◌, ◌≡◌, ◌≤◌, Fact, List, ℕ, [], arith, drop, false, has_joined, has_strayed}
+use Rattle.lease_laws.proofs.Words.{is_served, is_settled, last_sending, length, refl, sendings, sym, takings}
 use Rattle.lease_world.specs.judge.Knows.{KnowsFile, KnowsCache, KnowsClient, RisesTo}
 use Rattle.lease_world.specs.judge.Seen.{SeenFile, SeenClient, cache_in, write_in, has_settled}
 use Rattle.lease_world.specs.judge.Told.{write_of, sent_places}
 use Rattle.lease_world.proofs.records.Caches.{cache_over}
-use Rattle.lease_world.proofs.records.Skips.{touches, concerns, started-skip, start-skip, changes-skip, touch-skip, joined-skip, served-skip, strayed-skip, sendings-skip, takings-skip, settled-skip, write-skip, believed-skip, pending-skip}
+use Rattle.lease_world.proofs.records.Skips.{touches, concerns, started-skip, start-skip, changes-skip, touch-skip, joined-skip}
+use Rattle.lease_world.proofs.records.Skips.{served-skip, strayed-skip, sendings-skip, takings-skip, settled-skip, write-skip}
+use Rattle.lease_world.proofs.records.Skips.{believed-skip, pending-skip}
 
 pub file_stays : (file : ℕ) (seen : SeenFile) (fact : Fact) (past : List Fact) → touches file fact ≡ false
     → KnowsFile file seen past → KnowsFile file seen (fact ∷ past)

@@ -1,11 +1,6 @@
 -- Writes that wait for an answer, where one is settled.
-use Rattle.std.proofs.Common.{◌≡◌, ℕ, Bool, true, false, cond, List, [], ◌∷◌, ◌++◌, refl, sym, ◌∙◌, arith}
-use Rattle.std.specs.Prelude.{◌==◌, ◌&&◌, ◌||◌, not, if◌then◌else◌, filter}
-use Rattle.std.proofs.lemmas.List.{append-nil}
-use Rattle.std.proofs.lemmas.List.Elements.{filter-append}
-use Rattle.lease_model.specs.client.Commands.{Settlement}
-use Rattle.lease_model.specs.records.Facts.{Fact}
-use Rattle.lease_model.specs.records.Past.{is_settled}
+use Rattle.lease_laws.proofs.Words.{◌&&◌, ◌++◌, ◌==◌, ◌||◌, ◌∙◌, ◌∷◌, ◌≡◌, Bool, Fact, List, Settlement, ℕ, [], append-nil, arith}
+use Rattle.lease_laws.proofs.Words.{cond, false, filter, filter-append, if◌then◌else◌, is_settled, not, refl, sym, true}
 use Rattle.lease_world.specs.declared.judging.covers.Layer.{Layer}
 use Rattle.lease_world.specs.judge.Seen.{Waiting}
 use Rattle.lease_world.specs.judge.Told.{pending, is_unsettled}

@@ -1,13 +1,8 @@
 -- A client's cached read.
-use Rattle.std.proofs.Common.{◌≡◌, ℕ, ◌≤◌, Bool, true, false, List, ◌∷◌, ◌++◌, Option, Some, None, length, refl, sym, ap, subst, ◌∙◌, arith}
-use Rattle.std.specs.Prelude.{◌&&◌, not, if◌then◌else◌, is_some, filter, bytes_eq}
-use Rattle.std.specs.Option.{option_map}
-use Rattle.std.proofs.lemmas.List.Elements.{filter-append}
-use Rattle.lease_state.specs.Content.{patches}
-use Rattle.lease_state.specs.declared.patch.Patch.{Patch}
-use Rattle.lease_model.specs.records.Facts.{Fact}
-use Rattle.lease_model.specs.records.Past.{is_good, last_sending, content_at, unanswered, start_of, has_joined, is_served, has_strayed, sendings, takings, is_settled, believed}
-use Rattle.lease_model.specs.records.Verdict.{is_stale_read}
+use Rattle.lease_laws.proofs.Words.{◌&&◌, ◌++◌, ◌∙◌, ◌∷◌, ◌≡◌, ◌≤◌, Bool, Fact, List, None, Option, Patch, Some, ℕ, ap, arith}
+use Rattle.lease_laws.proofs.Words.{believed, bytes_eq, content_at, false, filter, filter-append, has_joined, has_strayed}
+use Rattle.lease_laws.proofs.Words.{if◌then◌else◌, is_good, is_served, is_settled, is_some, is_stale_read, last_sending, length}
+use Rattle.lease_laws.proofs.Words.{not, option_map, patches, refl, sendings, start_of, subst, sym, takings, true, unanswered}
 use Rattle.lease_world.specs.judge.Before.{before, patches_of, patches_waiting}
 use Rattle.lease_world.specs.declared.judging.covers.Layer.{Layer}
 use Rattle.lease_world.specs.judge.Caches.{base_at, IsCovered, IsShown}

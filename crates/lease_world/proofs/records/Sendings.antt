@@ -1,8 +1,6 @@
 -- The pasts before messages were sent are parts of the past.
-use Rattle.std.proofs.Common.{◌≡◌, ℕ, zero, suc, Bool, true, false, List, [], ◌∷◌, ◌++◌, refl, ap, Some, arith}
-use Rattle.std.specs.Prelude.{◌==◌, if◌then◌else◌, slice_get}
-use Rattle.lease_model.specs.records.Facts.{Fact}
-use Rattle.lease_model.specs.records.Past.{sendings, takings, last_of, last_sending}
+use Rattle.lease_laws.proofs.Words.{◌++◌, ◌==◌, ◌∷◌, ◌≡◌, Bool, Fact, List, Some, ℕ, [], ap, arith, false, if◌then◌else◌, last_of}
+use Rattle.lease_laws.proofs.Words.{last_sending, refl, sendings, slice_get, suc, takings, true, zero}
 
 abbrev pub PartOf : List Fact → List Fact → Type 0
 PartOf past place = (newer : List Fact) × (past ≡ newer ++ place)

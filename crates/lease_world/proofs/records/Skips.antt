@@ -1,8 +1,6 @@
 -- Facts that change nothing of what a record says of a file, or of a client.
-use Rattle.std.proofs.Common.{◌≡◌, ℕ, Bool, false, List, ◌∷◌, refl, arith}
-use Rattle.std.specs.Prelude.{◌==◌}
-use Rattle.lease_model.specs.records.Facts.{Fact}
-use Rattle.lease_model.specs.records.Past.{is_started, start_of, has_joined, is_served, has_strayed, sendings, takings, is_settled, believed}
+use Rattle.lease_laws.proofs.Words.{◌==◌, ◌∷◌, ◌≡◌, Bool, Fact, List, ℕ, arith, believed, false, has_joined, has_strayed}
+use Rattle.lease_laws.proofs.Words.{is_served, is_settled, is_started, refl, sendings, start_of, takings}
 use Rattle.lease_world.specs.judge.Told.{placed_changes, last_touch, write_of, pending}
 
 -- the fact starts, opens or changes the file

@@ -1,10 +1,7 @@
 -- What the verdict of the definitions says is what the code's verdict says.
-use Rattle.std.proofs.Common.{◌≡◌, List, refl, sym, ap, subst, ◌∙◌, arith}
+use Rattle.lease_laws.proofs.Words.{◌∙◌, ◌≡◌, Fact, List, Safe, Says, ap, arith, refl, subst, sym}
 use Rattle.std.specs.Prelude.{◌↔◌}
-use Rattle.lease_model.specs.records.Facts.{Fact}
-use Rattle.lease_model.specs.records.Safe.{Safe}
 use Rattle.lease_model.specs.records.Verdict as model
-use Rattle.lease_laws.specs.records.Verdicts.{Says}
 use Rattle.lease_laws.proofs.records.VerdictLemmas.{verdict-safe, safe-verdict, verdict-says}
 use Rattle.lease_world.specs.Verdicts.{verdict_of, IsVerdictOn}
 use Rattle.lease_world.specs.declared.verdict.Verdict.{Verdict}

@@ -1,10 +1,7 @@
 -- A file as it stood, brought up to a place.
-use Rattle.std.proofs.Common.{◌≡◌, ℕ, zero, suc, ◌+◌, ◌≤◌, Bool, true, false, List, [], ◌∷◌, ◌++◌, length, take, drop, refl, sym, ap, ◌∙◌, arith, Option, Some, None, inl, inr}
-use Rattle.std.specs.Prelude.{if◌then◌else◌, nat_lt, unwrap_or, is_some}
-use Rattle.std.proofs.lemmas.Bool.{cases_Bool}
-use Rattle.std.proofs.lemmas.List.{map-append}
-use Rattle.lease_state.specs.declared.patch.Patch.{Patch}
-use Rattle.lease_state.specs.Content.{patches}
+use Rattle.lease_laws.proofs.Words.{◌++◌, ◌+◌, ◌∙◌, ◌∷◌, ◌≡◌, ◌≤◌, Bool, List, None, Option, Patch, Some, ℕ, [], ap, arith}
+use Rattle.lease_laws.proofs.Words.{cases_Bool, drop, false, if◌then◌else◌, inl, inr, is_some, length, map-append, nat_lt}
+use Rattle.lease_laws.proofs.Words.{patches, refl, suc, sym, take, true, unwrap_or, zero}
 use Rattle.lease_state.proofs.PatchLemmas.{patches-append}
 use Rattle.lease_world.specs.judge.Before.{before, patches_of}
 use Rattle.lease_world.specs.judge.Caches.{moved, first_of, base_at}

@@ -1,12 +1,9 @@
 -- The writes of a client in a record whose facts are well formed: no number is given twice.
-use Rattle.std.proofs.Common.{◌≡◌, ℕ, suc, ◌+◌, ◌≤◌, Bool, true, false, List, [], ◌∷◌, Option, Some, None, length, refl, sym, ap, ◌∙◌, arith}
-use Rattle.std.specs.Prelude.{⊤, ◌&&◌, ◌||◌, not, ◌==◌, if◌then◌else◌, is_some, nat_lt}
-use Rattle.std.specs.Option.{option_map}
-use Rattle.lease_state.specs.declared.patch.Patch.{Patch}
-use Rattle.lease_model.specs.values.Patches.{same_patch, is_within_limit}
-use Rattle.lease_model.specs.records.Facts.{Fact}
-use Rattle.lease_model.specs.records.Past.{is_started, has_number, has_written, has_buffered, is_accepted, is_touched}
-use Rattle.lease_model.specs.records.Safe.{is_well_formed, EachFact, WellFormed}
+use Rattle.lease_laws.proofs.Words.{◌&&◌, ◌+◌, ◌==◌, ◌||◌, ◌∙◌, ◌∷◌, ◌≡◌, ◌≤◌, Bool, EachFact, Fact, List, None, Option, Patch}
+use Rattle.lease_laws.proofs.Words.{Some, WellFormed, ℕ, ⊤, [], ap, arith, false, has_buffered, has_written, if◌then◌else◌}
+use Rattle.lease_laws.proofs.Words.{is_accepted, is_some, is_started, is_touched, is_well_formed, is_within_limit, length, nat_lt}
+use Rattle.lease_laws.proofs.Words.{not, option_map, refl, same_patch, suc, sym, true}
+use Rattle.lease_model.specs.records.Past.{has_number}
 use Rattle.lease_world.specs.judge.Clients.{is_buffered_before, is_accepted_write}
 use Rattle.lease_world.specs.judge.Seen.{SeenWrite, accepted_as}
 use Rattle.lease_world.specs.judge.Told.{write_of, last_touch}

@@ -1,14 +1,8 @@
 -- What is known of a client that is given a write, is told of one, has one accepted, or believes something.
-use Rattle.std.proofs.Common.{◌≡◌, ℕ, ◌+◌, ◌≤◌, Bool, true, false, List, [], ◌∷◌, ◌++◌, Option, length, refl, sym, ap, ◌∙◌, arith}
-use Rattle.std.specs.Prelude.{◌==◌, ◌&&◌, ◌||◌, not, if◌then◌else◌, filter}
-use Rattle.std.specs.Option.{option_map}
-use Rattle.std.proofs.lemmas.List.{append_assoc}
-use Rattle.std.proofs.lemmas.List.Elements.{filter-append}
-use Rattle.lease_state.specs.State.{State}
-use Rattle.lease_state.specs.declared.patch.Patch.{Patch}
-use Rattle.lease_model.specs.client.Commands.{Settlement}
-use Rattle.lease_model.specs.records.Facts.{Fact}
-use Rattle.lease_model.specs.records.Past.{has_joined, is_served, has_strayed, sendings, takings, is_settled, believed}
+use Rattle.lease_laws.proofs.Words.{◌&&◌, ◌++◌, ◌+◌, ◌==◌, ◌||◌, ◌∙◌, ◌∷◌, ◌≡◌, ◌≤◌, Bool, Fact, List, Option, Patch, Settlement}
+use Rattle.lease_laws.proofs.Words.{State, ℕ, [], ap, append_assoc, arith, believed, false, filter, filter-append, has_joined}
+use Rattle.lease_laws.proofs.Words.{has_strayed, if◌then◌else◌, is_served, is_settled, length, not, option_map, refl, sendings}
+use Rattle.lease_laws.proofs.Words.{sym, takings, true}
 use Rattle.lease_world.specs.judge.Clients.{Writes, WritesCache, Settles, Believes, Accepts, HasCache, with_write, with_belief}
 use Rattle.lease_world.specs.declared.judging.covers.Layer.{Layer}
 use Rattle.lease_world.specs.judge.Covers.{layer_of, layers_at, stack_in}

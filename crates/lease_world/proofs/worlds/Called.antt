@@ -1,10 +1,8 @@
 -- What a world of the code stands for after one of its machines was called.
-use Rattle.std.proofs.Common.{◌≡◌, ℕ, ◌∙◌, List, ◌++◌, map, length, ap, sym, subst}
+use Rattle.lease_laws.proofs.Words.{◌++◌, ◌∙◌, ◌≡◌, Call, ClientCall, List, ℕ, ap, called, length, map, subst, sym}
 use Rattle.lease_client.specs.Answers.{note_of}
 use Rattle.lease_client.specs.declared.note.Note.{Note}
 use Rattle.lease_facts.specs.Facts.{fact_of}
-use Rattle.lease_model.specs.client.Calls.{ClientCall}
-use Rattle.lease_model.specs.server.Calls.{Call, called}
 use Rattle.lease_model.specs.world.World as model
 use Rattle.lease_world.specs.world.Seats.{IsPresent, ChangesSeat, StepsSeat}
 use Rattle.lease_world.specs.world.Stands.{Seen, no_server}

@@ -1,17 +1,9 @@
 -- What becomes of a world when outs are delivered, notes are told, and requests are sent.
-use Rattle.std.proofs.Common.{◌≡◌, ℕ, Bool, true, false, List, [], ◌∷◌, ◌++◌, map, refl, sym, ap, ◌∙◌, arith}
-use Rattle.std.specs.Prelude.{◌==◌, if◌then◌else◌, reverse}
-use Rattle.std.proofs.lemmas.List.{append-nil, append_assoc, reverse-append}
-use Rattle.lease_laws.specs.messages.Written.{OutHasBytes, RepliesAreReadBack, RequestsAreReadBack, EachRequest}
-use Rattle.lease_laws.specs.server.Outs.{EachOut}
-use Rattle.lease_model.specs.client.Commands.{Note}
-use Rattle.lease_model.specs.messages.FromBytes.{request_of, reply_of}
-use Rattle.lease_model.specs.messages.Replies.{Reply, Out}
-use Rattle.lease_model.specs.messages.Requests.{Request}
-use Rattle.lease_model.specs.messages.ToBytes.{request_written, reply_written, HasRequestBytes}
-use Rattle.lease_model.specs.records.Facts.{Fact}
-use Rattle.lease_model.specs.values.Tables.{put}
-use Rattle.lease_model.specs.world.World.{World, delivered, all_delivered, noted, fact_of}
+use Rattle.lease_laws.proofs.Words.{◌++◌, ◌==◌, ◌∙◌, ◌∷◌, ◌≡◌, Bool, EachOut, EachRequest, Fact, HasRequestBytes, List, Note, Out}
+use Rattle.lease_laws.proofs.Words.{OutHasBytes, Reply, Request, World, ℕ, [], all_delivered, ap, append-nil, append_assoc, arith}
+use Rattle.lease_laws.proofs.Words.{delivered, fact_of, false, if◌then◌else◌, map, noted, put, refl, reply_of, reply_written}
+use Rattle.lease_laws.proofs.Words.{request_of, request_written, reverse, reverse-append, sym, true}
+use Rattle.lease_laws.specs.messages.Written.{RepliesAreReadBack, RequestsAreReadBack}
 use Rattle.lease_world.specs.world.Messages.{sent_among}
 use Rattle.lease_world.specs.world.Seats.{fact_given, replies_to, replies_among}
 use Rattle.share_server.specs.Written.{out_written}

@@ -1,29 +1,19 @@
 -- What a world of the code stands for after an event of a client that there is.
-use Rattle.std.proofs.Common.{◌≡◌, ℕ, Bool, true, false, List, length, map, Option, Some, None, [], ◌∷◌, refl, sym, ap, subst, ◌∙◌, arith}
-use Rattle.std.specs.Prelude.{◌&&◌, if◌then◌else◌, nat_le, is_some, OnOk, Result}
-use Rattle.std.proofs.lemmas.Result.{on_ok_weaker}
-use Rattle.lease_laws.specs.messages.Written.{CallHasFileId}
-use Rattle.lease_model.specs.client.Calls.{ClientCall, client_called}
-use Rattle.lease_model.specs.client.Commands.{Command}
-use Rattle.lease_model.specs.client.State.{Client, lease_key}
-use Rattle.lease_model.specs.messages.FromBytes.{request_of, reply_of}
-use Rattle.lease_model.specs.messages.Replies.{Reply}
-use Rattle.lease_model.specs.messages.Requests.{Request}
-use Rattle.lease_model.specs.records.Facts.{Fact}
-use Rattle.lease_model.specs.server.Calls.{Call, called}
-use Rattle.lease_model.specs.server.Naming.{key_of}
-use Rattle.lease_model.specs.server.Progress.{Progress}
-use Rattle.lease_model.specs.server.Queries.{breaking, kept, content}
-use Rattle.lease_model.specs.server.State.{Server, has_file}
-use Rattle.lease_model.specs.values.Keys.{Key}
-use Rattle.lease_model.specs.values.Tables.{put}
-use Rattle.lease_model.specs.world.Events.{Event, served, stepped_in, server_takes, client_takes, link_cut, cut_over, link_noticed, notice_over, link_connected, connect_over, machine_key, timer_expired, scavenged, strayed_over, applied, client_of, happens}
-use Rattle.lease_model.specs.world.World.{World, Link, happened}
+use Rattle.lease_laws.proofs.Words.{◌&&◌, ◌∙◌, ◌∷◌, ◌≡◌, Bool, Call, CallHasFileId, Client, ClientCall, Command, Event, Fact, Key}
+use Rattle.lease_laws.proofs.Words.{Link, List, None, Option, Progress, Reply, Request, Result, Server, Some, World, ℕ, [], ap}
+use Rattle.lease_laws.proofs.Words.{applied, arith, breaking, called, client_called, client_of, client_takes, connect_over}
+use Rattle.lease_laws.proofs.Words.{cut_over, false, happened, happens, has_file, if◌then◌else◌, is_some, kept, key_of, lease_key}
+use Rattle.lease_laws.proofs.Words.{length, link_connected, link_cut, link_noticed, machine_key, map, nat_le, notice_over}
+use Rattle.lease_laws.proofs.Words.{on_ok_weaker, put, refl, reply_of, request_of, scavenged, served, server_takes, stepped_in}
+use Rattle.lease_laws.proofs.Words.{strayed_over, subst, sym, timer_expired, true}
+use Rattle.std.specs.Prelude.{OnOk}
+use Rattle.lease_model.specs.server.Queries.{content}
 use Rattle.lease_state.specs.declared.request.Request as code_request
 use Rattle.lease_state.specs.declared.reply.Reply as code_reply
 use Rattle.lease_facts.specs.Facts.{fact_of}
 use Rattle.lease_world.specs.declared.world.link.Link as code
-use Rattle.lease_world.specs.world.Messages.{sent_by, sent_by_oldest, oldest, sent_by_cut, sent_by_join, sent_by_scavenge, messages_of, messages_in}
+use Rattle.lease_world.specs.world.Messages.{sent_by, sent_by_oldest, oldest, sent_by_cut, sent_by_join, sent_by_scavenge}
+use Rattle.lease_world.specs.world.Messages.{messages_of, messages_in}
 use Rattle.lease_world.specs.world.Seats.{Seat, HasKept, seat_in, is_link, IsPresent, ChangesSeat, PopsRequest, PopsReply}
 use Rattle.lease_world.specs.world.Stands.{Seen, link_of, Stands}
 use Rattle.lease_world.specs.world.Worlds.{Keeps, Happens, Tells, Serves, StepsIn, Links, CutsLink, Sends, Applies}

@@ -1,27 +1,17 @@
 -- Where a run begins, and its events one after another.
-use Rattle.std.proofs.Common.{◌≡◌, ℕ, Option, zero, suc, ◌+◌, ◌-◌, ◌<◌, ◌≤◌, Bool, true, false, List, [], ◌∷◌, ◌++◌, length, map, take, drop, get_or, refl, sym, ap, subst, ◌∙◌, arith}
-use Rattle.std.specs.Prelude.{◌&&◌, nat_le, nat_lt, bytes_eq, slice_get, unwrap_or}
-use Rattle.std.specs.List.{list_any, list_all}
+use Rattle.lease_laws.proofs.Words.{◌&&◌, ◌++◌, ◌+◌, ◌-◌, ◌<◌, ◌∙◌, ◌∷◌, ◌≡◌, ◌≤◌, Bool, Event, FILE_LIMIT, Fact, HaveFullKeys}
+use Rattle.lease_laws.proofs.Words.{List, Option, Reply, Setup, World, ℕ, [], after, ap, append-nil, append_assoc, arith}
+use Rattle.lease_laws.proofs.Words.{bytes_eq, drop, false, files_limit, first_world, get_or, happens, is_allowed_setup}
+use Rattle.lease_laws.proofs.Words.{is_content, length, length-drop, length-map, list_all, list_any, map, map-append, nat_le}
+use Rattle.lease_laws.proofs.Words.{nat_lt, nat_tests, new_client, new_server, numbered, refl, reply_of, request_of}
+use Rattle.lease_laws.proofs.Words.{reverse-reverse, slice_get, starts_from, subst, suc, sym, take, true, unwrap_or, zero}
 use Rattle.std.proofs.Math.Seq.{take-suc}
-use Rattle.std.proofs.lemmas.Bool.Decides.{nat_tests}
 use Rattle.std.proofs.lemmas.Bool.{le-leb, leb-true}
-use Rattle.std.proofs.lemmas.List.{append-nil, append_assoc, length-drop, map-append, length-map}
-use Rattle.std.proofs.lemmas.List.{reverse-reverse}
 use Rattle.lease_laws.proofs.server.Calls.{new_server-sound}
 use Rattle.lease_laws.proofs.server.WaitCalls.{first-waits-well}
-use Rattle.lease_laws.specs.messages.Written.{HaveFullKeys}
-use Rattle.lease_model.specs.client.State.{new_client}
-use Rattle.lease_model.specs.messages.FromBytes.{request_of, reply_of}
-use Rattle.lease_model.specs.messages.Replies.{Reply}
 use Rattle.lease_state.specs.declared.reply.Reply as code_reply
-use Rattle.lease_model.specs.server.State.{new_server}
-use Rattle.lease_model.specs.values.Tables.{numbered}
-use Rattle.lease_state.specs.declared.content.TheConstants.{FILE_LIMIT}
-use Rattle.lease_model.specs.records.Facts.{Fact}
-use Rattle.lease_model.specs.world.Allowed.{is_content, are_apart, is_allowed_setup, are_too_many}
-use Rattle.lease_model.specs.values.Limits.{files_limit, clients_limit, events_limit}
-use Rattle.lease_model.specs.world.Events.{Event, after, happens}
-use Rattle.lease_model.specs.world.World.{World, Setup, starts_from, first_world}
+use Rattle.lease_model.specs.world.Allowed.{are_apart, are_too_many}
+use Rattle.lease_model.specs.values.Limits.{clients_limit, events_limit}
 use Rattle.lease_world.specs.world.First.{IsNew, AreNew}
 use Rattle.lease_facts.specs.Facts.{fact_of}
 use Rattle.lease_facts.specs.Setups.{event_of}

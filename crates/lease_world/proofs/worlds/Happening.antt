@@ -1,10 +1,6 @@
 -- What a world of the code stands for after a link or a queue changed.
-use Rattle.std.proofs.Common.{◌≡◌, ℕ, List, [], ◌∷◌, map, Some, None, refl, sym, ap, subst, ◌∙◌, arith}
-use Rattle.lease_model.specs.messages.FromBytes.{request_of, reply_of}
-use Rattle.lease_model.specs.messages.Replies.{Reply}
-use Rattle.lease_model.specs.messages.Requests.{Request}
-use Rattle.lease_model.specs.values.Tables.{put}
-use Rattle.lease_model.specs.world.World.{World, Link, requests_sent, sent_over}
+use Rattle.lease_laws.proofs.Words.{◌∙◌, ◌∷◌, ◌≡◌, Link, List, None, Reply, Request, Some, World, ℕ, [], ap, arith, map, put}
+use Rattle.lease_laws.proofs.Words.{refl, reply_of, request_of, requests_sent, sent_over, subst, sym}
 use Rattle.lease_state.specs.declared.request.Request as code_request
 use Rattle.lease_state.specs.declared.reply.Reply as code_reply
 use Rattle.lease_world.specs.declared.world.link.Link as code

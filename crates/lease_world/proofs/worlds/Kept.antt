@@ -1,15 +1,8 @@
 -- Messages that are kept with what happens.
-use Rattle.std.proofs.Common.{◌≡◌, List, [], ◌++◌, map, Option, Some, None, refl, sym, ap, ◌∙◌, arith}
-use Rattle.std.specs.Option.{option_map}
-use Rattle.std.proofs.lemmas.List.{append-nil, append_assoc, map-append}
+use Rattle.lease_laws.proofs.Words.{◌++◌, ◌∙◌, ◌≡◌, Call, CallHasFullKey, List, None, Option, Progress, Reply, Some, World, []}
+use Rattle.lease_laws.proofs.Words.{ap, append-nil, append_assoc, arith, called, map, map-append, option_map, refl, reply_of, sym}
 use Rattle.lease_laws.proofs.messages.ReadBack as readback
 use Rattle.lease_laws.proofs.messages.ServerBytes.{replies_have_bytes}
-use Rattle.lease_laws.specs.messages.Written.{CallHasFullKey}
-use Rattle.lease_model.specs.messages.FromBytes.{reply_of}
-use Rattle.lease_model.specs.messages.Replies.{Reply}
-use Rattle.lease_model.specs.server.Calls.{Call, called}
-use Rattle.lease_model.specs.server.Progress.{Progress}
-use Rattle.lease_model.specs.world.World.{World}
 use Rattle.lease_state.specs.declared.reply.Reply as code
 use Rattle.lease_world.specs.world.Messages.{sent_by}
 use Rattle.lease_world.specs.world.Seats.{HasKept, replies_among}

@@ -1,19 +1,15 @@
 -- What is found in the bytes of a request names a key of 16 bytes, or none.
-use Rattle.std.proofs.Common.{◌≡◌, ℕ, Bool, true, false, List, [], ◌∷◌, length, Option, Some, None, Result, Ok, Err, refl, arith}
-use Rattle.std.specs.Prelude.{⊤, ◌==◌, if◌then◌else◌, IfSome, bytes_eq}
-use Rattle.std.specs.Option.{option_map}
-use Rattle.lease_laws.specs.messages.Written.{HasFullKey, CallHasFullKey}
-use Rattle.lease_model.specs.messages.FromBytes.{ask_found, lease_wanted, request_of}
-use Rattle.lease_model.specs.server.Calls.{Call}
-use Rattle.std.proofs.lemmas.List.{length-take-le}
-use Rattle.lease_model.specs.messages.Requests.{FileRequest}
-use Rattle.lease_state.specs.declared.access.Access.{Access}
-use Rattle.lease_state.specs.declared.access.Share.{Share}
+use Rattle.lease_laws.proofs.Words.{◌==◌, ◌∷◌, ◌≡◌, Access, Bool, Call, CallHasFullKey, Err, FileRequest, HasFullKey, IfSome}
+use Rattle.lease_laws.proofs.Words.{List, None, Ok, Option, Result, Share, Some, ℕ, ⊤, [], arith, ask_found, bytes_eq, false}
+use Rattle.lease_laws.proofs.Words.{if◌then◌else◌, length, length-take-le, option_map, refl, request_of, true}
+use Rattle.lease_model.specs.messages.FromBytes.{lease_wanted}
 use Rattle.lease_state.specs.declared.request.Request as real
 use Rattle.lease_wire.specs.Field.{bytes_at}
-use Rattle.lease_wire.specs.Gathering.{no_values, with_lease, with_durable, with_reconnect, with_meaning, carried, gathered, value_of}
+use Rattle.lease_wire.specs.Gathering.{no_values, with_lease, with_durable, with_reconnect, with_meaning, carried, gathered}
+use Rattle.lease_wire.specs.Gathering.{value_of}
 use Rattle.lease_wire.specs.Chain.{ContextView}
-use Rattle.lease_wire.specs.Names.{Meaning, LeaseView, CreateView, meaning_of, durable_meaning, reconnect_meaning, lease_view, lease_name, durable_name, reconnect_name}
+use Rattle.lease_wire.specs.Names.{Meaning, LeaseView, CreateView, meaning_of, durable_meaning, reconnect_meaning, lease_view}
+use Rattle.lease_wire.specs.Names.{lease_name, durable_name, reconnect_name}
 use Rattle.lease_wire.specs.Reading.{Item, items_of}
 use Rattle.lease_wire.specs.declared.create.Direction.{Direction}
 use Rattle.lease_wire.specs.declared.fault.WireFault.{WireFault}

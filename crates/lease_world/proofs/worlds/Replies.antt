@@ -1,8 +1,6 @@
 -- Replies to clients, one after another.
-use Rattle.std.proofs.Common.{◌≡◌, ℕ, Bool, true, false, List, [], ◌∷◌, ◌++◌, Option, Some, None, refl, sym, ap, ◌∙◌}
-use Rattle.std.specs.Prelude.{◌==◌, if◌then◌else◌}
-use Rattle.std.specs.Option.{option_map}
-use Rattle.std.proofs.lemmas.List.{append-nil, append_assoc}
+use Rattle.lease_laws.proofs.Words.{◌++◌, ◌==◌, ◌∙◌, ◌∷◌, ◌≡◌, Bool, List, None, Option, Some, ℕ, [], ap, append-nil}
+use Rattle.lease_laws.proofs.Words.{append_assoc, false, if◌then◌else◌, option_map, refl, sym, true}
 use Rattle.lease_state.specs.declared.reply.Reply.{Reply}
 use Rattle.lease_world.specs.world.Seats.{Seat, seat_at, replies_to, replies_among, with_replies, HasReplies, HasKept}
 use Rattle.share_server.specs.declared.out.Out as out

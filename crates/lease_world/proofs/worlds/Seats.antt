@@ -1,15 +1,13 @@
 -- A client's seat that changes in its place, and a client that is called there.
-use Rattle.std.proofs.Common.{◌≡◌, ◌≢◌, ◌∙◌, ℕ, zero, suc, ◌+◌, ◌<◌, true, false, List, length, map, get_or, refl, sym, ap, subst, arith}
-use Rattle.std.proofs.lemmas.List.{length-set}
-use Rattle.std.specs.List.{slice_set}
-use Rattle.std.specs.Prelude.{◌==◌}
+use Rattle.lease_laws.proofs.Words.{◌+◌, ◌<◌, ◌==◌, ◌∙◌, ◌≡◌, ◌≢◌, ClientCall, List, ℕ, ap, arith, client_called, false, get_or}
+use Rattle.lease_laws.proofs.Words.{length, length-set, map, refl, slice_set, subst, suc, sym, true, zero}
 use Rattle.lease_client.specs.Answers.{note_of}
 use Rattle.lease_client.specs.Known.{Known, client_of}
 use Rattle.lease_client.specs.Steps.{IsStep}
 use Rattle.lease_client.specs.declared.note.Note.{Note}
 use Rattle.lease_client.specs.declared.step.Step.{Step}
-use Rattle.lease_model.specs.client.Calls.{ClientCall, client_called}
-use Rattle.lease_world.specs.world.Seats.{Seat, seat_in, no_client, no_seat, queued, with_requests, IsPresent, ChangesSeat, StepsSeat}
+use Rattle.lease_world.specs.world.Seats.{Seat, seat_in, no_client, no_seat, queued, with_requests, IsPresent, ChangesSeat}
+use Rattle.lease_world.specs.world.Seats.{StepsSeat}
 use Rattle.lease_world.proofs.Places.{value_put, value_there}
 
 same_number : (n : ℕ) → (n == n) ≡ true

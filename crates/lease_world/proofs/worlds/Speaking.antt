@@ -1,25 +1,18 @@
 -- Each fact that speaks of a message has one: there are as many messages as such facts.
-use Rattle.std.proofs.Common.{◌≡◌, ℕ, suc, ◌+◌, Bool, true, false, List, [], ◌∷◌, ◌++◌, length, map, Option, Some, None, refl, sym, ap, ◌∙◌, arith}
-use Rattle.std.specs.Prelude.{if◌then◌else◌, reverse}
-use Rattle.std.proofs.lemmas.List.{reverse-append, reverse-reverse, length-append, length-map}
-use Rattle.lease_model.specs.client.Calls.{ClientCall, client_called}
-use Rattle.lease_model.specs.client.Commands.{Note}
-use Rattle.lease_model.specs.client.Step.{Step}
-use Rattle.lease_model.specs.messages.Replies.{Reply, Out}
-use Rattle.lease_model.specs.messages.Requests.{Request}
-use Rattle.lease_model.specs.records.Facts.{Fact}
-use Rattle.lease_model.specs.server.Calls.{Call, called}
-use Rattle.lease_model.specs.server.Progress.{Progress}
-use Rattle.lease_model.specs.server.Queries.{breaking, kept}
-use Rattle.lease_model.specs.server.State.{has_file}
-use Rattle.lease_model.specs.values.Tables.{put}
-use Rattle.lease_model.specs.world.Events.{Event, served, stepped_in, server_takes, client_takes, link_cut, cut_over, link_noticed, notice_over, link_connected, connect_over, machine_key, timer_expired, scavenged, strayed_over, applied, client_of, happens, after, recorded}
-use Rattle.lease_model.specs.world.World.{World, Setup, Link, happened, first_world, starts_from, has_client, requests_sent, fact_of}
+use Rattle.lease_laws.proofs.Words.{◌++◌, ◌+◌, ◌∙◌, ◌∷◌, ◌≡◌, Bool, Call, ClientCall, Event, Fact, Link, List, None, Note, Option}
+use Rattle.lease_laws.proofs.Words.{Out, Progress, Reply, Request, Setup, Some, Step, World, ℕ, [], after, ap, applied, arith}
+use Rattle.lease_laws.proofs.Words.{breaking, called, client_called, client_of, client_takes, connect_over, cut_over, fact_of}
+use Rattle.lease_laws.proofs.Words.{false, first_world, happened, happens, has_client, has_file, if◌then◌else◌, kept, length}
+use Rattle.lease_laws.proofs.Words.{length-append, length-map, link_connected, link_cut, link_noticed, machine_key, map}
+use Rattle.lease_laws.proofs.Words.{notice_over, put, refl, reply_of, requests_sent, reverse, reverse-append, reverse-reverse}
+use Rattle.lease_laws.proofs.Words.{scavenged, served, server_takes, starts_from, stepped_in, strayed_over, suc, sym}
+use Rattle.lease_laws.proofs.Words.{timer_expired, true}
+use Rattle.lease_model.specs.world.Events.{recorded}
 use Rattle.lease_facts.specs.Facts.{fact_of as fact_told}
 use Rattle.lease_facts.specs.declared.fact.Fact as code_fact
-use Rattle.lease_model.specs.messages.FromBytes.{reply_of}
 use Rattle.lease_state.specs.declared.reply.Reply as code_reply
-use Rattle.lease_world.specs.world.Messages.{sent_among, sent_by_oldest, oldest, sent_by_cut, sent_by_join, sent_by_scavenge, messages_of, messages_in, messages_from, messages_told, speaking}
+use Rattle.lease_world.specs.world.Messages.{sent_among, sent_by_oldest, oldest, sent_by_cut, sent_by_join, sent_by_scavenge}
+use Rattle.lease_world.specs.world.Messages.{messages_of, messages_in, messages_from, messages_told, speaking}
 use Rattle.lease_world.proofs.worlds.Delivered.{told, delivers, notes_told}
 
 speaking_both : (xs ys : List Fact) → speaking (xs ++ ys) ≡ speaking xs + speaking ys

@@ -1,39 +1,29 @@
 -- What a world of the code stands for after each thing that happens in it.
-use Rattle.std.proofs.Common.{◌≡◌, ◌≢◌, ℕ, zero, suc, ◌<◌, Bool, true, false, List, [], ◌∷◌, ◌++◌, length, map, Option, Some, refl, sym, ap, ◌∙◌, arith}
-use Rattle.std.specs.Prelude.{◌==◌, if◌then◌else◌, reverse, slice_get, unwrap_or}
-use Rattle.std.specs.Option.{option_map}
-use Rattle.std.proofs.lemmas.List.{map-append, reverse-append}
+use Rattle.lease_laws.proofs.Words.{◌++◌, ◌<◌, ◌==◌, ◌∙◌, ◌∷◌, ◌≡◌, ◌≢◌, Bool, Call, CallHasFileId, CallHasFullKey, Client}
+use Rattle.lease_laws.proofs.Words.{ClientCall, Fact, IsWriting, Link, List, Option, Progress, Reply, Request, Some, Step, World}
+use Rattle.lease_laws.proofs.Words.{ℕ, [], all_delivered, all_turned, ap, arith, called, client_called, connection_made, false}
+use Rattle.lease_laws.proofs.Words.{happened, if◌then◌else◌, length, map, map-append, noted, noticed, option_map, put, refl}
+use Rattle.lease_laws.proofs.Words.{reply_of, request_of, request_written, requests_sent, reverse, reverse-append, sent_over}
+use Rattle.lease_laws.proofs.Words.{served, slice_get, stepped_in, suc, sym, true, unwrap_or, zero}
 use Rattle.lease_client.specs.Answers.{note_of}
 use Rattle.lease_client.specs.Known.{client_of}
 use Rattle.lease_client.specs.declared.note.Note as code_note
 use Rattle.lease_laws.proofs.messages.ClientBytes.{requests_have_bytes}
 use Rattle.lease_laws.proofs.client.Forms.{commanded-stays, taken-stays}
-use Rattle.lease_model.specs.client.Connection.{noticed, connection_made, all_turned}
 use Rattle.lease_laws.proofs.messages.ReadBack as readback
 use Rattle.lease_laws.proofs.messages.ServerBytes.{replies_have_bytes}
 use Rattle.lease_laws.proofs.server.Calls.{called-sound}
 use Rattle.lease_laws.proofs.server.WaitCalls.{called-waits-well}
-use Rattle.lease_laws.specs.messages.Written.{CallHasFullKey, CallHasFileId, IsWriting}
-use Rattle.lease_model.specs.client.Calls.{ClientCall, client_called}
-use Rattle.lease_model.specs.client.Step.{Step}
-use Rattle.lease_model.specs.client.State.{Client}
-use Rattle.lease_model.specs.messages.FromBytes.{request_of, reply_of}
-use Rattle.lease_model.specs.messages.Replies.{Reply}
-use Rattle.lease_model.specs.messages.Requests.{Request}
-use Rattle.lease_model.specs.messages.ToBytes.{request_written}
-use Rattle.lease_model.specs.records.Facts.{Fact}
-use Rattle.lease_model.specs.server.Calls.{Call, called}
-use Rattle.lease_model.specs.server.Progress.{Progress}
-use Rattle.lease_model.specs.values.Tables.{put}
-use Rattle.lease_model.specs.world.Events.{served, stepped_in}
-use Rattle.lease_model.specs.world.World.{World, Link, happened, all_delivered, noted, requests_sent, sent_over, fact_of as fact_noted}
+use Rattle.lease_model.specs.world.World.{fact_of as fact_noted}
 use Rattle.lease_state.specs.declared.request.Request as code_request
 use Rattle.lease_facts.specs.Facts.{fact_of}
 use Rattle.lease_facts.specs.declared.fact.Fact as code_fact
 use Rattle.lease_world.specs.declared.world.link.Link as code
-use Rattle.lease_world.specs.world.Seats.{Seat, seat_at, seat_in, no_seat, IsPresent, HasReplies, fact_given, replies_to, with_replies, queued, ChangesSeat, StepsSeat}
+use Rattle.lease_world.specs.world.Seats.{Seat, seat_at, seat_in, no_seat, IsPresent, HasReplies, fact_given, replies_to}
+use Rattle.lease_world.specs.world.Seats.{with_replies, queued, ChangesSeat, StepsSeat}
 use Rattle.lease_world.specs.world.Stands.{Seen, link_of, IsSeat, Stands}
-use Rattle.lease_world.proofs.worlds.Delivered.{IsDelivered, delivers, given_told, given_replies, IsNoted, notes_told, requests_back}
+use Rattle.lease_world.proofs.worlds.Delivered.{IsDelivered, delivers, given_told, given_replies, IsNoted, notes_told}
+use Rattle.lease_world.proofs.worlds.Delivered.{requests_back}
 use Rattle.share_server.specs.Outs.{IsAfter}
 use Rattle.share_server.specs.Table.{server_of}
 use Rattle.share_server.specs.Written.{out_written}

@@ -1,4 +1,4 @@
-use Rattle.std.proofs.Common.{sym, ap, Some, ◌∙◌}
+use Rattle.lease_laws.proofs.Words.{◌∙◌, Some, ap, sym}
 use Rattle.lease_client.proofs.Numbered.{none_numbered, one_numbered}
 use Rattle.lease_client.proofs.answered.take_numbered.Goals as goal
 

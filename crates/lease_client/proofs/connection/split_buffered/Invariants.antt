@@ -1,6 +1,4 @@
-use Rattle.std.proofs.Common.{◌≡◌, filter}
-use Rattle.lease_model.specs.client.State.{Pending}
-use Rattle.lease_model.specs.values.Lists.{without}
+use Rattle.lease_laws.proofs.Words.{◌≡◌, Pending, filter, without}
 use Rattle.lease_client.proofs.connection.split_buffered.Given as goal
 
 abbrev pub invariant-loop-write : goal.invariant-loop-write

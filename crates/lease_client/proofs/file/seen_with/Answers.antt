@@ -1,7 +1,4 @@
-use Rattle.std.proofs.Common.{◌≡◌, ◌∙◌, ◌-◌, refl, subst, ap, List, ℕ, length, take, drop, Some}
-use Rattle.std.specs.Prelude.{IfOk}
-use Rattle.lease_state.specs.Content.{patches}
-use Rattle.lease_model.specs.client.State.{patches_of}
+use Rattle.lease_laws.proofs.Words.{◌-◌, ◌∙◌, ◌≡◌, IfOk, List, Some, ℕ, ap, drop, length, patches, patches_of, refl, subst, take}
 use Rattle.lease_client.specs.Files.{IsSeen}
 use Rattle.lease_client.proofs.Views.{patched_rest}
 use Rattle.lease_client.proofs.file.seen_with.Goals as goal

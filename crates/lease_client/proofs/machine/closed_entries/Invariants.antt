@@ -1,6 +1,5 @@
-use Rattle.std.proofs.Common.{◌≡◌, []}
+use Rattle.lease_laws.proofs.Words.{◌≡◌, [], closed_entry}
 use Rattle.std.proofs.Math.ListN.{replicate}
-use Rattle.lease_model.specs.client.State.{closed_entry}
 use Rattle.lease_client.proofs.machine.closed_entries.Given as goal
 
 abbrev pub invariant-loop : goal.invariant-loop

@@ -1,6 +1,4 @@
-use Rattle.std.proofs.Common.{◌≡◌, ◌++◌, map, take}
-use Rattle.lease_model.specs.client.Step.{write_requests}
-use Rattle.lease_model.specs.messages.ToBytes.{request_written}
+use Rattle.lease_laws.proofs.Words.{◌++◌, ◌≡◌, map, request_written, take, write_requests}
 use Rattle.lease_client.proofs.requests.push_writes.Given as goal
 
 abbrev pub invariant-loop-write : goal.invariant-loop-write

@@ -1,6 +1,4 @@
-use Rattle.std.proofs.Common.{◌≡◌, drop}
-use Rattle.lease_state.specs.Content.{patches}
-use Rattle.lease_model.specs.client.State.{patches_of}
+use Rattle.lease_laws.proofs.Words.{◌≡◌, drop, patches, patches_of}
 use Rattle.lease_client.proofs.writes.apply_all.Given as goal
 
 abbrev pub invariant-loop-write : goal.invariant-loop-write

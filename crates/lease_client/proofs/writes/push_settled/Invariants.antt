@@ -1,5 +1,4 @@
-use Rattle.std.proofs.Common.{◌≡◌, ◌++◌, map, take}
-use Rattle.lease_model.specs.client.Step.{settled_as}
+use Rattle.lease_laws.proofs.Words.{◌++◌, ◌≡◌, map, settled_as, take}
 use Rattle.lease_client.specs.Answers.{note_of, settlement_of}
 use Rattle.lease_client.proofs.writes.push_settled.Given as goal
 

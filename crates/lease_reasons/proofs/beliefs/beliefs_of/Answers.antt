@@ -1,6 +1,5 @@
-use Rattle.std.proofs.Common.{sym, ap, subst, ◌∙◌, List, [], ◌∷◌, Option, take, ◌+◌, arith}
+use Rattle.lease_laws.proofs.Words.{◌+◌, ◌∙◌, ◌∷◌, Fact, List, Option, [], ap, arith, subst, sym, take}
 use Rattle.lease_facts.specs.Facts.{fact_of}
-use Rattle.lease_model.specs.records.Facts.{Fact}
 use Rattle.lease_reasons.specs.Beliefs.{AreNoted, with_belief}
 use Rattle.lease_reasons.specs.Places.{past_of}
 use Rattle.lease_reasons.specs.declared.reason.Belief.{Belief}

@@ -1,4 +1,4 @@
-use Rattle.std.proofs.Common.{◌≡◌, take}
+use Rattle.lease_laws.proofs.Words.{◌≡◌, take}
 use Rattle.std.specs.List.{filter}
 use Rattle.lease_reasons.specs.Beliefs.{may_clash}
 use Rattle.lease_reasons.specs.Places.{past_of}

@@ -1,7 +1,5 @@
-use Rattle.std.proofs.Common.{sym, ap, subst, ◌∙◌, List, [], ◌∷◌, Option, take}
+use Rattle.lease_laws.proofs.Words.{◌∙◌, ◌∷◌, Fact, FileNo, List, Option, [], ap, subst, sym, take}
 use Rattle.lease_facts.specs.Facts.{fact_of}
-use Rattle.lease_model.specs.records.Facts.{Fact}
-use Rattle.lease_state.specs.declared.number.FileNo.{FileNo}
 use Rattle.lease_reasons.specs.Beliefs.{AreFiles, with_file}
 use Rattle.lease_reasons.specs.Places.{past_of}
 use Rattle.lease_reasons.proofs.Noted.{files-none, files-more}

@@ -1,4 +1,4 @@
-use Rattle.std.proofs.Common.{take}
+use Rattle.lease_laws.proofs.Words.{take}
 use Rattle.lease_reasons.specs.Beliefs.{AreFiles}
 use Rattle.lease_reasons.specs.Places.{past_of}
 use Rattle.lease_reasons.proofs.beliefs.files_of.Given as goal

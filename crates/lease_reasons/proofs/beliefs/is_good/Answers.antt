@@ -1,4 +1,4 @@
-use Rattle.std.proofs.Common.{sym, ◌∙◌}
+use Rattle.lease_laws.proofs.Words.{◌∙◌, sym}
 use Rattle.lease_reasons.specs.Places.{past_of}
 use Rattle.lease_reasons.proofs.Found.{good-is}
 use Rattle.lease_reasons.proofs.beliefs.is_good.Goals as goal

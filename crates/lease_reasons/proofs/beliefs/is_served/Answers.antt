@@ -1,4 +1,4 @@
-use Rattle.std.proofs.Common.{sym, ap, ◌∙◌, Bool}
+use Rattle.lease_laws.proofs.Words.{◌∙◌, Bool, ap, sym}
 use Rattle.lease_facts.specs.Facts.{fact_of}
 use Rattle.lease_reasons.specs.Beliefs.{served_after}
 use Rattle.lease_reasons.proofs.Served.{served-none, served-next}

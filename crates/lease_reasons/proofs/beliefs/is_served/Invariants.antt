@@ -1,5 +1,4 @@
-use Rattle.std.proofs.Common.{◌≡◌, take}
-use Rattle.lease_model.specs.records.Past.{is_served}
+use Rattle.lease_laws.proofs.Words.{◌≡◌, is_served, take}
 use Rattle.lease_reasons.specs.Places.{past_of}
 use Rattle.lease_reasons.proofs.beliefs.is_served.Given as goal
 

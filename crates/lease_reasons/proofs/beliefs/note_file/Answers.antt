@@ -1,7 +1,4 @@
-use Rattle.std.proofs.Common.{◌≡◌, true, refl, sym, ap, ◌∙◌}
-use Rattle.std.specs.List.{list_any}
-use Rattle.std.specs.Prelude.{List, ◌==◌}
-use Rattle.lease_state.specs.declared.number.FileNo.{FileNo}
+use Rattle.lease_laws.proofs.Words.{◌==◌, ◌∙◌, ◌≡◌, FileNo, List, ap, list_any, refl, sym, true}
 use Rattle.lease_reasons.proofs.beliefs.note_file.Goals as goal
 
 pub returns-else-not-contains : goal.returns-else-not-contains

@@ -1,8 +1,7 @@
-use Rattle.std.proofs.Common.{◌++◌, ◌∷◌, [], ap, ◌∙◌, rules}
+use Rattle.lease_laws.proofs.Words.{◌++◌, ◌∙◌, ◌∷◌, List, [], ap, rules}
 use Rattle.std.proofs.lemmas.Fn.{filter_same}
 use Rattle.lease_reasons.specs.declared.reason.Belief.{Belief}
 use Rattle.lease_reasons.proofs.beliefs.put_belief.Goals as goal
-use Rattle.std.specs.Prelude.{List}
 
 pub returns : goal.returns
 returns c = c.in_ok-push.ensures.items ∙ ap (λ (bs : List Belief). bs ++ c.args.belief ∷ [])

@@ -1,4 +1,4 @@
-use Rattle.std.proofs.Common.{sym, ap, subst, ◌∙◌, List, Option}
+use Rattle.lease_laws.proofs.Words.{◌∙◌, List, Option, ap, subst, sym}
 use Rattle.std.specs.List.{filter}
 use Rattle.std.specs.Prelude.{MatchOption}
 use Rattle.lease_reasons.specs.Beliefs.{HasNoRivals, AreRivals, may_clash, rivals_among}

@@ -1,6 +1,4 @@
-use Rattle.std.proofs.Common.{◌≡◌, ap, subst, ◌∙◌, List, length, take, arith}
-use Rattle.std.proofs.Math.Seq.{take-length}
-use Rattle.lease_state.specs.declared.number.FileNo.{FileNo}
+use Rattle.lease_laws.proofs.Words.{◌∙◌, ◌≡◌, FileNo, List, ap, arith, length, subst, take, take-length}
 use Rattle.lease_reasons.specs.Beliefs.{Each, HasNoRivals}
 use Rattle.lease_reasons.specs.Places.{past_of}
 use Rattle.lease_reasons.proofs.Noted.{none-on_files}

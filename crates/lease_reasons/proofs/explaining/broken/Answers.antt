@@ -1,4 +1,4 @@
-use Rattle.std.proofs.Common.{Some, Option, take, refl, sym, subst}
+use Rattle.lease_laws.proofs.Words.{Option, Some, refl, subst, sym, take}
 use Rattle.std.proofs.lemmas.Result.{IfOk-weaker}
 use Rattle.lease_facts.specs.Facts.{fact_of}
 use Rattle.lease_world.specs.declared.verdict.Rule.TheVariants as rule

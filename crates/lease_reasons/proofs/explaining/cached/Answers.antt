@@ -1,9 +1,5 @@
-use Rattle.std.proofs.Common.{List, subst}
-use Rattle.std.specs.Prelude.{◌∷◌}
-use Rattle.std.proofs.lemmas.Bool.{both_ways}
+use Rattle.lease_laws.proofs.Words.{◌∷◌, Fact, List, OneWriteCache, both_ways, subst}
 use Rattle.lease_laws.proofs.records.VerdictLemmas.{two_caches-test}
-use Rattle.lease_model.specs.records.Facts.{Fact}
-use Rattle.lease_model.specs.records.Safe.{OneWriteCache}
 use Rattle.lease_reasons.proofs.explaining.cached.Goals as goal
 
 pub returns-in-None : goal.returns-in-None

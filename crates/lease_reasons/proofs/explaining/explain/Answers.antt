@@ -1,7 +1,7 @@
-use Rattle.std.proofs.Common.{◌≡◌, ◌≤◌, ◌<◌, ◌+◌, ◌⊎◌, inl, inr, ℕ, None, Option, map, take, sym, ap, subst, ◌∙◌, arith}
+use Rattle.lease_laws.proofs.Words.{◌+◌, ◌<◌, ◌∙◌, ◌≡◌, ◌≤◌, ◌⊎◌, None, Option, Verdict, ℕ, ap, arith, inl, inr, map, subst, sym}
+use Rattle.lease_laws.proofs.Words.{take, verdict}
 use Rattle.std.proofs.lemmas.Result.{IfOk-weaker}
 use Rattle.lease_facts.specs.Facts.{fact_of}
-use Rattle.lease_model.specs.records.Verdict.{Verdict, verdict}
 use Rattle.lease_world.specs.Verdicts.{rule_number}
 use Rattle.lease_reasons.specs.Places.{past_of}
 use Rattle.lease_reasons.specs.Reasons.{Told, IsReasonAt}

@@ -1,4 +1,4 @@
-use Rattle.std.proofs.Common.{inr, refl}
+use Rattle.lease_laws.proofs.Words.{inr, refl}
 use Rattle.lease_reasons.proofs.explaining.read_reason.Goals as goal
 
 pub returns-in-Some : goal.returns-in-Some

@@ -1,4 +1,4 @@
-use Rattle.std.proofs.Common.{refl}
+use Rattle.lease_laws.proofs.Words.{refl}
 use Rattle.lease_reasons.proofs.explaining.stale.Goals as goal
 
 pub returns-in_ok-told-in-CachedRead : goal.returns-in_ok-told-in-CachedRead

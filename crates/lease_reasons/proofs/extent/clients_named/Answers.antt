@@ -1,6 +1,5 @@
-use Rattle.std.proofs.Common.{ℕ, List, Option, sym, ap, ◌∙◌}
+use Rattle.lease_laws.proofs.Words.{◌∙◌, ClientNo, List, Option, ℕ, ap, sym}
 use Rattle.lease_facts.specs.Facts.{fact_of}
-use Rattle.lease_state.specs.declared.number.ClientNo.{ClientNo}
 use Rattle.lease_reasons.specs.Extent.{client_of, with_client, numbers}
 use Rattle.lease_reasons.proofs.Naming.{named-none, named-next}
 use Rattle.lease_reasons.proofs.extent.clients_named.Goals as goal

@@ -1,4 +1,4 @@
-use Rattle.std.proofs.Common.{◌≡◌, take}
+use Rattle.lease_laws.proofs.Words.{◌≡◌, take}
 use Rattle.lease_reasons.specs.Extent.{numbers, clients_named}
 use Rattle.lease_reasons.specs.Places.{past_of}
 use Rattle.lease_reasons.proofs.extent.clients_named.Given as goal

@@ -1,5 +1,4 @@
-use Rattle.std.proofs.Common.{ℕ, Option, ap, ◌∙◌}
-use Rattle.std.specs.Prelude.{is_some}
+use Rattle.lease_laws.proofs.Words.{◌∙◌, Option, ℕ, ap, is_some}
 use Rattle.lease_reasons.specs.Places.{past_of}
 use Rattle.lease_reasons.proofs.Found.{joined-place}
 use Rattle.lease_reasons.proofs.extent.has_joined.Goals as goal

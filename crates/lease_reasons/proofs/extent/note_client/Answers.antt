@@ -1,7 +1,4 @@
-use Rattle.std.proofs.Common.{◌≡◌, true, false, List, sym, ap, ◌∙◌}
-use Rattle.std.specs.List.{list_any}
-use Rattle.std.specs.Prelude.{◌==◌}
-use Rattle.lease_state.specs.declared.number.ClientNo.{ClientNo}
+use Rattle.lease_laws.proofs.Words.{◌==◌, ◌∙◌, ◌≡◌, ClientNo, List, ap, false, list_any, sym, true}
 use Rattle.lease_reasons.specs.Extent.{numbers}
 use Rattle.lease_reasons.proofs.Naming.{named-new, named-again}
 use Rattle.lease_reasons.proofs.extent.note_client.Goals as goal

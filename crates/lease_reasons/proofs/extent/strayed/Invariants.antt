@@ -1,6 +1,5 @@
-use Rattle.std.proofs.Common.{◌≡◌, take}
+use Rattle.lease_laws.proofs.Words.{◌≡◌, has_strayed, take}
 use Rattle.std.specs.List.{filter}
-use Rattle.lease_model.specs.records.Past.{has_strayed}
 use Rattle.lease_reasons.specs.Places.{past_of}
 use Rattle.lease_reasons.proofs.extent.strayed.Given as goal
 

@@ -1,7 +1,5 @@
-use Rattle.std.proofs.Common.{◌≡◌, take}
+use Rattle.lease_laws.proofs.Words.{◌≡◌, has_joined, not, take}
 use Rattle.std.specs.List.{filter}
-use Rattle.std.specs.Prelude.{not}
-use Rattle.lease_model.specs.records.Past.{has_joined}
 use Rattle.lease_reasons.specs.Places.{past_of}
 use Rattle.lease_reasons.proofs.extent.unjoined.Given as goal
 

@@ -1,8 +1,5 @@
-use Rattle.std.proofs.Common.{ℕ, ◌-◌, List, take, sym, ap, ◌∙◌, arith}
-use Rattle.std.proofs.lemmas.List.{length-take-le}
-use Rattle.lease_model.specs.records.Facts.{Fact}
-use Rattle.lease_model.specs.records.Past.{start_of, changes_of, unsettled, content_at}
-use Rattle.lease_state.specs.Content.{patches}
+use Rattle.lease_laws.proofs.Words.{◌-◌, ◌∙◌, Fact, List, ℕ, ap, arith, changes_of, content_at, length-take-le, patches, start_of}
+use Rattle.lease_laws.proofs.Words.{sym, take, unsettled}
 use Rattle.lease_reasons.specs.Marks.{fits}
 use Rattle.lease_reasons.specs.Messages.{Mail, last_sent}
 use Rattle.lease_reasons.specs.Places.{past_of, last_place}

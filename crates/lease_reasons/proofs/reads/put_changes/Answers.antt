@@ -1,8 +1,5 @@
-use Rattle.std.proofs.Common.{ℕ, List, take, sym, ap, ◌∙◌}
+use Rattle.lease_laws.proofs.Words.{◌∙◌, Fact, List, ℕ, ap, changes_of, patches, sym, take}
 use Rattle.lease_facts.specs.Facts.{fact_of}
-use Rattle.lease_model.specs.records.Facts.{Fact}
-use Rattle.lease_model.specs.records.Past.{changes_of}
-use Rattle.lease_state.specs.Content.{patches}
 use Rattle.lease_reasons.specs.Places.{past_of}
 use Rattle.lease_reasons.specs.Reads.{with_change}
 use Rattle.lease_reasons.proofs.Pasts.{past-next}

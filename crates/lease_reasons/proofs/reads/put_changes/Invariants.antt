@@ -1,6 +1,4 @@
-use Rattle.std.proofs.Common.{◌≡◌, take}
-use Rattle.lease_model.specs.records.Past.{changes_of}
-use Rattle.lease_state.specs.Content.{patches}
+use Rattle.lease_laws.proofs.Words.{◌≡◌, changes_of, patches, take}
 use Rattle.lease_reasons.specs.Places.{past_of}
 use Rattle.lease_reasons.proofs.reads.put_changes.Given as goal
 

@@ -1,8 +1,5 @@
-use Rattle.std.proofs.Common.{◌≡◌, ℕ, Bool, List, take, length, sym, ap, ◌∙◌, arith}
+use Rattle.lease_laws.proofs.Words.{◌∙◌, ◌≡◌, Bool, Fact, List, ℕ, ap, arith, length, patches, sym, take, unsettled}
 use Rattle.lease_facts.specs.Facts.{fact_of}
-use Rattle.lease_model.specs.records.Facts.{Fact}
-use Rattle.lease_model.specs.records.Past.{unsettled}
-use Rattle.lease_state.specs.Content.{patches}
 use Rattle.lease_reasons.specs.Places.{past_of}
 use Rattle.lease_reasons.specs.Reads.{with_write}
 use Rattle.lease_reasons.proofs.Pasts.{past-next, past_all}

@@ -1,7 +1,4 @@
-use Rattle.std.proofs.Common.{◌≡◌, List, take}
-use Rattle.lease_model.specs.records.Facts.{Fact}
-use Rattle.lease_model.specs.records.Past.{unsettled}
-use Rattle.lease_state.specs.Content.{patches}
+use Rattle.lease_laws.proofs.Words.{◌≡◌, Fact, List, patches, take, unsettled}
 use Rattle.lease_reasons.specs.Places.{past_of}
 use Rattle.lease_reasons.specs.Reads.{AreSettled}
 use Rattle.lease_reasons.proofs.reads.put_writes.Given as goal

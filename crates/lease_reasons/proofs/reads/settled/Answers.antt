@@ -1,8 +1,5 @@
-use Rattle.std.proofs.Common.{ℕ, Bool, List, Option, take, sym, ap, ◌∙◌}
-use Rattle.std.specs.Prelude.{◌||◌}
+use Rattle.lease_laws.proofs.Words.{◌||◌, ◌∙◌, Bool, Fact, List, Option, ℕ, ap, is_settled, sym, take}
 use Rattle.lease_facts.specs.Facts.{fact_of}
-use Rattle.lease_model.specs.records.Facts.{Fact}
-use Rattle.lease_model.specs.records.Past.{is_settled}
 use Rattle.lease_reasons.specs.Places.{past_of}
 use Rattle.lease_reasons.specs.Reads.{is_number, settled_told, is_settled_by}
 use Rattle.lease_reasons.proofs.Pasts.{past-next}

@@ -1,7 +1,5 @@
-use Rattle.std.proofs.Common.{ℕ, List, take, sym, ap, ◌∙◌}
+use Rattle.lease_laws.proofs.Words.{◌∙◌, Fact, List, ℕ, ap, start_of, sym, take}
 use Rattle.lease_facts.specs.Facts.{fact_of}
-use Rattle.lease_model.specs.records.Facts.{Fact}
-use Rattle.lease_model.specs.records.Past.{start_of}
 use Rattle.lease_reasons.specs.Places.{past_of}
 use Rattle.lease_reasons.specs.Reads.{with_start}
 use Rattle.lease_reasons.proofs.Pasts.{past-next}

@@ -1,5 +1,4 @@
-use Rattle.std.proofs.Common.{◌≡◌, take}
-use Rattle.lease_model.specs.records.Past.{start_of}
+use Rattle.lease_laws.proofs.Words.{◌≡◌, start_of, take}
 use Rattle.lease_reasons.specs.Places.{past_of}
 use Rattle.lease_reasons.proofs.reads.start_of.Given as goal
 

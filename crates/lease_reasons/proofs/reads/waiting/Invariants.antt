@@ -1,5 +1,4 @@
-use Rattle.std.proofs.Common.{◌≡◌, List, take}
-use Rattle.lease_model.specs.records.Facts.{Fact}
+use Rattle.lease_laws.proofs.Words.{◌≡◌, Fact, List, take}
 use Rattle.lease_reasons.specs.Places.{past_of}
 use Rattle.lease_reasons.specs.Reads.{AreSettled, unsettled_places}
 use Rattle.lease_reasons.proofs.reads.waiting.Given as goal

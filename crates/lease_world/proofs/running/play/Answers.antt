@@ -1,5 +1,4 @@
-use Rattle.std.proofs.Common.{map, subst}
-use Rattle.lease_model.specs.world.World.{first_world}
+use Rattle.lease_laws.proofs.Words.{first_world, map, subst}
 use Rattle.lease_facts.specs.Setups.{setup_of, event_of}
 use Rattle.lease_facts.specs.declared.setup.Event.{Event}
 use Rattle.lease_world.specs.world.Worlds.{Happens}

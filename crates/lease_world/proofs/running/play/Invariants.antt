@@ -1,6 +1,4 @@
-use Rattle.std.proofs.Common.{map, take}
-use Rattle.lease_model.specs.world.Events.{after}
-use Rattle.lease_model.specs.world.World.{first_world}
+use Rattle.lease_laws.proofs.Words.{after, first_world, map, take}
 use Rattle.lease_facts.specs.Setups.{setup_of, event_of}
 use Rattle.lease_world.specs.world.Messages.{messages_from}
 use Rattle.lease_world.specs.world.Stands.{Stands}

@@ -1,4 +1,4 @@
-use Rattle.std.proofs.Common.{◌+◌, sym}
+use Rattle.lease_laws.proofs.Words.{◌+◌, sym}
 use Rattle.lease_world.proofs.worlds.First.{to_the_end, not_apart, still_apart, all_apart}
 use Rattle.lease_world.proofs.setup.are_apart.Goals as goal
 

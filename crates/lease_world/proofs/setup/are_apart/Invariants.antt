@@ -1,4 +1,4 @@
-use Rattle.std.proofs.Common.{◌≡◌, drop}
+use Rattle.lease_laws.proofs.Words.{◌≡◌, drop}
 use Rattle.lease_model.specs.world.Allowed.{are_apart}
 use Rattle.lease_world.proofs.setup.are_apart.Given as goal
 

@@ -1,6 +1,4 @@
-use Rattle.std.proofs.Common.{◌≡◌, true, take}
-use Rattle.std.specs.List.{list_all}
-use Rattle.lease_model.specs.world.Allowed.{is_content}
+use Rattle.lease_laws.proofs.Words.{◌≡◌, is_content, list_all, take, true}
 use Rattle.lease_world.proofs.setup.do_fit.Given as goal
 
 abbrev pub invariant-loop-place : goal.invariant-loop-place

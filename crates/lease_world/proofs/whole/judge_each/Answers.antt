@@ -1,6 +1,5 @@
-use Rattle.std.proofs.Common.{[], ◌∷◌, true, refl, sym, subst}
+use Rattle.lease_laws.proofs.Words.{◌∷◌, [], map-append, refl, subst, sym, true}
 use Rattle.std.proofs.iter.runs.Made.{run, to_end}
-use Rattle.std.proofs.lemmas.List.{map-append}
 use Rattle.lease_facts.specs.Facts.{fact_of}
 use Rattle.lease_world.specs.judge.Judged.{HasJudged}
 use Rattle.lease_world.proofs.records.Telling.{told_on}

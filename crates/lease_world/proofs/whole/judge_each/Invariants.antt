@@ -1,4 +1,4 @@
-use Rattle.std.proofs.Common.{map}
+use Rattle.lease_laws.proofs.Words.{map}
 use Rattle.lease_facts.specs.Facts.{fact_of}
 use Rattle.lease_world.specs.judge.Judged.{HasJudged}
 use Rattle.lease_world.proofs.whole.judge_each.Given as goal

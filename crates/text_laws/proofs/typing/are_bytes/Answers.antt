@@ -1,4 +1,4 @@
-use Rattle.std.proofs.Common.{arith}
+use Rattle.lease_laws.proofs.Words.{arith}
 use Rattle.text_laws.proofs.typing.are_bytes.Goals as goal
 
 pub returns : goal.returns

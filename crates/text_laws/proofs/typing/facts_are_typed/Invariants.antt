@@ -1,4 +1,4 @@
-use Rattle.std.proofs.Common.{take}
+use Rattle.lease_laws.proofs.Words.{take}
 use Rattle.text_laws.specs.Runs.{IsTyped}
 use Rattle.text_laws.specs.Told.{Each}
 use Rattle.text_laws.proofs.typing.facts_are_typed.Given as goal

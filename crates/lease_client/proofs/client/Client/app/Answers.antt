@@ -1,4 +1,4 @@
-use Rattle.lease_model.specs.client.Calls.{ClientCall}
+use Rattle.lease_laws.proofs.Words.{ClientCall}
 use Rattle.lease_client.specs.Answers.{command_of}
 use Rattle.lease_client.specs.Known.{client_of}
 use Rattle.lease_client.proofs.Replying.{none_rose}

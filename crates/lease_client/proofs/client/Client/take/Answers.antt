@@ -1,5 +1,4 @@
-use Rattle.lease_model.specs.client.Calls.{ClientCall}
-use Rattle.lease_model.specs.messages.FromBytes.{reply_of}
+use Rattle.lease_laws.proofs.Words.{ClientCall, reply_of}
 use Rattle.lease_client.specs.Known.{client_of}
 use Rattle.lease_client.proofs.Replying.{rose_by, replies_raise}
 use Rattle.lease_client.proofs.Sound.{sound_after}

@@ -1,7 +1,4 @@
-use Rattle.std.proofs.Common.{◌≡◌, false, sym, ◌∙◌}
-use Rattle.lease_model.specs.client.Commands.{Answer, Refusal}
-use Rattle.lease_model.specs.client.Commanded.{file_of}
-use Rattle.lease_model.specs.client.State.{knows_file}
+use Rattle.lease_laws.proofs.Words.{◌∙◌, ◌≡◌, Answer, Refusal, false, file_of, knows_file, sym}
 use Rattle.lease_client.specs.Answers.{command_of}
 use Rattle.lease_client.specs.Known.{client_of}
 use Rattle.lease_client.proofs.ByTurns.{commanded_nowhere}

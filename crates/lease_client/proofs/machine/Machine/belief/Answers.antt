@@ -1,4 +1,4 @@
-use Rattle.std.proofs.Common.{refl}
+use Rattle.lease_laws.proofs.Words.{refl}
 use Rattle.lease_client.proofs.Places.{entry_numbered}
 use Rattle.lease_client.proofs.machine.Machine.belief.Goals as goal
 

@@ -1,5 +1,4 @@
-use Rattle.std.proofs.Common.{◌≡◌, Some, None, sym}
-use Rattle.lease_model.specs.messages.FromBytes.{notice_in}
+use Rattle.lease_laws.proofs.Words.{◌≡◌, None, Some, notice_in, sym}
 use Rattle.lease_client.specs.Broken.{notice_read}
 use Rattle.lease_client.specs.Known.{client_of}
 use Rattle.lease_client.proofs.Replied.{breaks_by, breaks_none, no_notice, unread_break}

@@ -1,5 +1,4 @@
-use Rattle.std.proofs.Common.{◌≡◌, true, sym, subst, ap, refl}
-use Rattle.lease_model.specs.client.State.{knows_file}
+use Rattle.lease_laws.proofs.Words.{◌≡◌, ap, knows_file, refl, subst, sym, true}
 use Rattle.lease_client.specs.Known.{Known, client_of}
 use Rattle.lease_client.specs.Turns.{Turned, given_in}
 use Rattle.lease_client.specs.contracts.machine.Machine.{the_view}

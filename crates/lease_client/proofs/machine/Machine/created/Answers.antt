@@ -1,7 +1,6 @@
-use Rattle.std.proofs.Common.{◌≡◌, Some, None, sym, ap, ◌∙◌}
+use Rattle.lease_laws.proofs.Words.{◌∙◌, ◌≡◌, None, Some, answer_found, ap, sym}
 use Rattle.lease_wire.specs.Gathering.{value_of}
 use Rattle.lease_wire.specs.declared.create.Direction.{Direction}
-use Rattle.lease_model.specs.messages.FromBytes.{answer_found}
 use Rattle.lease_client.specs.Created.{answer_read}
 use Rattle.lease_client.specs.Known.{client_of}
 use Rattle.lease_client.proofs.Replied.{created_by, created_nowhere, unread_create}

@@ -1,5 +1,4 @@
-use Rattle.std.proofs.Common.{◌∙◌, ◌<◌, length, sym, arith}
-use Rattle.lease_model.specs.client.Taken.{is_key_of}
+use Rattle.lease_laws.proofs.Words.{◌<◌, ◌∙◌, arith, is_key_of, length, sym}
 use Rattle.lease_client.specs.Known.{client_of}
 use Rattle.lease_client.proofs.Found.{go_on, stop_at}
 use Rattle.lease_client.proofs.machine.Machine.file_of_key.Goals as goal

@@ -1,4 +1,4 @@
-use Rattle.std.proofs.Common.{◌∙◌, ◌<◌, length, sym, arith}
+use Rattle.lease_laws.proofs.Words.{◌<◌, ◌∙◌, arith, length, sym}
 use Rattle.lease_client.specs.Searches.{is_read_under}
 use Rattle.lease_client.specs.Known.{client_of}
 use Rattle.lease_client.proofs.Found.{go_on, stop_at}

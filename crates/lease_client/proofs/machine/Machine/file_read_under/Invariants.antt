@@ -1,5 +1,4 @@
-use Rattle.std.proofs.Common.{◌≡◌, None, find}
-use Rattle.lease_model.specs.values.Lists.{numbers_to}
+use Rattle.lease_laws.proofs.Words.{◌≡◌, None, find, numbers_to}
 use Rattle.lease_client.specs.Searches.{is_read_under}
 use Rattle.lease_client.specs.Known.{client_of}
 use Rattle.lease_client.proofs.machine.Machine.file_read_under.Given as goal

@@ -1,5 +1,4 @@
-use Rattle.std.proofs.Common.{◌∙◌, ◌<◌, length, sym, arith}
-use Rattle.lease_model.specs.client.Taken.{has_sent}
+use Rattle.lease_laws.proofs.Words.{◌<◌, ◌∙◌, arith, has_sent, length, sym}
 use Rattle.lease_client.specs.Known.{client_of}
 use Rattle.lease_client.proofs.Found.{go_on, stop_at}
 use Rattle.lease_client.proofs.machine.Machine.file_with_sent.Goals as goal

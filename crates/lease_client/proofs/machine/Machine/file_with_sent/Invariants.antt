@@ -1,6 +1,4 @@
-use Rattle.std.proofs.Common.{◌≡◌, None, find}
-use Rattle.lease_model.specs.values.Lists.{numbers_to}
-use Rattle.lease_model.specs.client.Taken.{has_sent}
+use Rattle.lease_laws.proofs.Words.{◌≡◌, None, find, has_sent, numbers_to}
 use Rattle.lease_client.specs.Known.{client_of}
 use Rattle.lease_client.proofs.machine.Machine.file_with_sent.Given as goal
 

@@ -1,4 +1,4 @@
-use Rattle.std.proofs.Common.{◌≡◌, ◌<◌, length, refl, arith}
+use Rattle.lease_laws.proofs.Words.{◌<◌, ◌≡◌, arith, length, refl}
 use Rattle.lease_client.specs.Known.{client_of}
 use Rattle.lease_client.specs.Links.{link_turn}
 use Rattle.lease_client.proofs.Linked.{knows_next, machine_more, given_more, requests_more, notes_more, linked_after}

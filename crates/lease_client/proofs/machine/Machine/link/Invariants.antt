@@ -1,5 +1,4 @@
-use Rattle.std.proofs.Common.{◌≡◌, map}
-use Rattle.lease_model.specs.messages.ToBytes.{request_written}
+use Rattle.lease_laws.proofs.Words.{◌≡◌, map, request_written}
 use Rattle.lease_client.specs.Answers.{note_of}
 use Rattle.lease_client.specs.Known.{client_of}
 use Rattle.lease_client.specs.Links.{link_turn, entries_to, requests_to, notes_to}

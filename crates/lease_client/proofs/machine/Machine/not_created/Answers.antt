@@ -1,4 +1,4 @@
-use Rattle.std.proofs.Common.{sym, ◌∙◌}
+use Rattle.lease_laws.proofs.Words.{◌∙◌, sym}
 use Rattle.lease_client.specs.Known.{client_of}
 use Rattle.lease_client.proofs.Replied.{not_created_by, not_created_nowhere}
 use Rattle.lease_client.proofs.machine.Machine.not_created.Goals as goal

@@ -1,4 +1,4 @@
-use Rattle.std.proofs.Common.{sym}
+use Rattle.lease_laws.proofs.Words.{sym}
 use Rattle.lease_client.specs.Known.{client_of}
 use Rattle.lease_client.proofs.Replied.{fails_by}
 use Rattle.lease_client.proofs.machine.Machine.not_read.Goals as goal

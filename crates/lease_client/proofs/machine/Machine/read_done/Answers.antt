@@ -1,6 +1,5 @@
-use Rattle.std.proofs.Common.{◌≤◌, length, sym, arith}
+use Rattle.lease_laws.proofs.Words.{◌≤◌, FILE_LIMIT, arith, length, sym}
 use Rattle.std.proofs.lemmas.Bool.{le-leb}
-use Rattle.lease_state.specs.declared.content.TheConstants.{FILE_LIMIT}
 use Rattle.lease_client.specs.Known.{client_of}
 use Rattle.lease_client.proofs.Replied.{reads_by}
 use Rattle.lease_client.proofs.machine.Machine.read_done.Goals as goal

@@ -1,5 +1,4 @@
-use Rattle.std.proofs.Common.{arith, sym}
-use Rattle.std.proofs.lemmas.Bool.Decides.{nat_tests}
+use Rattle.lease_laws.proofs.Words.{arith, nat_tests, sym}
 use Rattle.lease_reasons.specs.Marks.{fits}
 use Rattle.lease_reasons.proofs.Places.{first-none, first-next}
 use Rattle.lease_reasons.proofs.marks.Mark.first.Goals as goal

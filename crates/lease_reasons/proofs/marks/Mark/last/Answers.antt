@@ -1,4 +1,4 @@
-use Rattle.std.proofs.Common.{arith, sym}
+use Rattle.lease_laws.proofs.Words.{arith, sym}
 use Rattle.lease_reasons.specs.Marks.{fits}
 use Rattle.lease_reasons.proofs.Places.{last-none, last-next}
 use Rattle.lease_reasons.proofs.marks.Mark.last.Goals as goal

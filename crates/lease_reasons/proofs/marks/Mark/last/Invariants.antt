@@ -1,4 +1,4 @@
-use Rattle.std.proofs.Common.{◌≡◌, take}
+use Rattle.lease_laws.proofs.Words.{◌≡◌, take}
 use Rattle.lease_reasons.specs.Marks.{fits}
 use Rattle.lease_reasons.specs.Places.{past_of, last_place}
 use Rattle.lease_reasons.proofs.marks.Mark.last.Given as goal

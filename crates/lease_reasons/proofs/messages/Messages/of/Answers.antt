@@ -1,4 +1,4 @@
-use Rattle.std.proofs.Common.{◌+◌, ap, sym, ◌∙◌, arith}
+use Rattle.lease_laws.proofs.Words.{◌+◌, ◌∙◌, ap, arith, sym}
 use Rattle.lease_facts.specs.Facts.{fact_of}
 use Rattle.lease_reasons.specs.Messages.{Mail, mail_after}
 use Rattle.lease_reasons.proofs.Posts.{mail-none, mail-next, few-taken}

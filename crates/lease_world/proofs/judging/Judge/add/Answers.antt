@@ -1,4 +1,4 @@
-use Rattle.std.proofs.Common.{rules}
+use Rattle.lease_laws.proofs.Words.{rules}
 use Rattle.lease_world.proofs.records.Judges.{stepped}
 use Rattle.lease_world.proofs.judging.Judge.add.Goals as goal
 

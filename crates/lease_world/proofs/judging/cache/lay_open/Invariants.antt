@@ -1,4 +1,4 @@
-use Rattle.std.proofs.Common.{◌≡◌, ◌++◌, ℕ, filter, take}
+use Rattle.lease_laws.proofs.Words.{◌++◌, ◌≡◌, ℕ, filter, take}
 use Rattle.lease_world.specs.judge.Covers.{layers_at, stack_in}
 use Rattle.lease_world.specs.judge.Seen.{is_open}
 use Rattle.lease_world.proofs.judging.cache.lay_open.Given as goal

@@ -1,4 +1,4 @@
-use Rattle.std.proofs.Common.{◌≡◌, ◌-◌, ◌+◌, ℕ, vec_len}
+use Rattle.lease_laws.proofs.Words.{◌+◌, ◌-◌, ◌≡◌, ℕ, vec_len}
 use Rattle.lease_world.specs.judge.Seen.{cache_in}
 use Rattle.lease_world.proofs.judging.client.reach.Given as goal
 

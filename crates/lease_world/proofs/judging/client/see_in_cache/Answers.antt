@@ -1,6 +1,4 @@
-use Rattle.std.proofs.Common.{◌<◌, ℕ, arith, length, subst}
-use Rattle.std.specs.List.{slice_set}
-use Rattle.std.specs.Prelude.{IfOk}
+use Rattle.lease_laws.proofs.Words.{◌<◌, IfOk, ℕ, arith, length, slice_set, subst}
 use Rattle.lease_world.specs.judge.Clients.{SeesCache}
 use Rattle.lease_world.proofs.Changed.{cache_seen}
 use Rattle.lease_world.proofs.judging.client.see_in_cache.Goals as goal

@@ -1,4 +1,4 @@
-use Rattle.std.proofs.Common.{◌∙◌}
+use Rattle.lease_laws.proofs.Words.{◌∙◌}
 use Rattle.lease_world.specs.judge.Seen.{unseen_client}
 use Rattle.lease_world.proofs.Places.{one_more}
 use Rattle.lease_world.proofs.judging.clients.reach.Goals as goal

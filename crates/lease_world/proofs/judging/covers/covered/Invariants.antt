@@ -1,4 +1,4 @@
-use Rattle.std.proofs.Common.{◌≡◌, ◌≤◌, ℕ, get_or, length}
+use Rattle.lease_laws.proofs.Words.{◌≡◌, ◌≤◌, ℕ, get_or, length}
 use Rattle.lease_world.proofs.judging.covers.covered.Given as goal
 
 abbrev pub invariant-loop-count : goal.invariant-loop-count

@@ -1,4 +1,4 @@
-use Rattle.std.proofs.Common.{◌≡◌, ℕ, ◌+◌, ◌-◌, List, map, vec_len}
+use Rattle.lease_laws.proofs.Words.{◌+◌, ◌-◌, ◌≡◌, List, ℕ, map, vec_len}
 use Rattle.lease_world.specs.declared.judging.covers.Cover.{Cover}
 use Rattle.lease_world.specs.judge.Covers.{stack_in, layers_under, AreTops}
 use Rattle.lease_world.proofs.judging.covers.reach.Given as goal

@@ -1,4 +1,4 @@
-use Rattle.std.proofs.Common.{◌<◌, arith, length}
+use Rattle.lease_laws.proofs.Words.{◌<◌, arith, length}
 use Rattle.lease_world.proofs.Linked.{uncovers_one, leaves_rest, all_uncovered, tops_set}
 use Rattle.lease_world.proofs.judging.covers.uncover_each.Goals as goal
 

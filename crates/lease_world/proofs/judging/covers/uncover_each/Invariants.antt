@@ -1,4 +1,4 @@
-use Rattle.std.proofs.Common.{◌≡◌, ◌<◌, ◌≤◌, ℕ, map, vec_len}
+use Rattle.lease_laws.proofs.Words.{◌<◌, ◌≡◌, ◌≤◌, ℕ, map, vec_len}
 use Rattle.lease_world.specs.judge.Covers.{stack_in, layers_under, AreTops, IsUncovered}
 use Rattle.lease_world.specs.judge.Seen.{is_open}
 use Rattle.lease_world.proofs.judging.covers.uncover_each.Given as goal

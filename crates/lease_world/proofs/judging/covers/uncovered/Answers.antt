@@ -1,4 +1,4 @@
-use Rattle.std.proofs.Common.{arith, sym, ◌∙◌}
+use Rattle.lease_laws.proofs.Words.{◌∙◌, arith, sym}
 use Rattle.lease_world.specs.declared.judging.covers.Cover.{Cover}
 use Rattle.lease_world.proofs.Linked.{top_cover, goes_down, stays_open, nothing_on_top}
 use Rattle.lease_world.proofs.judging.covers.uncovered.Goals as goal

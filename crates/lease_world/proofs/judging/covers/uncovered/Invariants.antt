@@ -1,4 +1,4 @@
-use Rattle.std.proofs.Common.{◌≡◌, ◌≤◌, filter, length}
+use Rattle.lease_laws.proofs.Words.{◌≡◌, ◌≤◌, filter, length}
 use Rattle.lease_world.specs.judge.Covers.{layers_under}
 use Rattle.lease_world.specs.judge.Seen.{is_open}
 use Rattle.lease_world.proofs.judging.covers.uncovered.Given as goal

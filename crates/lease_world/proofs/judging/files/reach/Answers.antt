@@ -1,4 +1,4 @@
-use Rattle.std.proofs.Common.{◌∙◌}
+use Rattle.lease_laws.proofs.Words.{◌∙◌}
 use Rattle.lease_world.specs.judge.Seen.{unseen_file}
 use Rattle.lease_world.proofs.Places.{one_more}
 use Rattle.lease_world.proofs.judging.files.reach.Goals as goal

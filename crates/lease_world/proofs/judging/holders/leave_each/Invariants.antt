@@ -1,4 +1,4 @@
-use Rattle.std.proofs.Common.{◌≡◌, ℕ, ◌<◌, ◌≤◌}
+use Rattle.lease_laws.proofs.Words.{◌<◌, ◌≡◌, ◌≤◌, ℕ}
 use Rattle.lease_world.specs.judge.Holders.{without_holder}
 use Rattle.lease_world.specs.judge.Seen.{cache_in, holders_in}
 use Rattle.lease_world.proofs.judging.holders.leave_each.Given as goal

@@ -1,7 +1,8 @@
-use Rattle.std.proofs.Common.{◌+◌, ◌≤◌, length, rules}
+use Rattle.lease_laws.proofs.Words.{◌+◌, ◌≤◌, length, rules}
 use Rattle.lease_client.proofs.Patched.{inside, behind}
 use Rattle.lease_world.proofs.judging.snapshot.apply.Goals as goal
-use Rattle.lease_world.proofs.judging.snapshot.apply.Goals.{else-offset-held-via-then-offset-held+else-added-held, else-offset-held-via-else-offset-held}
+use Rattle.lease_world.proofs.judging.snapshot.apply.Goals.{else-offset-held-via-then-offset-held+else-added-held}
+use Rattle.lease_world.proofs.judging.snapshot.apply.Goals.{else-offset-held-via-else-offset-held}
 
 pub returns-then-added-held : goal.returns-then-added-held
 returns-then-added-held c =

@@ -1,9 +1,5 @@
-use Rattle.std.proofs.Common.{◌∙◌, refl, sym, ap, subst, length, None, Some}
-use Rattle.std.specs.List.{slice_set}
-use Rattle.std.proofs.lemmas.List.{length-set}
-use Rattle.std.proofs.lemmas.Result.{on_ok_weaker}
-use Rattle.lease_model.specs.client.Calls.{ClientCall}
-use Rattle.lease_model.specs.messages.FromBytes.{reply_of}
+use Rattle.lease_laws.proofs.Words.{◌∙◌, ClientCall, None, Some, ap, length, length-set, on_ok_weaker, refl, reply_of, slice_set}
+use Rattle.lease_laws.proofs.Words.{subst, sym}
 use Rattle.lease_world.specs.contracts.world.World.{the_view}
 use Rattle.lease_world.specs.world.Seats.{IsPresent, PopsReply, StepsSeat}
 use Rattle.lease_world.specs.world.Stands.{Seen}

@@ -1,6 +1,4 @@
-use Rattle.std.proofs.Common.{◌∙◌, sym}
-use Rattle.std.proofs.lemmas.Result.{on_ok_weaker}
-use Rattle.lease_model.specs.server.Calls.{Call}
+use Rattle.lease_laws.proofs.Words.{◌∙◌, Call, on_ok_weaker, sym}
 use Rattle.lease_world.proofs.worlds.Called.{served_by}
 use Rattle.lease_world.proofs.worlds.Events.{cut_one, cut_nothing}
 use Rattle.lease_world.proofs.world.World.cut.Goals as goal

@@ -1,7 +1,5 @@
-use Rattle.std.proofs.Common.{◌∙◌, sym}
+use Rattle.lease_laws.proofs.Words.{◌∙◌, Event, request_of, sym}
 use Rattle.lease_client.specs.Answers.{command_of}
-use Rattle.lease_model.specs.messages.FromBytes.{request_of}
-use Rattle.lease_model.specs.world.Events.{Event}
 use Rattle.lease_facts.specs.Setups.{event_of}
 use Rattle.lease_world.proofs.worlds.Events.{nothing_happens, told_happens}
 use Rattle.lease_world.proofs.world.World.happen.Goals as goal

@@ -1,6 +1,4 @@
-use Rattle.std.proofs.Common.{◌∙◌, ap}
-use Rattle.lease_model.specs.server.State.{new_server}
-use Rattle.lease_model.specs.world.World.{starts_from}
+use Rattle.lease_laws.proofs.Words.{◌∙◌, ap, new_server, starts_from}
 use Rattle.lease_facts.specs.Setups.{setup_of}
 use Rattle.lease_world.proofs.worlds.First.{first_stands}
 use Rattle.lease_world.proofs.world.World.new.Goals as goal

@@ -1,7 +1,4 @@
-use Rattle.std.proofs.Common.{◌∙◌, refl, sym, subst}
-use Rattle.std.specs.List.{slice_set}
-use Rattle.std.proofs.lemmas.Result.{on_ok_weaker}
-use Rattle.lease_model.specs.client.Calls.{ClientCall}
+use Rattle.lease_laws.proofs.Words.{◌∙◌, ClientCall, on_ok_weaker, refl, slice_set, subst, sym}
 use Rattle.lease_world.specs.contracts.world.World.{the_view}
 use Rattle.lease_world.specs.world.Seats.{IsPresent, StepsSeat}
 use Rattle.lease_world.specs.world.Stands.{Seen}

@@ -1,6 +1,4 @@
-use Rattle.std.proofs.Common.{◌≡◌, [], ◌∷◌, refl, sym, subst}
-use Rattle.std.specs.List.{slice_set}
-use Rattle.std.proofs.lemmas.Result.{on_ok_weaker}
+use Rattle.lease_laws.proofs.Words.{◌∷◌, ◌≡◌, [], on_ok_weaker, refl, slice_set, subst, sym}
 use Rattle.lease_world.specs.contracts.world.World.{the_view}
 use Rattle.lease_world.specs.world.Seats.{IsPresent, with_requests}
 use Rattle.lease_world.specs.world.Stands.{Seen}

@@ -1,8 +1,4 @@
-use Rattle.std.proofs.Common.{refl, sym, subst, None, Some}
-use Rattle.std.specs.List.{slice_set}
-use Rattle.std.proofs.lemmas.Result.{on_ok_weaker}
-use Rattle.lease_model.specs.messages.FromBytes.{request_of}
-use Rattle.lease_model.specs.server.Calls.{Call}
+use Rattle.lease_laws.proofs.Words.{Call, None, Some, on_ok_weaker, refl, request_of, slice_set, subst, sym}
 use Rattle.lease_world.specs.contracts.world.World.{the_view}
 use Rattle.lease_world.specs.world.Seats.{IsPresent, PopsRequest}
 use Rattle.lease_world.specs.world.Stands.{Seen}

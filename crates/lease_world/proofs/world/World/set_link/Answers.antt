@@ -1,5 +1,4 @@
-use Rattle.std.proofs.Common.{◌≡◌, refl, sym, subst}
-use Rattle.std.specs.List.{slice_set}
+use Rattle.lease_laws.proofs.Words.{◌≡◌, refl, slice_set, subst, sym}
 use Rattle.lease_world.specs.contracts.world.World.{the_view}
 use Rattle.lease_world.specs.world.Seats.{IsPresent}
 use Rattle.lease_world.specs.world.Stands.{Seen}

@@ -1,5 +1,4 @@
-use Rattle.std.proofs.Common.{◌∙◌, sym}
-use Rattle.std.proofs.lemmas.Result.{on_ok_weaker}
+use Rattle.lease_laws.proofs.Words.{◌∙◌, on_ok_weaker, sym}
 use Rattle.lease_world.proofs.worlds.Events.{stray_one, stray_nothing}
 use Rattle.lease_world.proofs.world.World.stray.Goals as goal
 

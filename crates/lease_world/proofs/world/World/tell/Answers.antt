@@ -1,4 +1,4 @@
-use Rattle.std.proofs.Common.{refl}
+use Rattle.lease_laws.proofs.Words.{refl}
 use Rattle.lease_world.specs.contracts.world.World.{the_view}
 use Rattle.lease_world.proofs.worlds.Standing.{told_stands}
 use Rattle.lease_world.proofs.world.World.tell.Goals as goal

@@ -1,5 +1,4 @@
-use Rattle.std.proofs.Common.{◌∙◌, [], ◌∷◌, map}
-use Rattle.std.proofs.lemmas.List.{map-append, append_assoc}
+use Rattle.lease_laws.proofs.Words.{◌∙◌, ◌∷◌, [], append_assoc, map, map-append}
 use Rattle.lease_facts.specs.Facts.{fact_of}
 use Rattle.lease_world.specs.world.Seats.{fact_given}
 use Rattle.lease_world.proofs.worlds.Replies.{more_replies, more_kept}

@@ -1,4 +1,4 @@
-use Rattle.std.proofs.Common.{◌≡◌, ◌++◌, map, length}
+use Rattle.lease_laws.proofs.Words.{◌++◌, ◌≡◌, length, map}
 use Rattle.lease_facts.specs.Facts.{fact_of}
 use Rattle.lease_world.specs.world.Seats.{HasReplies, HasKept, fact_given, replies_among}
 use Rattle.lease_world.proofs.world.delivering.deliver.Given as goal

@@ -1,4 +1,4 @@
-use Rattle.std.proofs.Common.{◌≡◌, ◌++◌, map}
+use Rattle.lease_laws.proofs.Words.{◌++◌, ◌≡◌, map}
 use Rattle.lease_client.specs.Answers.{note_of}
 use Rattle.lease_model.specs.world.World as model
 use Rattle.lease_facts.specs.Facts.{fact_of}

@@ -1,4 +1,4 @@
-use Rattle.std.proofs.Common.{◌≡◌, take}
+use Rattle.lease_laws.proofs.Words.{◌≡◌, take}
 use Rattle.lease_world.proofs.world.first.copy_contents.Given as goal
 
 abbrev pub invariant-loop-place : goal.invariant-loop-place

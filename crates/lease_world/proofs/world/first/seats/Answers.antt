@@ -1,4 +1,4 @@
-use Rattle.std.proofs.Common.{refl}
+use Rattle.lease_laws.proofs.Words.{refl}
 use Rattle.lease_world.proofs.worlds.First.{one_more_new, all_new}
 use Rattle.lease_world.proofs.world.first.seats.Goals as goal
 

@@ -1,4 +1,4 @@
-use Rattle.std.proofs.Common.{take}
+use Rattle.lease_laws.proofs.Words.{take}
 use Rattle.lease_world.specs.world.First.{AreNew}
 use Rattle.lease_world.proofs.world.first.seats.Given as goal
 

@@ -1,5 +1,4 @@
-use Rattle.std.proofs.Common.{◌∙◌, refl}
-use Rattle.std.proofs.lemmas.List.{map-append}
+use Rattle.lease_laws.proofs.Words.{◌∙◌, map-append, refl}
 use Rattle.lease_facts.specs.Facts.{fact_of}
 use Rattle.lease_world.proofs.worlds.First.{one_more_start, all_starts}
 use Rattle.lease_world.proofs.world.first.starts.Goals as goal

@@ -1,5 +1,4 @@
-use Rattle.std.proofs.Common.{◌≡◌, take, map}
-use Rattle.lease_model.specs.world.World.{starts_from}
+use Rattle.lease_laws.proofs.Words.{◌≡◌, map, starts_from, take}
 use Rattle.lease_facts.specs.Facts.{fact_of}
 use Rattle.lease_world.proofs.world.first.starts.Given as goal
 

@@ -1,4 +1,4 @@
-use Rattle.std.proofs.Common.{◌≡◌, ◌++◌}
+use Rattle.lease_laws.proofs.Words.{◌++◌, ◌≡◌}
 use Rattle.lease_world.proofs.world.seat.push_all.Given as goal
 
 abbrev pub invariant-loop-request : goal.invariant-loop-request

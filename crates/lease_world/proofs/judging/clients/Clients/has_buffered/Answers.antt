@@ -1,4 +1,4 @@
-use Rattle.std.proofs.Common.{◌≤◌, length, refl, rules}
+use Rattle.lease_laws.proofs.Words.{◌≤◌, length, refl, rules}
 use Rattle.lease_world.proofs.Numbered.{none_past_the_end}
 use Rattle.lease_world.proofs.judging.clients.Clients.has_buffered.Goals as goal
 

@@ -1,6 +1,4 @@
-use Rattle.std.proofs.Common.{◌<◌, ◌∙◌, List, ℕ, arith, ap, length, sym, subst}
-use Rattle.std.specs.List.{slice_set}
-use Rattle.std.specs.Prelude.{IfOk}
+use Rattle.lease_laws.proofs.Words.{◌<◌, ◌∙◌, IfOk, List, ℕ, ap, arith, length, slice_set, subst, sym}
 use Rattle.lease_world.specs.judge.Clients.{Sees}
 use Rattle.lease_world.specs.judge.Seen.{SeenClient, client_in}
 use Rattle.lease_world.specs.judge.Tables.{ChangesClient}

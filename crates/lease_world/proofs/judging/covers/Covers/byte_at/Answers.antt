@@ -1,4 +1,4 @@
-use Rattle.std.proofs.Common.{◌∙◌, List, arith, ap}
+use Rattle.lease_laws.proofs.Words.{◌∙◌, List, ap, arith}
 use Rattle.lease_world.specs.declared.judging.covers.Cover.{Cover}
 use Rattle.lease_world.specs.declared.judging.covers.Layer.{Layer}
 use Rattle.lease_world.specs.judge.Covers.{stack_in, seen_byte}

@@ -1,5 +1,4 @@
-use Rattle.std.proofs.Common.{List, ℕ, ap}
-use Rattle.std.specs.Prelude.{slice_index}
+use Rattle.lease_laws.proofs.Words.{List, ℕ, ap, slice_index}
 use Rattle.lease_world.specs.declared.judging.covers.Layer.{Layer}
 use Rattle.lease_world.specs.judge.Covers.{stack_in}
 use Rattle.lease_world.proofs.records.Covered.{lays_one}

@@ -1,5 +1,4 @@
-use Rattle.std.proofs.Common.{◌≡◌, ◌+◌, ◌-◌, ◌++◌, [], ◌∷◌, ℕ}
-use Rattle.std.specs.Prelude.{if◌then◌else◌, ◌&&◌, nat_le, nat_lt, slice_index}
+use Rattle.lease_laws.proofs.Words.{◌&&◌, ◌++◌, ◌+◌, ◌-◌, ◌∷◌, ◌≡◌, ℕ, [], if◌then◌else◌, nat_le, nat_lt, slice_index}
 use Rattle.lease_world.specs.judge.Covers.{stack_in}
 use Rattle.lease_world.proofs.judging.covers.Covers.lay.Given as goal
 

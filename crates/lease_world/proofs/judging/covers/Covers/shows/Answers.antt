@@ -1,4 +1,4 @@
-use Rattle.std.proofs.Common.{arith}
+use Rattle.lease_laws.proofs.Words.{arith}
 use Rattle.lease_world.proofs.records.Covered.{shows_rest}
 use Rattle.lease_world.proofs.judging.covers.Covers.shows.Goals as goal
 

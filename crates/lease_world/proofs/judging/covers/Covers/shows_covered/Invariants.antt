@@ -1,5 +1,4 @@
-use Rattle.std.proofs.Common.{◌≡◌, ◌<◌, ℕ}
-use Rattle.std.specs.Prelude.{slice_index}
+use Rattle.lease_laws.proofs.Words.{◌<◌, ◌≡◌, ℕ, slice_index}
 use Rattle.lease_world.specs.judge.Covers.{stack_in, seen_byte}
 use Rattle.lease_world.proofs.judging.covers.Covers.shows_covered.Given as goal
 

@@ -1,4 +1,4 @@
-use Rattle.std.proofs.Common.{◌≡◌, ℕ, ◌<◌, false}
+use Rattle.lease_laws.proofs.Words.{◌<◌, ◌≡◌, ℕ, false}
 use Rattle.lease_world.specs.judge.Holders.{conflicts_with}
 use Rattle.lease_world.specs.judge.Seen.{cache_in, holders_in}
 use Rattle.lease_world.proofs.judging.holders.FileHolders.conflict.Given as goal

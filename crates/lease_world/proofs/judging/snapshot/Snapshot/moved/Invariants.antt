@@ -1,5 +1,4 @@
-use Rattle.std.proofs.Common.{length, ◌-◌, ◌≡◌, ◌+◌, drop}
-use Rattle.lease_state.specs.Content.{patches}
+use Rattle.lease_laws.proofs.Words.{◌+◌, ◌-◌, ◌≡◌, drop, length, patches}
 use Rattle.lease_world.specs.judge.Before.{before, patches_of}
 use Rattle.lease_world.proofs.judging.snapshot.Snapshot.moved.Given as goal
 

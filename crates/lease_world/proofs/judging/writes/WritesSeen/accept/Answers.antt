@@ -1,4 +1,4 @@
-use Rattle.std.proofs.Common.{sym, ◌∙◌}
+use Rattle.lease_laws.proofs.Words.{◌∙◌, sym}
 use Rattle.lease_world.specs.judge.Seen.{accepted_as}
 use Rattle.lease_world.proofs.Numbered.{write-change}
 use Rattle.lease_world.proofs.judging.writes.WritesSeen.accept.Goals as goal

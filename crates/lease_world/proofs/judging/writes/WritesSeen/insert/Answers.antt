@@ -1,4 +1,4 @@
-use Rattle.std.proofs.Common.{sym, ◌∙◌, arith}
+use Rattle.lease_laws.proofs.Words.{◌∙◌, arith, sym}
 use Rattle.lease_world.proofs.Numbered.{write-put, write-push}
 use Rattle.lease_world.proofs.judging.writes.WritesSeen.insert.Goals as goal
 
