@@ -141,8 +141,8 @@ by_names line = grind arith
 refuses : (name : List ℕ) (words : Words) → Each (Unnamed name) fact_kinds → named name words ≡ None
 unfolding named fact_named
 refuses name words
-    (start, (joined, (dropped, (expired, (sent, (took, (opened, (changed, (wrote, (settled, (believes, (read, (strayed, others))))))))))))) =
-    rw (start, joined, dropped, expired, sent, took, opened, changed, wrote, settled, believes, read, strayed) refl
+    (start, (join, (drop, (expire, (send, (take, (opens, (change, (write, (settle, (believe, (read, (stray, _))))))))))))) =
+    rw (start, join, drop, expire, send, take, opens, change, write, settle, believe, read, stray) refl
 
 are_apart : all_apart fact_kinds ≡ true
 unfolding word_of differ fields_apart apart all_apart

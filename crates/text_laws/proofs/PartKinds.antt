@@ -260,8 +260,8 @@ unknown : (name : List ℕ) (client : ℕ) (words : Words) → Each (Unnamed nam
     → event_of name client words ≡ None
 unfolding event_of
 unknown name client words
-    (opens, (durable, (close, (read, (flush, (write, (serve, (take, (cut, (notice, (connect, (expire, (scavenge, (raws, others)))))))))))))) =
-    rw (opens, close, read, flush, write, serve, take, cut, notice, connect, expire, scavenge, raws) refl
+    (opens, (_, (close, (read, (flush, (write, (serve, (take, (cut, (notice, (link, (expire, (scavenge, (raws, _)))))))))))))) =
+    rw (opens, close, read, flush, write, serve, take, cut, notice, link, expire, scavenge, raws) refl
 
 refuses : (name : List ℕ) (words : Words) → Each (Unnamed name) part_kinds → named name words ≡ None
 unfolding named part_named event_named
