@@ -51,8 +51,7 @@ among_wants wish server own want a =
 
 key_wanted : (wish : Wish) (server : Server) (own : Option Key) (key : Key) (one : Open) → Among one server.opens
     → is_wanted wish server own one ≡ true → has_key key one ≡ true → Among (want_at wish server key) (wants_for wish server own)
-key_wanted wish server own key one there wanted has =
-    subst (λ l. Among (want_at wish server key) l) (wants_are wish server own)
+key_wanted wish server own key one there wanted has = subst (λ l. Among (want_at wish server key) l) (wants_are wish server own)
     (wants_where-has server (is_wanted wish server own) (lowered_for wish) key one there wanted has)
 
 lookup : (make : Key → Want) (key : Key) (wants : List Want) (b : Bool)
@@ -75,8 +74,7 @@ lookup make key (want ∷ wants) b named each there none = either (key_eq key wa
 
 pub want_is : (wish : Wish) (server : Server) (own : Option Key) (key : Key)
     → want_among key (wants_for wish server own) ≡ want_if (is_key_wanted wish server own key) wish server key
-want_is wish server own key =
-    lookup (want_at wish server) key (wants_for wish server own) (is_key_wanted wish server own key)
+want_is wish server own key = lookup (want_at wish server) key (wants_for wish server own) (is_key_wanted wish server own key)
     (λ k. refl)
     (λ want a. (among_wants wish server own want a).4)
     (λ t.
@@ -85,8 +83,7 @@ want_is wish server own key =
     key_wanted wish server own key one.0 one.1 parts.1 parts.0)
     (λ f want a same.
     let w = among_wants wish server own want a in
-    clash (is_key_wanted wish server own key)
-    (has_any (λ o. has_key key o && is_wanted wish server own o) w.0 server.opens w.1
+    clash (is_key_wanted wish server own key) (has_any (λ o. has_key key o && is_wanted wish server own o) w.0 server.opens w.1
     (and_both (has_key key w.0) (is_wanted wish server own w.0) (ap (λ k. has_key k w.0) same ∙ w.3) w.2)) f)
 
 -- ---- whether any is wanted
@@ -125,8 +122,7 @@ some_wanted wish server own = either (list_any (is_wanted wish server own) serve
     (key_wanted wish server own key.0 one.0 one.1 one.2 key.1)))
     (λ f. rw f (none_there (wants_for wish server own) (λ want a.
     let w = among_wants wish server own want a in
-    clash (list_any (is_wanted wish server own) server.opens)
-    (has_any (is_wanted wish server own) w.0 server.opens w.1 w.2) f)))
+    clash (list_any (is_wanted wish server own) server.opens) (has_any (is_wanted wish server own) w.0 server.opens w.1 w.2) f)))
 
 -- ---- the opens of a table are on one file
 

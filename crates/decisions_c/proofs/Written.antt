@@ -41,9 +41,7 @@ pub answered_by_all : (key : Key) (state : State) (lease : Lease)
 unfolding acknowledged
 answered_by_all key state lease server has same =
     subst (λ (l : Lease). IsAnswered key state l (acknowledged_status state l.broken_to) (lease_acknowledged state l l.broken_to)
-    server)
-    same
-    (record {
+    server) same (record {
       answer = rw has (judged_status key state (server.leases key).broken_to server);
       leaves = rw has (judged_lease key state (server.leases key).broken_to server);
     })

@@ -23,8 +23,7 @@ put_put place first second bytes fits =
     ap (take (place + length first)) whole ∙ ap (λ n. take n ((begin ++ first) ++ rest)) (sym seam)
     ∙ take-append_seam (begin ++ first) rest in
     let back : drop (place + length first + length second) (put place first bytes)
-    ≡ drop (place + length (first ++ second)) bytes =
-    ap (drop (place + length first + length second)) whole
+    ≡ drop (place + length (first ++ second)) bytes = ap (drop (place + length first + length second)) whole
     ∙ ap (λ n. drop (n + length second) ((begin ++ first) ++ rest)) (sym seam)
     ∙ drop-append-add (begin ++ first) rest (length second) ∙ drop-drop (length second) (place + length first) bytes
     ∙ ap (λ n. drop n bytes) (omega (arith, length-append first second)) in
@@ -39,8 +38,7 @@ put_after place first second bytes count e fits =
 
 pub length_put : (place : ℕ) (part bytes : List ℕ) → place + length part ≤ length bytes
     → length (put place part bytes) ≡ length bytes
-length_put place part bytes fits =
-    omega (
+length_put place part bytes fits = omega (
       arith,
       fits,
       length-append (take place bytes) (part ++ drop (place + length part) bytes),
@@ -52,8 +50,7 @@ length_put place part bytes fits =
 -- four writes, one after another
 pub put_four : (place : ℕ) (a b c d bytes : List ℕ) → place + (length a + length b + length c + length d) ≤ length bytes
     → put (place + (length a + length b + length c)) d (put (place + (length a + length b)) c
-    (put (place + length a) b (put place a bytes)))
-    ≡ put place (a ++ (b ++ (c ++ d))) bytes
+    (put (place + length a) b (put place a bytes))) ≡ put place (a ++ (b ++ (c ++ d))) bytes
 put_four place a b c d bytes fits =
     let two : length (a ++ b) ≡ length a + length b = length-append a b in
     let three : length ((a ++ b) ++ c) ≡ length a + length b + length c = length-append (a ++ b) c ∙ ap (λ n. n + length c) two in
@@ -92,8 +89,7 @@ last_is_within (byte ∷ bytes) = last_within (length (byte ∷ bytes)) 0 0 0 (b
 pub put_parts : (place : ℕ) (head name : List ℕ) (zeros : ℕ) (body bytes : List ℕ)
     → place + (length head + length name + zeros + length body) ≤ length bytes
     → put (place + (length head + length name + zeros)) body (put (place + (length head + length name)) (replicate zeros 0)
-    (put (place + length head) name (put place head bytes)))
-    ≡ put place (head ++ (name ++ (replicate zeros 0 ++ body))) bytes
+    (put (place + length head) name (put place head bytes))) ≡ put place (head ++ (name ++ (replicate zeros 0 ++ body))) bytes
 put_parts place head name zeros body bytes fits =
     let count : length (replicate zeros 0) ≡ zeros = length-replicate {A = ℕ} zeros 0 in
     subst (λ (n : ℕ). put (place + (length head + length name + n)) body

@@ -25,8 +25,7 @@ either x1 x2 one other first second a b = grind arith
 -- ---- Open
 
 open_live : (client : Client) (file : ℕ) (live : LiveEntry) (sent : List Pending) (terms : OpenTerms)
-    → client.entries file ≡ live_entry live sent
-    → model.open_on_live client file live sent terms
+    → client.entries file ≡ live_entry live sent → model.open_on_live client file live sent terms
     ≡ turned client file (rules.live_open_turn (lease_key client.guid file) file live sent terms)
 unfolding model.open_on_live model.handle_added model.open_other model.opened_anew model.more_asked rules.live_open_turn
     rules.handle_turn rules.other_turn rules.anew_turn rules.more_turn
@@ -36,16 +35,13 @@ open_live client file live sent terms e =
     λ r. still_step client file (live_entry live sent) (Answer.Refused r) e in
     either F (is_asking live) _ _ _ _ (refused Refusal.Busy)
     (either F (same_access terms.access live.access && same_share terms.share live.share) _ _ _ _
-    (either F (live.handles == count_limit) _ _ _ _ (refused Refusal.UsedUp) refl)
-    (either F (live.handles == 0) _ _ _ _ refl
+    (either F (live.handles == count_limit) _ _ _ _ (refused Refusal.UsedUp) refl) (either F (live.handles == 0) _ _ _ _ refl
     (either F (live.handles == count_limit) _ _ _ _ (refused Refusal.UsedUp) refl)))
 
 open_on : (client : Client) (file : ℕ) (terms : OpenTerms) (sent : List Pending) (phase : Phase)
-    → client.entries file ≡ record { phase = phase; sent = sent }
-    → on_entry client file (Command.Open file terms) sent phase
+    → client.entries file ≡ record { phase = phase; sent = sent } → on_entry client file (Command.Open file terms) sent phase
     ≡ turned client file (rules.open_in client.is_online (lease_key client.guid file) file terms sent phase)
-open_on client file terms sent Phase.Closed e =
-    either (turned client file) client.is_online _ _ _ _ refl
+open_on client file terms sent Phase.Closed e = either (turned client file) client.is_online _ _ _ _ refl
     (still_step client file _ (Answer.Refused Refusal.Offline) e)
 open_on client file terms sent (Phase.Live live) e = open_live client file live sent terms e
 open_on client file terms sent (Phase.Offline parted) e = still_step client file _ (Answer.Refused Refusal.Offline) e
@@ -53,19 +49,16 @@ open_on client file terms sent phase e = still_step client file _ (Answer.Refuse
 
 -- ---- Close, Read and Flush
 
-close_live : (client : Client) (file : ℕ) (live : LiveEntry) (sent : List Pending)
-    → client.entries file ≡ live_entry live sent
+close_live : (client : Client) (file : ℕ) (live : LiveEntry) (sent : List Pending) → client.entries file ≡ live_entry live sent
     → model.close_on_live client file live sent ≡ turned client file (rules.close_turn live sent)
 unfolding model.close_on_live model.last_handle_closed rules.close_turn rules.last_close_turn
 close_live client file live sent e =
     let F : Turn → Step = turned client file in
-    either F (nat_lt 1 live.handles) _ _ _ _ refl
-    (either F (is_asking live || has_unanswered live sent) _ _ _ _
+    either F (nat_lt 1 live.handles) _ _ _ _ refl (either F (is_asking live || has_unanswered live sent) _ _ _ _
     (still_step client file (live_entry live sent) (Answer.Refused Refusal.Busy) e)
     (either F live.belief.handle _ _ _ _ refl refl))
 
-read_through : (client : Client) (file : ℕ) (live : LiveEntry) (sent : List Pending)
-    → client.entries file ≡ live_entry live sent
+read_through : (client : Client) (file : ℕ) (live : LiveEntry) (sent : List Pending) → client.entries file ≡ live_entry live sent
     → model.read_sent client file live sent ≡ turned client file (rules.read_sent_turn live sent)
 unfolding model.read_sent rules.read_sent_turn
 read_through client file live sent e =
@@ -76,8 +69,7 @@ read_through client file live sent e =
     (either F (live.reads == count_limit) _ _ _ _ (refused Refusal.UsedUp) refl)
 
 -- a turn that notes something and leaves the entry as it is
-noted_still : (client : Client) (file : ℕ) (entry : Entry) (answer : Answer) (notes : List Note)
-    → client.entries file ≡ entry
+noted_still : (client : Client) (file : ℕ) (entry : Entry) (answer : Answer) (notes : List Note) → client.entries file ≡ entry
     → turned client file (record { entry = entry; answer = answer; requests = []; settled = notes })
     ≡ record { client = client; answer = answer; requests = []; notes = notes ++ [] }
 unfolding turned
@@ -95,15 +87,13 @@ read_cached client file live sent bytes e =
     sym (noted_still client file (live_entry live sent) (Answer.Bytes bytes true) (Note.CachedRead file bytes ∷ []) e)
 
 read_by : (client : Client) (file : ℕ) (live : LiveEntry) (sent : List Pending) (reads : Bool) (base : Option (List ℕ))
-    → client.entries file ≡ live_entry live sent
-    → model.read_from client file live sent reads base
+    → client.entries file ≡ live_entry live sent → model.read_from client file live sent reads base
     ≡ turned client file (rules.read_from_turn file live sent reads base)
 read_by client file live sent true (Some base) e = read_cached client file live sent (view base sent live.unsent) e
 read_by client file live sent true None e = read_through client file live sent e
 read_by client file live sent false base e = read_through client file live sent e
 
-read_live : (client : Client) (file : ℕ) (live : LiveEntry) (sent : List Pending)
-    → client.entries file ≡ live_entry live sent
+read_live : (client : Client) (file : ℕ) (live : LiveEntry) (sent : List Pending) → client.entries file ≡ live_entry live sent
     → model.read_on_live client file live sent ≡ turned client file (rules.read_turn file live sent)
 unfolding model.read_on_live rules.read_turn
 read_live client file live sent e =
@@ -123,20 +113,17 @@ wrote client file turn = with_number (rules.number_after turn client.last_number
 
 unwritten : (client : Client) (file : ℕ) (entry : Entry) (refusal : Refusal) → client.entries file ≡ entry
     → refused_step client refusal ≡ wrote client file (rules.refused_turn entry refusal)
-unwritten client file entry refusal e =
-    still_step client file entry (Answer.Refused refusal) e
+unwritten client file entry refusal e = still_step client file entry (Answer.Refused refusal) e
     ∙ sym (same_numbered client file (rules.refused_turn entry refusal))
 
 wrote_on : (client : Client) (file : ℕ) (old new : Entry) (answer : Answer) (requests : List Request) (write : Pending)
     → rules.is_refused answer ≡ false → client.entries file ≡ old → belief_of old ≡ belief_of new
-    → model.wrote_step client file new answer requests write
-    ≡ wrote client file (rules.wrote_turn file new answer requests write)
+    → model.wrote_step client file new answer requests write ≡ wrote client file (rules.wrote_turn file new answer requests write)
 unfolding turned
 wrote_on client file old new answer requests write taken e same = grind arith
 
 write_live : (client : Client) (file : ℕ) (live : LiveEntry) (sent : List Pending) (patch : Patch)
-    → client.entries file ≡ live_entry live sent
-    → model.write_on_live client file live sent patch
+    → client.entries file ≡ live_entry live sent → model.write_on_live client file live sent patch
     ≡ wrote client file (rules.write_turn file live sent client.last_number patch)
 unfolding model.write_on_live model.write_buffered model.write_sent rules.write_turn rules.taken_turn rules.buffered_turn
     rules.through_turn
@@ -154,70 +141,58 @@ write_live client file live sent patch e =
 
 -- what a command that an unopened entry refuses does
 unheard : (client : Client) (file : ℕ) (sent : List Pending) (phase : Phase)
-    → client.entries file ≡ record { phase = phase; sent = sent }
-    → refused_step client (rules.refusal_in phase)
+    → client.entries file ≡ record { phase = phase; sent = sent } → refused_step client (rules.refusal_in phase)
     ≡ turned client file (rules.unheard_turn (record { phase = phase; sent = sent }))
 unheard client file sent phase e = still_step client file _ (Answer.Refused (rules.refusal_in phase)) e
 
 unless : (client : Client) (file : ℕ) (live : LiveEntry) (sent : List Pending) (step : Step) (turn : Turn)
     → client.entries file ≡ live_entry live sent → step ≡ turned client file turn
     → model.unless_parked client live step ≡ turned client file (rules.unless_parked live sent turn)
-unless client file live sent step turn e same =
-    either (turned client file) (live.handles == 0) _ _ _ _
+unless client file live sent step turn e same = either (turned client file) (live.handles == 0) _ _ _ _
     (still_step client file (live_entry live sent) (Answer.Refused Refusal.NotOpen) e) same
 
 close_on : (client : Client) (file : ℕ) (sent : List Pending) (phase : Phase)
-    → client.entries file ≡ record { phase = phase; sent = sent }
-    → on_entry client file (Command.Close file) sent phase
+    → client.entries file ≡ record { phase = phase; sent = sent } → on_entry client file (Command.Close file) sent phase
     ≡ turned client file (rules.heard_in rules.close_turn sent phase)
 close_on client file sent (Phase.Live live) e = unless client file live sent _ _ e (close_live client file live sent e)
 close_on client file sent phase e = unheard client file sent phase e
 
 read_on : (client : Client) (file : ℕ) (sent : List Pending) (phase : Phase)
-    → client.entries file ≡ record { phase = phase; sent = sent }
-    → on_entry client file (Command.Read file) sent phase
+    → client.entries file ≡ record { phase = phase; sent = sent } → on_entry client file (Command.Read file) sent phase
     ≡ turned client file (rules.heard_in (rules.read_turn file) sent phase)
 read_on client file sent (Phase.Live live) e = unless client file live sent _ _ e (read_live client file live sent e)
 read_on client file sent phase e = unheard client file sent phase e
 
 flush_on : (client : Client) (file : ℕ) (sent : List Pending) (phase : Phase)
-    → client.entries file ≡ record { phase = phase; sent = sent }
-    → on_entry client file (Command.Flush file) sent phase
+    → client.entries file ≡ record { phase = phase; sent = sent } → on_entry client file (Command.Flush file) sent phase
     ≡ turned client file (rules.heard_in rules.flush_turn sent phase)
 flush_on client file sent (Phase.Live live) e = unless client file live sent _ _ e (flush_live client file live sent)
 flush_on client file sent phase e = unheard client file sent phase e
 
 unheard_write : (client : Client) (file : ℕ) (sent : List Pending) (phase : Phase)
-    → client.entries file ≡ record { phase = phase; sent = sent }
-    → refused_step client (rules.refusal_in phase)
+    → client.entries file ≡ record { phase = phase; sent = sent } → refused_step client (rules.refusal_in phase)
     ≡ wrote client file (rules.unheard_turn (record { phase = phase; sent = sent }))
 unheard_write client file sent phase e = unwritten client file _ (rules.refusal_in phase) e
 
 unless_write : (client : Client) (file : ℕ) (live : LiveEntry) (sent : List Pending) (step : Step) (turn : Turn)
     → client.entries file ≡ live_entry live sent → step ≡ wrote client file turn
     → model.unless_parked client live step ≡ wrote client file (rules.unless_parked live sent turn)
-unless_write client file live sent step turn e same =
-    either (wrote client file) (live.handles == 0) _ _ _ _
+unless_write client file live sent step turn e same = either (wrote client file) (live.handles == 0) _ _ _ _
     (unwritten client file (live_entry live sent) Refusal.NotOpen e) same
 
 write_on : (client : Client) (file : ℕ) (patch : Patch) (sent : List Pending) (phase : Phase)
-    → client.entries file ≡ record { phase = phase; sent = sent }
-    → on_entry client file (Command.Write file patch) sent phase
-    ≡ wrote client file
-    (rules.heard_in (λ live sent. rules.write_turn file live sent client.last_number patch) sent phase)
+    → client.entries file ≡ record { phase = phase; sent = sent } → on_entry client file (Command.Write file patch) sent phase
+    ≡ wrote client file (rules.heard_in (λ live sent. rules.write_turn file live sent client.last_number patch) sent phase)
 write_on client file patch sent (Phase.Live live) e =
     unless_write client file live sent _ _ e (write_live client file live sent patch e)
 write_on client file patch sent phase e = unheard_write client file sent phase e
 
 abbrev IsBy : Client → Command → Type 0
-IsBy client command =
-    on_entry client (file_of command) command (client.entries (file_of command)).sent
-    (client.entries (file_of command)).phase
-    ≡ step_by client command
+IsBy client command = on_entry client (file_of command) command (client.entries (file_of command)).sent
+    (client.entries (file_of command)).phase ≡ step_by client command
 
 on_entry_by : (client : Client) (command : Command) → IsBy client command
-on_entry_by client (Command.Open file terms) =
-    open_on client file terms _ _ refl ∙ sym (same_numbered client file _)
+on_entry_by client (Command.Open file terms) = open_on client file terms _ _ refl ∙ sym (same_numbered client file _)
 on_entry_by client (Command.Close file) = close_on client file _ _ refl ∙ sym (same_numbered client file _)
 on_entry_by client (Command.Read file) = read_on client file _ _ refl ∙ sym (same_numbered client file _)
 on_entry_by client (Command.Write file patch) = write_on client file patch _ _ refl

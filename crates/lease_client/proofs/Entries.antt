@@ -19,8 +19,7 @@ place_set (one ∷ entries) (suc i) (suc n) entry inside =
     let e = place_set entries i n entry (omega arith) in grind (arith, nat_tests, e)
 
 pub number_set : (entries : List Entry) (i n : ℕ) (entry : Entry) → i < length entries
-    → numbered (closed_entry []) (set entries i entry) n
-    ≡ cond (eqb n (suc i)) entry (numbered (closed_entry []) entries n)
+    → numbered (closed_entry []) (set entries i entry) n ≡ cond (eqb n (suc i)) entry (numbered (closed_entry []) entries n)
 unfolding numbered
 number_set entries i zero entry inside = grind (arith, nat_tests)
 number_set entries i (suc n) entry inside =
@@ -34,8 +33,7 @@ entry_numbered [] i entry inside is = absurd (omega arith)
 entry_numbered (one ∷ entries) zero entry inside is = sym is
 entry_numbered (one ∷ entries) (suc i) entry inside is = entry_numbered entries i entry (omega arith) is
 
-table_set : (entries : List Entry) (i : ℕ) (entry : Entry) → i < length entries
-    → numbered (closed_entry []) (set entries i entry)
+table_set : (entries : List Entry) (i : ℕ) (entry : Entry) → i < length entries → numbered (closed_entry []) (set entries i entry)
     ≡ put (numbered (closed_entry []) entries) (suc i) entry
 unfolding put
 table_set entries i entry inside =
@@ -52,8 +50,7 @@ client_set known i entry inside =
     (length-set known.entries i entry)
     ∙ ap (λ (t : ℕ → Entry). with_entries (client_of known) (length known.entries) t) (table_set known.entries i entry inside)
 
-pub file_there : (known : Known) (n : ℕ) → knows_file (client_of known) n ≡ true
-    → (1 ≤ n) × (n ≤ length known.entries)
+pub file_there : (known : Known) (n : ℕ) → knows_file (client_of known) n ≡ true → (1 ≤ n) × (n ≤ length known.entries)
 file_there known n is = grind (arith, nat_tests, is)
 
 pub entry_of_file : (known : Known) (n : ℕ) (entry : Entry) → knows_file (client_of known) n ≡ true

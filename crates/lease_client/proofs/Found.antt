@@ -24,8 +24,7 @@ passed_over test k none is = find_none test (numbers_to k) (suc k) none is
 pub found_at : (test : ℕ → Bool) (files k : ℕ) → k < files → find test (numbers_to k) ≡ None → test (suc k) ≡ true
     → find test (numbers_to files) ≡ Some (suc k)
 found_at test zero k below none is = absurd (omega arith)
-found_at test (suc files) k below none is =
-    elim (cases_lt k files) [
+found_at test (suc files) k below none is = elim (cases_lt k files) [
       | inl before ↦ find_before test (numbers_to files) (suc files ∷ []) (suc k) (found_at test files k before none is)
       | inr last ↦
           let e : k ≡ files = omega (arith, last) in
@@ -39,5 +38,4 @@ go_on test k none is = rw (add-one k) (passed_over test k none (rw (add-one k) a
 
 pub stop_at : (test : ℕ → Bool) (files k : ℕ) → k < files → find test (numbers_to k) ≡ None → test (k + 1) ≡ true
     → Some (k + 1) ≡ find test (numbers_to files)
-stop_at test files k below none is =
-    rw (add-one k, found_at test files k below none (rw (add-one k) at is)) refl
+stop_at test files k below none is = rw (add-one k, found_at test files k below none (rw (add-one k) at is)) refl

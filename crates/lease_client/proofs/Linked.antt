@@ -17,8 +17,7 @@ use Rattle.lease_client.proofs.Turned.{with_entry}
 
 -- ---- the entries
 
-pub length_to : (turn : ℕ → Entry → Turn) (entries : List Entry) (k : ℕ)
-    → length (entries_to turn entries k) ≡ length entries
+pub length_to : (turn : ℕ → Entry → Turn) (entries : List Entry) (k : ℕ) → length (entries_to turn entries k) ≡ length entries
 length_to turn entries zero = refl
 length_to turn entries (suc k) = length-set (entries_to turn entries k) k _ ∙ length_to turn entries k
 
@@ -45,8 +44,7 @@ touched turn entries (suc k) n below inside =
       | inr last ↦ let same : n ≡ k = omega (arith, last) in grind (arith, nat_tests, e, same)
     ]
 
-past : (entries : List Entry) (n : ℕ) → length entries ≤ n
-    → numbered (closed_entry []) entries (suc n) ≡ closed_entry []
+past : (entries : List Entry) (n : ℕ) → length entries ≤ n → numbered (closed_entry []) entries (suc n) ≡ closed_entry []
 unfolding numbered
 past entries n behind = grind (arith, nat_tests, slice_get_cases entries n, behind)
 
@@ -59,10 +57,8 @@ all_at : (turn : ℕ → Entry → Turn) (entries : List Entry) → LeavesClosed
     ≡ (turn file (numbered (closed_entry []) entries file)).entry
 unfolding numbered
 all_at turn entries leaves zero = sym (leaves 0)
-all_at turn entries leaves (suc n) =
-    elim (cases_lt n (length entries)) [
-      | inl within ↦ touched turn entries (length entries) n within (omega arith)
-      | inr behind ↦
+all_at turn entries leaves (suc n) = elim (cases_lt n (length entries)) [
+      | inl within ↦ touched turn entries (length entries) n within (omega arith) | inr behind ↦
           let e = past entries n behind in
           past (entries_to turn entries (length entries)) n (omega (arith, length_to turn entries (length entries), behind))
           ∙ sym (leaves (suc n)) ∙ ap (λ (x : Entry). (turn (suc n) x).entry) (sym e)
@@ -87,10 +83,8 @@ pub all_after : (known : Known) (online : Bool) (turn : ℕ → Entry → Turn) 
     (all_turned (client_of known) online turn)
 unfolding all_turned
 all_after known online turn given leaves answer requests notes = record {
-  client =
-      ap (λ n. with_table (client_of known) online n (numbered (closed_entry [])
-      (entries_to turn known.entries (length known.entries))))
-      (length_to turn known.entries (length known.entries))
+  client = ap (λ n. with_table (client_of known) online n (numbered (closed_entry [])
+      (entries_to turn known.entries (length known.entries)))) (length_to turn known.entries (length known.entries))
       ∙ ap (λ (t : ℕ → Entry). with_table (client_of known) online (length known.entries) t)
       (all_entries turn known.entries leaves);
   answer = answer;
@@ -103,8 +97,7 @@ all_after known online turn given leaves answer requests notes = record {
 pub requests_more : (turn : ℕ → Entry → Turn) (entries : ℕ → Entry) (k : ℕ)
     → map request_written (requests_to turn entries k) ++ map request_written (turn (k + 1) (entries (k + 1))).requests
     ≡ map request_written (requests_to turn entries (k + 1))
-requests_more turn entries k =
-    rw (add-one k)
+requests_more turn entries k = rw (add-one k)
     (sym (map-append request_written (requests_to turn entries k) (turn (suc k) (entries (suc k))).requests)
     ∙ ap (map request_written) (flat_map_more (λ file. (turn file (entries file)).requests) [] (numbers_to k) (suc k)))
 
@@ -114,8 +107,7 @@ noted turn entries file = (turn file (entries file)).settled
 
 pub notes_more : (turn : ℕ → Entry → Turn) (entries : ℕ → Entry) (k : ℕ)
     → notes_to turn entries k ++ noted turn entries (k + 1) ≡ notes_to turn entries (k + 1)
-notes_more turn entries k =
-    rw (add-one k) (flat_map_more (noted turn entries) [] (numbers_to k) (suc k))
+notes_more turn entries k = rw (add-one k) (flat_map_more (noted turn entries) [] (numbers_to k) (suc k))
 
 -- ---- the two links
 
@@ -163,8 +155,7 @@ given_more known current given link k is below out =
 
 pub linked_after : (known current final : Known) (link : Link) (given : Given) (k : ℕ)
     → current ≡ known_to known (link_turn link known.guid) k → k ≡ length known.entries
-    → final ≡ record current { is_online = is_made link }
-    → given.answer ≡ Answer.Quiet
+    → final ≡ record current { is_online = is_made link } → given.answer ≡ Answer.Quiet
     → given.requests ≡ map request_written (requests_to (link_turn link known.guid) (client_of known).entries k)
     → given.notes ≡ notes_to (link_turn link known.guid) (client_of known).entries k
     → IsAfter final given (linked (client_of known) link)
@@ -172,8 +163,7 @@ linked_after known current final link given k is all stands answer requests note
     let there : final ≡ record known {
       entries = entries_to (link_turn link known.guid) known.entries (length known.entries);
       is_online = is_made link;
-    } =
-    stands ∙ rw (is, all) refl in
+    } = stands ∙ rw (is, all) refl in
     rw (there, linked_is (client_of known) link)
     (all_after known (is_made link) (link_turn link known.guid) given (leaves_closed link known.guid)
     answer (rw all at requests) (rw all at notes))

@@ -9,14 +9,12 @@ pub closed_more : (files : ℕ)
     → replicate files (closed_entry []) ++ closed_entry [] ∷ [] ≡ replicate (files + 1) (closed_entry [])
 closed_more files = replicate-append-replicate files 1 (closed_entry [])
 
-closed_place : (files n : ℕ)
-    → unwrap_or (slice_get (replicate files (closed_entry [])) n) (closed_entry []) ≡ closed_entry []
+closed_place : (files n : ℕ) → unwrap_or (slice_get (replicate files (closed_entry [])) n) (closed_entry []) ≡ closed_entry []
 closed_place zero n = refl
 closed_place (suc files) zero = refl
 closed_place (suc files) (suc n) = closed_place files n
 
-closed_number : (files n : ℕ)
-    → numbered (closed_entry []) (replicate files (closed_entry [])) n ≡ closed_entry []
+closed_number : (files n : ℕ) → numbered (closed_entry []) (replicate files (closed_entry [])) n ≡ closed_entry []
 unfolding numbered
 closed_number files zero = refl
 closed_number files (suc n) = closed_place files n
@@ -30,10 +28,8 @@ unconnected_same : (guid : List ℕ) (files more : ℕ) (entries others : ℕ �
     → unconnected guid files entries ≡ unconnected guid more others
 unconnected_same guid files more entries others a b = grind arith
 
-pub closed_entries_are_new : (guid : List ℕ) (files : ℕ)
-    → unconnected guid (length (replicate files (closed_entry [])))
-    (numbered (closed_entry []) (replicate files (closed_entry [])))
-    ≡ new_client guid files
+pub closed_entries_are_new : (guid : List ℕ) (files : ℕ) → unconnected guid (length (replicate files (closed_entry [])))
+    (numbered (closed_entry []) (replicate files (closed_entry []))) ≡ new_client guid files
 unfolding new_client
 closed_entries_are_new guid files =
     unconnected_same _ _ _ _ _ (length-replicate files (closed_entry [])) (fun_ext (closed_number files))

@@ -12,15 +12,11 @@ no_zeros x n none = sym (append-nil x) ∙ ap (λ (k : ℕ). x ++ replicate k 0)
 
 -- the front of a list that was filled up with zeros
 filled : (x : List ℕ) (o n : ℕ) → o ≤ length x + n → take o (x ++ replicate n 0) ≡ take o x ++ replicate (o - length x) 0
-filled x o n room =
-    elim (cases_lt o (length x)) [
-      | inl short ↦
-          take-append-le o x (replicate n 0) (omega (arith, short))
+filled x o n room = elim (cases_lt o (length x)) [
+      | inl short ↦ take-append-le o x (replicate n 0) (omega (arith, short))
           ∙ no_zeros (take o x) (o - length x) (omega (arith, short))
-      | inr long ↦
-          (let sum : o ≡ length x + (o - length x) = omega (arith, long) in
-          ap (λ (m : ℕ). take m (x ++ replicate n 0)) sum)
-          ∙ (take-append-add x (replicate n 0) (o - length x)
+      | inr long ↦ (let sum : o ≡ length x + (o - length x) = omega (arith, long) in
+          ap (λ (m : ℕ). take m (x ++ replicate n 0)) sum) ∙ (take-append-add x (replicate n 0) (o - length x)
           ∙ (ap (λ (l : List ℕ). x ++ l)
           (take-replicate (o - length x) n (let nothing : ℕ = 0 in nothing) (omega (arith, room, long)))
           ∙ ap (λ (l : List ℕ). l ++ replicate (o - length x) 0) (sym (take_all o x long))))
@@ -50,5 +46,4 @@ behind x (b ∷ e) z w o some past z-is w-is =
     let zeros = length-replicate n (let nothing : ℕ = 0 in nothing) in omega (arith, sum, zeros, past) in
     w-is ∙ (ap (λ (l : List ℕ). l ++ d) (z-is ∙ sym (filled x o n (omega arith)))
     ∙ (ap (λ (l : List ℕ). take o y ++ l) (sym (append-nil d))
-    ∙ (ap (λ (l : List ℕ). take o y ++ (d ++ l)) (sym (drop_all (o + length d) y long))
-    ∙ over-zeros x o d)))
+    ∙ (ap (λ (l : List ℕ). take o y ++ (d ++ l)) (sym (drop_all (o + length d) y long)) ∙ over-zeros x o d)))

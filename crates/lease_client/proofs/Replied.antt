@@ -29,13 +29,11 @@ created_live client file live sent file_id answer None e = quiet client file sen
 created_live client file live sent file_id answer (Some asked) e = refl
 
 created_on : (client : Client) (file file_id : ℕ) (answer : CreateAnswer) (sent : List Pending) (phase : Phase)
-    → client.entries file ≡ record { phase = phase; sent = sent }
-    → model.created_on client file file_id answer sent phase
+    → client.entries file ≡ record { phase = phase; sent = sent } → model.created_on client file file_id answer sent phase
     ≡ turned client file (created_in (lease_key client.guid file) file_id answer sent phase)
 unfolding model.created_on_live
 created_on client file file_id answer sent (Phase.Opening access share) e = refl
-created_on client file file_id answer sent (Phase.Live live) e =
-    created_live client file live sent file_id answer live.asking e
+created_on client file file_id answer sent (Phase.Live live) e = created_live client file live sent file_id answer live.asking e
 created_on client file file_id answer sent (Phase.Reconnecting parted) e = refl
 created_on client file file_id answer sent phase e = quiet client file sent phase e
 
@@ -45,21 +43,18 @@ pub created_by : (client : Client) (file file_id : ℕ) (answer : CreateAnswer)
 unfolding model.create_answered
 created_by client file file_id answer = created_on client file file_id answer _ _ refl
 
-pub unread_create : (client : Client) (file file_id : ℕ)
-    → model.create_answered client file file_id None ≡ quiet_step client
+pub unread_create : (client : Client) (file file_id : ℕ) → model.create_answered client file file_id None ≡ quiet_step client
 unfolding model.create_answered
 unread_create client file file_id = refl
 
 not_created_live : (client : Client) (file : ℕ) (live : LiveEntry) (sent : List Pending) (status : Status) (asking : Option Asked)
-    → client.entries file ≡ live_entry live sent
-    → model.create_failed_for client file live sent status asking
+    → client.entries file ≡ live_entry live sent → model.create_failed_for client file live sent status asking
     ≡ turned client file (not_created_for live sent status asking)
 not_created_live client file live sent status None e = quiet client file sent (Phase.Live live) e
 not_created_live client file live sent status (Some asked) e = refl
 
 not_created_on : (client : Client) (file : ℕ) (status : Status) (sent : List Pending) (phase : Phase)
-    → client.entries file ≡ record { phase = phase; sent = sent }
-    → model.failed_on client file status sent phase
+    → client.entries file ≡ record { phase = phase; sent = sent } → model.failed_on client file status sent phase
     ≡ turned client file (not_created_in status sent phase)
 unfolding model.create_failed_on_live
 not_created_on client file status sent (Phase.Opening access share) e = refl
@@ -67,8 +62,7 @@ not_created_on client file status sent (Phase.Live live) e = not_created_live cl
 not_created_on client file status sent (Phase.Reconnecting parted) e = refl
 not_created_on client file status sent phase e = quiet client file sent phase e
 
-pub not_created_by : (client : Client) (file : ℕ) (status : Status)
-    → model.create_failed client file status
+pub not_created_by : (client : Client) (file : ℕ) (status : Status) → model.create_failed client file status
     ≡ turned client file (not_created_turn status (client.entries file))
 unfolding model.create_failed
 not_created_by client file status = not_created_on client file status _ _ refl
@@ -109,15 +103,13 @@ broken_by client file notice = broken_on client file notice _ _ refl
 -- ---- the file that a reply is about
 
 pub reads_by : (client : Client) (file file_id : ℕ) (bytes : List ℕ) → nat_le (length bytes) FILE_LIMIT ≡ true
-    → model.file_where client (is_read_under client file_id) ≡ Some file
-    → model.read_answered client file_id bytes
+    → model.file_where client (is_read_under client file_id) ≡ Some file → model.read_answered client file_id bytes
     ≡ turned client file (read_done_turn bytes (client.entries file))
 unfolding model.read_answered
 reads_by client file file_id bytes fits found = rw (fits, found) (read_by client file bytes)
 
 pub fails_by : (client : Client) (file file_id : ℕ) (status : Status)
-    → model.file_where client (is_read_under client file_id) ≡ Some file
-    → model.read_failed client file_id status
+    → model.file_where client (is_read_under client file_id) ≡ Some file → model.read_failed client file_id status
     ≡ turned client file (not_read_turn status (client.entries file))
 unfolding model.read_failed
 fails_by client file file_id status found = rw found (not_read_by client file status)
@@ -128,8 +120,7 @@ pub breaks_by : (client : Client) (file : ℕ) (notice : BreakNotice)
 unfolding model.broken
 breaks_by client file notice found = rw found (broken_by client file notice)
 
-pub breaks_none : (client : Client) (notice : BreakNotice)
-    → model.file_where client (model.is_key_of client notice.key) ≡ None
+pub breaks_none : (client : Client) (notice : BreakNotice) → model.file_where client (model.is_key_of client notice.key) ≡ None
     → model.broken client (Some notice) ≡ quiet_step client
 unfolding model.broken
 breaks_none client notice found = rw found refl
@@ -140,15 +131,13 @@ unread_break client = refl
 
 -- ---- a create of a file that the client doesn't have
 
-pub created_nowhere : (known : Known) (n file_id : ℕ) (answer : Option CreateAnswer)
-    → knows_file (client_of known) n ≡ false
+pub created_nowhere : (known : Known) (n file_id : ℕ) (answer : Option CreateAnswer) → knows_file (client_of known) n ≡ false
     → model.create_answered (client_of known) n file_id answer ≡ quiet_step (client_of known)
 unfolding model.create_answered
 created_nowhere known n file_id None is = refl
 created_nowhere known n file_id (Some answer) is = let e = unknown_file known n is in rw e refl
 
-pub not_created_nowhere : (known : Known) (n : ℕ) (status : Status)
-    → knows_file (client_of known) n ≡ false
+pub not_created_nowhere : (known : Known) (n : ℕ) (status : Status) → knows_file (client_of known) n ≡ false
     → model.create_failed (client_of known) n status ≡ quiet_step (client_of known)
 unfolding model.create_failed
 not_created_nowhere known n status is = let e = unknown_file known n is in rw e refl

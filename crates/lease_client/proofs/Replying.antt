@@ -30,22 +30,17 @@ first_belief_none : (key : List ℕ) (given : Option LeaseGiven) → is_free giv
 first_belief_none key x2 free = grind arith
 
 created_live : (key : List ℕ) (live : LiveEntry) (sent : List Pending) (file_id : ℕ) (answer : CreateAnswer)
-    (asking : Option Asked)
-    → is_free answer.lease ≡ false
+    (asking : Option Asked) → is_free answer.lease ≡ false
     → Lowers (live_entry live sent) (created_for key live sent file_id answer asking)
 unfolding model.promoted_turn
 created_live key live sent file_id answer x6 free = grind arith
 
 created_lowers : (key : List ℕ) (file_id : ℕ) (answer : CreateAnswer) (sent : List Pending) (phase : Phase)
-    → is_free answer.lease ≡ false
-    → Lowers (record { phase = phase; sent = sent }) (created_in key file_id answer sent phase)
+    → is_free answer.lease ≡ false → Lowers (record { phase = phase; sent = sent }) (created_in key file_id answer sent phase)
 unfolding model.opened_turn model.reconnected_turn
-created_lowers key file_id answer sent (Phase.Opening access share) free =
-    rw (first_belief_none key answer.lease free) refl
-created_lowers key file_id answer sent (Phase.Live live) free =
-    created_live key live sent file_id answer live.asking free
-created_lowers key file_id answer sent (Phase.Reconnecting parted) free =
-    rw (first_belief_none key answer.lease free) refl
+created_lowers key file_id answer sent (Phase.Opening access share) free = rw (first_belief_none key answer.lease free) refl
+created_lowers key file_id answer sent (Phase.Live live) free = created_live key live sent file_id answer live.asking free
+created_lowers key file_id answer sent (Phase.Reconnecting parted) free = rw (first_belief_none key answer.lease free) refl
 created_lowers key file_id answer sent phase free = refl
 
 -- ---- the other replies
@@ -87,8 +82,7 @@ not_written_lowers file_id number status sent more x6 = grind arith
 quiet_none : (client : Client) → NoneRose client client
 quiet_none client file = within_self (belief_of (client.entries file))
 
-found_none : (client : Client) (file : Option ℕ) (step : ℕ → Step)
-    → ((n : ℕ) → NoneRose client (step n).client)
+found_none : (client : Client) (file : Option ℕ) (step : ℕ → Step) → ((n : ℕ) → NoneRose client (step n).client)
     → NoneRose client (model.on_file client file step).client
 found_none client x2 step none = grind arith
 
@@ -101,10 +95,8 @@ created_rises : (client : Client) (file file_id : ℕ) (answer : Option CreateAn
     → RoseBy (Reply.Created file file_id answer) client (model.create_answered client file file_id answer).client
 unfolding model.create_answered
 created_rises client file file_id None n other = within_self (belief_of (client.entries n))
-created_rises client file file_id (Some answer) n other =
-    rw (created_by client file file_id answer)
-    (elim (either_free (file == n) (is_free answer.lease) other) [
-      | inl apart ↦ turned_apart client file _ n apart
+created_rises client file file_id (Some answer) n other = rw (created_by client file file_id answer)
+    (elim (either_free (file == n) (is_free answer.lease) other) [ | inl apart ↦ turned_apart client file _ n apart
       | inr free ↦ turned_lower client file _
           (created_lowers (lease_key client.guid file) file_id answer (client.entries file).sent (client.entries file).phase free)
           n
@@ -112,63 +104,49 @@ created_rises client file file_id (Some answer) n other =
 
 break_on_rises : (client : Client) (notice : BreakNotice) (n : ℕ)
     → NoneRose client (model.break_on client n notice (client.entries n).sent (client.entries n).phase).client
-break_on_rises client notice n =
-    rw (broken_by client n notice)
-    (turned_lower client n (broken_turn notice (client.entries n))
+break_on_rises client notice n = rw (broken_by client n notice) (turned_lower client n (broken_turn notice (client.entries n))
     (broken_lowers notice (client.entries n).sent (client.entries n).phase))
 
 break_rises : (client : Client) (notice : Option BreakNotice) → NoneRose client (model.broken client notice).client
 unfolding model.broken
 break_rises client None = quiet_none client
-break_rises client (Some notice) =
-    found_none client (model.file_where client (model.is_key_of client notice.key))
-    (λ n. model.break_on client n notice (client.entries n).sent (client.entries n).phase)
-    (break_on_rises client notice)
+break_rises client (Some notice) = found_none client (model.file_where client (model.is_key_of client notice.key))
+    (λ n. model.break_on client n notice (client.entries n).sent (client.entries n).phase) (break_on_rises client notice)
 
 read_on_rises : (client : Client) (bytes : List ℕ) (n : ℕ)
     → NoneRose client (model.read_on client n bytes (client.entries n).sent (client.entries n).phase).client
-read_on_rises client bytes n =
-    rw (read_by client n bytes)
-    (turned_lower client n (read_done_turn bytes (client.entries n))
+read_on_rises client bytes n = rw (read_by client n bytes) (turned_lower client n (read_done_turn bytes (client.entries n))
     (read_lowers bytes (client.entries n).sent (client.entries n).phase))
 
 read_rises : (client : Client) (file_id : ℕ) (bytes : List ℕ) → NoneRose client (model.read_answered client file_id bytes).client
 unfolding model.read_answered
-read_rises client file_id bytes =
-    none_if client (nat_le (length bytes) FILE_LIMIT) _ _
+read_rises client file_id bytes = none_if client (nat_le (length bytes) FILE_LIMIT) _ _
     (found_none client (model.file_where client (is_read_under client file_id))
-    (λ n. model.read_on client n bytes (client.entries n).sent (client.entries n).phase)
-    (read_on_rises client bytes))
+    (λ n. model.read_on client n bytes (client.entries n).sent (client.entries n).phase) (read_on_rises client bytes))
     (quiet_none client)
 
 not_read_on_rises : (client : Client) (status : Status) (n : ℕ)
     → NoneRose client (model.read_failed_on client n status (client.entries n).sent (client.entries n).phase).client
-not_read_on_rises client status n =
-    rw (not_read_by client n status)
+not_read_on_rises client status n = rw (not_read_by client n status)
     (turned_lower client n (not_read_turn status (client.entries n))
     (not_read_lowers status (client.entries n).sent (client.entries n).phase))
 
 not_read_rises : (client : Client) (file_id : ℕ) (status : Status)
     → NoneRose client (model.read_failed client file_id status).client
 unfolding model.read_failed
-not_read_rises client file_id status =
-    found_none client (model.file_where client (is_read_under client file_id))
-    (λ n. model.read_failed_on client n status (client.entries n).sent (client.entries n).phase)
-    (not_read_on_rises client status)
+not_read_rises client file_id status = found_none client (model.file_where client (is_read_under client file_id))
+    (λ n. model.read_failed_on client n status (client.entries n).sent (client.entries n).phase) (not_read_on_rises client status)
 
 written_rises : (client : Client) (number : ℕ) → NoneRose client (model.write_done client number).client
 unfolding model.write_done
-written_rises client number =
-    found_none client (model.file_where client (model.has_sent client number))
+written_rises client number = found_none client (model.file_where client (model.has_sent client number))
     (λ n. turned client n (model.write_done_turn number (client.entries n)))
-    (λ n. turned_lower client n (model.write_done_turn number (client.entries n))
-    (written_lowers number (client.entries n)))
+    (λ n. turned_lower client n (model.write_done_turn number (client.entries n)) (written_lowers number (client.entries n)))
 
 not_written_rises : (client : Client) (file_id number : ℕ) (status : Status)
     → NoneRose client (model.write_failed client file_id number status).client
 unfolding model.write_failed
-not_written_rises client file_id number status =
-    found_none client (model.file_where client (model.has_sent client number))
+not_written_rises client file_id number status = found_none client (model.file_where client (model.has_sent client number))
     (λ n. turned client n (not_written_turn file_id number status (client.entries n)))
     (λ n. turned_lower client n (not_written_turn file_id number status (client.entries n))
     (not_written_lowers file_id number status (client.entries n).sent
@@ -176,16 +154,13 @@ not_written_rises client file_id number status =
 
 pub replies_raise : (client : Client) (reply : Reply) → RoseBy reply client (taken client reply).client
 unfolding taken
-replies_raise client (Reply.Created file file_id contexts) n other =
-    created_rises client file file_id contexts n other
-replies_raise client (Reply.CreateFailed file status) n other =
-    rw (not_created_by client file status)
+replies_raise client (Reply.Created file file_id contexts) n other = created_rises client file file_id contexts n other
+replies_raise client (Reply.CreateFailed file status) n other = rw (not_created_by client file status)
     (turned_lower client file _ (not_created_lowers status (client.entries file).sent (client.entries file).phase) n)
 replies_raise client (Reply.ReadDone file_id bytes) n other = read_rises client file_id bytes n
 replies_raise client (Reply.ReadFailed file_id status) n other = not_read_rises client file_id status n
 replies_raise client (Reply.WriteDone file_id number) n other = written_rises client number n
-replies_raise client (Reply.WriteFailed file_id number status) n other =
-    not_written_rises client file_id number status n
+replies_raise client (Reply.WriteFailed file_id number status) n other = not_written_rises client file_id number status n
 replies_raise client (Reply.Break notice) n other = break_rises client notice n
 replies_raise client reply n other = quiet_none client n
 

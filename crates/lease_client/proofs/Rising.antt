@@ -76,8 +76,7 @@ read_from_lowers file sent live true (Some base) = within_self live.belief
 read_from_lowers file sent live true None = read_sent_lowers sent live
 read_from_lowers file sent live false base = read_sent_lowers sent live
 
-read_lowers : (file : ℕ) (sent : List Pending) (live : LiveEntry)
-    → Lowers (live_entry live sent) (rules.read_turn file live sent)
+read_lowers : (file : ℕ) (sent : List Pending) (live : LiveEntry) → Lowers (live_entry live sent) (rules.read_turn file live sent)
 unfolding rules.read_turn
 read_lowers file sent live =
     lower_if (live_entry live sent) (may_read live.access) _ _ (read_from_lowers file sent live live.belief.read live.base)
@@ -94,8 +93,7 @@ flush_lowers sent live = within_self live.belief
 
 command_lowers : (online : Bool) (key : List ℕ) (last : ℕ) (command : Command) (entry : Entry)
     → Lowers entry (rules.commanded_turn online key last command entry)
-command_lowers online key last (Command.Open file terms) entry =
-    open_lowers online key file terms entry.sent entry.phase
+command_lowers online key last (Command.Open file terms) entry = open_lowers online key file terms entry.sent entry.phase
 command_lowers online key last (Command.Close file) entry =
     heard_lowers rules.close_turn entry.sent entry.phase (close_lowers entry.sent)
 command_lowers online key last (Command.Read file) entry =
@@ -108,14 +106,11 @@ command_lowers online key last (Command.Flush file) entry =
 
 known_commands : (client : Client) (command : Command) (known : Bool) → knows_file client (file_of command) ≡ known
     → NoneRose client (commanded client command).client
-known_commands client command true is =
-    rw (commanded_by client command is)
-    (turned_lower client (file_of command) _
+known_commands client command true is = rw (commanded_by client command is) (turned_lower client (file_of command) _
     (command_lowers client.is_online (lease_key client.guid (file_of command)) client.last_number command
     (client.entries (file_of command))))
 known_commands client command false is =
     rw (commanded_nowhere client command is) (λ file. within_self (belief_of (client.entries file)))
 
 pub commands_raise_none : (client : Client) (command : Command) → NoneRose client (commanded client command).client
-commands_raise_none client command =
-    known_commands client command (knows_file client (file_of command)) refl
+commands_raise_none client command = known_commands client command (knows_file client (file_of command)) refl

@@ -29,8 +29,7 @@ answered client answer = record { client = client; answer = answer; requests = [
 pub turned_still : (client : Client) (file : ℕ) (answer : Answer)
     → turned client file (turn_of (client.entries file) answer []) ≡ answered client answer
 unfolding turned
-turned_still client file answer =
-    ap (λ (notes : List Note). record {
+turned_still client file answer = ap (λ (notes : List Note). record {
       client = record client { entries = put client.entries file (client.entries file) };
       answer = answer;
       requests = [];
@@ -80,29 +79,21 @@ abbrev pub with_note : Given → ℕ → State → State → Given
 with_note given file old new = record given { notes = given.notes ++ believes_noted file old new }
 
 pub noted_by : (known : Known) (n last : ℕ) (turn : Turn) (old new : State) (final : Known) (first given : Given)
-    → knows_file (client_of known) n ≡ true
-    → old ≡ belief_of ((client_of known).entries n)
-    → final ≡ record (with_entry known n turn.entry) { last_number = last }
-    → first ≡ given_in (turn_written turn)
-    → new ≡ belief_of ((client_of final).entries n)
-    → given ≡ with_note first n old new
+    → knows_file (client_of known) n ≡ true → old ≡ belief_of ((client_of known).entries n)
+    → final ≡ record (with_entry known n turn.entry) { last_number = last } → first ≡ given_in (turn_written turn)
+    → new ≡ belief_of ((client_of final).entries n) → given ≡ with_note first n old new
     → given ≡ given_by n (belief_of ((client_of known).entries n)) (turn_written turn)
 noted_by known n last turn old new final first given is was stands by now out =
     let there : (client_of final).entries n ≡ turn.entry =
     ap (λ (k : Known). (client_of k).entries n) stands ∙ entry_there known n turn.entry is in
     let believed : new ≡ belief_of turn.entry = now ∙ ap belief_of there in
-    out
-    ∙ ap (λ (g : Given). with_note g n old new) by
-    ∙ ap (λ (s : State). with_note (given_in (turn_written turn)) n s new) was
+    out ∙ ap (λ (g : Given). with_note g n old new) by ∙ ap (λ (s : State). with_note (given_in (turn_written turn)) n s new) was
     ∙ ap (λ (s : State). with_note (given_in (turn_written turn)) n (belief_of ((client_of known).entries n)) s) believed
 
 pub is_after : (known : Known) (n last : ℕ) (turn : Turn) (old new : State) (final : Known) (first given : Given)
-    → knows_file (client_of known) n ≡ true
-    → old ≡ belief_of ((client_of known).entries n)
-    → final ≡ record (with_entry known n turn.entry) { last_number = last }
-    → first ≡ given_in (turn_written turn)
-    → new ≡ belief_of ((client_of final).entries n)
-    → given ≡ with_note first n old new
+    → knows_file (client_of known) n ≡ true → old ≡ belief_of ((client_of known).entries n)
+    → final ≡ record (with_entry known n turn.entry) { last_number = last } → first ≡ given_in (turn_written turn)
+    → new ≡ belief_of ((client_of final).entries n) → given ≡ with_note first n old new
     → IsAfter final given (with_number last (turned (client_of known) n turn))
 is_after known n last turn old new final first given is was stands by now out =
     let told = noted_by known n last turn old new final first given is was stands by now out in
@@ -116,18 +107,15 @@ same_numbered client file turn = refl
 -- ---- nothing changes
 
 pub nothing_after : (known : Known) (answer : Answer) (given : Given)
-    → given ≡ record { answer = answer; requests = []; notes = [] }
-    → IsAfter known given (answered (client_of known) answer)
+    → given ≡ record { answer = answer; requests = []; notes = [] } → IsAfter known given (answered (client_of known) answer)
 nothing_after known answer given is = rw is (record { client = refl; answer = refl; requests = refl; notes = refl })
 
 -- ---- a refused command
 
-unsaid_if : (same : Bool) (file : ℕ) (new : State)
-    → (if same then [] else Note.Believes file new ∷ []) ≡ [] → same ≡ true
+unsaid_if : (same : Bool) (file : ℕ) (new : State) → (if same then [] else Note.Believes file new ∷ []) ≡ [] → same ≡ true
 unsaid_if x1 file new none = grind arith
 
-unsaid : (notes : List Note) (file : ℕ) (old new : State)
-    → notes ++ believes_noted file old new ≡ [] → same_state old new ≡ true
+unsaid : (notes : List Note) (file : ℕ) (old new : State) → notes ++ believes_noted file old new ≡ [] → same_state old new ≡ true
 unsaid [] file old new none = unsaid_if (same_state old new) file new none
 unsaid (note ∷ notes) file old new none = absurd (cc none)
 

@@ -11,8 +11,7 @@ patched_on base (write ∷ sent) unsent = patched_on (patch base write.patch) se
 
 -- the first of the writes, and then the rest
 pub patched_rest : (base : List ℕ) (writes : List Pending) (k n : ℕ) → n ≡ length writes - k
-    → patches (patches base (patches_of (take k writes))) (patches_of (take n (drop k writes)))
-    ≡ patches base (patches_of writes)
+    → patches (patches base (patches_of (take k writes))) (patches_of (take n (drop k writes))) ≡ patches base (patches_of writes)
 patched_rest base writes k n rest =
     ap (λ (ws : List Pending). patches (patches base (patches_of (take k writes))) (patches_of ws))
     (take_all n (drop k writes) (omega (arith, rest, length-drop {A = Pending})))

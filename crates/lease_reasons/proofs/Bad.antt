@@ -22,8 +22,7 @@ record BadFrom (place : ℕ) (past facts : List Fact) (told : Verdict) : Type 0 
   flaw : flaw_at (place + length before) fact (reverse_aux before past) ≡ told
 
 bad-from : (place : ℕ) (past facts : List Fact) (told : Verdict) → verdict_from place past facts ≡ told → (told ≡ Verdict.Safe →
-    ⊥)
-    → BadFrom place past facts told
+    ⊥) → BadFrom place past facts told
 unfolding verdict_from
 bad-from place past [] told e unsafe = absurd (unsafe (sym e))
 bad-from place past (one ∷ facts) told e unsafe =
@@ -63,12 +62,8 @@ bad-from place past (one ∷ facts) told e unsafe =
 -- ---- which flaw
 
 abbrev flaw_of : ℕ → Bool → Bool → Bool → Bool → Bool → Verdict
-flaw_of place w t s l d =
-    if not w then Verdict.Malformed place
-    else (if t then Verdict.Unsafe place 1
-    else (if s then Verdict.Unsafe place 2
-    else (if l then Verdict.Unsafe place 3
-    else (if d then Verdict.Unsafe place 4
+flaw_of place w t s l d = if not w then Verdict.Malformed place else (if t then Verdict.Unsafe place 1
+    else (if s then Verdict.Unsafe place 2 else (if l then Verdict.Unsafe place 3 else (if d then Verdict.Unsafe place 4
     else Verdict.Safe))))
 
 malformed-of : (n p : ℕ) (w t s l d : Bool) → flaw_of n w t s l d ≡ Verdict.Malformed p → (p ≡ n) × (w ≡ false)
@@ -94,8 +89,7 @@ same-split (u ∷ a) (v ∷ b) x y c d e l =
 
 pub parts-at : (xs : List code.Fact) (k : ℕ) (x : code.Fact) → k < length xs → x ≡ get_or xs k x
     → map fact_of xs ≡ map fact_of (take k xs) ++ fact_of x ∷ map fact_of (drop (k + 1) xs)
-parts-at xs k x inside is =
-    ap (map fact_of) (sym (take-append-drop k xs) ∙ ap (λ (ys : List code.Fact). take k xs ++ ys)
+parts-at xs k x inside is = ap (map fact_of) (sym (take-append-drop k xs) ∙ ap (λ (ys : List code.Fact). take k xs ++ ys)
     (drop_rest xs k x inside ∙ ap (λ (y : code.Fact). y ∷ drop (k + 1) xs) (sym is)))
     ∙ map-append fact_of (take k xs) (x ∷ drop (k + 1) xs)
 

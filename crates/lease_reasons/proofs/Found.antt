@@ -37,8 +37,7 @@ strayed-place client (Fact.Strayed other ∷ past) =
 strayed-place client (_ ∷ past) = strayed-place client past
 
 pub good-is : (client : ClientNo) (past : List Fact) (strayed : Option ℕ) → strayed ≡ last_place (fits (mark.Straying client))
-    past
-    → is_good client.0 past ≡ (not (is_some strayed) && is_served client.0 past)
+    past → is_good client.0 past ≡ (not (is_some strayed) && is_served client.0 past)
 unfolding is_good
 good-is client past strayed e =
     ap (λ (b : Bool). not b && is_served client.0 past) (sym (strayed-place client past) ∙ ap (λ (o : Option ℕ). is_some o) (sym
@@ -139,8 +138,7 @@ touched-place client file number (fact ∷ past) wrote found touched =
         → earlier before (if nat_le 0 (length past) && fits (mark.Buffering client file number) fact then Some (length past + 1)
         else None) ≡ Some wrote
         → (first_place (fits (mark.Buffering client file number)) 0 past ≡ Some wrote → is_touched client.0 file.0 number past ≡
-        true
-        → is_some (first_place (fits (mark.Touch client file)) wrote past) ≡ true)
+        true → is_some (first_place (fits (mark.Touch client file)) wrote past) ≡ true)
         → is_some (first_place (fits (mark.Touch client file)) wrote (fact ∷ past)) ≡ true
     go None e f before =
         let none : has_buffered client.0 file.0 number past ≡ false =
@@ -156,8 +154,7 @@ touched-place client file number (fact ∷ past) wrote found touched =
         let inside : nat_le wrote (length past) ≡ true =
         le-leb wrote (length past) (first-inside (fits (mark.Buffering client file number)) 0 past wrote at) in
         rw inside (first-or (first_place (fits (mark.Touch client file)) wrote past) (fits (mark.Touch client file) fact) _
-        (length past + 1) refl
-        ∙ touch-or (fits (mark.Touch client file) fact) _ _ _ later (λ t. before at t))
+        (length past + 1) refl ∙ touch-or (fits (mark.Touch client file) fact) _ _ _ later (λ t. before at t))
 
 -- what is touched by others was buffered
 pub buffered-if_touched : (client : ClientNo) (file : FileNo) (number : ℕ) (past : List Fact)

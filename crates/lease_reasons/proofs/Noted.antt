@@ -44,8 +44,7 @@ any-append t (x ∷ xs) ys = ap (λ (b : Bool). t x || b) (any-append t xs ys) �
 -- ---- beliefs
 
 last-here : (client place : ℕ) (past : List Fact) (file other : ℕ) (state : State) → length past + 1 ≡ place → (other == file) ≡
-    true
-    → last_noted client file (Fact.Believes client other state ∷ past) ≡ Some (record { place = place; state = state })
+    true → last_noted client file (Fact.Believes client other state ∷ past) ≡ Some (record { place = place; state = state })
 unfolding last_noted
 last-here client place past file other state at e = rw (eq-eqb client client refl, e, at) refl
 
@@ -99,8 +98,7 @@ noted-more file (fact.Believes client other state) past place beliefs at n = go 
         past) ≡ true
     still c same some = sym (ap (λ (o : Option Noted). is_some o) same) ∙ some
 
-    go : (b : Bool) → (other.0 == file) ≡ b
-        → AreNoted (Fact.Believes client.0 other.0 (state_of state) ∷ past) file
+    go : (b : Bool) → (other.0 == file) ≡ b → AreNoted (Fact.Believes client.0 other.0 (state_of state) ∷ past) file
         (with_belief (if b then Some (record { client = client; place = place; state = state }) else None) beliefs)
     go true e = record {
       each = each-append _ (others client.0 beliefs) (record { client = client; place = place; state = state })
@@ -133,8 +131,7 @@ unfolding last_noted
 files-more (fact.Believes client other state) past files all c file some = go (client.0 == c && other.0 == file) refl
   where
     kept : (f : ℕ) → list_any (λ g. g.0 == f) files ≡ true → list_any (λ g. g.0 == f) (with_file (Some other) files) ≡ true
-    kept f there = elim (cases_Bool (list_any (λ g. g.0 == other.0) files)) [
-      | inl had ↦ rw had there
+    kept f there = elim (cases_Bool (list_any (λ g. g.0 == other.0) files)) [ | inl had ↦ rw had there
       | inr had ↦ rw had (any-append (λ g. g.0 == f) files (other ∷ []) ∙ left _ _ there)
     ]
       where
@@ -142,8 +139,7 @@ files-more (fact.Believes client other state) past files all c file some = go (c
         left a b e = grind arith
 
     put : list_any (λ g. g.0 == other.0) (with_file (Some other) files) ≡ true
-    put = elim (cases_Bool (list_any (λ g. g.0 == other.0) files)) [
-      | inl had ↦ rw had had
+    put = elim (cases_Bool (list_any (λ g. g.0 == other.0) files)) [ | inl had ↦ rw had had
       | inr had ↦ rw had (any-append (λ g. g.0 == other.0) files (other ∷ []) ∙ rw (eq-eqb other.0 other.0 refl) (right _))
     ]
       where
@@ -198,8 +194,7 @@ pub any-noted : (past : List Fact) (file c : ℕ) (t : Belief → Bool) (beliefs
     → list_any t (filter (may_clash past) beliefs) ≡ true
 any-noted past file c t [] each there holds good passes = absurd (both_ways _ refl there)
 any-noted past file c t (b ∷ beliefs) each there holds good passes =
-    elim (or_cases (is_of c b) (list_any (is_of c) beliefs) there) [
-      | inl here ↦ first here
+    elim (or_cases (is_of c b) (list_any (is_of c) beliefs) there) [ | inl here ↦ first here
       | inr later ↦ rest (may_clash past b) (any-noted past file c t beliefs each.1 later holds good passes)
     ]
   where
@@ -248,8 +243,7 @@ rivals-found past file beliefs n = by_writer (find (λ b. (state_of b.state).wri
     none_of : (t : Belief → Bool) (c : ℕ) → find t (filter (may_clash past) beliefs) ≡ None
         → is_good c past ≡ true → holds_any (believed c file past) ≡ true
         → ((b : Belief) → b.client.0 ≡ c → state_of b.state ≡ believed c file past → t b ≡ true) → ⊥
-    none_of t c none good holds passes =
-        find-some t (filter (may_clash past) beliefs)
+    none_of t c none good holds passes = find-some t (filter (may_clash past) beliefs)
         (any-noted past file c t beliefs n.each (n.all c (noted-if_holds c file past holds)) holds good passes) none
 
     by_other : (w : Belief) → find (λ b. (state_of b.state).write) (filter (may_clash past) beliefs) ≡ Some w

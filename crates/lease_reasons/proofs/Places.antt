@@ -23,8 +23,7 @@ unfolding first_place
 first-none test behind = refl
 
 pub first-next : (test : Fact → Bool) (behind : ℕ) (xs : List code.Fact) (i : ℕ) (x : code.Fact) → i < length xs → x ≡ get_or xs i
-    x
-    → first_place test behind (past_of (take (i + 1) xs))
+    x → first_place test behind (past_of (take (i + 1) xs))
     ≡ earlier (first_place test behind (past_of (take i xs))) (if nat_le behind i && test (fact_of x) then Some (i + 1) else None)
 unfolding first_place
 first-next test behind xs i x inside is =

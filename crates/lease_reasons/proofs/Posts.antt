@@ -14,14 +14,12 @@ joins : (b : Bool) (sent : List (List Fact)) (taken : ℕ)
     → mail (if b then [] else sent) (if b then 0 else taken) ≡ (if b then record { sent = []; taken = 0 } else mail sent taken)
 joins x1 sent taken = grind arith
 
-sends : (b : Bool) (sent : List (List Fact)) (taken : ℕ) (past : List Fact)
-    → mail (if b then sent ++ past ∷ [] else sent) taken
+sends : (b : Bool) (sent : List (List Fact)) (taken : ℕ) (past : List Fact) → mail (if b then sent ++ past ∷ [] else sent) taken
     ≡ (if b then record { sent = map place_behind sent ++ (length past + 1) ∷ []; taken = taken } else mail sent taken)
 sends true sent taken past = ap (λ (s : List ℕ). record { sent = s; taken = taken }) (map-append place_behind sent (past ∷ []))
 sends false sent taken past = refl
 
-takes : (b : Bool) (sent : List (List Fact)) (taken : ℕ)
-    → mail sent (if b then taken + 1 else taken)
+takes : (b : Bool) (sent : List (List Fact)) (taken : ℕ) → mail sent (if b then taken + 1 else taken)
     ≡ (if b then record { sent = map place_behind sent; taken = taken + 1 } else mail sent taken)
 takes x1 sent taken = grind arith
 

@@ -60,8 +60,7 @@ unfolding unsettled
 writes-none client file whole bytes = refl
 
 pub writes-more : (client file : ℕ) (whole : List Fact) (numbers : List ℕ) (bytes : List ℕ) (fact : Fact) (past : List Fact)
-    → AreSettled client whole numbers
-    → patches bytes (unsettled client file whole (fact ∷ past))
+    → AreSettled client whole numbers → patches bytes (unsettled client file whole (fact ∷ past))
     ≡ with_write (is_waiting client file numbers fact) fact (patches bytes (unsettled client file whole past))
 unfolding unsettled
 writes-more client file whole numbers bytes (Fact.Wrote writer other number write buffered) past all =
@@ -74,8 +73,7 @@ unfolding unsettled_places
 places-none client file whole = refl
 
 pub places-more : (client file : ℕ) (whole : List Fact) (numbers : List ℕ) (fact : Fact) (past : List Fact)
-    → AreSettled client whole numbers
-    → unsettled_places client file whole (fact ∷ past)
+    → AreSettled client whole numbers → unsettled_places client file whole (fact ∷ past)
     ≡ (if is_waiting client file numbers fact then unsettled_places client file whole past ++ (length past + 1) ∷ []
     else unsettled_places client file whole past)
 unfolding unsettled_places
@@ -128,8 +126,7 @@ drop-front [] ys = refl
 drop-front (x ∷ xs) ys = drop-front xs ys
 
 past-split : (xs : List code.Fact) (k : ℕ) → past_of xs ≡ past_of (drop k xs) ++ past_of (take k xs)
-past-split xs k =
-    ap (λ (ys : List code.Fact). past_of ys) (sym (take-append-drop k xs))
+past-split xs k = ap (λ (ys : List code.Fact). past_of ys) (sym (take-append-drop k xs))
     ∙ (ap (λ (ys : List Fact). reverse ys) (map-append fact_of (take k xs) (drop k xs))
     ∙ reverse-append (map fact_of (take k xs)) (map fact_of (drop k xs)))
 

@@ -42,8 +42,7 @@ or-told : (fact : Fact) (past : List Fact) (broken : Option Rule) (one later : O
 or-told fact past broken one later t = (t.0, ap (λ (o : Option Reason). or_reason o later) t.1, t.2, t.3)
 
 or-later : (fact : Fact) (past : List Fact) (broken : Option Rule) (one later : Option Reason) → one ≡ None → Told fact past
-    broken later
-    → Told fact past broken (or_reason one later)
+    broken later → Told fact past broken (or_reason one later)
 or-later fact past broken one later e t = (t.0, ap (λ (o : Option Reason). or_reason o later) e ∙ t.1, t.2, t.3)
 
 started-none : (file : FileNo) (past : List Fact) → is_started file.0 past ≡ true → not_started file past ≡ None
@@ -52,8 +51,7 @@ started-none file past e =
     ap (λ (o : Option ℕ). unless_place o (reason.NotStarted file)) there.1
 
 not_started-told : (fact : Fact) (past : List Fact) (file : FileNo) → named_file fact ≡ Some file.0 → is_started file.0 past ≡
-    false
-    → Told fact past None (not_started file past)
+    false → Told fact past None (not_started file past)
 not_started-told fact past file named e = (
   reason.NotStarted file,
   ap (λ (o : Option ℕ). unless_place o (reason.NotStarted file)) (none-place _ (started_place file past ∙ e)),
@@ -103,8 +101,7 @@ malformed-told (fact.Changed file client number patch) past e =
       | inl none ↦ or-told (Fact.Changed file.0 client.0 number patch) past None (not_started file past) (past_limit patch)
           (not_started-told (Fact.Changed file.0 client.0 number patch) past file refl none)
       | inr some ↦ or-later (Fact.Changed file.0 client.0 number patch) past None (not_started file past) (past_limit patch)
-          (started-none file past some.0)
-          (past_limit-told (Fact.Changed file.0 client.0 number patch) past patch refl some.1)
+          (started-none file past some.0) (past_limit-told (Fact.Changed file.0 client.0 number patch) past patch refl some.1)
     ]
 malformed-told (fact.Wrote client file number patch buffered) past e =
     elim (three (is_started file.0 past) (is_within_limit patch) (has_number client.0 number past) e) [
@@ -142,8 +139,7 @@ malformed-told (fact.Took client) past e =
         ap (λ (o : Option ℕ). taken_none client past o) (none-place _ (joined-place client past ∙ none)),
         refl,
         (refl, none),
-      )
-      | inr some ↦ taken some.0 some.1
+      ) | inr some ↦ taken some.0 some.1
     ]
   where
     not-less : (a b : ℕ) → nat_lt a b ≡ false → b ≤ a
@@ -208,7 +204,6 @@ done-told (fact.Settled client number settlement.Lost) past e = absurd (both_way
 done-told _ past e = absurd (both_ways _ refl e)
 
 pub stale-told : (x : code.Fact) (past : List Fact) (told : Option Reason) → TellsRead x past told → is_stale_read (fact_of x)
-    past ≡ true
-    → Told (fact_of x) past (Some rule.FreshCachedReads) told
+    past ≡ true → Told (fact_of x) past (Some rule.FreshCachedReads) told
 unfolding is_stale_read
 stale-told x1 past told tells e = grind arith

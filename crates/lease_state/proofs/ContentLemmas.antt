@@ -24,10 +24,8 @@ length-written x o d = length-map-range_with_len _ 0 _
 
 pub get_or-written : (x : List ℕ) (o : ℕ) (d : List ℕ) (k : ℕ) → get_or (written x o d) k 0 ≡ byte_at x o d k
 unfolding written
-get_or-written x o d k =
-    elim (cases_lt k (max (length x) (o + length d))) [
-      | inl within ↦ get_or-map-range_with_len (byte_at x o d) 0 _ k k 0 within (omega arith)
-      | inr past ↦
+get_or-written x o d k = elim (cases_lt k (max (length x) (o + length d))) [
+      | inl within ↦ get_or-map-range_with_len (byte_at x o d) 0 _ k k 0 within (omega arith) | inr past ↦
           get_or_past (written x o d) k 0 (rw (length-written x o d) past)
           ∙ sym (byte_at_behind x o d k (omega (arith, past)) ∙ get_or_past x k 0 (omega (arith, past)))
     ]
@@ -35,8 +33,7 @@ get_or-written x o d k =
 -- a list is what is written where it is as long and has its bytes
 pub written_by_places : (x : List ℕ) (o : ℕ) (d all : List ℕ) → length all ≡ max (length x) (o + length d)
     → ((k : ℕ) → k < length all → get_or all k 0 ≡ byte_at x o d k) → all ≡ written x o d
-written_by_places x o d all long bytes =
-    same_number_lists all (written x o d) (long ∙ sym (length-written x o d))
+written_by_places x o d all long bytes = same_number_lists all (written x o d) (long ∙ sym (length-written x o d))
     (λ k within. bytes k within ∙ sym (get_or-written x o d k))
 
 -- ---- zeros behind a list, then the bytes over it
@@ -59,23 +56,18 @@ length-over : (x : List ℕ) (o : ℕ) (d : List ℕ) → o + length d ≤ lengt
 length-over x o d room = grind (arith, common_steps)
 
 get_or-over : (x : List ℕ) (o : ℕ) (d : List ℕ) (k : ℕ) → o + length d ≤ length x → get_or (over x o d) k 0 ≡ byte_at x o d k
-get_or-over x o d k room =
-    elim (cases_lt k o) [
+get_or-over x o d k room = elim (cases_lt k o) [
       | inl before ↦
           get_or_append_left (take o x) (d ++ drop (o + length d) x) 0 k (omega (arith, length-take-le o x (omega (arith, room))))
           ∙ get_or-take o x k 0 before ∙ sym (byte_at_before x o d k before)
       | inr from ↦
           get_or-append_right (take o x) (d ++ drop (o + length d) x) o k 0 (length-take-le o x (omega (arith, room))) from
-          ∙ elim (cases_lt k (o + length d)) [
-            | inl below ↦
+          ∙ elim (cases_lt k (o + length d)) [ | inl below ↦
                 get_or_append_left d (drop (o + length d) x) 0 (k - o) (omega (arith, from, below))
                 ∙ sym (byte_at_within x o d k from below)
-            | inr behind ↦
-                get_or-append_right d (drop (o + length d) x) (length d) (k - o) 0 refl (omega (arith, from, behind))
-                ∙ get_or-drop (o + length d) x (k - o - length d) 0
-                ∙ (let place : o + length d + (k - o - length d)
-                ≡ k = omega (arith, from, behind) in ap (λ n. get_or x n 0) place)
-                ∙ sym (byte_at_behind x o d k behind)
+            | inr behind ↦ get_or-append_right d (drop (o + length d) x) (length d) (k - o) 0 refl (omega (arith, from, behind))
+                ∙ get_or-drop (o + length d) x (k - o - length d) 0 ∙ (let place : o + length d + (k - o - length d)
+                ≡ k = omega (arith, from, behind) in ap (λ n. get_or x n 0) place) ∙ sym (byte_at_behind x o d k behind)
           ]
     ]
 
@@ -100,8 +92,7 @@ patch_at-some x o (b ∷ d) some = refl
 -- A content that is cut or filled up with zeros to `size` bytes, and then written over, is patched.
 -- What stands behind the first `size` places of the answer was never there.
 pub resized-over : (x d z w : List ℕ) (o size held : ℕ) → 0 < length d → held ≡ length x → size ≡ max (o + length d) held
-    → z ≡ take size x ++ replicate (size - held) 0 → w ≡ over z o d
-    → take size (w ++ drop (length w) z) ≡ patch_at x o d
+    → z ≡ take size x ++ replicate (size - held) 0 → w ≡ over z o d → take size (w ++ drop (length w) z) ≡ patch_at x o d
 resized-over x d z w o size held some held-is size-is z-is w-is =
     let same_zeros : size - held ≡ o + length d - length x = omega (arith, size-is, held-is) in
     let z-filled : z ≡ x ++ replicate (o + length d - length x) 0 =

@@ -104,15 +104,13 @@ without_reconnect direction None true long calm = (
 without_reconnect direction (Some lease) true long calm = (
   lease_context (0) lease ∷ durable_context direction (0 + length (lease_piece true lease)) ∷ [],
   (
-    lease_piece true lease ∷ durable_piece direction false
-        ∷ [],
+    lease_piece true lease ∷ durable_piece direction false ∷ [],
     refl,
     (
       is_lease true (0) lease long,
       lease_leads lease long,
       (
-        is_durable direction false
-            (0 + length (lease_piece true lease)),
+        is_durable direction false (0 + length (lease_piece true lease)),
         durable_ends direction,
         refl,
       ),
@@ -149,8 +147,7 @@ with_reconnect None false file_id long calm fits = (
 with_reconnect (Some lease) false file_id long calm fits = (
   lease_context (0) lease ∷ reconnect_context (0 + length (lease_piece true lease)) file_id ∷ [],
   (
-    lease_piece true lease ∷ reconnect_piece file_id
-        ∷ [],
+    lease_piece true lease ∷ reconnect_piece file_id ∷ [],
     rw (append-nil (reconnect_piece file_id)) refl,
     (
       is_lease true (0) lease long,
@@ -159,21 +156,16 @@ with_reconnect (Some lease) false file_id long calm fits = (
     ),
   ),
   record {
-    lengths = rw (lease_is Request (0) lease long calm, reconnect_is (0 + length (lease_piece true lease)) file_id fits)
-        refl;
-    lease = rw (lease_is Request (0) lease long calm, reconnect_is (0 + length (lease_piece true lease)) file_id fits)
-        refl;
-    durable = rw (lease_is Request (0) lease long calm, reconnect_is (0 + length (lease_piece true lease)) file_id fits)
-        refl;
-    reconnect = rw (lease_is Request (0) lease long calm, reconnect_is (0 + length (lease_piece true lease)) file_id fits)
-        refl;
+    lengths = rw (lease_is Request (0) lease long calm, reconnect_is (0 + length (lease_piece true lease)) file_id fits) refl;
+    lease = rw (lease_is Request (0) lease long calm, reconnect_is (0 + length (lease_piece true lease)) file_id fits) refl;
+    durable = rw (lease_is Request (0) lease long calm, reconnect_is (0 + length (lease_piece true lease)) file_id fits) refl;
+    reconnect = rw (lease_is Request (0) lease long calm, reconnect_is (0 + length (lease_piece true lease)) file_id fits) refl;
   },
 )
 with_reconnect None true file_id long calm fits = (
   durable_context Request (0) ∷ reconnect_context (0 + length (durable_piece Request true)) file_id ∷ [],
   (
-    durable_piece Request true ∷ reconnect_piece file_id
-        ∷ [],
+    durable_piece Request true ∷ reconnect_piece file_id ∷ [],
     rw (append-nil (reconnect_piece file_id)) refl,
     (
       is_durable Request true (0),
@@ -192,8 +184,7 @@ with_reconnect (Some lease) true file_id long calm fits = (
   lease_context (0) lease ∷ durable_context Request (0 + length (lease_piece true lease))
       ∷ reconnect_context (0 + length (lease_piece true lease) + length (durable_piece Request true)) file_id ∷ [],
   (
-    lease_piece true lease ∷ durable_piece Request true ∷ reconnect_piece file_id
-        ∷ [],
+    lease_piece true lease ∷ durable_piece Request true ∷ reconnect_piece file_id ∷ [],
     rw (append-nil (reconnect_piece file_id)) refl,
     (
       is_lease true (0) lease long,
@@ -218,20 +209,17 @@ with_reconnect (Some lease) true file_id long calm fits = (
     lease = rw (
       lease_is Request (0) lease long calm,
       durable_is Request (0 + length (lease_piece true lease)),
-      reconnect_is
-          (0 + length (lease_piece true lease) + length (durable_piece Request true)) file_id fits,
+      reconnect_is (0 + length (lease_piece true lease) + length (durable_piece Request true)) file_id fits,
     ) refl;
     durable = rw (
       lease_is Request (0) lease long calm,
       durable_is Request (0 + length (lease_piece true lease)),
-      reconnect_is
-          (0 + length (lease_piece true lease) + length (durable_piece Request true)) file_id fits,
+      reconnect_is (0 + length (lease_piece true lease) + length (durable_piece Request true)) file_id fits,
     ) refl;
     reconnect = rw (
       lease_is Request (0) lease long calm,
       durable_is Request (0 + length (lease_piece true lease)),
-      reconnect_is
-          (0 + length (lease_piece true lease) + length (durable_piece Request true)) file_id fits,
+      reconnect_is (0 + length (lease_piece true lease) + length (durable_piece Request true)) file_id fits,
     ) refl;
   },
 )

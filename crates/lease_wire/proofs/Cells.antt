@@ -15,15 +15,10 @@ no_cell P here (x ∷ xs) long = absurd (omega arith)
 pub sixteen_cells : (P : List ℕ → Type 0)
     → ((a b c d e f g h i j k l m n o p : ℕ) → P (a ∷ b ∷ c ∷ d ∷ e ∷ f ∷ g ∷ h ∷ i ∷ j ∷ k ∷ l ∷ m ∷ n ∷ o ∷ p ∷ []))
     → (xs : List ℕ) → length xs ≡ 16 → P xs
-sixteen_cells P here =
-    first_cell (λ xs. P (xs)) 15 (λ a.
-    first_cell (λ xs. P (a ∷ xs)) 14 (λ b.
-    first_cell (λ xs. P (a ∷ b ∷ xs)) 13 (λ c.
-    first_cell (λ xs. P (a ∷ b ∷ c ∷ xs)) 12 (λ d.
-    first_cell (λ xs. P (a ∷ b ∷ c ∷ d ∷ xs)) 11 (λ e.
-    first_cell (λ xs. P (a ∷ b ∷ c ∷ d ∷ e ∷ xs)) 10 (λ f.
-    first_cell (λ xs. P (a ∷ b ∷ c ∷ d ∷ e ∷ f ∷ xs)) 9 (λ g.
-    first_cell (λ xs. P (a ∷ b ∷ c ∷ d ∷ e ∷ f ∷ g ∷ xs)) 8 (λ h.
+sixteen_cells P here = first_cell (λ xs. P (xs)) 15 (λ a. first_cell (λ xs. P (a ∷ xs)) 14 (λ b.
+    first_cell (λ xs. P (a ∷ b ∷ xs)) 13 (λ c. first_cell (λ xs. P (a ∷ b ∷ c ∷ xs)) 12 (λ d.
+    first_cell (λ xs. P (a ∷ b ∷ c ∷ d ∷ xs)) 11 (λ e. first_cell (λ xs. P (a ∷ b ∷ c ∷ d ∷ e ∷ xs)) 10 (λ f.
+    first_cell (λ xs. P (a ∷ b ∷ c ∷ d ∷ e ∷ f ∷ xs)) 9 (λ g. first_cell (λ xs. P (a ∷ b ∷ c ∷ d ∷ e ∷ f ∷ g ∷ xs)) 8 (λ h.
     first_cell (λ xs. P (a ∷ b ∷ c ∷ d ∷ e ∷ f ∷ g ∷ h ∷ xs)) 7 (λ i.
     first_cell (λ xs. P (a ∷ b ∷ c ∷ d ∷ e ∷ f ∷ g ∷ h ∷ i ∷ xs)) 6 (λ j.
     first_cell (λ xs. P (a ∷ b ∷ c ∷ d ∷ e ∷ f ∷ g ∷ h ∷ i ∷ j ∷ xs)) 5 (λ k.

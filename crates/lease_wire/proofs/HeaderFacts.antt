@@ -53,10 +53,7 @@ data_inside place left h none more =
 pub next_inside : (place left : ℕ) (h : Header) → header_fault place left h ≡ None → h.next ≤ left
 next_inside place left h none =
     let fits = header_fits place left h none in
-    elim (eqb_tells h.next 0) [
-      | inl zero ↦ rw (zero.1) (omega arith)
-      | inr more ↦ (fits.next more.1).2
-    ]
+    elim (eqb_tells h.next 0) [ | inl zero ↦ rw (zero.1) (omega arith) | inr more ↦ (fits.next more.1).2 ]
 
 -- and a header whose fields fit fails no test
 none_of : (b : Bool) (fault : WireFault) (other : Option WireFault) → b ≡ false → other ≡ None

@@ -27,8 +27,7 @@ record FaultyItems (start : ℕ) (bytes : List ℕ) : Type 0 where
   first : layout_fault (start + length (concat pieces)) rest ≡ Some fault
   given : items_behind start 0 bytes ≡ map Ok contexts ++ Err fault ∷ []
 
-module _ (start : ℕ) (bytes : List ℕ)
-    (further : length (drop (next_of bytes) bytes) + 16 ≤ length bytes
+module _ (start : ℕ) (bytes : List ℕ) (further : length (drop (next_of bytes) bytes) + 16 ≤ length bytes
     → LaidItems (start + next_of bytes) (drop (next_of bytes) bytes)
     ⊎ FaultyItems (start + next_of bytes) (drop (next_of bytes) bytes)) where
   laid_more : layout_fault start bytes ≡ None → next_of bytes ≢ 0 → LeadingIs start bytes
@@ -75,8 +74,7 @@ module _ (start : ℕ) (bytes : List ℕ)
   })
   by_next none (inr more) =
       let leading = leading_is start bytes none more in
-      elim (further leading.less) [
-        | inl behind ↦ inl (laid_more none more leading behind)
+      elim (further leading.less) [ | inl behind ↦ inl (laid_more none more leading behind)
         | inr behind ↦ inr (faulty_more none more leading behind)
       ]
 
@@ -119,8 +117,7 @@ items_are (byte ∷ bytes) = elim (items_read (length (byte ∷ bytes)) 0 (byte 
 
 -- ---- how many items there are
 -- each context takes sixteen bytes at least, and a fault may take none
-module _ (start : ℕ) (bytes : List ℕ)
-    (further : length (drop (next_of bytes) bytes) + 16 ≤ length bytes
+module _ (start : ℕ) (bytes : List ℕ) (further : length (drop (next_of bytes) bytes) + 16 ≤ length bytes
     → 16 * length (items_behind (start + next_of bytes) 0 (drop (next_of bytes) bytes))
     ≤ length (drop (next_of bytes) bytes) + 16) where
   few_by_next : layout_fault start bytes ≡ None → ((next_of bytes ≡ 0) ⊎ (next_of bytes ≢ 0))

@@ -48,8 +48,7 @@ items_behind-more place (byte ∷ bytes) e more =
   where
     more_of : (next : ℕ) → next_of (byte ∷ bytes) ≡ next → next ≤ suc (length bytes)
         → item_before (layout_fault place (byte ∷ bytes)) (context_at place (byte ∷ bytes)) (next_of (byte ∷ bytes))
-        (items_behind (place + next_of (byte ∷ bytes)) (next_of (byte ∷ bytes) - 1) bytes)
-        ≡ Ok (context_at place (byte ∷ bytes))
+        (items_behind (place + next_of (byte ∷ bytes)) (next_of (byte ∷ bytes) - 1) bytes) ≡ Ok (context_at place (byte ∷ bytes))
         ∷ items_behind (place + next_of (byte ∷ bytes)) 0 (drop (next_of (byte ∷ bytes)) (byte ∷ bytes))
     more_of zero is within = absurd (more is)
     more_of (suc next) is within =
@@ -62,8 +61,7 @@ items_behind-more place (byte ∷ bytes) e more =
 pub items_behind-read : (place next : ℕ) (bytes : List ℕ) (context : ContextView) → layout_fault place bytes ≡ None
     → context ≡ context_at place bytes → next ≡ next_of bytes
     → items_behind place 0 bytes ≡ Ok context ∷ (if next == 0 then [] else items_behind (place + next) 0 (drop next bytes))
-items_behind-read place next bytes context none is_context is_next =
-    elim (eqb_tells (next_of bytes) 0) [
+items_behind-read place next bytes context none is_context is_next = elim (eqb_tells (next_of bytes) 0) [
       | inl last ↦ rw (is_context, is_next, last.0) (items_behind-last place bytes none last.1)
       | inr more ↦ rw (is_context, is_next, more.0) (items_behind-more place bytes none more.1)
     ]

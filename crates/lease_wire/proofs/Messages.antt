@@ -34,8 +34,7 @@ notification_reads_back v rest =
     )) v.key
 
 pub notification_free_fields : NotificationFreeFields
-notification_free_fields v =
-    sixteen_cells (λ key. HasFreeFieldsZero (notification_bytes (record v { key = key })))
+notification_free_fields v = sixteen_cells (λ key. HasFreeFieldsZero (notification_bytes (record v { key = key })))
     (λ a b c d e f g h i j k l m n o p. record {
       new_epoch = refl;
       flags = written_flag_small v.ack_required;
@@ -71,8 +70,7 @@ acknowledgment_reads_back v rest =
     )) v.key
 
 pub acknowledgment_free_fields : AcknowledgmentFreeFields
-acknowledgment_free_fields v =
-    sixteen_cells (λ key. AcknowledgmentFreeFieldsZero (acknowledgment_bytes (record v { key = key })))
+acknowledgment_free_fields v = sixteen_cells (λ key. AcknowledgmentFreeFieldsZero (acknowledgment_bytes (record v { key = key })))
     (λ a b c d e f g h i j k l m n o p. record {
       reserved = refl;
       flags = refl;

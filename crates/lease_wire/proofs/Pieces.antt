@@ -46,8 +46,7 @@ data_length_of-front piece others long = number_at-front 12 4 piece others (omeg
 
 -- the header of the bytes is that of the piece at their front
 header_of-front : (piece others : List ℕ) → 16 ≤ length piece → header_of (piece ++ others) ≡ header_of piece
-header_of-front piece others long =
-    rw (
+header_of-front piece others long = rw (
       next_of-front piece others long,
       name_offset_of-front piece others long,
       name_length_of-front piece others long,

@@ -17,14 +17,12 @@ use Rattle.lease_wire.proofs.Values.{Adds, adds, faults, fault_in}
 
 -- a value that is carried on
 pub carried_ok : (r : Result CreateView WireFault) (further : CreateView → Result CreateView WireFault) (w : CreateView)
-    → carried r further ≡ Ok w
-    → (v : CreateView) × (r ≡ Ok v) × (further v ≡ Ok w)
+    → carried r further ≡ Ok w → (v : CreateView) × (r ≡ Ok v) × (further v ≡ Ok w)
 carried_ok x1 further w e = grind arith
 
 -- a fault comes at once or later
 carried_err : (r : Result CreateView WireFault) (further : CreateView → Result CreateView WireFault) (fault : WireFault)
-    → carried r further ≡ Err fault
-    → (r ≡ Err fault) ⊎ ((v : CreateView) × (r ≡ Ok v) × (further v ≡ Err fault))
+    → carried r further ≡ Err fault → (r ≡ Err fault) ⊎ ((v : CreateView) × (r ≡ Ok v) × (further v ≡ Err fault))
 carried_err x1 further fault e = grind arith
 
 -- the bytes from a place on are laid out, and what they hold gives the value
@@ -186,15 +184,13 @@ module _ (direction : Direction) (start : ℕ) (bytes : List ℕ) (before : List
     unfolding gathered
     faulty_by_next none (inl last) =
         let read = rw (items_behind-last start bytes none last) at e in
-        elim (carried_err _ _ fault read) [
-          | inl broken ↦ faulty_name none broken
+        elim (carried_err _ _ fault read) [ | inl broken ↦ faulty_name none broken
           | inr step ↦ let clash : ◌≡◌ {A = Result CreateView WireFault} (Ok step.0) (Err fault) = step.2 in cc
         ]
     faulty_by_next none (inr more) =
         let read = rw (items_behind-more start bytes none more) at e in
         let leading = leading_is start bytes none more in
-        elim (carried_err _ _ fault read) [
-          | inl broken ↦ faulty_name none broken
+        elim (carried_err _ _ fault read) [ | inl broken ↦ faulty_name none broken
           | inr step ↦ faulty_more direction start bytes before fault leading
               (further step.0 (value_after direction before v step.0 (context_at start bytes) have step.1) leading.less step.2)
         ]

@@ -17,8 +17,7 @@ value_of_nothing direction = record { lengths = refl; lease = refl; durable = re
 
 -- what is said behind one more context
 values_of_kind-more : {X : Type 0} (direction : Direction) (part : Meaning → Option X) (before : List ContextView)
-    (context : ContextView) (meaning : Meaning) (behind : List ContextView)
-    → meaning_of direction context ≡ meaning
+    (context : ContextView) (meaning : Meaning) (behind : List ContextView) → meaning_of direction context ≡ meaning
     → values_of_kind direction part (before ++ context ∷ behind)
     ≡ values_of_kind direction part before ++ cons_option (part meaning) (values_of_kind direction part behind)
 values_of_kind-more direction part before context meaning behind is = rw (filter_map-append, is) refl
@@ -56,8 +55,7 @@ one_value direction contexts v w first second = grind arith
 module _ (direction : Direction) (before : List ContextView) (v : CreateView) (have : HaveValue direction before v)
     (context : ContextView) where
   same : {X : Type 0} (part : Meaning → Option X) (meaning : Meaning) → meaning_of direction context ≡ meaning
-      → part meaning ≡ None
-      → values_of_kind direction part (before ++ context ∷ []) ≡ values_of_kind direction part before
+      → part meaning ≡ None → values_of_kind direction part (before ++ context ∷ []) ≡ values_of_kind direction part before
   same part meaning is none = values_of_kind-more direction part before context meaning [] is
       ∙ rw none (append-nil (values_of_kind direction part before))
 

@@ -80,14 +80,12 @@ breaking-written x1 = grind arith
 pub lease_is : (direction : Direction) (start : ℕ) (lease : LeaseView) → length lease.key ≡ 16 → Calm direction lease
     → meaning_of direction (written start lease_name (lease_body lease)) ≡ Lease lease
 unfolding meaning_of
-lease_is Request start lease =
-    sixteen_cells (λ cells. Calm Request lease
+lease_is Request start lease = sixteen_cells (λ cells. Calm Request lease
     → meaning_of Request (written start lease_name (lease_body (record lease { key = cells })))
     ≡ Lease (record lease { key = cells }))
     (λ a b c d e f g h i j k l m n o p calm. same_lease Request _ _ lease false (state_of_bits-written lease.state) (sym calm))
     lease.key
-lease_is Reply start lease =
-    sixteen_cells (λ cells. Calm Reply lease
+lease_is Reply start lease = sixteen_cells (λ cells. Calm Reply lease
     → meaning_of Reply (written start lease_name (lease_body (record lease { key = cells })))
     ≡ Lease (record lease { key = cells }))
     (λ a b c d e f g h i j k l m n o p calm. same_lease Reply _ _ lease _ (state_of_bits-written lease.state)

@@ -60,22 +60,18 @@ under_later covers one place linked inside = later_cover covers one place place 
 pub under_last : (covers : List Cover) (one : Cover) (place : ℕ) → AreLinked covers → one.below ≤ length covers
     → place ≡ length covers + 1 → layers_under (covers ++ one ∷ []) place ≡ one.layer ∷ layers_under covers one.below
 unfolding layers_from
-under_last covers one place linked inside at =
-    rw (at ∙ add-one (length covers)) (at_last (length covers) refl)
+under_last covers one place linked inside at = rw (at ∙ add-one (length covers)) (at_last (length covers) refl)
   where
-    at_last : (n : ℕ) → n ≡ length covers
-        → layers_under (covers ++ one ∷ []) (suc n) ≡ one.layer ∷ layers_under covers one.below
+    at_last : (n : ℕ) → n ≡ length covers → layers_under (covers ++ one ∷ []) (suc n) ≡ one.layer ∷ layers_under covers one.below
     at_last n is =
         let here : (n == length covers) ≡ true = grind (arith, is) in
         let found : slice_get (covers ++ one ∷ []) n ≡ Some one = get-push covers one n ∙ rw here refl in
         ap (λ (o : Option Cover). layers_of (layers_from n (covers ++ one ∷ [])) o) found
-        ∙ ap (λ (ls : List Layer). one.layer ∷ ls)
-        (later_cover covers one n one.below linked inside
+        ∙ ap (λ (ls : List Layer). one.layer ∷ ls) (later_cover covers one n one.below linked inside
         ∙ more_fuel covers n one.below one.below linked (omega (arith, is, inside)) (omega arith))
 
 -- the layers from a cover down are its own and those under it
-pub under_cover : (covers : List Cover) (place : ℕ) (cover : Cover) → AreLinked covers
-    → slice_get covers place ≡ Some cover
+pub under_cover : (covers : List Cover) (place : ℕ) (cover : Cover) → AreLinked covers → slice_get covers place ≡ Some cover
     → layers_under covers (suc place) ≡ cover.layer ∷ layers_under covers cover.below
 unfolding layers_from
 under_cover covers place cover linked is =
@@ -115,8 +111,7 @@ stack_more covers (top ∷ tops) (suc position) = stack_more covers tops positio
 pub stack_set : (covers : List Cover) (tops : List ℕ) (place top position : ℕ) → place < length tops
     → stack_in (map (layers_under covers) (slice_set tops place top)) position
     ≡ (if position == place then layers_under covers top else stack_in (map (layers_under covers) tops) position)
-stack_set covers tops place top position inside =
-    stack_found covers (slice_set tops place top) position
+stack_set covers tops place top position inside = stack_found covers (slice_set tops place top) position
     ∙ (ap (found_under covers) (get-put tops place top position inside)
     ∙ (by_case (position == place) ∙ rw (sym (stack_found covers tops position)) refl))
   where
@@ -125,11 +120,9 @@ stack_set covers tops place top position inside =
     by_case x1 = grind arith
 
 -- the same tops among more covers
-pub stack_later : (covers : List Cover) (one : Cover) (tops : List ℕ) (position : ℕ) → AreLinked covers
-    → AreTops covers tops
+pub stack_later : (covers : List Cover) (one : Cover) (tops : List ℕ) (position : ℕ) → AreLinked covers → AreTops covers tops
     → stack_in (map (layers_under (covers ++ one ∷ [])) tops) position ≡ stack_in (map (layers_under covers) tops) position
-stack_later covers one tops position linked inside =
-    stack_found (covers ++ one ∷ []) tops position
+stack_later covers one tops position linked inside = stack_found (covers ++ one ∷ []) tops position
     ∙ (same (slice_get tops position) (λ top is. inside position top is) ∙ sym (stack_found covers tops position))
   where
     same : (found : Option ℕ) → ((top : ℕ) → found ≡ Some top → top ≤ length covers)
@@ -140,8 +133,7 @@ stack_later covers one tops position linked inside =
 -- ---- tops
 
 pub tops_more : (covers : List Cover) (tops : List ℕ) → AreTops covers tops → AreTops covers (tops ++ 0 ∷ [])
-tops_more covers tops inside position top is =
-    elim (cases_Bool (position == length tops)) [
+tops_more covers tops inside position top is = elim (cases_Bool (position == length tops)) [
       | inl here ↦
           let same : Some 0 ≡ Some top = sym (get-push tops 0 position ∙ rw here refl) ∙ is in
           let it : 0 ≡ top = cc in omega (arith, it)
@@ -149,10 +141,8 @@ tops_more covers tops inside position top is =
     ]
 
 pub tops_set : (covers : List Cover) (tops : List ℕ) (place top : ℕ) → place < length tops → top ≤ length covers
-    → AreTops covers tops
-    → AreTops covers (slice_set tops place top)
-tops_set covers tops place top at low inside position other is =
-    elim (cases_Bool (position == place)) [
+    → AreTops covers tops → AreTops covers (slice_set tops place top)
+tops_set covers tops place top at low inside position other is = elim (cases_Bool (position == place)) [
       | inl here ↦
           let same : Some top ≡ Some other = sym (get-put tops place top position at ∙ rw here refl) ∙ is in
           let it : top ≡ other = cc in omega (arith, it, low)
@@ -169,8 +159,7 @@ pub top_cover : (covers : List Cover) (top : ℕ) (other : Cover) → AreLinked 
 top_cover covers top other linked some inside =
     let cover : Cover = get_or covers (top - 1) other in
     let place : suc (top - 1) ≡ top = omega (arith, some) in
-    let found : slice_get covers (top - 1) ≡ Some cover =
-    slice_get-get_or covers (top - 1) other (omega (arith, some, inside)) in
+    let found : slice_get covers (top - 1) ≡ Some cover = slice_get-get_or covers (top - 1) other (omega (arith, some, inside)) in
     let low = linked (top - 1) cover found in (
       subst (λ (n : ℕ). layers_under covers n ≡ cover.layer ∷ layers_under covers cover.below) place
           (under_cover covers (top - 1) cover linked found),
@@ -183,8 +172,7 @@ one_settled settled layer layers e = rw e refl
 
 -- the cover's write is settled: what lies under it is as good
 pub goes_down : (settled : Numbers) (covers : List Cover) (first top : ℕ) (other : Cover) → AreLinked covers → 0 < top
-    → top ≤ length covers
-    → is_among (get_or covers (top - 1) other).layer.number settled ≡ true
+    → top ≤ length covers → is_among (get_or covers (top - 1) other).layer.number settled ≡ true
     → filter (is_open settled) (layers_under covers top) ≡ filter (is_open settled) (layers_under covers first)
     → ((get_or covers (top - 1) other).below ≤ length covers)
     × (filter (is_open settled) (layers_under covers (get_or covers (top - 1) other).below)
@@ -194,14 +182,12 @@ goes_down settled covers first top other linked some inside off so_far =
     let found = top_cover covers top other linked some inside in (
       omega (arith, found.1, inside),
       sym (ap (λ (ls : List Layer). filter (is_open settled) ls) found.0
-          ∙ one_settled settled cover.layer (layers_under covers cover.below) off)
-          ∙ so_far,
+          ∙ one_settled settled cover.layer (layers_under covers cover.below) off) ∙ so_far,
     )
 
 -- the cover's write isn't settled
 pub stays_open : (settled : Numbers) (covers : List Cover) (first top : ℕ) (other : Cover) → AreLinked covers → 0 < top
-    → top ≤ length covers
-    → is_among (get_or covers (top - 1) other).layer.number settled ≡ false
+    → top ≤ length covers → is_among (get_or covers (top - 1) other).layer.number settled ≡ false
     → filter (is_open settled) (layers_under covers top) ≡ filter (is_open settled) (layers_under covers first)
     → IsUncovered (is_open settled) (layers_under covers first) (layers_under covers top)
 stays_open settled covers first top other linked some inside on so_far =
@@ -222,8 +208,7 @@ nothing_on_top settled covers first top none so_far =
 -- ---- positions at the end
 
 -- positions that nothing covers are dropped
-pub stack_take : (covers : List Cover) (tops : List ℕ) (count position : ℕ)
-    → ((n : ℕ) → count ≤ n → get_or tops n 0 ≡ 0)
+pub stack_take : (covers : List Cover) (tops : List ℕ) (count position : ℕ) → ((n : ℕ) → count ≤ n → get_or tops n 0 ≡ 0)
     → stack_in (map (layers_under covers) (take count tops)) position ≡ stack_in (map (layers_under covers) tops) position
 stack_take covers [] zero position none = refl
 stack_take covers [] (suc count) position none = refl
@@ -274,8 +259,7 @@ ends_covered covers tops count linked inside within (inr some) = elim (cases_lt 
     not_none : (n : ℕ) → n ≢ 0 → 0 < n
     not_none x1 some = grind arith
 
-    still_there : (xs : List ℕ) (count n x : ℕ) → n < count → slice_get xs n ≡ Some x
-        → slice_get (take count xs) n ≡ Some x
+    still_there : (xs : List ℕ) (count n x : ℕ) → n < count → slice_get xs n ≡ Some x → slice_get (take count xs) n ≡ Some x
     still_there xs zero n x lt e = absurd (omega (arith, lt))
     still_there [] (suc count) n x lt e = e
     still_there (y ∷ xs) (suc count) zero x lt e = e
@@ -285,18 +269,14 @@ ends_covered covers tops count linked inside within (inr some) = elim (cases_lt 
 
 -- one layer more on top of a position
 pub stack_cover : (covers : List Cover) (tops : List ℕ) (layer : Layer) (place below count position : ℕ)
-    → AreLinked covers → AreTops covers tops → place < length tops → below ≡ get_or tops place below
-    → count ≡ length covers + 1
-    → stack_in (map (layers_under (covers ++ record { layer = layer; below = below } ∷ []))
-    (slice_set tops place count)) position
+    → AreLinked covers → AreTops covers tops → place < length tops → below ≡ get_or tops place below → count ≡ length covers + 1
+    → stack_in (map (layers_under (covers ++ record { layer = layer; below = below } ∷ [])) (slice_set tops place count)) position
     ≡ (if position == place then layer ∷ stack_in (map (layers_under covers) tops) position
     else stack_in (map (layers_under covers) tops) position)
 stack_cover covers tops layer place below count position linked inside within is next =
     let one : Cover = record { layer = layer; below = below } in
-    let found : slice_get tops place ≡ Some below = slice_get-get_or tops place below within
-    ∙ ap (λ (n : ℕ). Some n) (sym is) in
-    stack_set (covers ++ one ∷ []) tops place count position within
-    ∙ (ap (λ (ls : List Layer).
+    let found : slice_get tops place ≡ Some below = slice_get-get_or tops place below within ∙ ap (λ (n : ℕ). Some n) (sym is) in
+    stack_set (covers ++ one ∷ []) tops place count position within ∙ (ap (λ (ls : List Layer).
     if position == place then ls else stack_in (map (layers_under (covers ++ one ∷ [])) tops) position)
     (under_last covers one count linked (inside place below found) next)
     ∙ (ap (λ (ls : List Layer). if position == place then layer ∷ layers_under covers below else ls)
@@ -312,10 +292,8 @@ stack_cover covers tops layer place below count position linked inside within is
 
 -- the byte at a position
 pub byte_here : (covers : List Cover) (tops : List ℕ) (base : List ℕ) (position top : ℕ) (other : Cover)
-    → AreLinked covers → AreTops covers tops
-    → position < length tops → top ≡ get_or tops position top → 0 < top
-    → (get_or covers (top - 1) other).layer.byte
-    ≡ seen_byte base (stack_in (map (layers_under covers) tops) position) position
+    → AreLinked covers → AreTops covers tops → position < length tops → top ≡ get_or tops position top → 0 < top
+    → (get_or covers (top - 1) other).layer.byte ≡ seen_byte base (stack_in (map (layers_under covers) tops) position) position
 byte_here covers tops base position top other linked inside within is some =
     let found : slice_get tops position ≡ Some top = slice_get-get_or tops position top within
     ∙ ap (λ (n : ℕ). Some n) (sym is) in
@@ -337,10 +315,8 @@ pub uncovers_one : (settled : Numbers) (covers : List Cover) (first now : List �
     → position < length now
     → top ≡ get_or now position top → IsUncovered (is_open settled) (layers_under covers top) (layers_under covers result)
     → ((k : ℕ) → k < position → IsUncovered (is_open settled) (stack_in (map (layers_under covers) first) k)
-    (stack_in (map (layers_under covers) now) k))
-    → ((k : ℕ) → position ≤ k
-    → stack_in (map (layers_under covers) now) k ≡ stack_in (map (layers_under covers) first) k)
-    → n < position + 1
+    (stack_in (map (layers_under covers) now) k)) → ((k : ℕ) → position ≤ k
+    → stack_in (map (layers_under covers) now) k ≡ stack_in (map (layers_under covers) first) k) → n < position + 1
     → IsUncovered (is_open settled) (stack_in (map (layers_under covers) first) n)
     (stack_in (map (layers_under covers) (slice_set now position result)) n)
 uncovers_one settled covers first now position top result n inside is uncovers done rest below =
@@ -348,22 +324,17 @@ uncovers_one settled covers first now position top result n inside is uncovers d
     (sym (stack_set covers now position result n inside)) (by_case (n == position) refl)
   where
     here : n ≡ position → layers_under covers top ≡ stack_in (map (layers_under covers) first) n
-    here at =
-        sym (stack_at covers now n top (ap (λ (k : ℕ). slice_get now k) at
-        ∙ (slice_get-get_or now position top inside ∙ ap (λ (k : ℕ). Some k) (sym is))))
-        ∙ rest n (omega (arith, at))
+    here at = sym (stack_at covers now n top (ap (λ (k : ℕ). slice_get now k) at
+        ∙ (slice_get-get_or now position top inside ∙ ap (λ (k : ℕ). Some k) (sym is)))) ∙ rest n (omega (arith, at))
 
-    by_case : (b : Bool) → (n == position) ≡ b
-        → IsUncovered (is_open settled) (stack_in (map (layers_under covers) first) n)
+    by_case : (b : Bool) → (n == position) ≡ b → IsUncovered (is_open settled) (stack_in (map (layers_under covers) first) n)
         (if b then layers_under covers result else stack_in (map (layers_under covers) now) n)
-    by_case true e =
-        subst (λ (ls : List Layer). IsUncovered (is_open settled) ls (layers_under covers result))
+    by_case true e = subst (λ (ls : List Layer). IsUncovered (is_open settled) ls (layers_under covers result))
         (here (grind (arith, e))) uncovers
     by_case false e = done n (grind (arith, e, below))
 
 pub leaves_rest : (covers : List Cover) (first now : List ℕ) (position result n : ℕ) → position < length now
-    → ((k : ℕ) → position ≤ k
-    → stack_in (map (layers_under covers) now) k ≡ stack_in (map (layers_under covers) first) k)
+    → ((k : ℕ) → position ≤ k → stack_in (map (layers_under covers) now) k ≡ stack_in (map (layers_under covers) first) k)
     → position + 1 ≤ n
     → stack_in (map (layers_under covers) (slice_set now position result)) n ≡ stack_in (map (layers_under covers) first) n
 leaves_rest covers first now position result n inside rest above =
@@ -371,11 +342,9 @@ leaves_rest covers first now position result n inside rest above =
     stack_set covers now position result n inside ∙ (rw other refl ∙ rest n (omega (arith, above)))
 
 -- where no position is left, each is as it was or uncovered
-pub all_uncovered : (settled : Numbers) (covers : List Cover) (first now : List ℕ) (position n : ℕ)
-    → length now ≤ position
+pub all_uncovered : (settled : Numbers) (covers : List Cover) (first now : List ℕ) (position n : ℕ) → length now ≤ position
     → ((k : ℕ) → k < position → IsUncovered (is_open settled) (stack_in (map (layers_under covers) first) k)
-    (stack_in (map (layers_under covers) now) k))
-    → ((k : ℕ) → position ≤ k
+    (stack_in (map (layers_under covers) now) k)) → ((k : ℕ) → position ≤ k
     → stack_in (map (layers_under covers) now) k ≡ stack_in (map (layers_under covers) first) k)
     → IsUncovered (is_open settled) (stack_in (map (layers_under covers) first) n) (stack_in (map (layers_under covers) now) n)
 all_uncovered settled covers first now position n past done rest = elim (cases_lt n position) [
@@ -392,8 +361,7 @@ all_uncovered settled covers first now position n past done rest = elim (cases_l
     nothing (x ∷ xs) zero past = absurd (omega (arith, past))
     nothing (x ∷ xs) (suc k) past = nothing xs k (omega (arith, past))
 
-pub truncated : (settled : Numbers) (covers : List Cover) (old now left : List ℕ) (count position : ℕ)
-    → left ≡ take count now
+pub truncated : (settled : Numbers) (covers : List Cover) (old now left : List ℕ) (count position : ℕ) → left ≡ take count now
     → ((n : ℕ) → count ≤ n → get_or now n 0 ≡ 0)
     → IsUncovered (is_open settled) (stack_in (map (layers_under covers) old) position)
     (stack_in (map (layers_under covers) now) position)

@@ -26,8 +26,7 @@ place_within : (number count : ℕ) → (nat_lt 0 number && nat_le number count)
 place_within number count e = grind arith
 
 pub write-put : (first : List SeenWrite) (rest : List (ℕ × SeenWrite)) (number : ℕ) (write : SeenWrite)
-    → is_first number (record { first = first; rest = rest }) ≡ true
-    → HasWrites (record { first = first; rest = rest })
+    → is_first number (record { first = first; rest = rest }) ≡ true → HasWrites (record { first = first; rest = rest })
     (record { first = slice_set first (number - 1) write; rest = rest }) number (Some write)
 unfolding write_at
 write-put first rest number write within n =
@@ -39,19 +38,16 @@ one_longer : (first : List SeenWrite) (write : SeenWrite) (number : ℕ) → num
 one_longer first write number next = let e = length-append first (write ∷ []) in omega (arith, e, next)
 
 pub write-push : (first : List SeenWrite) (rest : List (ℕ × SeenWrite)) (number : ℕ) (write : SeenWrite)
-    → number ≡ length first + 1
-    → HasWrites (record { first = first; rest = rest })
+    → number ≡ length first + 1 → HasWrites (record { first = first; rest = rest })
     (record { first = first ++ write ∷ []; rest = rest }) number (Some write)
 unfolding write_at
-write-push first rest number write next n =
-    rw (one_longer first write number next, get-push first write (n - 1))
+write-push first rest number write next n = rw (one_longer first write number next, get-push first write (n - 1))
     (at_next n number (length first) (Some write) (slice_get first (n - 1)) (write_by n rest) next)
 
 -- the write of a number is changed where it stands
 pub write-change : (first : List SeenWrite) (rest : List (ℕ × SeenWrite)) (number : ℕ) (write : SeenWrite)
     (change : SeenWrite → SeenWrite) → is_first number (record { first = first; rest = rest }) ≡ true
-    → write ≡ get_or first (number - 1) write
-    → HasWrites (record { first = first; rest = rest })
+    → write ≡ get_or first (number - 1) write → HasWrites (record { first = first; rest = rest })
     (record { first = slice_set first (number - 1) (change write); rest = rest }) number
     (option_map change (write_at number (record { first = first; rest = rest })))
 unfolding write_at

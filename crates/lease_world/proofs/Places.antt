@@ -51,8 +51,7 @@ get-push (y ∷ xs) x zero = grind arith
 get-push (y ∷ xs) x (suc n) = suc_same n (length xs) (Some x) (slice_get xs n) _ (get-push xs x n)
 
 -- past the end is what other numbers have
-pub past_the_end : {X : Type 0} (other : X) (xs : List X) (n : ℕ) → length xs ≤ n
-    → unwrap_or (slice_get xs n) other ≡ other
+pub past_the_end : {X : Type 0} (other : X) (xs : List X) (n : ℕ) → length xs ≤ n → unwrap_or (slice_get xs n) other ≡ other
 past_the_end other [] zero past = refl
 past_the_end other [] (suc n) past = refl
 past_the_end other (one ∷ xs) zero past = absurd (omega arith)

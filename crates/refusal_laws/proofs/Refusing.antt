@@ -43,8 +43,7 @@ unfolding lease_broken break_begun lease_lowered
 broken_contents key lowered progress = grind arith
 
 met_alone : (want : Want) (progress : Progress)
-    → IsLeftAlone (λ one. (has_key want.key one ≡ true) × (one.connected ≡ false)) progress.server
-    (want_met want progress).server
+    → IsLeftAlone (λ one. (has_key want.key one ≡ true) × (one.connected ≡ false)) progress.server (want_met want progress).server
 unfolding want_met
 met_alone want progress =
     let dropped = opens_dropped (is_left_open want.key) progress in
@@ -52,8 +51,7 @@ met_alone want progress =
     let d = dropped_alone want.key progress in record {
       contents = broken_contents want.key want.lowered dropped ∙ d.contents;
       were = λ one a. d.were one (subst (λ opens. Among one opens) same a);
-      stay = λ one a. ⊎_elim (λ there. inl (subst (λ opens. Among one opens) (sym same) there)) (λ goes. inr goes)
-          (d.stay one a);
+      stay = λ one a. ⊎_elim (λ there. inl (subst (λ opens. Among one opens) (sym same) there)) (λ goes. inr goes) (d.stay one a);
     }
 
 all_met_alone : (wants : List Want) (progress : Progress)
@@ -72,8 +70,7 @@ all_met_alone (want ∷ wants) progress =
             has_the_key = w.has_the_key;
             is_left = w.is_left;
           })) (rest.stay one there))
-          (λ goes. inr (record { want = want; is_wanted = inl refl; has_the_key = goes.0; is_left = goes.1 }))
-          (first.stay one a);
+          (λ goes. inr (record { want = want; is_wanted = inl refl; has_the_key = goes.0; is_left = goes.1 })) (first.stay one a);
     }
 
 -- ---- tries
@@ -135,8 +132,7 @@ found_alone again client request progress (Finding.Fails status) is more =
 found_alone again client request progress (Finding.Needs wants) is more =
     let next = wants_met wants progress in
     if_cases (λ (t : Tried). IsLeftAlone (IsClosedByBreak client request progress) progress.server t.progress.server)
-    (is_ready request progress.server.leases wants)
-    (ended progress Outcome.Ready) (after_breaks again request wants next)
+    (is_ready request progress.server.leases wants) (ended progress Outcome.Ready) (after_breaks again request wants next)
     (λ ready. same_alone (IsClosedByBreak client request progress) progress.server)
     (λ not_ready. let needs : NeedsRound client request progress wants = record { found = is; not_ready = not_ready } in
     if_cases (λ (t : Tried). IsLeftAlone (IsClosedByBreak client request progress) progress.server t.progress.server)
@@ -216,14 +212,12 @@ unfolding refused
 refused_first client request progress status is = ap (arrived_on client request progress) is
 
 arrived_refused : (client : ℕ) (request : FileRequest) (progress : Progress) (status : Status)
-    → file_asked progress.server client request ≡ Err status
-    → arrived client (Request.OnFile request) progress
+    → file_asked progress.server client request ≡ Err status → arrived client (Request.OnFile request) progress
     ≡ passes_behind request (replied client (refusal_of request status) progress)
 unfolding arrived
 arrived_refused client (FileRequest.Close file_id) progress status is =
     ap all_passes (refused_first client (FileRequest.Close file_id) progress status is)
-arrived_refused client request progress status is =
-    refused_first client request progress status is
+arrived_refused client request progress status is = refused_first client request progress status is
 
 pub calls_refused_as_they_come : CallsRefusedAsTheyCome
 unfolding receive
@@ -239,13 +233,11 @@ unfolding receive arrived
 calls_of_refused_acknowledgments server client given status up is =
     present_so (server.present client) (all_passes (acknowledged client given (begun server))) (begun server) up
     ∙ ap all_passes (progress_same (acknowledged client given (begun server))
-    (replied client (Reply.AckFailed status) (begun server))
-    (refused_acknowledgments client given (begun server) status is) is)
+    (replied client (Reply.AckFailed status) (begun server)) (refused_acknowledgments client given (begun server) status is) is)
 
 tried_so : (client file : ℕ) (request : FileRequest) (progress : Progress) (status : Status)
     → file_asked progress.server client request ≡ Ok file → is_behind client (progress.server.held file) ≡ false
-    → (tried client request progress).outcome ≡ Outcome.Refused status
-    → first_tried client request progress
+    → (tried client request progress).outcome ≡ Outcome.Refused status → first_tried client request progress
     ≡ concluded client request (tried client request progress).progress (Outcome.Refused status)
 tried_so client file request progress status asked first is = grind arith
 
@@ -266,8 +258,7 @@ calls_alone client file (FileRequest.Create at access share contexts) server sta
     (sym (tried_so client file (FileRequest.Create at access share contexts) (begun server) status asked first is))
     (refused_once_tried client (FileRequest.Create at access share contexts) (begun server) status is)
 calls_alone client file request server status asked first is =
-    subst (λ (p : Progress). IsLeftAlone (IsClosedByBreak client request (begun server))
-    server p.server)
+    subst (λ (p : Progress). IsLeftAlone (IsClosedByBreak client request (begun server)) server p.server)
     (sym (tried_so client file request (begun server) status asked first is))
     (refused_once_tried client request (begun server) status is)
 

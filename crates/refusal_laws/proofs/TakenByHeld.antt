@@ -49,8 +49,7 @@ pub record IsStillHeld (requests : ℕ → List Held) (progress : Progress) (fil
   pub was : Among held (requests file)
   pub still : Among held (progress.server.held file)
 
-tried_left : (requests : ℕ → List Held) (progress : Progress) (file : ℕ) (held : Held)
-    → IsStillHeld requests progress file held
+tried_left : (requests : ℕ → List Held) (progress : Progress) (file : ℕ) (held : Held) → IsStillHeld requests progress file held
     → IsLeftToHeld requests progress.server (tried held.client held.request progress).progress.server
 tried_left requests progress file held h =
     let t = tried_alone 3 held.client held.request progress in record {
@@ -122,8 +121,7 @@ closed_left requests at held file file_id progress was is = record {
       (λ apart. inl (
         one,
         itself one,
-        among_filtered (λ (o : Open). not (o.file_id == file_id)) one progress.server.opens there
-            (ap not apart),
+        among_filtered (λ (o : Open). not (o.file_id == file_id)) one progress.server.opens there (ap not apart),
       ));
 }
 
@@ -196,8 +194,7 @@ passed_over : (requests : ℕ → List Held) (start : Server) (file : ℕ) (one 
     → IsLeftToHeld requests pass.progress.server progress.server → IsPassing requests start file (one ∷ waiting) pass
     → IsPassing requests start file waiting (left_waiting one pass progress)
 passed_over requests start file one waiting pass progress same left p = record {
-  is_held = ap (λ (h : ℕ → List Held). h file) same ∙ p.is_held
-      ∙ sym (append_assoc pass.passed (one ∷ []) waiting);
+  is_held = ap (λ (h : ℕ → List Held). h file) same ∙ p.is_held ∙ sym (append_assoc pass.passed (one ∷ []) waiting);
   were = λ at x there. p.were at x (subst (λ (h : ℕ → List Held). Among x (h at)) same there);
   left = left_then requests start pass.progress.server progress.server p.left left;
 }
@@ -207,11 +204,9 @@ left_held : (at : ℕ) (left : List Held) (progress : Progress) (requests : ℕ 
 unfolding held_left
 left_held at left progress requests were within file x there = either (file == at)
     (λ here. let same = eqb-true file at here in
-    subst (λ f. Among x (requests f)) (sym same)
-    (within x (subst (λ l. Among x l)
+    subst (λ f. Among x (requests f)) (sym same) (within x (subst (λ l. Among x l)
     (ap (put progress.server.held at left) same ∙ put_same progress.server.held at left) there)))
-    (λ apart. were file x (subst (λ l. Among x l)
-    (put_other progress.server.held at left file (λ e. false_same apart e)) there))
+    (λ apart. were file x (subst (λ l. Among x l) (put_other progress.server.held at left file (λ e. false_same apart e)) there))
   where
     false_same : (file == at) ≡ false → file ≡ at → ⊥
     false_same apart e = clash (file == at) (eq-eqb file at e) apart
@@ -231,8 +226,7 @@ answered_pass requests start file one waiting pass progress outcome same left p 
       were = λ at x there. left_held file (pass.passed ++ waiting) progress requests
           (λ f y a. p.were f y (subst (λ (h : ℕ → List Held). Among y (h f)) same a))
           (λ y a. ⊎_elim (λ first. inside y (among_before y pass.passed (one ∷ waiting) first))
-          (λ later. inside y (among_behind y pass.passed (one ∷ waiting) (inr later)))
-          (among_append y pass.passed waiting a))
+          (λ later. inside y (among_behind y pass.passed (one ∷ waiting) (inr later))) (among_append y pass.passed waiting a))
           at x (subst (λ (h : ℕ → List Held). Among x (h at)) held there);
       left = left_then requests start pass.progress.server (concluded one.client one.request gone outcome).server p.left
           (left_then requests pass.progress.server progress.server (concluded one.client one.request gone outcome).server left
@@ -260,8 +254,7 @@ tried_pass requests start file one waiting pass p =
     let there = subst (λ l. Among one l) (sym p.is_held) (among_behind one pass.passed (one ∷ waiting) (inl refl)) in
     if_cases (IsPassing requests start file waiting) (is_behind one.client pass.passed) (left_waiting one pass pass.progress)
     (after_try file one waiting pass done.progress done.outcome)
-    (λ behind. passed_over requests start file one waiting pass pass.progress refl
-    (same_left requests pass.progress.server) p)
+    (λ behind. passed_over requests start file one waiting pass pass.progress refl (same_left requests pass.progress.server) p)
     (λ first. after_pass_try requests start file one waiting pass done.progress done.outcome
     (tried_for-held 3 one.client one.request pass.progress)
     (tried_left requests pass.progress file one (record { was = p.were file one there; still = there })) p)

@@ -31,6 +31,5 @@ module _ {M : Type 1} {𝓤 : Ura M} {𝓛 : Logic 𝓤} {K : Type 0} {Γ : List
 
   pub handle_out : K → (h : handle.the_row.Denot) (vs : List Val)
       → (vs ≡ word h.at ∷ [] → Seq K 𝓛 (‵ (handle_owns R h.held h.at) ∷ Γ) G) → Seq K 𝓛 (‵ (handle.the_row.own_val h vs) ∷ Γ) G
-  handle_out t h vs k =
-      fsplit t $ fpick t (λ vss. fsplit t $ feq_l t (λ ev. fsplit t $ feq_l t (λ ep. drop t $
+  handle_out t h vs k = fsplit t $ fpick t (λ vss. fsplit t $ feq_l t (λ ev. fsplit t $ feq_l t (λ ep. drop t $
       k (subst (λ (ps : List Val). vs ≡ vstruct (of_list (ps ++ [])) ∷ []) ep ev))))

@@ -72,8 +72,7 @@ ends_either {A} {go} {first} {second} alone empty this other = record { same = a
     read_by : (word : List ℕ) (words : Words) (told : A) → ⊥ ⊎ (⊤ × (word ≡ alone) × Say [] second words told)
         → go (word ∷ words) ≡ Some told
     read_by word words told (inl none) = absurd none
-    read_by word words told (inr say) =
-        this word words ((bytes_eq-Decides word alone).1 say.1) ∙ (ended.same words told).1 say.2
+    read_by word words told (inr say) = this word words ((bytes_eq-Decides word alone).1 say.1) ∙ (ended.same words told).1 say.2
 
     here : (told : A) → (first ≡ told) ⊎ ⊥ → go [] ≡ Some told
     here told x2 = grind arith

@@ -52,8 +52,7 @@ lowered_came world v key lowered may =
 
 -- the same holds where a request was taken off
 off_joined : (world off : World) (client : ℕ) (request : FileRequest) → Both Ground IsWell world
-    → IsSource world off client request
-    → HasJoined world → (has_joined client off.past ≡ true) × HasJoined off
+    → IsSource world off client request → HasJoined world → (has_joined client off.past ≡ true) × HasJoined off
 off_joined world off client request v source h = grind arith
 
 deeds_joined : (world : World) → Both Ground IsWell world → HasJoined world → HasDeeds world HasJoined
@@ -118,7 +117,6 @@ first_joined setup = starts_joined (starts_from 1 setup.files) [] (all_starts 1 
 
 pub run_joined : (setup : Setup) (events : List Event) → is_allowed_setup setup ≡ true
     → EachFact Joined (after (first_world setup) events).past
-run_joined setup events allowed =
-    (runs_have (Both (Both Ground IsWell) HasJoined) (λ world (known, joined). known.0)
+run_joined setup events allowed = (runs_have (Both (Both Ground IsWell) HasJoined) (λ world (known, joined). known.0)
     (carried_both (Both Ground IsWell) HasJoined (carried_both Ground IsWell ground_carried well_moves) joined_moves) setup
     ((first_ground setup, first_well setup allowed), first_joined setup) events).1

@@ -26,8 +26,7 @@ wrote_written : (front offset digits way : List ℕ)
     ≡ front ++ codes " " ++ offset ++ codes " " ++ digits ++ codes " " ++ way ++ 10 ∷ []
 wrote_written front offset digits way = simp append_assoc
 
-read_written : (front client file digits : List ℕ)
-    → front ++ (client ++ codes " " ++ file ++ codes " ") ++ digits ++ 10 ∷ []
+read_written : (front client file digits : List ℕ) → front ++ (client ++ codes " " ++ file ++ codes " ") ++ digits ++ 10 ∷ []
     ≡ front ++ client ++ codes " " ++ file ++ codes " " ++ digits ++ 10 ∷ []
 read_written front client file digits = simp append_assoc
 

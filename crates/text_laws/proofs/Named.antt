@@ -83,8 +83,7 @@ client_takes_named world client (reply ∷ queue) some n = stepped_named
 cut_named : (world : World) (client : ℕ) (link : Link) → nat_le 1 client ≡ true → IsNamed world
     → IsNamed (cut_over world client link)
 unfolding link_cut is_named
-cut_named world client Link.Up some n = served_named
-    (happened (record world {
+cut_named world client Link.Up some n = served_named (happened (record world {
       links = put world.links client Link.Cut;
       requests = put world.requests client [];
       replies = put world.replies client [];

@@ -36,10 +36,8 @@ decimal_after = decimal_by_steps (λ n ds. n < 2 ^ 64 → number_after (Some 0) 
     (λ n ds large front fits.
     let before = front (omega (arith, fits)) in
     let whole : n / 10 * 10 + n % 10 ≡ n = omega arith in
-    after-append (Some 0) ds (48 + n % 10)
-    ∙ ap (λ (o : Option ℕ). number_after o ((48 + n % 10) ∷ [])) before
-    ∙ one_digit (n / 10) (n % 10) (omega arith) (omega (arith, whole, fits))
-    ∙ ap Some whole)
+    after-append (Some 0) ds (48 + n % 10) ∙ ap (λ (o : Option ℕ). number_after o ((48 + n % 10) ∷ [])) before
+    ∙ one_digit (n / 10) (n % 10) (omega arith) (omega (arith, whole, fits)) ∙ ap Some whole)
 
 pub decimal_above : (number : ℕ) → number < 2 ^ 64 → all_above 32 (decimal number) ≡ true
 decimal_above = decimal_by_steps (λ n ds. all_above 32 ds ≡ true)

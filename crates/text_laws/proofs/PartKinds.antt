@@ -66,8 +66,7 @@ unfolding event_named
 of_client name tell is = step client_reads refl (λ word words none. rw none refl) (λ word client c.
     ends (λ words. rw (c, is client words) refl))
 
-of_both : (name : List ℕ) (tell : ClientNo → FileNo → Event)
-    → ((client : ℕ) (words : Words)
+of_both : (name : List ℕ) (tell : ClientNo → FileNo → Event) → ((client : ℕ) (words : Words)
     → event_of name client words ≡ on_file (λ file. tell (client_no client) (file_no file)) words)
     → Goes (happening name) (Field.Client ∷ Field.File ∷ []) (λ client file. Part.Happens (tell client file))
 unfolding event_named
@@ -84,8 +83,7 @@ write_goes = step client_reads refl (λ word words none. rw none refl) (λ word 
     step bytes_reads (rw (c, f, o) refl) (λ word words none. rw (c, f, o, none) refl) (λ word bytes b.
     ends (λ words. rw (c, f, o, b) refl)))))
 
-open_goes : GoesEither (named (codes "open"))
-    (Field.Client ∷ Field.File ∷ Field.Access ∷ Field.Share ∷ Field.State ∷ [])
+open_goes : GoesEither (named (codes "open")) (Field.Client ∷ Field.File ∷ Field.Access ∷ Field.Share ∷ Field.State ∷ [])
     (λ client file access share want. app client (command.Open file access share want false))
     (Field.Client ∷ Field.File ∷ Field.Access ∷ Field.Share ∷ Field.State ∷ Field.Word (codes "durable") ∷ [])
     (λ client file access share want durable. app client (command.Open file access share want true))
@@ -175,8 +173,7 @@ raw_told (first ∷ second ∷ words) told e = by_client (ordinal_in first) refl
 
     by_client : (got : Option ℕ) → ordinal_in first ≡ got → Found (codes "raw") (first ∷ second ∷ words) told
     by_client None c = absurd (none_told told (sym (no_client first second words c) ∙ e))
-    by_client (Some client) c =
-        decided second (codes "create")
+    by_client (Some client) c = decided second (codes "create")
         (λ same. row_at part_kinds 15 refl
         (client_no client, c, (tt, same, ((create_goes first client c).same words told).0 (as_it_is (codes "create") same))))
         (λ create. decided second (codes "read")
@@ -191,13 +188,11 @@ raw_told (first ∷ second ∷ words) told e = by_client (ordinal_in first) refl
         (λ write. decided second (codes "ack")
         (λ same. row_at part_kinds 19 refl
         (client_no client, c, (tt, same, ((ack_goes first client c).same words told).0 (as_it_is (codes "ack") same))))
-        (λ ack. absurd (none_told told
-        (sym (other_request first second words client c create read write close ack) ∙ e)))))))
+        (λ ack. absurd (none_told told (sym (other_request first second words client c create read write close ack) ∙ e)))))))
 
 raw_fits : (alone : List ℕ) (fields : List Field) (telling : ClientNo → Telling Part fields)
     → ((word : List ℕ) (client : ℕ) → ordinal_in word ≡ Some client
-    → Goes (λ words. named (codes "raw") (word ∷ alone ∷ words)) fields (telling (client_no client)))
-    → Fits named part_kinds
+    → Goes (λ words. named (codes "raw") (word ∷ alone ∷ words)) fields (telling (client_no client))) → Fits named part_kinds
     (kind (codes "raw") (Field.Client ∷ Field.Word alone ∷ fields) (λ client said. telling client))
 raw_fits alone fields telling goes = record { told = raw_told; tells = tells }
   where
@@ -217,14 +212,12 @@ open_told words told e = ⊎_elim (λ say. row_at part_kinds 2 refl say) (λ say
     ((open_goes.same words told).0 e)
 
 requests_fit : Each (Fits named part_kinds) (drop 15 part_kinds)
-requests_fit =
-    raw_fits _ _ _ create_goes also raw_fits _ _ _ read_goes also raw_fits _ _ _ close_goes
+requests_fit = raw_fits _ _ _ create_goes also raw_fits _ _ _ read_goes also raw_fits _ _ _ close_goes
     also raw_fits _ _ _ raw_write_goes also raw_fits _ _ _ ack_goes also tt
 
 clients_fit : Each (Fits named part_kinds) (drop 8 part_kinds)
 unfolding named part_named event_of
-clients_fit =
-    fits_alone (among_at part_kinds 8 refl) (of_client (codes "serve") event.ServerTakes (λ client words. refl))
+clients_fit = fits_alone (among_at part_kinds 8 refl) (of_client (codes "serve") event.ServerTakes (λ client words. refl))
     also fits_alone (among_at part_kinds 9 refl) (of_client (codes "take") event.ClientTakes (λ client words. refl))
     also fits_alone (among_at part_kinds 10 refl) (of_client (codes "cut") event.Cut (λ client words. refl))
     also fits_alone (among_at part_kinds 11 refl) (of_client (codes "notice") event.Notice (λ client words. refl))
@@ -235,8 +228,7 @@ clients_fit =
 
 commands_fit : Each (Fits named part_kinds) (drop 4 part_kinds)
 unfolding named part_named event_of
-commands_fit =
-    fits_alone (among_at part_kinds 4 refl)
+commands_fit = fits_alone (among_at part_kinds 4 refl)
     (of_both (codes "close") (λ client file. event.App client (command.Close file)) (λ client words. refl))
     also fits_alone (among_at part_kinds 5 refl)
     (of_both (codes "read") (λ client file. event.App client (command.Read file)) (λ client words. refl))
@@ -245,11 +237,9 @@ commands_fit =
     also fits_alone (among_at part_kinds 7 refl) write_goes also clients_fit
 
 each_fits : Each (Fits named part_kinds) part_kinds
-each_fits =
-    fits_alone (among_at part_kinds 0 refl) file_goes also fits_alone (among_at part_kinds 1 refl) client_goes
+each_fits = fits_alone (among_at part_kinds 0 refl) file_goes also fits_alone (among_at part_kinds 1 refl) client_goes
     also record { told = open_told; tells = λ words told say. (open_goes.same words told).1 (inl say) }
-    also record { told = open_told; tells = λ words told say. (open_goes.same words told).1 (inr say) }
-    also commands_fit
+    also record { told = open_told; tells = λ words told say. (open_goes.same words told).1 (inr say) } also commands_fit
 
 by_names : (line : List ℕ) → part_in line ≡ by_fields named (fields_of line)
 unfolding named part_in

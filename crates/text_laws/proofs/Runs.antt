@@ -48,8 +48,7 @@ started_placed file (model.Fact.Start other bytes ∷ past) named started =
     let parts = and_parts (nat_le 1 other && is_content bytes) (list_all is_named past) named in
     ⊎_elim
     (λ same. subst (λ n. nat_le 1 n ≡ true) (eqb-true other file same) (and_parts (nat_le 1 other) (is_content bytes) parts.0).0)
-    (λ before. started_placed file past parts.1 before)
-    (or_true (other == file) (is_started file past) started)
+    (λ before. started_placed file past parts.1 before) (or_true (other == file) (is_started file past) started)
 started_placed file (other ∷ past) named started =
     started_placed file past (and_parts (is_named other) (list_all is_named past) named).1 started
 
@@ -61,8 +60,7 @@ joined_placed client (model.Fact.Joined other ∷ past) named came =
     let parts = and_parts (nat_le 1 other) (list_all is_named past) named in
     ⊎_elim
     (λ same. subst (λ n. nat_le 1 n ≡ true) (eqb-true other client same) parts.0)
-    (λ before. joined_placed client past parts.1 before)
-    (or_true (other == client) (has_joined client past) came)
+    (λ before. joined_placed client past parts.1 before) (or_true (other == client) (has_joined client past) came)
 joined_placed client (other ∷ past) named came =
     joined_placed client past (and_parts (is_named other) (list_all is_named past) named).1 came
 
@@ -135,8 +133,7 @@ run_can setup events facts of =
 letters_same : (read write handle : Bool)
     → state_of_bits (bits_of_state (record { read = read; write = write; handle = handle })) ≡ record {
       read = read;
-      write =
-          write;
+      write = write;
       handle = handle;
     }
 letters_same x1 x2 x3 = grind arith
@@ -164,8 +161,7 @@ runs_back setup events facts of = (
 
 safe_record : (setup : Setup) (events : List Event) (facts : List Fact) → AreOfRun setup events facts
     → (Safe (recorded setup events)) → Verdict.Safe ≡ verdict (map fact_of (map as_lettered facts))
-safe_record setup events facts of safe =
-    sym (ap (λ (all : List model.Fact). verdict all) (same_facts facts ∙ of.are_recorded)
+safe_record setup events facts of safe = sym (ap (λ (all : List model.Fact). verdict all) (same_facts facts ∙ of.are_recorded)
     ∙ safe-verdict (recorded setup events) safe)
 
 pub runs_safe : EveryRunIsSafe → RunsAreJudgedSafe

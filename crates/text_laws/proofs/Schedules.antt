@@ -100,8 +100,6 @@ schedules_back draft can =
     let first = files_read [] draft.files can.files 1 (clients ++ events) in
     let second = clients_read draft.files [] draft.clients can.clients first.0 events in
     let third = events_read draft.files draft.clients [] draft.events can.events second.0 [] in
-    ap (λ (text : List ℕ). schedule_in text) (append_assoc files clients events)
-    ∙ first.1 ∙ second.1
+    ap (λ (text : List ℕ). schedule_in text) (append_assoc files clients events) ∙ first.1 ∙ second.1
     ∙ ap (λ (text : List ℕ). reads_on with_line second.0 (drafted draft.files draft.clients []) (lines_of text))
-    (sym (append-nil events))
-    ∙ third.1
+    (sym (append-nil events)) ∙ third.1

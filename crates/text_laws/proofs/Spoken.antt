@@ -55,8 +55,7 @@ words_of (field ∷ fields) (first & others) = first.word ∷ words_of fields ot
 they_say : (A : Type 0) (fields : List Field) (telling : Telling A fields) (said : AllSpoken fields)
     → Say fields telling (words_of fields said) (told_of fields telling said)
 they_say A [] telling Said = refl
-they_say A (field ∷ fields) telling (first & others) =
-    (first.value, first.says, they_say A fields (telling first.value) others)
+they_say A (field ∷ fields) telling (first & others) = (first.value, first.says, they_say A fields (telling first.value) others)
 
 -- ---- lines
 
@@ -78,8 +77,7 @@ joined_behind front word (next ∷ words) = append_assoc front word (32 ∷ join
 line_joined : (front : List ℕ) (words : Words) → line_of front words ≡ joined front words
 unfolding joined
 line_joined front [] = refl
-line_joined front (word ∷ words) =
-    line_joined (front ++ codes " " ++ word) words ∙ joined_behind (front ++ codes " ") word words
+line_joined front (word ∷ words) = line_joined (front ++ codes " " ++ word) words ∙ joined_behind (front ++ codes " ") word words
     ∙ append_assoc front (codes " ") (joined word words)
 
 fields_joined : (word : List ℕ) (fields : List Field) (said : AllSpoken fields) → all_above 32 word ≡ true
@@ -137,8 +135,7 @@ row_line {A} {kinds} {read} {text} exact place {row} e above counts said written
     }
 
 -- two words that were put together behind a front
-pub two_behind : (front first second : List ℕ)
-    → front ++ codes " " ++ (first ++ codes " " ++ second) ++ 10 ∷ []
+pub two_behind : (front first second : List ℕ) → front ++ codes " " ++ (first ++ codes " " ++ second) ++ 10 ∷ []
     ≡ front ++ codes " " ++ first ++ codes " " ++ second ++ 10 ∷ []
 two_behind front first second = simp append_assoc
 

@@ -32,8 +32,7 @@ reads_all facts (told ∷ more) can number rest =
     let first = reads_line facts told (as_lettered told) (named_back told can.0) number (record_text more ++ rest) in
     let others = reads_all (facts ++ as_lettered told ∷ []) more can.1 (number + 1) rest in
     ap (λ (text : List ℕ). reads_on with_line number facts (lines_of text))
-    (append_assoc (fact_line told) (record_text more) rest)
-    ∙ first ∙ others
+    (append_assoc (fact_line told) (record_text more) rest) ∙ first ∙ others
     ∙ ap (λ (n : ℕ). reads_on with_line n (facts ++ as_lettered told ∷ [] ++ map as_lettered more) (lines_of rest)) (omega arith)
     ∙ ap (λ (all : List Fact). reads_on with_line (number + suc (length more)) all (lines_of rest))
     (append_assoc facts (as_lettered told ∷ []) (map as_lettered more))
@@ -48,12 +47,10 @@ as_they_are (told ∷ facts) ((is, lettered), others) = rw (as_it_is told letter
 
 pub texts_go_on : (facts : List Fact) (rest : List ℕ) → Each CanBeTold facts
     → record_in (record_text facts ++ rest) ≡ reads_on with_line (length facts + 1) facts (lines_of rest)
-texts_go_on facts rest can =
-    reads_all [] facts (named facts can) 1 rest
+texts_go_on facts rest can = reads_all [] facts (named facts can) 1 rest
     ∙ ap (λ (n : ℕ). reads_on with_line n (map as_lettered facts) (lines_of rest)) (omega arith)
     ∙ ap (λ (all : List Fact). reads_on with_line (length facts + 1) all (lines_of rest)) (as_they_are facts can)
 
 pub records_back : (facts : List Fact) → Each CanBeTold facts → record_in (record_text facts) ≡ Ok facts
 unfolding reads_on pieces
-records_back facts can =
-    ap (λ (text : List ℕ). record_in text) (sym (append-nil (record_text facts))) ∙ texts_go_on facts [] can
+records_back facts can = ap (λ (text : List ℕ). record_in text) (sym (append-nil (record_text facts))) ∙ texts_go_on facts [] can

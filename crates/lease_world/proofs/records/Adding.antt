@@ -183,8 +183,7 @@ module _ (place : ℕ) (old new : Seen) (v : Verdict) (past : List Fact) (k : Kn
   false_judged fact e w one stale late done =
       rw e (record { told = sym (false-here place fact past w one stale late done); known = λ s. absurd (cc) })
 
-  safe_judged : (fact : Fact) → v ≡ Verdict.Safe → AllWell fact past
-      → ((f : ℕ) → KnowsFile f (file_in new.files f) (fact ∷ past))
+  safe_judged : (fact : Fact) → v ≡ Verdict.Safe → AllWell fact past → ((f : ℕ) → KnowsFile f (file_in new.files f) (fact ∷ past))
       → ((c : ℕ) → KnowsClient c (client_in new.clients c) (fact ∷ past))
       → ((c f : ℕ) → Holds new.files new.clients c f) → KnowsHolders new.holders (fact ∷ past) → Judged fact
   safe_judged fact e well files clients contents holders = rw e (record {
@@ -251,8 +250,7 @@ module _ (place : ℕ) (old new : Seen) (v : Verdict) (past : List Fact) (k : Kn
       → ((f : ℕ) → touches f fact ≡ false) → ((c : ℕ) → c ≢ client → concerns c fact ≡ false) → AllWell fact past
       → KnowsClient client (client_in new.clients client) (fact ∷ past)
       → ((f : ℕ) → HasContents (file_in old.files f) (client_in new.clients client).taken
-      (cache_in (client_in new.clients client).caches f))
-      → KnowsHolders new.holders (fact ∷ past) → Judged fact
+      (cache_in (client_in new.clients client).caches f)) → KnowsHolders new.holders (fact ∷ past) → Judged fact
   client_judged client fact e same others untouched unconcerned well known held holders =
       safe_judged fact e well (same_files old new fact past same untouched k)
       (one_client old new client fact past others unconcerned known k)
@@ -260,8 +258,7 @@ module _ (place : ℕ) (old new : Seen) (v : Verdict) (past : List Fact) (k : Kn
 
   put_judged : (client : ℕ) (fact : Fact) (seen : SeenClient) → v ≡ Verdict.Safe → PutsClient client seen old new
       → ((f : ℕ) → touches f fact ≡ false) → ((c : ℕ) → c ≢ client → concerns c fact ≡ false) → AllWell fact past
-      → KnowsClient client seen (fact ∷ past)
-      → ((f : ℕ) → HasContents (file_in old.files f) seen.taken (cache_in seen.caches f))
+      → KnowsClient client seen (fact ∷ past) → ((f : ℕ) → HasContents (file_in old.files f) seen.taken (cache_in seen.caches f))
       → KnowsHolders new.holders (fact ∷ past) → Judged fact
   put_judged client fact seen e (puts, same) untouched unconcerned well known held holders =
       let now : client_in new.clients client ≡ seen = client-here old.clients new.clients client seen puts in
@@ -274,8 +271,7 @@ module _ (place : ℕ) (old new : Seen) (v : Verdict) (past : List Fact) (k : Kn
       → is_quiet fact ≡ true → ((f : ℕ) → touches f fact ≡ false) → ((c : ℕ) → c ≢ client → concerns c fact ≡ false)
       → AllWell fact past → KnowsClient client seen (fact ∷ past)
       → ((f : ℕ) → HasContents (file_in old.files f) seen.taken (cache_in seen.caches f))
-      → is_good client (fact ∷ past) ≡ false → ((c : ℕ) → c ≢ client → is_good c (fact ∷ past) ≡ is_good c past)
-      → Judged fact
+      → is_good client (fact ∷ past) ≡ false → ((c : ℕ) → c ≢ client → is_good c (fact ∷ past) ≡ is_good c past) → Judged fact
   left_judged client fact seen (e, (puts, leaves)) quiet untouched unconcerned well known held bad others =
       put_judged client fact seen e puts untouched unconcerned well known held
       (holders-leave client (client_in old.clients client) past (fact ∷ past) old.holders new.holders
@@ -369,11 +365,9 @@ module _ (place : ℕ) (old new : Seen) (v : Verdict) (past : List Fact) (k : Kn
       let goods : (c : ℕ) → is_good c (fact ∷ past) ≡ is_good c past =
       each_place (λ c. is_good c (fact ∷ past) ≡ is_good c past) client (not_new client was is past off told told_now)
       (λ c ne. joined_good client c past ne) in
-      safe e
-      (one-after past (fact ∷ past) client k.one_write_cache (λ o ne. goods o) (λ o f ne. refl)
+      safe e (one-after past (fact ∷ past) client k.one_write_cache (λ o ne. goods o) (λ o f ne. refl)
       (λ g f o ne good_too. none-conflicts past client o f k.one_write_cache ne (sym (goods client) ∙ g)
-      (sym (goods o) ∙ good_too)))
-      (holders-same past (fact ∷ past) old.holders new.holders kept goods (λ c f. refl) k.holders))
+      (sym (goods o) ∙ good_too))) (holders-same past (fact ∷ past) old.holders new.holders kept goods (λ c f. refl) k.holders))
     where
       newcomer : (a b : Bool) → (if a then false else b) ≡ true → (a ≡ false) × (b ≡ true)
       newcomer x1 b e = grind arith
@@ -383,8 +377,7 @@ module _ (place : ℕ) (old new : Seen) (v : Verdict) (past : List Fact) (k : Kn
   late_told : (file client number : ℕ) (patch : Patch)
       → is_late file client number old ≡ is_late_write (Fact.Changed file client number patch) past
   unfolding is_late_write
-  late_told file client number patch =
-      rw (
+  late_told file client number patch = rw (
         (k.clients client).strayed,
         (k.files file).touches client,
         (k.clients client).writes number,
@@ -417,16 +410,14 @@ module _ (place : ℕ) (old new : Seen) (v : Verdict) (past : List Fact) (k : Kn
       let others : (n : ℕ) → n ≢ file → file_in new.files n ≡ file_in old.files n =
       file-others old.files new.files file seen puts in
       let held : (c f : ℕ) → HasContents (file_in new.files f) (client_in old.clients c).taken
-      (cache_in (client_in old.clients c).caches f) =
-      λ c f. each_place
+      (cache_in (client_in old.clients c).caches f) = λ c f. each_place
       (λ n. HasContents (file_in new.files n) (client_in old.clients c).taken (cache_in (client_in old.clients c).caches n)) file
       (let low = rises-low (client_in old.clients c).taken (client_in old.clients c).sent (length past) (k.clients c).rising in
       rw now (contents-change (file_in old.files file) (touched (file_in old.files file).touches client place)
       (record { place = place; patch = patch }) (client_in old.clients c).taken (cache_in (client_in old.clients c).caches file)
       (omega (arith, low, at)) (k.contents c file)))
       (λ n ne. rw (others n ne) (k.contents c n)) f in
-      safe_judged fact e
-      (record { formed = sym well ∙ on; one = one; stale = refl; late = sym late ∙ not_so; done = refl })
+      safe_judged fact e (record { formed = sym well ∙ on; one = one; stale = refl; late = sym late ∙ not_so; done = refl })
       (one_file old new file fact past others (λ f ne. is_apart f file ne)
       (rw now (file_changes file client number place patch (file_in old.files file) past at (k.files file))) k)
       (one_client old new client fact past changes.1 (λ c ne. is_apart c client ne)
@@ -435,8 +426,7 @@ module _ (place : ℕ) (old new : Seen) (v : Verdict) (past : List Fact) (k : Kn
       (λ c f. each_place (λ n. Holds new.files new.clients n f) client
       (accepted_held (file_in new.files f) (client_in old.clients client) (client_in new.clients client) f number file patch
       changes.0 (held client f))
-      (λ n ne. rw (changes.1 n ne) (held n f)) c)
-      (holders-stay fact past old.holders new.holders refl kept k.holders)))
+      (λ n ne. rw (changes.1 n ne) (held n f)) c) (holders-stay fact past old.holders new.holders refl kept k.holders)))
       (λ off e. malformed_judged fact e (sym well ∙ off))
 
   -- ---- a write is given
@@ -463,8 +453,7 @@ module _ (place : ℕ) (old new : Seen) (v : Verdict) (past : List Fact) (k : Kn
       (client_writes client number place file patch buffered (client_in old.clients client) (client_in new.clients client) past at
       changes.0 (k.clients client))
       (wrote_held (file_in old.files) (client_in old.clients client) (client_in new.clients client) number _ changes.0
-      (k.contents client))
-      (holders-stay fact past old.holders new.holders refl goes.1 k.holders))
+      (k.contents client)) (holders-stay fact past old.holders new.holders refl goes.1 k.holders))
       (λ off e. malformed_judged fact e (sym well ∙ off))
 
   -- ---- a write is settled
@@ -493,8 +482,7 @@ module _ (place : ℕ) (old new : Seen) (v : Verdict) (past : List Fact) (k : Kn
       (client_settles client number outcome (client_in old.clients client) (client_in new.clients client) past
       changes.0 (k.clients client))
       (settled_held (file_in old.files) (client_in old.clients client) (client_in new.clients client) number changes.0
-      (k.contents client))
-      (holders-stay fact past old.holders new.holders refl goes.1 k.holders))
+      (k.contents client)) (holders-stay fact past old.holders new.holders refl goes.1 k.holders))
 
   -- ---- a belief
 
@@ -511,8 +499,7 @@ module _ (place : ℕ) (old new : Seen) (v : Verdict) (past : List Fact) (k : Kn
       ((k.clients client).caches file).belief
       (second_false (is_good_client seen) _ free (good_told client seen past (k.clients client) ∙ good)) k.holders ne good_too))
       (λ n apart. rw (other_file_belief client file n state past apart, others_believe client file other n state past ne)
-      (none-conflicts past client other n k.one_write_cache ne good good_too))
-      f
+      (none-conflicts past client other n k.one_write_cache ne good good_too)) f
     where
       second_false : (a b : Bool) → (a && b) ≡ false → a ≡ true → b ≡ false
       second_false x1 b e a_is = grind arith
@@ -539,8 +526,7 @@ module _ (place : ℕ) (old new : Seen) (v : Verdict) (past : List Fact) (k : Kn
       (rw (own_belief client file state past, others_believe client file rival.other file state past rival.apart) rival.conflict)))
       (λ none (e, goes).
       let (changes, same) = goes.0 in
-      client_judged client fact e same changes.1 (λ f. refl) (λ c ne. is_apart c client ne)
-      (record {
+      client_judged client fact e same changes.1 (λ f. refl) (λ c ne. is_apart c client ne) (record {
         formed = formed;
         one = one-after past (fact ∷ past) client k.one_write_cache (λ o ne. goods o)
             (λ o f ne. others_believe client file o f state past ne)
@@ -549,8 +535,7 @@ module _ (place : ℕ) (old new : Seen) (v : Verdict) (past : List Fact) (k : Kn
         stale = refl;
         late = refl;
         done = refl;
-      })
-      (client_believes client file state seen (client_in new.clients client) past changes.0 (k.clients client))
+      }) (client_believes client file state seen (client_in new.clients client) past changes.0 (k.clients client))
       (believed_held (file_in old.files) seen (client_in new.clients client) file state changes.0 (k.contents client))
       (holders-move client file state seen past (fact ∷ past) old.holders new.holders told
       (λ f. ((k.clients client).caches f).belief) goods (own_belief client file state past)
@@ -595,8 +580,7 @@ module _ (place : ℕ) (old new : Seen) (v : Verdict) (past : List Fact) (k : Kn
       match_bool (is_started_in old.files file) adds
       (λ on more. match_bool (is_good_client (client_in old.clients client)) more
       (λ good shows. shown_judged client file bytes (taken_of (client_in old.clients client)) on good refl shows)
-      (λ bad (e, same). safe_judged fact e
-      (all_well fact refl (sym (started_told old file past k) ∙ on)
+      (λ bad (e, same). safe_judged fact e (all_well fact refl (sym (started_told old file past k) ∙ on)
       (read-of-strayed client file bytes (client_in old.clients client) past (k.clients client) bad) refl refl)
       (same_files old new fact past (λ f. ap (λ (s : Seen). file_in s.files f) same) (λ f. refl) k)
       (same_clients old new fact past (λ c. ap (λ (s : Seen). client_in s.clients c) same) (λ c. refl) k)

@@ -23,15 +23,12 @@ pending-agree client file whole other (_ ∷ past) e = pending-agree client file
 
 -- Where belief, settled numbers and writes are as before, so is all that is known of a cache.
 pub cache_over : (client file : ℕ) (cache : SeenCache) (past next : List Fact)
-    → believed client file next ≡ believed client file past
-    → ((n : ℕ) → is_settled client n next ≡ is_settled client n past)
+    → believed client file next ≡ believed client file past → ((n : ℕ) → is_settled client n next ≡ is_settled client n past)
     → pending client file past next ≡ pending client file past past
     → KnowsCache client file cache past → KnowsCache client file cache next
 cache_over client file cache past next b s p k = record {
   belief = k.belief ∙ sym b;
-  covers = λ position.
-      filter-agree (is_unsettled client next) (is_unsettled client past)
-      (layers_at position cache.fresh ++ stack_in cache.covers position) (λ l. ap not (s l.number))
-      ∙ (k.covers position
+  covers = λ position. filter-agree (is_unsettled client next) (is_unsettled client past)
+      (layers_at position cache.fresh ++ stack_in cache.covers position) (λ l. ap not (s l.number)) ∙ (k.covers position
       ∙ ap (λ (ws : List Waiting). layers_at position ws) (sym p ∙ sym (pending-agree client file next past next s)));
 }

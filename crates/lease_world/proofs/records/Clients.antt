@@ -38,10 +38,8 @@ client_joins client seen past k = record {
 pub client_drops : (client : ℕ) (seen : SeenClient) (past : List Fact) → KnowsClient client seen past
     → KnowsClient client (record seen { served = false }) (Fact.Dropped client ∷ past)
 unfolding has_joined is_served has_strayed sendings takings is_settled write_of believed pending
-client_drops client seen past k =
-    client_over client seen (record seen { served = false }) past (Fact.Dropped client ∷ past)
-    (longer (Fact.Dropped client) past) refl refl refl refl refl
-    k.joined (rw (self client) refl) k.strayed k.settled k.writes
+client_drops client seen past k = client_over client seen (record seen { served = false }) past (Fact.Dropped client ∷ past)
+    (longer (Fact.Dropped client) past) refl refl refl refl refl k.joined (rw (self client) refl) k.strayed k.settled k.writes
     (λ f. cache_over client f (cache_in seen.caches f) past (Fact.Dropped client ∷ past) refl (λ n. refl) refl (k.caches f)) k
 
 pub client_expires : (client file : ℕ) (seen : SeenClient) (past : List Fact) → KnowsClient client seen past
@@ -57,10 +55,8 @@ client_expires client file seen past k =
 pub client_strays : (client : ℕ) (seen : SeenClient) (past : List Fact) → KnowsClient client seen past
     → KnowsClient client (record seen { strayed = true }) (Fact.Strayed client ∷ past)
 unfolding has_joined is_served has_strayed sendings takings is_settled write_of believed pending
-client_strays client seen past k =
-    client_over client seen (record seen { strayed = true }) past (Fact.Strayed client ∷ past)
-    (longer (Fact.Strayed client) past) refl refl refl refl refl
-    k.joined k.served (rw (self client) refl) k.settled k.writes
+client_strays client seen past k = client_over client seen (record seen { strayed = true }) past (Fact.Strayed client ∷ past)
+    (longer (Fact.Strayed client) past) refl refl refl refl refl k.joined k.served (rw (self client) refl) k.settled k.writes
     (λ f. cache_over client f (cache_in seen.caches f) past (Fact.Strayed client ∷ past) refl (λ n. refl) refl (k.caches f)) k
 
 -- ---- a message is sent
@@ -82,16 +78,14 @@ length-places (x ∷ places) = let e = length-places places in omega (arith, e)
 
 drop-places : (n : ℕ) (places : List (List Fact)) (place : List Fact) → n ≤ length places
     → drop n (map place_of (places ++ place ∷ [])) ≡ drop n (map place_of places) ++ place_of place ∷ []
-drop-places n places place le =
-    ap (λ (xs : List ℕ). drop n xs) (map-append place_of places (place ∷ []))
+drop-places n places place le = ap (λ (xs : List ℕ). drop n xs) (map-append place_of places (place ∷ []))
     ∙ drop-append-le n (map place_of places) (place_of place ∷ []) (rw (length-places places) le)
 
 one_longer : (n : ℕ) (places : List (List Fact)) (place : List Fact) → n ≤ length places → n ≤ length (places ++ place ∷ [])
 one_longer n places place le = let e = length-append places (place ∷ []) in omega (arith, le, e)
 
 pub client_sent : (client place : ℕ) (seen : SeenClient) (past : List Fact) → place ≡ length past + 1
-    → KnowsClient client seen past
-    → KnowsClient client (record seen { sent = seen.sent ++ place ∷ [] }) (Fact.Sent client ∷ past)
+    → KnowsClient client seen past → KnowsClient client (record seen { sent = seen.sent ++ place ∷ [] }) (Fact.Sent client ∷ past)
 unfolding has_joined is_served has_strayed sendings takings last_sending is_settled write_of believed pending
 client_sent client place seen past at k = record {
   joined = k.joined;
@@ -213,8 +207,7 @@ took_nothing : (client : ℕ) (seen : SeenClient) (past : List Fact) (joined : B
     → is_well_formed (Fact.Took client) past ≡ false
 unfolding is_well_formed
 took_nothing client seen past false sent j e can k = rw (sym k.joined ∙ j) refl
-took_nothing client seen past true [] j e can k =
-    and_not (has_joined client past) _
+took_nothing client seen past true [] j e can k = and_not (has_joined client past) _
     (ge_so (takings client past) (length (sendings client past))
     (no_message (takings client past) (sendings client past) (sym k.sent ∙ e)))
 took_nothing client seen past true (place ∷ rest) j e can k = let c : ⊥ = cc in absurd c

@@ -21,8 +21,7 @@ changes-told file (Fact.Changed other client number patch ∷ past) =
     ∙ sym (with_one (other == file) (placed_changes file past) (record { place = length past + 1; patch = patch }))
 changes-told file (_ ∷ past) = changes-told file past
 
-one_waiting : (b : Bool) (xs : List Waiting) (write : Waiting)
-    → patches_waiting (if b then xs ++ write ∷ [] else xs)
+one_waiting : (b : Bool) (xs : List Waiting) (write : Waiting) → patches_waiting (if b then xs ++ write ∷ [] else xs)
     ≡ (if b then patches_waiting xs ++ write.patch ∷ [] else patches_waiting xs)
 one_waiting true xs write = map-append (λ (w : Waiting). w.patch) xs (write ∷ [])
 one_waiting false xs write = refl
@@ -55,8 +54,7 @@ below-push place (x ∷ changes) change lt b = (b.0, below-push place changes ch
 
 below-if : (b : Bool) (n : ℕ) (changes : List Change) (patch : Patch) → AllBelow (n + 1) changes
     → AllBelow (suc n + 1) (if b then changes ++ record { place = n + 1; patch = patch } ∷ [] else changes)
-below-if true n changes patch all =
-    below-push (suc n + 1) changes (record { place = n + 1; patch = patch }) (omega arith)
+below-if true n changes patch all = below-push (suc n + 1) changes (record { place = n + 1; patch = patch }) (omega arith)
     (below-more (n + 1) (suc n + 1) changes (omega arith) all)
 below-if false n changes patch all = below-more (n + 1) (suc n + 1) changes (omega arith) all
 
@@ -76,8 +74,7 @@ ge-so a b h = grind arith
 
 before-all : (place : ℕ) (changes : List Change) → AllBelow place changes → before place changes ≡ changes
 before-all place [] b = refl
-before-all place (change ∷ changes) b =
-    rw (lt-so change.place place b.0, before-all place changes b.1) refl
+before-all place (change ∷ changes) b = rw (lt-so change.place place b.0, before-all place changes b.1) refl
 
 pub before-push : (place : ℕ) (changes : List Change) (change : Change) → place ≤ change.place
     → before place (changes ++ change ∷ []) ≡ before place changes
@@ -101,6 +98,5 @@ before-told file [] past = before-all (place_of past) (placed_changes file past)
 before-told file (Fact.Changed other client number patch ∷ newer) past =
     let le = later-length newer past in
     before-if (other == file) (place_of past) (placed_changes file (newer ++ past))
-    (record { place = length (newer ++ past) + 1; patch = patch }) (omega (arith, le))
-    ∙ before-told file newer past
+    (record { place = length (newer ++ past) + 1; patch = patch }) (omega (arith, le)) ∙ before-told file newer past
 before-told file (_ ∷ newer) past = before-told file newer past

@@ -59,9 +59,7 @@ unfolding how_many
 no_one p zero none k lt = absurd (omega arith)
 no_one p (suc n) none k lt = elim (cases_Bool (p n)) [
   | inl e ↦ let some : one_if true + how_many p n ≡ 0 = rw e at none in absurd (omega (arith, some))
-  | inr ne ↦ elim (cases_Bool (k == n)) [
-    | inl is ↦ rw (eqb-true k n is) ne
-    | inr apart ↦
+  | inr ne ↦ elim (cases_Bool (k == n)) [ | inl is ↦ rw (eqb-true k n is) ne | inr apart ↦
         let nothing : one_if (p n) ≡ 0 = rw ne refl in
         no_one p n (omega (arith, none, nothing)) k (below k n lt apart)
   ]
@@ -103,13 +101,11 @@ pub counted-with : (before after : ℕ → State) (client : ℕ) (holders : Hold
 counted-with before after client holders within others nothing k = record {
   any = with-any (after client) holders ∙ sym (counted-one _ _ _ _
       (rw (← k.any) at (one_changed (λ c. holds_any (before c)) (λ c. holds_any (after c)) client 256 within
-      (λ c ne. ap holds_any (others c ne))))
-      (ap holds_any nothing)
+      (λ c ne. ap holds_any (others c ne)))) (ap holds_any nothing)
       (let le = at_most (λ c. holds_any (before c)) 256 in let e = k.any in omega (arith, le, e)));
   writing = with-writing (after client) holders ∙ sym (counted-one _ _ _ _
       (rw (← k.writing) at (one_changed (λ c. (before c).write) (λ c. (after c).write) client 256 within
-      (λ c ne. ap (λ (s : State). s.write) (others c ne))))
-      (ap (λ (s : State). s.write) nothing)
+      (λ c ne. ap (λ (s : State). s.write) (others c ne)))) (ap (λ (s : State). s.write) nothing)
       (let le = at_most (λ c. (before c).write) 256 in let e = k.writing in omega (arith, le, e)));
 }
 
@@ -120,12 +116,10 @@ pub counted-without : (before after : ℕ → State) (client : ℕ) (holders : H
 counted-without before after client holders within others nothing k = record {
   any = without-any (before client) holders ∙ sym (counted-less _ _ _ _
       (rw (← k.any) at (one_changed (λ c. holds_any (before c)) (λ c. holds_any (after c)) client 256 within
-      (λ c ne. ap holds_any (others c ne))))
-      (ap holds_any nothing));
+      (λ c ne. ap holds_any (others c ne)))) (ap holds_any nothing));
   writing = without-writing (before client) holders ∙ sym (counted-less _ _ _ _
       (rw (← k.writing) at (one_changed (λ c. (before c).write) (λ c. (after c).write) client 256 within
-      (λ c ne. ap (λ (s : State). s.write) (others c ne))))
-      (ap (λ (s : State). s.write) nothing));
+      (λ c ne. ap (λ (s : State). s.write) (others c ne)))) (ap (λ (s : State). s.write) nothing));
 }
 
 pub counted-same : (before after : ℕ → State) (holders : Holders) → ((c : ℕ) → after c ≡ before c)

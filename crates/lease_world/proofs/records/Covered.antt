@@ -40,27 +40,22 @@ pub layers_kept : (position : ℕ) (test : ℕ → Bool) (writes : List Waiting)
     → layers_at position (filter (λ write. test write.number) writes)
     ≡ filter (λ layer. test layer.number) (layers_at position writes)
 layers_kept position test [] = refl
-layers_kept position test (write ∷ writes) =
-    layers_if position (test write.number) write (filter (λ w. test w.number) writes)
+layers_kept position test (write ∷ writes) = layers_if position (test write.number) write (filter (λ w. test w.number) writes)
     ∙ (ap (λ (ls : List Layer). ls ++ (if test write.number then layer_of position write else []))
     (layers_kept position test writes)
     ∙ (ap (λ (ls : List Layer). filter (λ layer. test layer.number) (layers_at position writes) ++ ls)
     (sym (one_layer (λ layer. test layer.number) (nat_le write.patch.offset position && nat_lt position (end_of write.patch))
     (test write.number) (record { number = write.number; byte = slice_index write.patch.bytes (position - write.patch.offset) })
-    refl))
-    ∙ sym (filter-append (λ layer. test layer.number) (layers_at position writes) (layer_of position write))))
+    refl)) ∙ sym (filter-append (λ layer. test layer.number) (layers_at position writes) (layer_of position write))))
 
 -- ---- the byte at a position
 
 patched_byte_by : (base : List ℕ) (o : ℕ) (d : List ℕ) (position : ℕ) (write : Waiting) → write.patch.offset ≡ o
-    → write.patch.bytes ≡ d
-    → get_or (patch base write.patch) position 0 ≡ seen_byte base (layer_of position write) position
-patched_byte_by base o [] position write offset bytes =
-    rw (bytes, offset) (
+    → write.patch.bytes ≡ d → get_or (patch base write.patch) position 0 ≡ seen_byte base (layer_of position write) position
+patched_byte_by base o [] position write offset bytes = rw (bytes, offset) (
     let none : (nat_le o position && nat_lt position (o + 0)) ≡ false = grind arith in
     rw none refl)
-patched_byte_by base o (b ∷ d) position write offset bytes =
-    rw (bytes, offset) (get_or-written base o (b ∷ d) position
+patched_byte_by base o (b ∷ d) position write offset bytes = rw (bytes, offset) (get_or-written base o (b ∷ d) position
     ∙ by_cover (nat_le o position && nat_lt position (o + length (b ∷ d))))
   where
     by_cover : (c : Bool) → (if c then slice_index (b ∷ d) (position - o) else slice_index base position)
@@ -81,8 +76,7 @@ seen_under base other position x4 more e = grind arith
 pub patched_at : (base : List ℕ) (position : ℕ) (writes : List Waiting)
     → get_or (patches base (patches_waiting writes)) position 0 ≡ seen_byte base (layers_at position writes) position
 patched_at base position [] = refl
-patched_at base position (write ∷ writes) =
-    patched_at (patch base write.patch) position writes
+patched_at base position (write ∷ writes) = patched_at (patch base write.patch) position writes
     ∙ seen_under base (patch base write.patch) position (layers_at position writes) (layer_of position write)
     (patched_byte base position write)
 
@@ -103,8 +97,7 @@ uncovered_by base write position past =
     let long = length_patch_by base write.patch write.patch.offset write.patch.bytes refl refl in
     let outside : (nat_le write.patch.offset position && nat_lt position (end_of write.patch)) ≡ false =
     elim (cases_lt 0 (length write.patch.bytes)) [
-      | inl some ↦ let is = long.1 some in grind (arith, is, past)
-      | inr none ↦ grind (arith, none)
+      | inl some ↦ let is = long.1 some in grind (arith, is, past) | inr none ↦ grind (arith, none)
     ] in
     rw outside refl
 
@@ -124,8 +117,7 @@ none_past base (write ∷ writes) position past =
     rw (
       none_past (patch base write.patch) writes position past,
       uncovered_by base write position (omega (arith, rest, past)),
-    )
-    refl
+    ) refl
 
 append_none : (first second : List Layer) → first ++ second ≡ [] → (first ≡ []) × (second ≡ [])
 append_none [] second e = (refl, e)
@@ -139,8 +131,7 @@ patch_within : (base : List ℕ) (write : Waiting) (size : ℕ) → length base 
     → ((position : ℕ) → size ≤ position → layer_of position write ≡ []) → length (patch base write.patch) ≤ size
 patch_within base write size fits none =
     let long = length_patch_by base write.patch write.patch.offset write.patch.bytes refl refl in
-    elim (cases_lt 0 (length write.patch.bytes)) [
-      | inl some ↦
+    elim (cases_lt 0 (length write.patch.bytes)) [ | inl some ↦
           let is = long.1 some in
           elim (cases_lt size (end_of write.patch)) [
             | inl past ↦ absurd (covered_last write (end_of write.patch - 1) (omega (arith, some)) (omega (arith, some))
@@ -154,8 +145,7 @@ patch_within base write size fits none =
 pub patched_within : (base : List ℕ) (writes : List Waiting) (size : ℕ) → length base ≤ size
     → ((position : ℕ) → size ≤ position → layers_at position writes ≡ []) → length (patches base (patches_waiting writes)) ≤ size
 patched_within base [] size fits none = fits
-patched_within base (write ∷ writes) size fits none =
-    patched_within (patch base write.patch) writes size
+patched_within base (write ∷ writes) size fits none = patched_within (patch base write.patch) writes size
     (patch_within base write size fits (λ position past. (append_none (layers_at position writes) (layer_of position write)
     (none position past)).1))
     (λ position past. (append_none (layers_at position writes) (layer_of position write) (none position past)).0)
@@ -184,10 +174,8 @@ stacks_within : (is_open : Layer → Bool) (base : List ℕ) (stacks : List (Lis
     → CoversWith is_open stacks writes → length stacks ≤ length (patches base (patches_waiting writes))
 stacks_within is_open base stacks writes is = elim is.ends [
   | inl none ↦ omega (arith, none)
-  | inr some ↦
-      elim (cases_lt (length stacks - 1) (length (patches base (patches_waiting writes)))) [
-        | inl inside ↦ omega (arith, inside)
-        | inr past ↦
+  | inr some ↦ elim (cases_lt (length stacks - 1) (length (patches base (patches_waiting writes)))) [
+        | inl inside ↦ omega (arith, inside) | inr past ↦
             absurd (some (none_open is_open (stack_in stacks (length stacks - 1)) (is.tops (length stacks - 1))
             (is.left (length stacks - 1) ∙ none_past base writes (length stacks - 1) past)))
       ]
@@ -204,11 +192,9 @@ patched_length is_open base stacks writes is =
     omega (arith, low, covered, high)
 
 patched_seen : (is_open : Layer → Bool) (base : List ℕ) (stacks : List (List Layer)) (writes : List Waiting)
-    → CoversWith is_open stacks writes
-    → (position : ℕ) → get_or (patches base (patches_waiting writes)) position 0
+    → CoversWith is_open stacks writes → (position : ℕ) → get_or (patches base (patches_waiting writes)) position 0
     ≡ seen_byte base (stack_in stacks position) position
-patched_seen is_open base stacks writes is position =
-    patched_at base position writes
+patched_seen is_open base stacks writes is position = patched_at base position writes
     ∙ sym (seen_open is_open base position (stack_in stacks position) (is.tops position)
     ∙ ap (λ (s : List Layer). seen_byte base s position) (is.left position))
 
@@ -228,8 +214,7 @@ patched_shows is_open base bytes stacks writes is same = record {
 
 -- whether bytes are shown is whether they are those of the patched file
 pub shown_patched : (is_open : Layer → Bool) (base bytes : List ℕ) (stacks : List (List Layer)) (writes : List Waiting)
-    (same : Bool)
-    → CoversWith is_open stacks writes → MatchBool same (Shows base stacks bytes) (Shows base stacks bytes → ⊥)
+    (same : Bool) → CoversWith is_open stacks writes → MatchBool same (Shows base stacks bytes) (Shows base stacks bytes → ⊥)
     → same ≡ bytes_eq bytes (patches base (patches_waiting writes))
 shown_patched is_open base bytes stacks writes true is shows =
     sym ((bytes_eq-Decides bytes (patches base (patches_waiting writes))).1 (shows_patched is_open base bytes stacks writes is
@@ -279,19 +264,16 @@ layers_next test position n writes write passes inside is e =
 
 -- the next write is laid where its number passes, and else left out
 pub lays_next : (test : ℕ → Bool) (position n : ℕ) (writes : List Waiting) (write : Waiting) (first old new : List Layer)
-    → n < length writes
-    → write ≡ get_or writes n write → test write.number ≡ true → new ≡ layer_of position write ++ old
+    → n < length writes → write ≡ get_or writes n write → test write.number ≡ true → new ≡ layer_of position write ++ old
     → old ≡ filter (λ layer. test layer.number) (layers_at position (take n writes)) ++ first
     → new ≡ filter (λ layer. test layer.number) (layers_at position (take (n + 1) writes)) ++ first
 lays_next test position n writes write first old new inside is e put so_far =
     put ∙ (ap (λ (ls : List Layer). layer_of position write ++ ls) so_far
     ∙ (sym (append_assoc (layer_of position write) (filter (λ layer. test layer.number) (layers_at position (take n writes)))
-    first)
-    ∙ ap (λ (ls : List Layer). ls ++ first) (sym (layers_next test position n writes write true inside is e))))
+    first) ∙ ap (λ (ls : List Layer). ls ++ first) (sym (layers_next test position n writes write true inside is e))))
 
 pub leaves_next : (test : ℕ → Bool) (position n : ℕ) (writes : List Waiting) (write : Waiting) (first old : List Layer)
-    → n < length writes
-    → write ≡ get_or writes n write → test write.number ≡ false
+    → n < length writes → write ≡ get_or writes n write → test write.number ≡ false
     → old ≡ filter (λ layer. test layer.number) (layers_at position (take n writes)) ++ first
     → old ≡ filter (λ layer. test layer.number) (layers_at position (take (n + 1) writes)) ++ first
 leaves_next test position n writes write first old inside is e so_far =
@@ -302,11 +284,9 @@ leaves_next test position n writes write first old inside is e so_far =
 -- what is compared past the covered positions decides the rest
 pub shows_rest : (base bytes : List ℕ) (stacks : List (List Layer)) (at k : ℕ) (same : Bool)
     → length bytes ≡ max (length base) (length stacks) → ShowsCovered base stacks bytes → at ≡ length stacks
-    → k ≡ min at (length base)
-    → same ≡ bytes_eq (take (length bytes - at) (drop at bytes)) (take (length base - k) (drop k base))
+    → k ≡ min at (length base) → same ≡ bytes_eq (take (length bytes - at) (drop at bytes)) (take (length base - k) (drop k base))
     → MatchBool same (Shows base stacks bytes) (Shows base stacks bytes → ⊥)
-shows_rest base bytes stacks at k same long covered at-is k-min is =
-    decided same (is
+shows_rest base bytes stacks at k same long covered at-is k-min is = decided same (is
     ∙ (ap (λ (xs : List ℕ). bytes_eq xs (take (length base - k) (drop k base)))
     (take_all (length bytes - at) (drop at bytes) (omega (arith, length-drop {A = ℕ})) ∙ ap (λ (d : ℕ). drop d bytes) at-is)
     ∙ ap (λ (ys : List ℕ). bytes_eq (drop (length stacks) bytes) ys)
@@ -318,29 +298,23 @@ shows_rest base bytes stacks at k same long covered at-is k-min is =
     behind : drop (length stacks) bytes ≡ drop k base → Shows base stacks bytes
     behind equal = record {
       long = long;
-      each = λ position within. elim (cases_lt position (length stacks)) [
-        | inl below ↦ covered position below
-        | inr past ↦
+      each = λ position within. elim (cases_lt position (length stacks)) [ | inl below ↦ covered position below | inr past ↦
             let at : length stacks + (position - length stacks) ≡ position = omega (arith, past) in
             let k-at : k ≡ length stacks = omega (arith, k-is, long, within, past) in
             let k-place : k + (position - length stacks) ≡ position = omega (arith, past, k-at) in
-            ap (λ (i : ℕ). get_or bytes i 0) (sym at)
-            ∙ (sym (get_or-drop (length stacks) bytes (position - length stacks) 0)
+            ap (λ (i : ℕ). get_or bytes i 0) (sym at) ∙ (sym (get_or-drop (length stacks) bytes (position - length stacks) 0)
             ∙ (ap (λ (xs : List ℕ). get_or xs (position - length stacks) 0) equal
-            ∙ (get_or-drop k base (position - length stacks) 0
-            ∙ (ap (λ (i : ℕ). get_or base i 0) k-place
+            ∙ (get_or-drop k base (position - length stacks) 0 ∙ (ap (λ (i : ℕ). get_or base i 0) k-place
             ∙ ap (λ (s : List Layer). seen_byte base s position) (sym (past_stacks stacks position past))))))
       ];
     }
 
     equal : Shows base stacks bytes → drop (length stacks) bytes ≡ drop k base
-    equal shows =
-        same_number_lists (drop (length stacks) bytes) (drop k base) (omega (arith, long, k-is, length-drop {A = ℕ}))
+    equal shows = same_number_lists (drop (length stacks) bytes) (drop k base) (omega (arith, long, k-is, length-drop {A = ℕ}))
         (λ i within.
         let inside : length stacks + i < length bytes = omega (arith, within, length-drop {A = ℕ}) in
         let k-at : k ≡ length stacks = omega (arith, k-is, long, inside) in
-        get_or-drop (length stacks) bytes i 0
-        ∙ (shows.each (length stacks + i) inside
+        get_or-drop (length stacks) bytes i 0 ∙ (shows.each (length stacks + i) inside
         ∙ (ap (λ (s : List Layer). seen_byte base s (length stacks + i)) (past_stacks stacks (length stacks + i) (omega arith))
         ∙ (ap (λ (j : ℕ). get_or base (j + i) 0) (sym k-at) ∙ sym (get_or-drop k base i 0)))))
 

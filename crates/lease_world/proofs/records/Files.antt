@@ -17,8 +17,7 @@ unfolding is_started start_of placed_changes last_touch
 file_opens file client place seen past at k = grind arith
 
 pub file_changes : (file client number place : ℕ) (patch : Patch) (seen : SeenFile) (past : List Fact) → place ≡ length past + 1
-    → KnowsFile file seen past
-    → KnowsFile file (record seen {
+    → KnowsFile file seen past → KnowsFile file (record seen {
       changes = seen.changes ++ record { place = place; patch = patch } ∷ [];
       touches = touched seen.touches client place;
     }) (Fact.Changed file client number patch ∷ past)

@@ -47,8 +47,7 @@ safe_else x1 = grind arith
 counted : (n m : ℕ) → (n + 1) + m ≡ n + suc m
 counted n m = omega arith
 
-verdict-push : (place : ℕ) (past facts : List Fact) (fact : Fact)
-    → verdict_from place past (facts ++ fact ∷ [])
+verdict-push : (place : ℕ) (past facts : List Fact) (fact : Fact) → verdict_from place past (facts ++ fact ∷ [])
     ≡ or_else (verdict_from place past facts) (flaw_at (place + length facts) fact (reverse_aux facts past))
 unfolding verdict_from
 verdict-push place past [] fact =
@@ -65,6 +64,5 @@ one_and n = omega arith
 -- the verdict on a record with one fact more
 pub verdict-more : (facts : List Fact) (fact : Fact)
     → verdict (facts ++ fact ∷ []) ≡ or_else (verdict facts) (flaw_at (length facts + 1) fact (reverse facts))
-verdict-more facts fact =
-    verdict-push 1 [] facts fact
+verdict-more facts fact = verdict-push 1 [] facts fact
     ∙ ap (λ (n : ℕ). or_else (verdict facts) (flaw_at n fact (reverse facts))) (one_and (length facts))

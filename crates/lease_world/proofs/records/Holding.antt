@@ -84,25 +84,21 @@ holders-stay fact past old new steady same k =
 -- ---- a client is good no more
 
 pub holders-leave : (client : ℕ) (seen : SeenClient) (past next : List Fact) (old new : List Holders)
-    → is_good_client seen ≡ is_good client past
-    → ((f : ℕ) → (cache_in seen.caches f).belief ≡ believed client f past)
+    → is_good_client seen ≡ is_good client past → ((f : ℕ) → (cache_in seen.caches f).belief ≡ believed client f past)
     → is_good client next ≡ false → ((c : ℕ) → c ≢ client → is_good c next ≡ is_good c past)
-    → ((c f : ℕ) → believed c f next ≡ believed c f past)
-    → Leaves seen old new → KnowsHolders old past → KnowsHolders new next
+    → ((c f : ℕ) → believed c f next ≡ believed c f past) → Leaves seen old new → KnowsHolders old past → KnowsHolders new next
 holders-leave client seen past next old new told belief bad others beliefs leaves k = record {
   few = λ c big. each_place (λ n. 256 ≤ n → is_good n next ≡ false) client (λ h. bad) (λ n ne h. others n ne ∙ k.few n h) c big;
   counted = λ f. match_bool (is_good_client seen) leaves
       (λ on has. rw (has f) (at_file f (sym told ∙ on)))
       (λ off same. rw same (counted-same (held f past) (held f next) (holders_in old f)
       (each_place (λ c. held f next c ≡ held f past c) client (bad-same client f past next bad (sym told ∙ off))
-      (λ c ne. held-same c f past next (others c ne) (beliefs c f)))
-      (k.counted f)));
+      (λ c ne. held-same c f past next (others c ne) (beliefs c f))) (k.counted f)));
 }
   where
     at_file : (f : ℕ) → is_good client past ≡ true
         → IsCounted (held f next) (without_holder (cache_in seen.caches f).belief (holders_in old f))
-    at_file f good =
-        rw (belief f, ← held-good client f past good)
+    at_file f good = rw (belief f, ← held-good client f past good)
         (counted-without (held f past) (held f next) client (holders_in old f) (within-few old past client k good)
         (λ c ne. held-same c f past next (others c ne) (beliefs c f)) (held-bad client f next bad) (k.counted f))
 
@@ -149,14 +145,12 @@ enter-rival client file state holders past bad e k =
     let one = conflict-one (held file past) state (holders_in holders file) (k.counted file) e in
     rival-held client file state past one.0
     (λ is. let was : is_good one.0 past ≡ true = good-by-conflict one.0 file past state one.1 in
-    let f : true ≡ false = sym was ∙ (ap (λ (c : ℕ). is_good c past) is ∙ bad) in let c : ⊥ = cc in c)
-    one.1
+    let f : true ≡ false = sym was ∙ (ap (λ (c : ℕ). is_good c past) is ∙ bad) in let c : ⊥ = cc in c) one.1
 
 pub enter-free : (file : ℕ) (state : State) (holders : List Holders) (past : List Fact) (other : ℕ)
     → conflicts_with state (holders_in holders file) ≡ false → KnowsHolders holders past → is_good other past ≡ true
     → is_conflict state (believed other file past) ≡ false
-enter-free file state holders past other e k good =
-    free-held file state past other good
+enter-free file state holders past other e k good = free-held file state past other good
     (conflict-none (held file past) state (holders_in holders file) (k.counted file) e other
     (within-few holders past other k good))
 
@@ -177,8 +171,7 @@ but-other client held other ne = let e : (other == client) ≡ false = grind ari
 counted-but : (client file : ℕ) (belief : State) (holders : List Holders) (past : List Fact) → is_good client past ≡ true
     → belief ≡ believed client file past → KnowsHolders holders past
     → IsCounted (but client (held file past)) (without_holder belief (holders_in holders file))
-counted-but client file belief holders past good is k =
-    rw (is, ← held-good client file past good)
+counted-but client file belief holders past good is k = rw (is, ← held-good client file past good)
     (counted-without (held file past) (but client (held file past)) client (holders_in holders file)
     (within-few holders past client k good) (but-other client (held file past)) (but-here client (held file past))
     (k.counted file))
@@ -202,15 +195,13 @@ pub believe-free : (client file : ℕ) (belief state : State) (holders : List Ho
     → is_good client past ≡ true → belief ≡ believed client file past
     → conflicts_with state (without_holder belief (holders_in holders file)) ≡ false → KnowsHolders holders past
     → other ≢ client → is_good other past ≡ true → is_conflict state (believed other file past) ≡ false
-believe-free client file belief state holders past other good is e k apart good_too =
-    free-held file state past other good_too
+believe-free client file belief state holders past other good is e k apart good_too = free-held file state past other good_too
     (rw (but-other client (held file past) other apart) at
     (conflict-none (but client (held file past)) state (without_holder belief (holders_in holders file))
     (counted-but client file belief holders past good is k) e other (within-few holders past other k good_too)))
 
 pub holders-move : (client file : ℕ) (state : State) (seen : SeenClient) (past next : List Fact) (old new : List Holders)
-    → is_good_client seen ≡ is_good client past
-    → ((f : ℕ) → (cache_in seen.caches f).belief ≡ believed client f past)
+    → is_good_client seen ≡ is_good client past → ((f : ℕ) → (cache_in seen.caches f).belief ≡ believed client f past)
     → ((c : ℕ) → is_good c next ≡ is_good c past) → believed client file next ≡ state
     → ((c f : ℕ) → c ≢ client → believed c f next ≡ believed c f past)
     → ((f : ℕ) → f ≢ file → believed client f next ≡ believed client f past)
@@ -222,13 +213,11 @@ holders-move client file state seen past next old new told belief goods is other
       (λ off same. rw same (counted-same (held f past) (held f next) (holders_in old f)
       (each_place (λ c. held f next c ≡ held f past c) client
       (bad-same client f past next (goods client ∙ (sym told ∙ off)) (sym told ∙ off))
-      (λ c ne. held-same c f past next (goods c) (others c f ne)))
-      (k.counted f)));
+      (λ c ne. held-same c f past next (goods c) (others c f ne))) (k.counted f)));
 }
   where
     here : is_good client past ≡ true → IsCounted (held file next) (believed_by seen file state old)
-    here good =
-        rw (← is, ← held-good client file next (goods client ∙ good))
+    here good = rw (← is, ← held-good client file next (goods client ∙ good))
         (counted-with (but client (held file past)) (held file next) client
         (without_holder (cache_in seen.caches file).belief (holders_in old file)) (within-few old past client k good)
         (λ c ne. held-same c file past next (goods c) (others c file ne) ∙ sym (but-other client (held file past) c ne))
@@ -238,15 +227,13 @@ holders-move client file state seen past next old new told belief goods is other
     away : (f : ℕ) → f ≢ file → IsCounted (held f next) (holders_in old f)
     away f ne = counted-same (held f past) (held f next) (holders_in old f)
         (each_place (λ c. held f next c ≡ held f past c) client (held-same client f past next (goods client) (elsewhere f ne))
-        (λ c apart. held-same c f past next (goods c) (others c f apart)))
-        (k.counted f)
+        (λ c apart. held-same c f past next (goods c) (others c f apart))) (k.counted f)
 
     differ : (f : ℕ) → (f == file) ≡ false → f ≡ file → ⊥
     differ f ne same = grind arith
 
     moved : is_good client past ≡ true → (f : ℕ)
         → IsCounted (held f next) (if f == file then believed_by seen file state old else holders_in old f)
-    moved good f = elim (cases_Bool (f == file)) [
-      | inl e ↦ rw (e, eqb-true f file e) (here good)
+    moved good f = elim (cases_Bool (f == file)) [ | inl e ↦ rw (e, eqb-true f file e) (here good)
       | inr ne ↦ rw ne (away f (λ same. differ f ne same))
     ]

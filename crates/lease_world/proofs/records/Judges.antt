@@ -115,9 +115,7 @@ stepped old fact new steps facts h = match_bool (is_safe old.verdict) steps
     let judges : Judges (old.count + 1) fact (reverse facts) new.known new.verdict =
     judged (old.count + 1) old.known new.known new.verdict (reverse facts) known.1 fact place adds.0 in
     record {
-      verdict = judges.told
-          ∙ (ap (λ (n : ℕ). flaw_at (n + 1) fact (reverse facts)) known.0
-          ∙ sym (verdict-more facts fact
+      verdict = judges.told ∙ (ap (λ (n : ℕ). flaw_at (n + 1) fact (reverse facts)) known.0 ∙ sym (verdict-more facts fact
           ∙ (ap (λ (v : model.Verdict). or_else v (flaw_at (length facts + 1) fact (reverse facts))) (sym h.verdict)
           ∙ one_more_safe old.verdict (flaw_at (length facts + 1) fact (reverse facts)) safe)));
       known = λ e. (

@@ -51,8 +51,7 @@ contents-each files taken file old new cache has here all f = grind arith
 -- ---- a change more of the file
 
 base-change : (file : SeenFile) (touches : Touches) (change : Change) (taken : ℕ) (base : Option Snapshot) → taken ≤ change.place
-    → IsBase file taken base
-    → IsBase (record file { changes = file.changes ++ change ∷ []; touches = touches }) taken base
+    → IsBase file taken base → IsBase (record file { changes = file.changes ++ change ∷ []; touches = touches }) taken base
 base-change file touches change taken None le is = tt
 base-change file touches change taken (Some base) le is =
     let within : base.applied ≤ length file.changes = let e = before-within taken file.changes in omega (arith, is.2, e) in (
@@ -71,8 +70,7 @@ base-change file touches change taken (Some base) le is =
         let e = before-within place changes in shorter (nat_lt x.place place) x (before place changes) (length changes) e
 
 pub contents-change : (file : SeenFile) (touches : Touches) (change : Change) (taken : ℕ) (cache : SeenCache)
-    → taken ≤ change.place
-    → HasContents file taken cache
+    → taken ≤ change.place → HasContents file taken cache
     → HasContents (record file { changes = file.changes ++ change ∷ []; touches = touches }) taken cache
 contents-change file touches change taken cache le h = base-change file touches change taken cache.base le h
 

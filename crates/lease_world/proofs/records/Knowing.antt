@@ -44,12 +44,10 @@ pub same_files : (old new : Seen) (fact : Fact) (past : List Fact) → HasSameFi
 same_files old new fact past same quiet k f = rw (same f) (file_stays f (file_in old.files f) fact past (quiet f) (k.files f))
 
 pub one_file : (old new : Seen) (file : ℕ) (fact : Fact) (past : List Fact)
-    → ((n : ℕ) → n ≢ file → file_in new.files n ≡ file_in old.files n)
-    → ((f : ℕ) → f ≢ file → touches f fact ≡ false)
+    → ((n : ℕ) → n ≢ file → file_in new.files n ≡ file_in old.files n) → ((f : ℕ) → f ≢ file → touches f fact ≡ false)
     → KnowsFile file (file_in new.files file) (fact ∷ past)
     → Knows old past → (f : ℕ) → KnowsFile f (file_in new.files f) (fact ∷ past)
-one_file old new file fact past others quiet here k =
-    each_place (λ n. KnowsFile n (file_in new.files n) (fact ∷ past)) file here
+one_file old new file fact past others quiet here k = each_place (λ n. KnowsFile n (file_in new.files n) (fact ∷ past)) file here
     (λ n ne. rw (others n ne) (file_stays n (file_in old.files n) fact past (quiet n ne) (k.files n)))
 
 pub same_clients : (old new : Seen) (fact : Fact) (past : List Fact) → HasSameClients old.clients new.clients
@@ -59,8 +57,7 @@ same_clients old new fact past same quiet k c =
 
 pub one_client : (old new : Seen) (client : ℕ) (fact : Fact) (past : List Fact)
     → ((n : ℕ) → n ≢ client → client_in new.clients n ≡ client_in old.clients n)
-    → ((c : ℕ) → c ≢ client → concerns c fact ≡ false)
-    → KnowsClient client (client_in new.clients client) (fact ∷ past)
+    → ((c : ℕ) → c ≢ client → concerns c fact ≡ false) → KnowsClient client (client_in new.clients client) (fact ∷ past)
     → Knows old past → (c : ℕ) → KnowsClient c (client_in new.clients c) (fact ∷ past)
 one_client old new client fact past others quiet here k =
     each_place (λ n. KnowsClient n (client_in new.clients n) (fact ∷ past)) client here
@@ -76,16 +73,14 @@ Holds files clients client file =
 pub holds_client : (old new : Seen) (client : ℕ) (past : List Fact) → HasSameFiles old.files new.files
     → ((n : ℕ) → n ≢ client → client_in new.clients n ≡ client_in old.clients n)
     → ((f : ℕ) → HasContents (file_in old.files f) (client_in new.clients client).taken
-    (cache_in (client_in new.clients client).caches f))
-    → Knows old past → (c f : ℕ) → Holds new.files new.clients c f
+    (cache_in (client_in new.clients client).caches f)) → Knows old past → (c f : ℕ) → Holds new.files new.clients c f
 holds_client old new client past same others here k c f = grind arith
 
 -- clients as before, and one file
 pub holds_file : (old new : Seen) (file : ℕ) (past : List Fact) → HasSameClients old.clients new.clients
     → ((n : ℕ) → n ≢ file → file_in new.files n ≡ file_in old.files n)
     → ((c : ℕ) → HasContents (file_in new.files file) (client_in old.clients c).taken
-    (cache_in (client_in old.clients c).caches file))
-    → Knows old past → (c f : ℕ) → Holds new.files new.clients c f
+    (cache_in (client_in old.clients c).caches file)) → Knows old past → (c f : ℕ) → Holds new.files new.clients c f
 holds_file old new file past same others here k c f = grind arith
 
 -- ---- what is asked of the tables, and what the record says

@@ -24,11 +24,9 @@ unfolding believed
 same_belief client file x3 past q = grind arith
 
 pub one-stays : (fact : Fact) (past : List Fact) → is_quiet fact ≡ true → OneWriteCache past → OneWriteCache (fact ∷ past)
-one-stays fact past q one file client other ne good writes good_too =
-    same_belief other file fact past q
+one-stays fact past q one file client other ne good writes good_too = same_belief other file fact past q
     ∙ one file client other ne (was_good client fact past q good)
-    (subst (λ (s : State). s.write ≡ true) (same_belief client file fact past q) writes)
-    (was_good other fact past q good_too)
+    (subst (λ (s : State). s.write ≡ true) (same_belief client file fact past q) writes) (was_good other fact past q good_too)
 
 -- ---- conflicts of two beliefs
 
@@ -41,10 +39,8 @@ conflict_either one other e f g = grind arith
 pub two-where : (past : List Fact) (client other file : ℕ) → other ≢ client
     → is_good client past ≡ true → is_good other past ≡ true
     → is_conflict (believed client file past) (believed other file past) ≡ true → has_two_caches past ≡ true
-two-where past client other file ne good good_too conflict =
-    elim (cases_Bool (has_two_caches past)) [
-      | inl two ↦ two
-      | inr none ↦
+two-where past client other file ne good good_too conflict = elim (cases_Bool (has_two_caches past)) [
+      | inl two ↦ two | inr none ↦
           let one : OneWriteCache past = one_cache-test past none in
           absurd (conflict_either (believed client file past) (believed other file past) conflict
           (λ w. one file client other ne good w good_too)
@@ -62,6 +58,5 @@ pub one-after : (past next : List Fact) (client : ℕ) → OneWriteCache past
     → ((other : ℕ) → other ≢ client → is_good other next ≡ is_good other past)
     → ((other file : ℕ) → other ≢ client → believed other file next ≡ believed other file past)
     → (is_good client next ≡ true → (file other : ℕ) → other ≢ client → is_good other next ≡ true
-    → is_conflict (believed client file next) (believed other file next) ≡ false)
-    → OneWriteCache next
+    → is_conflict (believed client file next) (believed other file next) ≡ false) → OneWriteCache next
 one-after past next client one goods beliefs free file a b ne good writes good_too = grind arith

@@ -47,8 +47,7 @@ order-same : (client : ℕ) (past next : List Fact) → sendings client next ≡
 order-same client past next s t le = rw (s, t) le
 
 -- Where messages are as before, what is known of a client needs to be shown of the rest alone.
-pub client_over : (client : ℕ) (seen now : SeenClient) (past next : List Fact)
-    → length past ≤ length next
+pub client_over : (client : ℕ) (seen now : SeenClient) (past next : List Fact) → length past ≤ length next
     → sendings client next ≡ sendings client past → takings client next ≡ takings client past
     → now.sent ≡ seen.sent → now.taken ≡ seen.taken → now.has_taken ≡ seen.has_taken
     → now.joined ≡ has_joined client next → now.served ≡ is_served client next → now.strayed ≡ has_strayed client next
@@ -74,14 +73,11 @@ longer fact past = omega arith
 
 pub client_stays : (client : ℕ) (seen : SeenClient) (fact : Fact) (past : List Fact) → concerns client fact ≡ false
     → KnowsClient client seen past → KnowsClient client seen (fact ∷ past)
-client_stays client seen fact past e k =
-    client_over client seen seen past (fact ∷ past) (longer fact past)
+client_stays client seen fact past e k = client_over client seen seen past (fact ∷ past) (longer fact past)
     (sendings-skip client fact past e) (takings-skip client fact past e) refl refl refl
-    (k.joined ∙ sym (joined-skip client fact past e))
-    (k.served ∙ sym (served-skip client fact past e))
+    (k.joined ∙ sym (joined-skip client fact past e)) (k.served ∙ sym (served-skip client fact past e))
     (k.strayed ∙ sym (strayed-skip client fact past e))
     (λ n. k.settled n ∙ sym (settled-skip client n fact past e))
     (λ n. k.writes n ∙ sym (write-skip client n fact past e))
     (λ f. cache_over client f (cache_in seen.caches f) past (fact ∷ past) (believed-skip client f fact past e)
-    (λ n. settled-skip client n fact past e) (pending-skip client f fact past past e) (k.caches f))
-    k
+    (λ n. settled-skip client n fact past e) (pending-skip client f fact past past e) (k.caches f)) k

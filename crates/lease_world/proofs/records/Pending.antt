@@ -39,8 +39,7 @@ unfolding is_settled
 unsettled-more client number outcome past layer = grind arith
 
 with_or_without : (number : ℕ) (keep same : Bool) (xs ys : List Waiting) (write : Waiting) → (number == write.number) ≡ same
-    → xs ≡ filter (is_other number) ys
-    → (if keep && not (same || false) then xs ++ write ∷ [] else xs)
+    → xs ≡ filter (is_other number) ys → (if keep && not (same || false) then xs ++ write ∷ [] else xs)
     ≡ filter (is_other number) (if keep then ys ++ write ∷ [] else ys)
 with_or_without number false same xs ys write s e = e
 with_or_without number true true xs ys write s e =
@@ -48,8 +47,7 @@ with_or_without number true true xs ys write s e =
   where
     append_none : (zs : List Waiting) → zs ++ [] ≡ zs
     append_none zs = append-nil zs
-with_or_without number true false xs ys write s e =
-    rw e (sym (filter-append (is_other number) ys (write ∷ []) ∙ (rw s refl)))
+with_or_without number true false xs ys write s e = rw e (sym (filter-append (is_other number) ys (write ∷ []) ∙ (rw s refl)))
 
 regroup : (keep same settled : Bool) → (keep && not (same || settled)) ≡ ((keep && not settled) && not (same || false))
 regroup keep same settled = grind arith
@@ -59,12 +57,10 @@ pub pending-settled : (client file number : ℕ) (outcome : Settlement) (whole p
     ≡ filter (is_other number) (pending client file whole past)
 unfolding pending is_settled
 pending-settled client file number outcome whole [] = refl
-pending-settled client file number outcome whole (Fact.Wrote writer other used patch buffered ∷ past) =
-    rw (
+pending-settled client file number outcome whole (Fact.Wrote writer other used patch buffered ∷ past) = rw (
       same_client client (number == used),
       regroup (writer == client && other == file) (number == used) (is_settled client used whole),
-    )
-    (with_or_without number (writer == client && other == file && not (is_settled client used whole)) (number == used)
+    ) (with_or_without number (writer == client && other == file && not (is_settled client used whole)) (number == used)
     (pending client file (Fact.Settled client number outcome ∷ whole) past) (pending client file whole past)
     (record { number = used; patch = patch }) refl (pending-settled client file number outcome whole past))
 pending-settled client file number outcome whole (_ ∷ past) = pending-settled client file number outcome whole past

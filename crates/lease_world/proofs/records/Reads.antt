@@ -45,11 +45,9 @@ same_twice x1 = grind arith
 -- what is laid first and what was there already are open as they were together
 open_both : (is_open : Layer → Bool) (first rest : List Layer)
     → filter is_open (filter is_open first ++ rest) ≡ filter is_open (first ++ rest)
-open_both is_open first rest =
-    filter-append is_open (filter is_open first) rest
+open_both is_open first rest = filter-append is_open (filter is_open first) rest
     ∙ (ap (λ (ls : List Layer). ls ++ filter is_open rest)
-    (sym (filter-and is_open is_open is_open first (λ l. same_twice (is_open l))))
-    ∙ sym (filter-append is_open first rest))
+    (sym (filter-and is_open is_open is_open first (λ l. same_twice (is_open l)))) ∙ sym (filter-append is_open first rest))
 
 -- the writes that are unanswered cover the file
 covers_pending : (client file : ℕ) (seen : SeenClient) (old now : SeenCache) (past : List Fact)
@@ -57,8 +55,7 @@ covers_pending : (client file : ℕ) (seen : SeenClient) (old now : SeenCache) (
     → CoversWith (is_open seen.settled) now.covers (pending client file past past)
 covers_pending client file seen old now past is all k = record {
   tops = λ position. (is.uncovered position).0;
-  left = λ position.
-      (is.uncovered position).1
+  left = λ position. (is.uncovered position).1
       ∙ (open_both (is_open seen.settled) (layers_at position old.fresh) (stack_in old.covers position)
       ∙ (open-told client seen past (layers_at position old.fresh ++ stack_in old.covers position) all ∙ k.covers position));
   ends = is.ends;
@@ -80,8 +77,7 @@ brought-known client file place bytes seen f cache now same past is all k =
       belief = ap (λ (c : SeenCache). c.belief) is.covered.rest ∙ k.belief;
       covers = λ position.
           ap (λ (c : SeenCache). filter (is_unsettled client past) (layers_at position c.fresh ++ stack_in now.covers position))
-          is.covered.rest
-          ∙ (sym (open-told client seen past (stack_in now.covers position) all) ∙ covers.left position);
+          is.covered.rest ∙ (sym (open-told client seen past (stack_in now.covers position) all) ∙ covers.left position);
     }
 
 -- whether these bytes are seen is whether they are the content at the sending place with the unanswered writes
@@ -94,8 +90,7 @@ seen-same client file taken bytes seen f cache now same past place is all k kf p
     let covers = covers_pending client file seen (record cache { base = now.base }) now past is.covered all
     (rebased client file cache now.base past k) in
     shown_patched (is_open seen.settled) (base_at f taken cache.base).bytes bytes now.covers (pending client file past past) same
-    covers is.shown
-    ∙ (ap (λ (b : List ℕ). bytes_eq bytes (patches b (patches_waiting (pending client file past past))))
+    covers is.shown ∙ (ap (λ (b : List ℕ). bytes_eq bytes (patches b (patches_waiting (pending client file past past))))
     (based ∙ (ap (λ (n : ℕ). content_before f n) (sym at) ∙ content-told file f past place kf part))
     ∙ ap (λ (ps : List Patch). bytes_eq bytes (patches (content_at file past place) ps))
     (sym (unsettled-told client file past past)))
@@ -134,8 +129,7 @@ read-of-strayed client file bytes seen past k bad = rw (sym (good_told client se
 pub read-of-good : (client file taken : ℕ) (bytes : List ℕ) (seen now : SeenClient) (f : SeenFile) (same : Bool)
     (past : List Fact)
     → KnowsClient client seen past → KnowsFile file f past → HasContents f seen.taken (cache_in seen.caches file)
-    → is_some f.start ≡ true → is_good_client seen ≡ true → taken_of seen ≡ Some taken
-    → Sees file f taken bytes seen now same
+    → is_some f.start ≡ true → is_good_client seen ≡ true → taken_of seen ≡ Some taken → Sees file f taken bytes seen now same
     → is_stale_read (Fact.CachedRead client file bytes) past ≡ not same
 unfolding is_stale_read
 read-of-good client file taken bytes seen now f same past k kf held started good some (kept, (cached, shown)) =
@@ -154,26 +148,22 @@ longer : (fact : Fact) (past : List Fact) → length past ≤ length (fact ∷ p
 longer fact past = omega arith
 
 pub client_reads : (client file taken : ℕ) (bytes : List ℕ) (seen now : SeenClient) (f : SeenFile) (same : Bool)
-    (past : List Fact)
-    → KnowsClient client seen past → Sees file f taken bytes seen now same
+    (past : List Fact) → KnowsClient client seen past → Sees file f taken bytes seen now same
     → KnowsClient client now (Fact.CachedRead client file bytes ∷ past)
 unfolding has_joined is_served has_strayed sendings takings is_settled write_of believed pending
 client_reads client file taken bytes seen now f same past k (kept, (cached, shown)) =
     let next : List Fact = Fact.CachedRead client file bytes ∷ past in
     rw kept (client_over client seen (record seen { caches = now.caches }) past next
-    (longer (Fact.CachedRead client file bytes) past) refl refl refl refl refl
-    k.joined k.served k.strayed k.settled k.writes
+    (longer (Fact.CachedRead client file bytes) past) refl refl refl refl refl k.joined k.served k.strayed k.settled k.writes
     (each_cache client file seen.caches now.caches past next (cache_in now.caches file) cached
     (cache_over client file (cache_in now.caches file) past next refl (λ n. refl) refl
     (brought-known client file taken bytes seen f (cache_in seen.caches file) (cache_in now.caches file) same past shown k
     (k.caches file)))
-    (λ g e. cache_over client g (cache_in seen.caches g) past next refl (λ n. refl) refl (k.caches g)))
-    k)
+    (λ g e. cache_over client g (cache_in seen.caches g) past next refl (λ n. refl) refl (k.caches g))) k)
 
 pub contents-read : (taken : ℕ) (bytes : List ℕ) (file : ℕ) (seen now : SeenClient) (f : SeenFile) (same : Bool)
     → HasContents f seen.taken (cache_in seen.caches file) → is_some f.start ≡ true → taken_of seen ≡ Some taken
-    → Sees file f taken bytes seen now same
-    → HasContents f seen.taken (cache_in now.caches file)
+    → Sees file f taken bytes seen now same → HasContents f seen.taken (cache_in now.caches file)
 contents-read taken bytes file seen now f same held started some (kept, (cached, shown)) =
     let value : seen.taken ≡ taken = taken_value seen.has_taken seen.taken taken some in
     subst (λ (b : Option Snapshot). IsBase f seen.taken b) (sym shown.based)

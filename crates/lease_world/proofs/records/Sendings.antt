@@ -24,16 +24,14 @@ parts-none : (b : Bool) (past : List Fact) (places : List (List Fact)) → AllPa
 parts-none x1 past places all = grind arith
 
 parts-one : (b : Bool) (past : List Fact) (places : List (List Fact)) (place : List Fact) → PartOf past place
-    → AllParts past places
-    → AllParts past (if b then places ++ place ∷ [] else places)
+    → AllParts past places → AllParts past (if b then places ++ place ∷ [] else places)
 parts-one true past places place part all = parts-push past places place part all
 parts-one false past places place part all = all
 
 sendings-parts : (client : ℕ) (past : List Fact) → AllParts past (sendings client past)
 unfolding sendings
 sendings-parts client [] = tt
-sendings-parts client (Fact.Joined other ∷ past) =
-    parts-none (other == client) (Fact.Joined other ∷ past) (sendings client past)
+sendings-parts client (Fact.Joined other ∷ past) = parts-none (other == client) (Fact.Joined other ∷ past) (sendings client past)
     (parts-more past (Fact.Joined other) (sendings client past) (sendings-parts client past))
 sendings-parts client (Fact.Sent other ∷ past) =
     parts-one (other == client) (Fact.Sent other ∷ past) (sendings client past) past (Fact.Sent other ∷ [], refl)

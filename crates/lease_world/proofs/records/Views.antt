@@ -33,8 +33,7 @@ advances : (taken later k : ℕ) (changes : List Change) → taken ≤ later →
     → Advances later k changes
 advances taken later zero changes le inside = (refl, omega arith)
 advances taken later (suc k) [] le inside = absurd (omega arith)
-advances taken later (suc k) (change ∷ changes) le inside =
-    elim (cases_Bool (nat_lt change.place taken)) [
+advances taken later (suc k) (change ∷ changes) le inside = elim (cases_Bool (nat_lt change.place taken)) [
       | inl h ↦ advance-more later k change changes (still_below change.place taken later h le)
           (advances taken later k changes le (all_before (nat_lt change.place taken) k change (before taken changes) h inside))
       | inr h ↦ absurd (nothing_before (nat_lt change.place taken) k change (before taken changes) h inside)
@@ -48,8 +47,7 @@ take-if x1 place change changes e = grind arith
 
 take-before : (place : ℕ) (changes : List Change) → take (length (before place changes)) changes ≡ before place changes
 take-before place [] = refl
-take-before place (change ∷ changes) =
-    take-if (nat_lt change.place place) place change changes (take-before place changes)
+take-before place (change ∷ changes) = take-if (nat_lt change.place place) place change changes (take-before place changes)
 
 -- ---- the file at the place
 
@@ -73,8 +71,7 @@ moved-base file taken place base le is =
     let counted : (moved file.changes place base).applied ≡ length (before place file.changes) =
     (advances taken place base.applied file.changes le is.2).1 in (
       is.0,
-      moved-bytes file taken place base le is
-          ∙ ap (λ (cs : List Change). patches (unwrap_or file.start []) (patches_of cs))
+      moved-bytes file taken place base le is ∙ ap (λ (cs : List Change). patches (unwrap_or file.start []) (patches_of cs))
           (sym (take-before place file.changes) ∙ ap (λ (n : ℕ). take n file.changes) (sym counted)),
       omega (arith, counted),
     )
@@ -94,5 +91,4 @@ brought_bytes file taken place None le started is =
 pub brought_base : (file : SeenFile) (taken place : ℕ) (base : Option Snapshot) → taken ≤ place → is_some file.start ≡ true
     → IsBase file taken base → IsBase file place (Some (base_at file place base))
 brought_base file taken place (Some base) le started is = moved-base file taken place base le is
-brought_base file taken place None le started is =
-    moved-base file taken place (first_of file) le (first_base file taken started)
+brought_base file taken place None le started is = moved-base file taken place (first_of file) le (first_base file taken started)

@@ -35,8 +35,7 @@ number-told client number [] = refl
 number-told client number (Fact.Wrote writer file used patch buffered ∷ past) =
     ap (λ (b : Bool). (writer == client && used == number) || b) (number-told client number past)
     ∙ sym (some_if (writer == client && used == number) _ (write_of client number past))
-number-told client number (Fact.Changed file writer used patch ∷ past) =
-    number-told client number past
+number-told client number (Fact.Changed file writer used patch ∷ past) = number-told client number past
     ∙ sym (some_if_map (writer == client && used == number) (accepted_as file patch) (write_of client number past))
 number-told client number (_ ∷ past) = number-told client number past
 
@@ -47,9 +46,7 @@ new_number a b c e = grind arith
 is_new : (client file number : ℕ) (patch : Patch) (buffered : Bool) (past : List Fact)
     → WellFormed (Fact.Wrote client file number patch buffered) past → write_of client number past ≡ None
 unfolding is_well_formed
-is_new client file number patch buffered past w =
-    none_from (write_of client number past)
-    (sym (number-told client number past)
+is_new client file number patch buffered past w = none_from (write_of client number past) (sym (number-told client number past)
     ∙ new_number (is_started file past) (is_within_limit patch) (has_number client number past) w)
 
 both_so : (d c k n : ℕ) → (d == c && k == n) ≡ true → (d ≡ c) × (k ≡ n)
@@ -79,8 +76,7 @@ tests_new test x2 here write old rest none new is other e = grind arith
 
 -- accepting a write changes nothing that the test sees
 pub keeps_test : (test : Option SeenWrite → Bool) (same : Bool) (change : SeenWrite → SeenWrite) (old : Option SeenWrite)
-    (rest : Bool)
-    → ((w : SeenWrite) → test (Some (change w)) ≡ test (Some w))
+    (rest : Bool) → ((w : SeenWrite) → test (Some (change w)) ≡ test (Some w))
     → rest ≡ test old → rest ≡ test (if same then option_map change old else old)
 keeps_test test x2 change x4 rest keeps e = grind arith
 
@@ -111,16 +107,14 @@ written-told client file number patch [] w = refl
 written-told client file number patch (Fact.Wrote writer other used bytes buffered ∷ past) w =
     tests_new (is_of file patch) (writer == client && used == number)
     (writer == client && other == file && used == number && same_patch bytes patch) _ (write_of client number past)
-    (has_written client file number patch past) refl
-    (new_where_same writer client used number other bytes buffered past w.0)
+    (has_written client file number patch past) refl (new_where_same writer client used number other bytes buffered past w.0)
     (λ e. four_so (writer == client) (other == file) (used == number) (same_patch bytes patch) true e)
     (λ e. four_not (writer == client) (other == file) (used == number) (same_patch bytes patch) e)
     (written-told client file number patch past w.1)
 written-told client file number patch (Fact.Changed other writer used bytes ∷ past) w =
     keeps_test (is_of file patch) (writer == client && used == number) (accepted_as other bytes) (write_of client number past)
     (has_written client file number patch past)
-    (λ v. rw (accepted_file other bytes v, accepted_patch other bytes v) refl)
-    (written-told client file number patch past w.1)
+    (λ v. rw (accepted_file other bytes v, accepted_patch other bytes v) refl) (written-told client file number patch past w.1)
 written-told client file number patch (_ ∷ past) w = written-told client file number patch past w.1
 
 pub buffered-told : (client file number : ℕ) (past : List Fact) → EachFact WellFormed past
@@ -130,16 +124,13 @@ buffered-told client file number [] w = refl
 buffered-told client file number (Fact.Wrote writer other used bytes buffered ∷ past) w =
     tests_new (is_buffered_on file) (writer == client && used == number)
     (writer == client && other == file && used == number && buffered) _ (write_of client number past)
-    (has_buffered client file number past) refl
-    (new_where_same writer client used number other bytes buffered past w.0)
+    (has_buffered client file number past) refl (new_where_same writer client used number other bytes buffered past w.0)
     (λ e. four_so (writer == client) (other == file) (used == number) buffered true e)
-    (λ e. four_not (writer == client) (other == file) (used == number) buffered e)
-    (buffered-told client file number past w.1)
+    (λ e. four_not (writer == client) (other == file) (used == number) buffered e) (buffered-told client file number past w.1)
 buffered-told client file number (Fact.Changed other writer used bytes ∷ past) w =
     keeps_test (is_buffered_on file) (writer == client && used == number) (accepted_as other bytes) (write_of client number past)
     (has_buffered client file number past)
-    (λ v. rw (accepted_file other bytes v, accepted_buffered other bytes v) refl)
-    (buffered-told client file number past w.1)
+    (λ v. rw (accepted_file other bytes v, accepted_buffered other bytes v) refl) (buffered-told client file number past w.1)
 buffered-told client file number (_ ∷ past) w = buffered-told client file number past w.1
 
 -- a Changed accepts the write where file and patch are the same
@@ -154,8 +145,7 @@ unfolding is_accepted write_of
 accepted-told client number [] w = refl
 accepted-told client number (Fact.Wrote writer other used bytes buffered ∷ past) w =
     fails_new is_accepted_write (writer == client && used == number) _ (write_of client number past)
-    (is_accepted client number past) refl
-    (new_where_same writer client used number other bytes buffered past w.0) refl
+    (is_accepted client number past) refl (new_where_same writer client used number other bytes buffered past w.0) refl
     (accepted-told client number past w.1)
 accepted-told client number (Fact.Changed file writer used patch ∷ past) w =
     accepts_more (writer == client && used == number) file patch (write_of client number past)
@@ -221,8 +211,7 @@ touches_more x1 file high last x5 buffered rest le b r = grind arith
 not_below : (a b : Bool) (place last high : ℕ) → last ≤ high → (a && b && nat_lt (high + 1) last) ≡ false
 not_below a b place last high le = grind arith
 
-pub touched-told : (client file number : ℕ) (past : List Fact) → EachFact WellFormed past
-    → is_touched client file number past
+pub touched-told : (client file number : ℕ) (past : List Fact) → EachFact WellFormed past → is_touched client file number past
     ≡ is_buffered_before file (last_touch client file past) (write_of client number past)
 unfolding is_touched write_of last_touch
 touched-told client file number [] w = refl

@@ -19,8 +19,7 @@ longer fact past = omega arith
 
 -- a client all of whose caches but that of one file are as before
 pub each_cache : (client file : ℕ) (old new : List SeenCache) (past next : List Fact) (cache : SeenCache)
-    → HasCache old new file cache
-    → KnowsCache client file cache next
+    → HasCache old new file cache → KnowsCache client file cache next
     → ((other : ℕ) → (other == file) ≡ false → KnowsCache client other (cache_in old other) next)
     → (other : ℕ) → KnowsCache client other (cache_in new other) next
 each_cache client file old new past next cache has here others other = grind arith
@@ -33,17 +32,14 @@ pub client_believes : (client file : ℕ) (state : State) (seen now : SeenClient
 unfolding has_joined is_served has_strayed sendings takings is_settled write_of believed pending
 client_believes client file state seen now past is k =
     rw is.0 (client_over client seen (record seen { caches = now.caches }) past (Fact.Believes client file state ∷ past)
-    (longer (Fact.Believes client file state) past) refl refl refl refl refl
-    k.joined k.served k.strayed k.settled k.writes
+    (longer (Fact.Believes client file state) past) refl refl refl refl refl k.joined k.served k.strayed k.settled k.writes
     (each_cache client file seen.caches now.caches past (Fact.Believes client file state ∷ past)
-    (with_belief state (cache_in seen.caches file)) is.1
-    (record {
+    (with_belief state (cache_in seen.caches file)) is.1 (record {
       belief = rw (self client, self file) refl;
       covers = (k.caches file).covers;
     })
     (λ g e. cache_over client g (cache_in seen.caches g) past (Fact.Believes client file state ∷ past)
-    (other_file (client == client) g e) (λ n. refl) refl (k.caches g)))
-    k)
+    (other_file (client == client) g e) (λ n. refl) refl (k.caches g))) k)
   where
     other_file : (b : Bool) (g : ℕ) → (g == file) ≡ false
         → (if b && file == g then state else believed client g past) ≡ believed client g past
@@ -66,16 +62,13 @@ pub client_accepts : (client file number : ℕ) (patch : Patch) (seen now : Seen
 unfolding has_joined is_served has_strayed sendings takings is_settled write_of believed pending
 client_accepts client file number patch seen now past is k =
     rw is.0 (client_over client seen (record seen { writes = now.writes }) past (Fact.Changed file client number patch ∷ past)
-    (longer (Fact.Changed file client number patch) past) refl refl refl refl refl
-    k.joined k.served k.strayed k.settled
-    (λ n. is.1 n
-    ∙ (at_number number n (option_map (accepted_as file patch) (write_in seen number)) (write_in seen n)
+    (longer (Fact.Changed file client number patch) past) refl refl refl refl refl k.joined k.served k.strayed k.settled
+    (λ n. is.1 n ∙ (at_number number n (option_map (accepted_as file patch) (write_in seen number)) (write_in seen n)
     (option_map (accepted_as file patch) (write_of client n past)) (write_of client n past)
     (λ e. rw e (ap (λ (o : Option SeenWrite). option_map (accepted_as file patch) o) (k.writes number))) (k.writes n)
     ∙ same_number client number n (option_map (accepted_as file patch) (write_of client n past)) (write_of client n past)))
     (λ f. cache_over client f (cache_in seen.caches f) past (Fact.Changed file client number patch ∷ past) refl (λ n. refl) refl
-    (k.caches f))
-    k)
+    (k.caches f)) k)
 
 -- ---- a write is settled
 
@@ -89,8 +82,7 @@ settled_cache : (client file number : ℕ) (outcome : Settlement) (cache : SeenC
 unfolding believed pending
 settled_cache client file number outcome cache past k = record {
   belief = k.belief;
-  covers = λ position.
-      filter-and (λ (l : Layer). not (number == l.number)) (is_unsettled client past)
+  covers = λ position. filter-and (λ (l : Layer). not (number == l.number)) (is_unsettled client past)
       (is_unsettled client (Fact.Settled client number outcome ∷ past))
       (layers_at position cache.fresh ++ stack_in cache.covers position) (unsettled-more client number outcome past)
       ∙ (ap (λ (ls : List Layer). filter (λ l. not (number == l.number)) ls) (k.covers position)
@@ -99,24 +91,18 @@ settled_cache client file number outcome cache past k = record {
 }
 
 pub client_settles : (client number : ℕ) (outcome : Settlement) (seen now : SeenClient) (past : List Fact)
-    → Settles number seen now → KnowsClient client seen past
-    → KnowsClient client now (Fact.Settled client number outcome ∷ past)
+    → Settles number seen now → KnowsClient client seen past → KnowsClient client now (Fact.Settled client number outcome ∷ past)
 unfolding has_joined is_served has_strayed sendings takings is_settled write_of
 client_settles client number outcome seen now past is k =
-    rw is.0 (client_over client seen (record seen { settled = now.settled }) past
-    (Fact.Settled client number outcome ∷ past)
-    (longer (Fact.Settled client number outcome) past) refl refl refl refl refl
-    k.joined k.served k.strayed
-    (λ n. is.1 n ∙ settled_number client number n (has_settled seen n) (is_settled client n past) (k.settled n))
-    k.writes
-    (λ f. settled_cache client f number outcome (cache_in seen.caches f) past (k.caches f))
-    k)
+    rw is.0 (client_over client seen (record seen { settled = now.settled }) past (Fact.Settled client number outcome ∷ past)
+    (longer (Fact.Settled client number outcome) past) refl refl refl refl refl k.joined k.served k.strayed
+    (λ n. is.1 n ∙ settled_number client number n (has_settled seen n) (is_settled client n past) (k.settled n)) k.writes
+    (λ f. settled_cache client f number outcome (cache_in seen.caches f) past (k.caches f)) k)
 
 -- ---- a write is given
 
 kept_pending : (client file number : ℕ) (patch : Patch) (buffered : Bool) (past : List Fact)
-    → is_settled client number past ≡ false
-    → pending client file (Fact.Wrote client file number patch buffered ∷ past)
+    → is_settled client number past ≡ false → pending client file (Fact.Wrote client file number patch buffered ∷ past)
     (Fact.Wrote client file number patch buffered ∷ past)
     ≡ pending client file (Fact.Wrote client file number patch buffered ∷ past) past
     ++ record { number = number; patch = patch } ∷ []
@@ -139,16 +125,14 @@ with_one_write client file number patch buffered cache past off k =
     let one : Waiting = record { number = number; patch = patch } in
     record {
       belief = k.belief;
-      covers = λ position.
-          ap (λ (ls : List Layer). filter (is_unsettled client next) ls)
+      covers = λ position. ap (λ (ls : List Layer). filter (is_unsettled client next) ls)
           (ap (λ (ls : List Layer). ls ++ stack_in cache.covers position) (layers_push position cache.fresh one)
           ∙ append_assoc (layer_of position one) (layers_at position cache.fresh) (stack_in cache.covers position))
           ∙ (filter-append (is_unsettled client next) (layer_of position one)
           (layers_at position cache.fresh ++ stack_in cache.covers position)
           ∙ (ap (λ (ls : List Layer). ls ++ filter (is_unsettled client next)
           (layers_at position cache.fresh ++ stack_in cache.covers position))
-          (one_open (is_unsettled client next) _ _ (ap not off))
-          ∙ (ap (λ (ls : List Layer). layer_of position one ++ ls)
+          (one_open (is_unsettled client next) _ _ (ap not off)) ∙ (ap (λ (ls : List Layer). layer_of position one ++ ls)
           (k.covers position ∙ ap (λ (ws : List Waiting). layers_at position ws)
           (pending-agree client file past next past (λ n. refl)))
           ∙ (sym (layers_push position (pending client file next past) one)
@@ -173,8 +157,7 @@ other_way file other settled e f = grind arith
 
 written_caches : (client number : ℕ) (write : SeenWrite) (old new : List SeenCache) (settled : Bool) (past : List Fact)
     → is_settled client number past ≡ settled → WritesCache settled number write old new
-    → ((f : ℕ) → KnowsCache client f (cache_in old f) past)
-    → (f : ℕ) → KnowsCache client f (cache_in new f)
+    → ((f : ℕ) → KnowsCache client f (cache_in old f) past) → (f : ℕ) → KnowsCache client f (cache_in new f)
     (Fact.Wrote client write.file number write.patch write.buffered ∷ past)
 written_caches client number write old new true past e is k = λ f.
     rw (is f) (without_write client write.file f number write.patch write.buffered (cache_in old f) past (λ _. e) (k f))
@@ -186,18 +169,14 @@ written_caches client number write old new false past e is k =
     (other_way write.file f (is_settled client number past) apart) (k f))
 
 pub client_writes : (client number place : ℕ) (file : ℕ) (patch : Patch) (buffered : Bool) (seen now : SeenClient)
-    (past : List Fact)
-    → place ≡ length past + 1
+    (past : List Fact) → place ≡ length past + 1
     → Writes number (record { file = file; place = place; buffered = buffered; patch = patch; accepted = false }) seen now
-    → KnowsClient client seen past
-    → KnowsClient client now (Fact.Wrote client file number patch buffered ∷ past)
+    → KnowsClient client seen past → KnowsClient client now (Fact.Wrote client file number patch buffered ∷ past)
 unfolding has_joined is_served has_strayed sendings takings is_settled write_of
 client_writes client number place file patch buffered seen now past at is k =
     rw is.0 (client_over client seen (record seen { writes = now.writes; caches = now.caches }) past
     (Fact.Wrote client file number patch buffered ∷ past)
-    (longer (Fact.Wrote client file number patch buffered) past) refl refl refl refl refl
-    k.joined k.served k.strayed k.settled
+    (longer (Fact.Wrote client file number patch buffered) past) refl refl refl refl refl k.joined k.served k.strayed k.settled
     (λ n. is.1 n ∙ rw (at, k.writes n) (same_number client number n _ (write_of client n past)))
     (written_caches client number (record { file = file; place = place; buffered = buffered; patch = patch; accepted = false })
-    seen.caches now.caches (has_settled seen number) past (sym (k.settled number)) is.2 k.caches)
-    k)
+    seen.caches now.caches (has_settled seen number) past (sym (k.settled number)) is.2 k.caches) k)

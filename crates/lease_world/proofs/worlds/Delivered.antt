@@ -111,8 +111,7 @@ given_replies back client (Out.Sent other reply ∷ outs) each =
     go : (b : Bool) → reply_of (reply_written reply) ≡ reply
         → map reply_of (replies_to client (map out_written outs)) ≡ told_to client outs
         → map reply_of (if b then reply_written reply ∷ replies_to client (map out_written outs)
-        else replies_to client (map out_written outs))
-        ≡ (if b then reply ∷ told_to client outs else told_to client outs)
+        else replies_to client (map out_written outs)) ≡ (if b then reply ∷ told_to client outs else told_to client outs)
     go x1 e rest = grind arith
 given_replies back client (Out.Opened file other ∷ outs) each = given_replies back client outs each.1
 given_replies back client (Out.Changed file other number patch ∷ outs) each = given_replies back client outs each.1

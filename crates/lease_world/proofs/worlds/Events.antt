@@ -43,15 +43,13 @@ server_took_nothing old new number only seats there world s =
 
 pub server_took : (old middle new : Seen) (number : ℕ) (request : code_request.Request) → OnlySeats old middle
     → ChangesSeat (PopsRequest (Some request)) number old.seats middle.seats → IsPresent number old.seats
-    → Serves (Call.Receive number (request_of request)) middle new
-    → Applies (Event.ServerTakes number) old new
+    → Serves (Call.Receive number (request_of request)) middle new → Applies (Event.ServerTakes number) old new
 unfolding applied messages_of
 server_took old middle new number request only seats there serves world s =
     let p = popped_request old middle number request only seats there world s in
     let served = serves (request_keys number request) _ p.1 in
     subst (λ (rs : List Request). Stands new (server_takes world number rs) × Keeps (sent_by_oldest world number rs) old new)
-    (sym p.0)
-    (served.0, quiet_first old middle new _ only.2 served.1)
+    (sym p.0) (served.0, quiet_first old middle new _ only.2 served.1)
 
 pub client_took_nothing : (old new : Seen) (number : ℕ) → OnlySeats old new
     → ChangesSeat (PopsReply None) number old.seats new.seats → IsPresent number old.seats
@@ -79,8 +77,7 @@ client_took old middle kept told new number reply only seats there fits alike ke
     let p = popped_reply old middle number reply only seats there world s in
     subst (λ (rs : List Reply). Stands new (client_takes world number rs) × Keeps (oldest rs) old new) (sym p.0) (
       steps.1 fits _ (tells.1 _ (kept_stands middle kept alike _ p.1)),
-      quiet_first old middle new (reply_of reply ∷ []) only.2
-          (quiet_last middle told new (reply_of reply ∷ [])
+      quiet_first old middle new (reply_of reply ∷ []) only.2 (quiet_last middle told new (reply_of reply ∷ [])
           (quiet_last middle kept told (reply_of reply ∷ []) (kept_keeps middle kept (reply ∷ []) keeps) tells.0) steps.0),
     )
 
@@ -104,8 +101,7 @@ pub cut_nothing : (old : Seen) (number : ℕ) → IsPresent number old.seats
 unfolding applied messages_of
 cut_nothing old number there e world s =
     subst (λ (l : Link). Stands old (cut_over world number l) × Keeps (sent_by_cut world number l) old old)
-    (s.seats number there).link
-    (not_cut old world number (seat_in old.seats number).link e s)
+    (s.seats number there).link (not_cut old world number (seat_in old.seats number).link e s)
 
 pub cut_one : (old middle told new : Seen) (number : ℕ) → IsPresent number old.seats
     → is_link (seat_in old.seats number).link code.TheVariants.Up ≡ true
@@ -119,8 +115,7 @@ cut_one old middle told new number there e cuts tells serves world s =
     (served.0, quiet_first old middle new _ cuts.0 (quiet_first middle told new _ tells.0 served.1))
 
 not_noticed : (old : Seen) (world : World) (number : ℕ) (l : code.Link) → is_link l code.TheVariants.Cut ≡ false
-    → Stands old world
-    → Stands old (notice_over world number (link_of l))
+    → Stands old world → Stands old (notice_over world number (link_of l))
 not_noticed old world number x4 e s = grind arith
 
 pub notice_nothing : (old : Seen) (number : ℕ) → IsPresent number old.seats
@@ -134,8 +129,7 @@ notice_nothing old number there e world s = (
 
 pub notice_one : (old middle new : Seen) (number : ℕ) → IsPresent number old.seats
     → is_link (seat_in old.seats number).link code.TheVariants.Cut ≡ true
-    → Links number Link.Down old middle → StepsIn number ClientCall.Noticed middle new
-    → Applies (Event.Notice number) old new
+    → Links number Link.Down old middle → StepsIn number ClientCall.Noticed middle new → Applies (Event.Notice number) old new
 unfolding applied messages_of link_noticed
 notice_one old middle new number there e links steps world s = (
   subst (λ (l : Link). Stands new (notice_over world number l)) (sym (known_link old number code.TheVariants.Cut there world s e))
@@ -155,20 +149,17 @@ pub connect_nothing : (old : Seen) (number : ℕ) → IsPresent number old.seats
 unfolding applied messages_of
 connect_nothing old number there e world s =
     subst (λ (l : Link). Stands old (connect_over world number l) × Keeps (sent_by_join world number l) old old)
-    (s.seats number there).link
-    (not_connected old world number (seat_in old.seats number).link e s)
+    (s.seats number there).link (not_connected old world number (seat_in old.seats number).link e s)
 
 -- a call of the server leaves the clients alone
 same_clients : (world : World) (progress : Progress) → (served world progress).clients ≡ world.clients
 unfolding served
-same_clients world progress =
-    (delivers (record world { server = progress.server }) progress.outs).clients
+same_clients world progress = (delivers (record world { server = progress.server }) progress.outs).clients
 
 pub connect_one : (old middle told joined new : Seen) (number : ℕ) → IsPresent number old.seats
     → is_link (seat_in old.seats number).link code.TheVariants.Down ≡ true
     → Links number Link.Up old middle → Tells (Fact.Joined number) middle told → Serves (Call.Join number) told joined
-    → StepsIn number ClientCall.Connected joined new
-    → Applies (Event.Connect number) old new
+    → StepsIn number ClientCall.Connected joined new → Applies (Event.Connect number) old new
 unfolding applied messages_of link_connected
 connect_one old middle told joined new number there e links tells serves steps world s =
     let up : World = happened (record world { links = put world.links number Link.Up }) (Fact.Joined number) in
@@ -187,8 +178,7 @@ connect_one old middle told joined new number there e links tells serves steps w
 -- ---- strays
 
 not_strayed : (old : Seen) (world : World) (number : ℕ) (request : Request) (l : code.Link)
-    → is_link l code.TheVariants.Up ≡ false
-    → Stands old world → Stands old (strayed_over world number request (link_of l))
+    → is_link l code.TheVariants.Up ≡ false → Stands old world → Stands old (strayed_over world number request (link_of l))
 unfolding strayed_over
 not_strayed old world number request x5 e s = grind arith
 
@@ -203,13 +193,11 @@ stray_nothing old number request there e world s = (
 
 pub stray_one : (old told new : Seen) (number : ℕ) (request : Request) → IsPresent number old.seats
     → is_link (seat_in old.seats number).link code.TheVariants.Up ≡ true
-    → Tells (Fact.Strayed number) old told → Sends number request told new
-    → Applies (Event.Raw number request) old new
+    → Tells (Fact.Strayed number) old told → Sends number request told new → Applies (Event.Raw number request) old new
 unfolding applied messages_of strayed_over
 stray_one old told new number request there e tells sends world s = (
   subst (λ (l : Link). Stands new (strayed_over world number request l)) (sym
-      (known_link old number code.TheVariants.Up there world s e))
-      (sends.1 _ (tells.1 world s)),
+      (known_link old number code.TheVariants.Up there world s e)) (sends.1 _ (tells.1 world s)),
   quiet_last old told new [] (quiet_keeps old told tells.0) sends.0,
 )
 

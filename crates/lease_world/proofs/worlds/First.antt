@@ -63,13 +63,11 @@ head_and_rest x1 b c f e = grind arith
 all_and_one : {X : Type 0} (p : X → Bool) (xs : List X) (x : X) → p x ≡ true → list_all p xs ≡ true
     → list_all p (xs ++ x ∷ []) ≡ true
 all_and_one p [] x f e = both_so (p x) true f refl
-all_and_one p (y ∷ xs) x f e =
-    head_and_rest (p y) (list_all p xs) (list_all p (xs ++ x ∷ [])) (all_and_one p xs x f) e
+all_and_one p (y ∷ xs) x f e = head_and_rest (p y) (list_all p xs) (list_all p (xs ++ x ∷ [])) (all_and_one p xs x f) e
 
 pub fit_one_more : (files : List (List ℕ)) (n : ℕ) (d : List ℕ) → n < length files → list_all is_content (take n files) ≡ true
     → length (get_or files n d) ≤ FILE_LIMIT → list_all is_content (take (n + 1) files) ≡ true
-fit_one_more files n d lt all le =
-    rw (take_next files n d lt) (all_and_one is_content (take n files) (get_or files n d)
+fit_one_more files n d lt all le = rw (take_next files n d lt) (all_and_one is_content (take n files) (get_or files n d)
     (le-leb (length (get_or files n d)) FILE_LIMIT le) all)
 
 pub all_fit : (files : List (List ℕ)) (n : ℕ) → length files ≤ n → list_all is_content (take n files) ≡ true
@@ -126,8 +124,7 @@ start_at (file ∷ files) first zero d lt =
     ap (λ (m : ℕ). Fact.Start m file ∷ []) e
 start_at (file ∷ files) first (suc n) d lt =
     let e : n + (first + 1) ≡ suc n + first = omega arith in
-    ap (λ fs. Fact.Start first file ∷ fs)
-    (subst (λ (m : ℕ). take (suc n) (starts_from (first + 1) files)
+    ap (λ fs. Fact.Start first file ∷ fs) (subst (λ (m : ℕ). take (suc n) (starts_from (first + 1) files)
     ≡ take n (starts_from (first + 1) files) ++ Fact.Start m (get_or files n d) ∷ []) e
     (start_at files (first + 1) n d (omega arith)))
 
@@ -238,16 +235,13 @@ messages_one_more first (e ∷ events) event =
     (messages_in (after (happens first e) events) event))
 
 pub no_event : (old : Seen) (first : World) (kept : Option (List code_reply.Reply)) (events : List Event) → Stands old first
-    → old.messages ≡ kept
-    → Stands old (after first (take 0 events)) × KeepsBehind kept (messages_from first (take 0 events)) old
+    → old.messages ≡ kept → Stands old (after first (take 0 events)) × KeepsBehind kept (messages_from first (take 0 events)) old
 unfolding after messages_from
 no_event old first kept events s e = (s, behind_none old kept e)
 
 pub one_more_event : (old new : Seen) (first : World) (kept : Option (List code_reply.Reply)) (events : List code_event.Event)
-    → (n : ℕ) (d : code_event.Event) → n < length events
-    → Stands old (after first (take n (map event_of events)))
-    × KeepsBehind kept (messages_from first (take n (map event_of events))) old
-    → Happens (event_of (get_or events n d)) old new
+    → (n : ℕ) (d : code_event.Event) → n < length events → Stands old (after first (take n (map event_of events)))
+    × KeepsBehind kept (messages_from first (take n (map event_of events))) old → Happens (event_of (get_or events n d)) old new
     → Stands new (after first (take (n + 1) (map event_of events)))
     × KeepsBehind kept (messages_from first (take (n + 1) (map event_of events))) new
 one_more_event old new first kept events n d lt held happens =

@@ -16,8 +16,7 @@ OnlySeats old new = (new.server ≡ old.server) × (new.facts ≡ old.facts) × 
 
 pub linked_stands : (old new : Seen) (number : ℕ) (link : code.Link) → OnlySeats old new
     → ChangesSeat (λ before after. after ≡ record before { link = link }) number old.seats new.seats
-    → (world : World) → Stands old world
-    → Stands new (record world { links = put world.links number (link_of link) })
+    → (world : World) → Stands old world → Stands new (record world { links = put world.links number (link_of link) })
 unfolding put
 linked_stands old new number link only seats world s = record {
   count = s.count ∙ sym seats.2;
@@ -42,9 +41,7 @@ linked_stands old new number link only seats world s = record {
 
 pub cut_stands : (old new : Seen) (number : ℕ) → OnlySeats old new
     → ChangesSeat (λ before after. after ≡ record before { link = code.TheVariants.Cut; requests = []; replies = [] }) number
-    old.seats new.seats
-    → (world : World) → Stands old world
-    → Stands new (record world {
+    old.seats new.seats → (world : World) → Stands old world → Stands new (record world {
       links = put world.links number Link.Cut;
       requests = put world.requests number [];
       replies = put world.replies number [];
@@ -95,8 +92,7 @@ sent_stands old new number request only seats world s = record {
         client = q.client;
         link = q.link;
         requests = sent_requests (seat_in old.seats number).link (seat_in old.seats number).requests (request ∷ [])
-            (request_of request ∷ []) refl
-            ∙ (rw (q.link, q.requests) refl
+            (request_of request ∷ []) refl ∙ (rw (q.link, q.requests) refl
             ∙ sym (at_place number (sent_over (world.links number) (world.requests number) (request_of request ∷ []))
             (world.requests number)));
         replies = q.replies;

@@ -64,8 +64,7 @@ behind_none old kept e = ap (λ (o : Option (List code.Reply)). option_map (map 
 
 pub behind_more : (old new : Seen) (kept : Option (List code.Reply)) (xs ys : List Reply) → KeepsBehind kept xs old
     → Keeps ys old new → KeepsBehind kept (xs ++ ys) new
-behind_more old new kept xs ys a b =
-    b ∙ (ap (λ (o : Option (List Reply)). option_map (λ replies. replies ++ ys) o) a ∙ go kept)
+behind_more old new kept xs ys a b = b ∙ (ap (λ (o : Option (List Reply)). option_map (λ replies. replies ++ ys) o) a ∙ go kept)
   where
     go : (o : Option (List code.Reply)) → option_map (λ replies. replies ++ ys) (option_map (λ kept. map reply_of kept ++ xs) o)
         ≡ option_map (λ kept. map reply_of kept ++ (xs ++ ys)) o
@@ -76,10 +75,8 @@ behind_more old new kept xs ys a b =
 
 -- a call of the server, which keeps what it sends
 pub served_keeps : (old new : Seen) (call : Call) (outs : List out.Out)
-    → IsAfter new.server outs (called (server_of old.server) call)
-    → HasKept old.messages new.messages (replies_among outs)
-    → CallHasFullKey call → (world : World) → Stands old world
-    → Keeps (sent_by world call) old new
+    → IsAfter new.server outs (called (server_of old.server) call) → HasKept old.messages new.messages (replies_among outs)
+    → CallHasFullKey call → (world : World) → Stands old world → Keeps (sent_by world call) old new
 served_keeps old new call outs after kept keyed world s =
     let progress : Progress = called world.server call in
     let same : called (server_of old.server) call ≡ progress = ap (λ server. called server call) s.server in

@@ -31,8 +31,7 @@ with_both (Some seat) xs ys = ap (λ (rs : List Reply). Some (record seat { repl
 
 pub more_replies : (first middle last : List Seat) (xs ys : List out.Out) → HasReplies first middle xs → HasReplies middle last ys
     → HasReplies first last (xs ++ ys)
-more_replies first middle last xs ys a b n =
-    b n ∙ (ap (λ (o : Option Seat). option_map (with_replies (replies_to n ys)) o) (a n)
+more_replies first middle last xs ys a b n = b n ∙ (ap (λ (o : Option Seat). option_map (with_replies (replies_to n ys)) o) (a n)
     ∙ (with_both (seat_at first n) (replies_to n xs) (replies_to n ys)
     ∙ ap (λ (rs : List Reply). option_map (with_replies rs) (seat_at first n)) (sym (replies_append n xs ys))))
 
@@ -51,8 +50,7 @@ kept_both (Some kept) xs ys = ap (λ (rs : List Reply). Some rs) (append_assoc k
 
 pub more_kept : (first middle last : Option (List Reply)) (xs ys : List out.Out) → HasKept first middle (replies_among xs)
     → HasKept middle last (replies_among ys) → HasKept first last (replies_among (xs ++ ys))
-more_kept first middle last xs ys a b =
-    b ∙ (ap (λ (o : Option (List Reply)). option_map (λ kept. kept ++ replies_among ys) o) a
+more_kept first middle last xs ys a b = b ∙ (ap (λ (o : Option (List Reply)). option_map (λ kept. kept ++ replies_among ys) o) a
     ∙ (kept_both first (replies_among xs) (replies_among ys)
     ∙ ap (λ (rs : List Reply). option_map (λ kept. kept ++ rs) first) (sym (among_append xs ys))))
 

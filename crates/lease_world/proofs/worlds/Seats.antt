@@ -17,8 +17,7 @@ other_number : (n m : ℕ) → suc n ≢ suc m → (n == m) ≡ false
 other_number n m ne = grind (arith, ne)
 
 set_in_place : (Changes : Seat → Seat → Type 0) (seats : List Seat) (place : ℕ) (read new : Seat) → place < length seats
-    → read ≡ get_or seats place read → Changes read new
-    → ChangesSeat Changes (suc place) seats (slice_set seats place new)
+    → read ≡ get_or seats place read → Changes read new → ChangesSeat Changes (suc place) seats (slice_set seats place new)
 set_in_place Changes seats place read new inside is changes = (
   subst (λ (s : Seat). Changes (seat_in seats (suc place)) s)
       (sym (value_put no_seat seats place new place inside ∙ rw (same_number place) refl))
@@ -45,8 +44,7 @@ still_there old new number count there = (there.0, omega (arith, there.1, count)
 
 -- a client is taken out, called and put back
 pub steps_seat : (old away new : Seat) (call : ClientCall) (client : Known) (step : Step) (notes : List Note)
-    → (client ≡ old.client) × (away ≡ record old { client = no_client })
-    → IsStep step (client_called (client_of client) call)
+    → (client ≡ old.client) × (away ≡ record old { client = no_client }) → IsStep step (client_called (client_of client) call)
     → notes ≡ step.notes.items → new ≡ with_requests step.requests.items (record away { client = step.client })
     → StepsSeat call notes old new
 steps_seat old away new call client step notes taken is noted put =

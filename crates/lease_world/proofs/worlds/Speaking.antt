@@ -44,8 +44,7 @@ notes_are_silent client (Note.Believes a b ∷ notes) = notes_are_silent client 
 notes_are_silent client (Note.CachedRead a b ∷ notes) = notes_are_silent client notes
 
 happened_says : (world : World) (fact : Fact) → said (happened world fact) ≡ said world + speaking (fact ∷ [])
-happened_says world fact =
-    ap speaking (reverse-append (fact ∷ []) world.past) ∙ speaking_both (reverse world.past) (fact ∷ [])
+happened_says world fact = ap speaking (reverse-append (fact ∷ []) world.past) ∙ speaking_both (reverse world.past) (fact ∷ [])
 
 served_says : (world : World) (progress : Progress)
     → said (served world progress) ≡ said world + length (sent_among progress.outs)
@@ -96,8 +95,7 @@ notice_says : (world : World) (client : ℕ) (link : Link) → said (notice_over
 unfolding link_noticed
 notice_says world client Link.Down = refl
 notice_says world client Link.Up = refl
-notice_says world client Link.Cut =
-    stepped_says (record world { links = put world.links client Link.Down }) client
+notice_says world client Link.Cut = stepped_says (record world { links = put world.links client Link.Down }) client
     (client_called (world.clients client) ClientCall.Noticed)
 
 connect_says : (world : World) (client : ℕ) (link : Link)
@@ -109,8 +107,7 @@ connect_says world client Link.Down =
     let next : World = record world { links = put world.links client Link.Up } in
     let up : World = happened next (Fact.Joined client) in
     stepped_says (served up (called world.server (Call.Join client))) client
-    (client_called (world.clients client) ClientCall.Connected)
-    ∙ (served_says up (called world.server (Call.Join client))
+    (client_called (world.clients client) ClientCall.Connected) ∙ (served_says up (called world.server (Call.Join client))
     ∙ ap (λ (n : ℕ). n + length (sent_by_join world client Link.Down)) (happened_says next (Fact.Joined client) ∙ omega arith))
 
 scavenge_says : (world : World) (found : Option ℕ)
@@ -149,8 +146,7 @@ applied_says world (Event.Notice client) = notice_says world client (world.links
 applied_says world (Event.Connect client) = connect_says world client (world.links client)
 applied_says world (Event.Expire client file) =
     if_says (has_file world.server file) (breaking world.server (machine_key world client file)) world
-    (timer_expired world client file)
-    _ (expire_says world client file)
+    (timer_expired world client file) _ (expire_says world client file)
 applied_says world (Event.Scavenge client file) = scavenge_says world (kept world.server client file)
 applied_says world (Event.Raw client request) = stray_says world client request (world.links client) ∙ omega arith
 
@@ -179,8 +175,7 @@ starts_are_silent file (bytes ∷ files) = starts_are_silent (file + 1) files
 -- as many messages as facts that speak of one
 pub each_has_one : (setup : Setup) (events : List Event) → speaking (recorded setup events) ≡ length (messages_told setup events)
 unfolding first_world
-each_has_one setup events =
-    after_says (first_world setup) events
+each_has_one setup events = after_says (first_world setup) events
     ∙ (ap (λ (facts : List Fact). speaking facts + length (messages_told setup events))
     (reverse-reverse (starts_from 1 setup.files))
     ∙ (ap (λ (n : ℕ). n + length (messages_told setup events)) (starts_are_silent 1 setup.files) ∙ omega arith))

@@ -42,8 +42,7 @@ present_seat seats (suc n) p = there seats n (omega (arith, p.1))
 
 seat_replied : (old new : List Seat) (outs : List out.Out) (n : ℕ) → HasReplies old new outs → IsPresent n old
     → seat_in new n ≡ with_replies (replies_to n outs) (seat_in old n)
-seat_replied old new outs n has p =
-    ap (λ (o : Option Seat). unwrap_or o no_seat)
+seat_replied old new outs n has p = ap (λ (o : Option Seat). unwrap_or o no_seat)
     (has n ∙ ap (λ (o : Option Seat). option_map (with_replies (replies_to n outs)) o) (present_seat old n p))
 
 -- ---- a fact
@@ -74,8 +73,7 @@ pub served_stands : (old new : Seen) (call : Call) (outs : List out.Out)
     → IsAfter new.server outs (called (server_of old.server) call)
     → HasReplies old.seats new.seats outs → length new.seats ≡ length old.seats
     → map fact_of new.facts ≡ map fact_of old.facts ++ map fact_given outs
-    → CallHasFullKey call → (world : World) → Stands old world
-    → Stands new (served world (called world.server call))
+    → CallHasFullKey call → (world : World) → Stands old world → Stands new (served world (called world.server call))
 unfolding served
 served_stands old new call outs after replies count facts keyed world s =
     let progress : Progress = called world.server call in
@@ -101,8 +99,7 @@ served_stands old new call outs after replies count facts keyed world s =
                 ∙ (ap (λ (rs : List Reply). world.replies n ++ rs) (given_replies readback.replies_back n progress.outs bytes.0)
                 ∙ sym (d.replies n))));
           });
-      facts = facts
-          ∙ (ap (λ (xs : List Fact). xs ++ map fact_given outs) s.facts
+      facts = facts ∙ (ap (λ (xs : List Fact). xs ++ map fact_given outs) s.facts
           ∙ (ap (λ (os : List out.Out). reverse world.past ++ map fact_given os) given
           ∙ (ap (λ (xs : List Fact). reverse world.past ++ xs) (given_told progress.outs) ∙ sym d.past)));
       sound = rw d.server (called-sound world.server call s.sound);
@@ -132,8 +129,7 @@ each_number x1 k here others n = grind arith
 
 -- the seats after one of them changed, in a world that changed at that client alone
 pub one_seat : (Changes : Seat → Seat → Type 0) (old new : List Seat) (number : ℕ) (world after : World)
-    → ChangesSeat Changes number old new
-    → ((n : ℕ) → IsPresent n old → IsSeat (seat_in old n) world n)
+    → ChangesSeat Changes number old new → ((n : ℕ) → IsPresent n old → IsSeat (seat_in old n) world n)
     → (IsPresent number old → IsSeat (seat_in new number) after number)
     → ((n : ℕ) → n ≢ number → after.clients n ≡ world.clients n) → ((n : ℕ) → n ≢ number → after.links n ≡ world.links n)
     → ((n : ℕ) → n ≢ number → after.requests n ≡ world.requests n) → ((n : ℕ) → n ≢ number → after.replies n ≡ world.replies n)
@@ -148,8 +144,7 @@ same_guid client (ClientCall.Taken reply) = (taken-stays client reply).guid
 same_guid client ClientCall.Noticed = refl
 same_guid client ClientCall.Connected = refl
 
-pub stepped_stands : (old new : Seen) (number : ℕ) (call : ClientCall) (notes : List code_note.Note)
-    → new.server ≡ old.server
+pub stepped_stands : (old new : Seen) (number : ℕ) (call : ClientCall) (notes : List code_note.Note) → new.server ≡ old.server
     → ChangesSeat (StepsSeat call notes) number old.seats new.seats
     → map fact_of new.facts ≡ map fact_of old.facts ++ map (fact_noted number) (map note_of notes)
     → IsPresent number old.seats → CallHasFileId call → (world : World) → Stands old world
@@ -178,8 +173,7 @@ stepped_stands old new number call notes server seats facts there fits world s =
                 ∙ (sent_requests (seat_in old.seats number).link (seat_in old.seats number).requests
                 (map request_written (client_called (client_of (seat_in old.seats number).client) call).requests) step.requests
                 (ap (λ (t : Step). map request_of (map request_written t.requests)) same
-                ∙ requests_back readback.requests_back step.requests bytes.0)
-                ∙ (rw (held.link, held.requests) refl
+                ∙ requests_back readback.requests_back step.requests bytes.0) ∙ (rw (held.link, held.requests) refl
                 ∙ sym (at_place number (sent_over (world.links number) (world.requests number) step.requests)
                 (world.requests number))));
             replies = ap (map reply_of) replies_are ∙ held.replies;
@@ -189,8 +183,7 @@ stepped_stands old new number call notes server seats facts there fits world s =
           (λ m ne. off_place m number (sent_over (world.links number) (world.requests number) step.requests) (world.requests m)
           ne)
           (λ m ne. refl);
-      facts = facts
-          ∙ (ap (λ (xs : List Fact). xs ++ map (fact_noted number) (map note_of notes)) s.facts
+      facts = facts ∙ (ap (λ (xs : List Fact). xs ++ map (fact_noted number) (map note_of notes)) s.facts
           ∙ (ap (λ ns. reverse world.past ++ map (fact_noted number) ns) (notes_are ∙ ap (λ (t : Step). t.notes) same)
           ∙ sym n.past));
       sound = s.sound;

@@ -15,5 +15,4 @@ returns c =
     let same : length room ≡ length c.args.room.now = length_put c.args.last next c.args.room.now (omega (arith, fits, before)) in
     rw (c.put_context.ensures, c.put_zeros.ensures, c.put.ensures, c.next_bytes.ensures, c.gap-zeros.ensures.value)
     (put_after c.args.count (replicate (gap c.args.count) 0) (context_bytes c.args.name.now c.args.body.now) room
-    (gap c.args.count)
-    (length-replicate {A = ℕ} (gap c.args.count) 0) (omega (arith, fits, same)))
+    (gap c.args.count) (length-replicate {A = ℕ} (gap c.args.count) 0) (omega (arith, fits, same)))

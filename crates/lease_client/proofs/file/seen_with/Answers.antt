@@ -10,5 +10,4 @@ returns-in-Some c =
     let is = subst (λ s. IsSeen (Some c.args.base.now) c.args.unsent.now s) c.in-Some.is c.requires in
     subst (λ (t : List ℕ). IfOk c.with_more.result (λ bytes. bytes ≡ t))
     (ap (λ (b : List ℕ). patches b (patches_of (take count (drop seen.writes c.args.unsent.now)))) is.shown
-    ∙ patched_rest c.args.base.now c.args.unsent.now seen.writes count refl)
-    c.with_more.ensures
+    ∙ patched_rest c.args.base.now c.args.unsent.now seen.writes count refl) c.with_more.ensures

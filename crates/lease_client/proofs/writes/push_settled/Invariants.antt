@@ -3,6 +3,5 @@ use Rattle.lease_client.specs.Answers.{note_of, settlement_of}
 use Rattle.lease_client.proofs.writes.push_settled.Given as goal
 
 abbrev pub invariant-loop-write : goal.invariant-loop-write
-invariant-loop-write l =
-    map note_of l.notes.items
+invariant-loop-write l = map note_of l.notes.items
     ≡ map note_of l.fn.notes.items ++ settled_as (settlement_of l.outcome) (take l.write-index l.writes)

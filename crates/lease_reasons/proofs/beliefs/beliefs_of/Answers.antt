@@ -12,8 +12,7 @@ loop-index-init c = subst (λ (bs : List Belief). AreNoted [] c.args.file.0 bs) 
     c.args.file.0)
 
 pub loop-index-preserved : goal.loop-index-preserved
-loop-index-preserved c =
-    subst (λ (past : List Fact). AreNoted past c.args.file.0 c.note_belief.new.beliefs.items)
+loop-index-preserved c = subst (λ (past : List Fact). AreNoted past c.args.file.0 c.note_belief.new.beliefs.items)
     (sym (past-next c.args.facts.now c.loop-index.index c.index-facts-index.result c.loop-index-test.true c.index-facts-index.is))
     (subst (λ (bs : List Belief). AreNoted (fact_of c.index-facts-index.result ∷ past_of (take c.loop-index.index
     c.args.facts.now)) c.args.file.0 bs)

@@ -10,8 +10,7 @@ pub loop-fact-init : goal.loop-fact-init
 loop-fact-init c = subst (λ (fs : List FileNo). AreFiles [] fs) (sym c.new-files.ensures.items) files-none
 
 pub loop-fact-preserved : goal.loop-fact-preserved
-loop-fact-preserved c =
-    subst (λ (past : List Fact). AreFiles past c.note_file.new.files.items)
+loop-fact-preserved c = subst (λ (past : List Fact). AreFiles past c.note_file.new.files.items)
     (sym (past-next c.args.facts.now c.loop-fact.fact-index c.fact-item.result c.loop-fact-test.true c.fact-item.is))
     (subst (λ (fs : List FileNo). AreFiles (fact_of c.fact-item.result ∷ past_of (take c.loop-fact.fact-index c.args.facts.now))
     fs)

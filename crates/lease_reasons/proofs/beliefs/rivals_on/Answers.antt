@@ -9,8 +9,7 @@ use Rattle.lease_reasons.proofs.Noted.{rivals-found}
 use Rattle.lease_reasons.proofs.beliefs.rivals_on.Goals as goal
 
 pub returns : goal.returns
-returns c =
-    subst (λ (found : Option Rivals). MatchOption found (HasNoRivals (past_of c.args.facts.now) c.args.file.0)
+returns c = subst (λ (found : Option Rivals). MatchOption found (HasNoRivals (past_of c.args.facts.now) c.args.file.0)
     (λ rivals. AreRivals (past_of c.args.facts.now) c.args.file.0 rivals.writer rivals.other))
     (sym (c.rivals_among.ensures ∙ ap (λ (bs : List Belief). rivals_among bs)
     (c.as_slice-2.ensures.value ∙ (c.in_ok-clashing.ensures

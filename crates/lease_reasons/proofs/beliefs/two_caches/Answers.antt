@@ -10,5 +10,4 @@ returns c =
     none-on_files (past_of c.args.facts.now) c.in_ok-files.files.items c.in_ok-files.ensures
     (subst (λ (fs : List FileNo). Each (λ f. HasNoRivals (past_of c.args.facts.now) f.0) fs)
     (ap (λ n. take n c.as_slice-file-items.result.now) at_end ∙ (take-length c.as_slice-file-items.result.now ∙
-    c.as_slice-file-items.ensures.value))
-    c.loop-file.invariant)
+    c.as_slice-file-items.ensures.value)) c.loop-file.invariant)

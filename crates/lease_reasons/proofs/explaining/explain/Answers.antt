@@ -40,5 +40,4 @@ returns-in-Some-index_of c =
     c.args.facts.now)) None t) (sym h)
     (malformed-told c.index-facts-index.result (past_of (take c.in-Some-index_of.index c.args.facts.now))
     (malformed-at c.args.facts.now c.in-Some-index_of.index c.index-facts-index.result c.in-Some-index_of.ensures.1
-    c.index-facts-index.is e)))))
-    c.malformed.ensures)
+    c.index-facts-index.is e))))) c.malformed.ensures)

@@ -8,8 +8,7 @@ pub loop-fact-init : goal.loop-fact-init
 loop-fact-init c = ap (λ (cs : List ClientNo). numbers cs) c.new-clients.ensures.items ∙ sym named-none
 
 pub loop-fact-preserved : goal.loop-fact-preserved
-loop-fact-preserved c =
-    c.in_ok-note_client.ensures
+loop-fact-preserved c = c.in_ok-note_client.ensures
     ∙ (ap (λ (told : Option ℕ). with_client (numbers c.loop-fact.clients.items) told) c.client_of.ensures
     ∙ (ap (λ (ns : List ℕ). with_client ns (client_of (fact_of c.fact-item.result))) c.loop-fact.invariant
     ∙ sym (named-next c.args.facts.now c.loop-fact.fact-index c.fact-item.result c.loop-fact-test.true c.fact-item.is)))

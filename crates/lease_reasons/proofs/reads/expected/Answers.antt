@@ -43,8 +43,7 @@ returns c =
       written = c.in_ok-waiting.ensures (past_of c.args.facts.now) c.in_ok-settled.ensures;
       bytes = c.new.ensures ∙ (c.in_ok-put_writes.ensures (past_of c.args.facts.now) c.in_ok-settled.ensures
           ∙ ap (λ (bytes : List ℕ). patches bytes (unsettled c.args.client.0 c.args.file.0 (past_of c.args.facts.now) (past_of
-          c.args.facts.now)))
-          (c.in_ok-put_changes.ensures
+          c.args.facts.now))) (c.in_ok-put_changes.ensures
           ∙ (ap (λ (bytes : List ℕ). patches bytes (changes_of c.args.file.0 (past_of (take (c.in-Some.sent - 1)
           c.args.facts.now)))) c.in_ok-bytes.ensures
           ∙ ap (λ (past : List Fact). patches (start_of c.args.file.0 (past_of c.args.facts.now)) (changes_of c.args.file.0 past))

@@ -10,10 +10,8 @@ pub loop-fact-init : goal.loop-fact-init
 loop-fact-init c = sym (changes-none c.args.file.0 c.args.bytes.now.items)
 
 pub loop-fact-preserved : goal.loop-fact-preserved
-loop-fact-preserved c =
-    c.in_ok-put_change.ensures
+loop-fact-preserved c = c.in_ok-put_change.ensures
     ∙ (ap (λ (bytes : List ℕ). with_change c.args.file.0 (fact_of c.fact-item.result) bytes) c.loop-fact.invariant
     ∙ (sym (changes-more c.args.file.0 c.args.bytes.now.items (fact_of c.fact-item.result) (past_of (take c.loop-fact.fact-index
-    c.args.facts.now)))
-    ∙ ap (λ (past : List Fact). patches c.args.bytes.now.items (changes_of c.args.file.0 past))
+    c.args.facts.now))) ∙ ap (λ (past : List Fact). patches c.args.bytes.now.items (changes_of c.args.file.0 past))
     (sym (past-next c.args.facts.now c.loop-fact.fact-index c.fact-item.result c.loop-fact-test.true c.fact-item.is))))

@@ -10,14 +10,12 @@ pub loop-fact-init : goal.loop-fact-init
 loop-fact-init c = λ past all. sym (writes-none c.args.client.0 c.args.file.0 past c.args.bytes.now.items)
 
 pub loop-fact-preserved : goal.loop-fact-preserved
-loop-fact-preserved c = λ past all.
-    c.in_ok-put_write.ensures
+loop-fact-preserved c = λ past all. c.in_ok-put_write.ensures
     ∙ (ap (λ (bytes : List ℕ). with_write c.is_waiting.result (fact_of c.fact-item.result) bytes) (c.loop-fact.invariant past all)
     ∙ (ap (λ (b : Bool). with_write b (fact_of c.fact-item.result) (patches c.args.bytes.now.items
     (unsettled c.args.client.0 c.args.file.0 past (past_of (take c.loop-fact.fact-index c.args.facts.now))))) c.is_waiting.ensures
     ∙ (sym (writes-more c.args.client.0 c.args.file.0 past c.args.settled.now.keys c.args.bytes.now.items (fact_of
-    c.fact-item.result)
-    (past_of (take c.loop-fact.fact-index c.args.facts.now)) all)
+    c.fact-item.result) (past_of (take c.loop-fact.fact-index c.args.facts.now)) all)
     ∙ ap (λ (facts : List Fact). patches c.args.bytes.now.items (unsettled c.args.client.0 c.args.file.0 past facts))
     (sym (past-next c.args.facts.now c.loop-fact.fact-index c.fact-item.result c.loop-fact-test.true c.fact-item.is)))))
 

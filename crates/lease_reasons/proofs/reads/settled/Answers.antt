@@ -10,8 +10,7 @@ pub loop-fact-init : goal.loop-fact-init
 loop-fact-init c = λ n. ap (λ (keys : List ℕ). is_number n keys) c.new-numbers.ensures.empty ∙ settled-none c.args.client.0 n
 
 pub loop-fact-preserved : goal.loop-fact-preserved
-loop-fact-preserved c = λ n.
-    c.in_ok-note_settled.ensures n
+loop-fact-preserved c = λ n. c.in_ok-note_settled.ensures n
     ∙ (ap (λ (told : Option ℕ). is_settled_by n told || is_number n c.loop-fact.numbers.keys) c.settled_told.ensures
     ∙ (ap (λ (b : Bool). is_settled_by n (settled_told c.args.client.0 (fact_of c.fact-item.result)) || b) (c.loop-fact.invariant
     n)

@@ -10,8 +10,7 @@ pub loop-fact-init : goal.loop-fact-init
 loop-fact-init c = c.new-bytes.ensures.items ∙ sym (start-none c.args.file.0)
 
 pub loop-fact-preserved : goal.loop-fact-preserved
-loop-fact-preserved c =
-    c.in_ok-put_start.ensures
+loop-fact-preserved c = c.in_ok-put_start.ensures
     ∙ (ap (λ (bytes : List ℕ). with_start c.args.file.0 (fact_of c.fact-item.result) bytes) c.loop-fact.invariant
     ∙ (sym (start-more c.args.file.0 (fact_of c.fact-item.result) (past_of (take c.loop-fact.fact-index c.args.facts.now)))
     ∙ ap (λ (past : List Fact). start_of c.args.file.0 past)

@@ -10,8 +10,7 @@ pub loop-index-init : goal.loop-index-init
 loop-index-init c = λ past all. c.new-places.ensures.items ∙ sym (places-none c.args.client.0 c.args.file.0 past)
 
 pub loop-index-preserved : goal.loop-index-preserved
-loop-index-preserved c = λ past all.
-    c.in_ok-note_place.ensures
+loop-index-preserved c = λ past all. c.in_ok-note_place.ensures
     ∙ (ap (λ (places : List ℕ). if c.is_waiting.result then places ++ (c.loop-index.index + 1) ∷ [] else places)
     (c.loop-index.invariant past all)
     ∙ (ap (λ (b : Bool). if b then unsettled_places c.args.client.0 c.args.file.0 past (past_of (take c.loop-index.index

@@ -27,8 +27,7 @@ returns-in-Some-clause-items c =
     (sym c.fault.ensures ∙ c.in-Some.is))
 
 pub returns-clause-items : goal.returns-clause-items
-returns-clause-items c =
-    items_behind-read c.args.place _ _ _
+returns-clause-items c = items_behind-read c.args.place _ _ _
     (layout_fault-read c.args.place _ c.read-header.result _ c.read-header.ensures.fields (sym c.fault.ensures ∙ c.in_default.is))
     (context_at-read c.args.place _ _ _ c.read-header.result c.read-header.ensures.fields c.part.ensures c.part-2.ensures)
     (next_of-read _ c.read-header.result c.read-header.ensures.fields)

@@ -13,7 +13,6 @@ loop-event-init c =
 pub loop-event-preserved : goal.loop-event-preserved
 loop-event-preserved c =
     one_more_event c.loop-event.world c.happen.new.self (first_world (setup_of c.args.setup.now)) c.args.messages
-    c.args.events.now
-    c.loop-event.event-index c.event-item.result c.loop-event-test.true c.loop-event.invariant
+    c.args.events.now c.loop-event.event-index c.event-item.result c.loop-event-test.true c.loop-event.invariant
     (subst (λ (event : Event). Happens (event_of event) c.loop-event.world c.happen.new.self) c.event-item.is
     c.in_ok-happen.ensures)

@@ -10,6 +10,5 @@ returns-then-clients-gt-CLIENTS_LIMIT-clause-value c =
     has_many_clients record { files = c.args.files.now; clients = c.args.clients.now } c.if-clients-gt-CLIENTS_LIMIT.true
 
 pub returns-clause-value : goal.returns-clause-value
-returns-clause-value c =
-    is_allowed_by record { files = c.args.files.now; clients = c.args.clients.now } c.are_apart.result
+returns-clause-value c = is_allowed_by record { files = c.args.files.now; clients = c.args.clients.now } c.are_apart.result
     c.if-files-gt-FILES_LIMIT.false c.do_fit.ensures c.if-clients-gt-CLIENTS_LIMIT.false c.are_apart.ensures

@@ -13,8 +13,7 @@ returns c =
     let told = IfOk-weaker c.judge_each.result _ (λ told. IsVerdictOn (map fact_of c.args.facts.now) told) (λ told h.
     let given = (c.iter.ensures.runs h.0 h.0.seen).4 h.2 in
     let rest = ap (λ i. i.rest.now) h.1 ∙ c.iter.ensures.rest in
-    subst (λ facts. IsVerdictOn facts told)
-    (map-map fact_of (λ fact. fact.now) h.0.items ∙ ap (map fact_of) (given ∙ rest)) h.3)
+    subst (λ facts. IsVerdictOn facts told) (map-map fact_of (λ fact. fact.now) h.0.items ∙ ap (map fact_of) (given ∙ rest)) h.3)
     c.judge_each.ensures in
     record {
       computed = IfOk-weaker c.judge_each.result _ _ (λ told h. h.computed) told;

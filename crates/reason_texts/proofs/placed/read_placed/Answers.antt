@@ -20,8 +20,6 @@ returns c =
     record {
       facts = nothing_left with_line (c.loop-rest.number + 1) c.loop-rest.placed.facts.items c.loop-rest.rest.now _ empty
           c.loop-rest.invariant.whole;
-      lines = sym (append-nil c.loop-rest.placed.lines.items)
-          ∙ (ap (λ (lines : List ℕ). c.loop-rest.placed.lines.items ++ lines)
-          (sym (none_left c.loop-rest.rest.now (c.loop-rest.number + 1) (eqb-true _ 0 empty)))
-          ∙ c.loop-rest.invariant.placed);
+      lines = sym (append-nil c.loop-rest.placed.lines.items) ∙ (ap (λ (lines : List ℕ). c.loop-rest.placed.lines.items ++ lines)
+          (sym (none_left c.loop-rest.rest.now (c.loop-rest.number + 1) (eqb-true _ 0 empty))) ∙ c.loop-rest.invariant.placed);
     }

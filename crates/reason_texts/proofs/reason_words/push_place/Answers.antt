@@ -8,9 +8,7 @@ use Rattle.reason_texts.proofs.reason_words.push_place.Goals as goal
 
 pub returns : goal.returns
 unfolding place_line
-returns c = on_ok c.push_words-2.result (λ h.
-    four_parts _ _ _ _ _ _ _ _ _
+returns c = on_ok c.push_words-2.result (λ h. four_parts _ _ _ _ _ _ _ _ _
     (c.in_ok-write.ensures.bytes ∙ ap (λ (n : ℕ). string_bytes c.args.text.now ++ line_words n) c.line-number.ensures)
     (c.in_ok-push_fact.ensures ∙ ap (λ (f : Option Fact). string_bytes c.write.new.self ++ words_of f) c.fact.ensures)
-    c.in_ok-push_words.ensures h)
-    c.push_words-2.ensures
+    c.in_ok-push_words.ensures h) c.push_words-2.ensures

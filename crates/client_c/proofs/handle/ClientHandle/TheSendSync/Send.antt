@@ -18,8 +18,7 @@ owned_keyless None p = tt
 owned_keyless (Some x) null_ptr = (tt, may_free-Keyless (raw (lone R.mir)) null_ptr)
 owned_keyless (Some x) (block_ptr b o) = (
   part_keyless R the_send full_share x b o,
-  may_free-Keyless (raw (lone R.mir))
-      (block_ptr b o),
+  may_free-Keyless (raw (lone R.mir)) (block_ptr b o),
 )
 
 pub send : IsSend the_row

@@ -10,20 +10,16 @@ returns-in-Some c =
     c.bytes_laws.ensures.notification _ _ c.in-Ok.ensures.value in
     rw (
       found,
-      breaks_by (client_of c.args.self.now) c.in-Some.file.0 (notice_read c.in-Ok.notice)
-          (sym c.in-Some.ensures.found),
-    )
-    c.tell.ensures
+      breaks_by (client_of c.args.self.now) c.in-Some.file.0 (notice_read c.in-Ok.notice) (sym c.in-Some.ensures.found),
+    ) c.tell.ensures
 
 pub returns-in-None : goal.returns-in-None
 returns-in-None c =
     let found : notice_in c.args.bytes.now ≡ Some (notice_read c.in-Ok.notice) =
     c.bytes_laws.ensures.notification _ _ c.in-Ok.ensures.value in
-    rw (found, breaks_none (client_of c.args.self.now) (notice_read c.in-Ok.notice) (sym c.in-None.ensures.found))
-    c.quiet.ensures
+    rw (found, breaks_none (client_of c.args.self.now) (notice_read c.in-Ok.notice) (sym c.in-None.ensures.found)) c.quiet.ensures
 
 pub returns-in-Err : goal.returns-in-Err
 returns-in-Err c =
-    let found : notice_in c.args.bytes.now ≡ None =
-    no_notice c.args.bytes.now _ c.in-Err.ensures.refused in
+    let found : notice_in c.args.bytes.now ≡ None = no_notice c.args.bytes.now _ c.in-Err.ensures.refused in
     rw (found, unread_break (client_of c.args.self.now)) c.quiet-in-Err.ensures

@@ -18,7 +18,6 @@ returns-in_err-note_belief-clause-refused c = λ refused.
     absurd (cc found)
 
 pub returns-clause-after : goal.returns-clause-after
-returns-clause-after c =
-    command_after c.args.self.now (command_of c.args.command) c.args.file.0 _ _ _ _ _ _
+returns-clause-after c = command_after c.args.self.now (command_of c.args.command) c.args.file.0 _ _ _ _ _ _
     c.requires.known c.requires.of_file c.key-key.ensures c.belief-old.ensures
     c.in_ok-command_entry.ensures.machine c.in_ok-command_entry.ensures.given c.belief.ensures c.in_ok-note_belief.ensures.note

@@ -10,6 +10,5 @@ returns-then-is_key_of-clause-found c =
     (sym c.is_key_of.ensures ∙ c.if-is_key_of.true)
 
 pub loop-index-preserved : goal.loop-index-preserved
-loop-index-preserved c =
-    go_on (is_key_of (client_of c.args.self.now) c.args.key.0) _ c.loop-index.invariant
+loop-index-preserved c = go_on (is_key_of (client_of c.args.self.now) c.args.key.0) _ c.loop-index.invariant
     (sym c.is_key_of.ensures ∙ c.if-is_key_of.false)

@@ -11,6 +11,5 @@ returns-then-is_read_under-clause-found c =
     (sym c.is_read_under.ensures ∙ c.if-is_read_under.true)
 
 pub loop-index-preserved : goal.loop-index-preserved
-loop-index-preserved c =
-    go_on (is_read_under (client_of c.args.self.now) c.args.file_id.0) _ c.loop-index.invariant
+loop-index-preserved c = go_on (is_read_under (client_of c.args.self.now) c.args.file_id.0) _ c.loop-index.invariant
     (sym c.is_read_under.ensures ∙ c.if-is_read_under.false)

@@ -10,6 +10,5 @@ returns-then-has_sent-clause-found c =
     (sym c.has_sent.ensures ∙ c.if-has_sent.true)
 
 pub loop-index-preserved : goal.loop-index-preserved
-loop-index-preserved c =
-    go_on (has_sent (client_of c.args.self.now) c.args.number) _ c.loop-index.invariant
+loop-index-preserved c = go_on (has_sent (client_of c.args.self.now) c.args.number) _ c.loop-index.invariant
     (sym c.has_sent.ensures ∙ c.if-has_sent.false)

@@ -19,12 +19,9 @@ loop-index-preserved c =
     let given = given_more known _ _ c.args.link k c.loop-index.invariant.machine below c.in_ok-link_file.ensures.given in
     record {
       machine = machine_more known _ _ c.args.link k c.loop-index.invariant.machine below c.in_ok-link_file.ensures.machine;
-      requests =
-          rw (c.in_ok-join.ensures.requests, c.loop-index.invariant.requests, given)
+      requests = rw (c.in_ok-join.ensures.requests, c.loop-index.invariant.requests, given)
           (requests_more turn (client_of known).entries k);
-      notes =
-          rw (c.in_ok-join.ensures.notes, c.loop-index.invariant.notes, given)
-          (notes_more turn (client_of known).entries k);
+      notes = rw (c.in_ok-join.ensures.notes, c.loop-index.invariant.notes, given) (notes_more turn (client_of known).entries k);
     }
 
 pub returns : goal.returns
@@ -32,5 +29,4 @@ returns c =
     let known = c.args.self.now in
     let all : c.loop-index.index ≡ length known.entries = omega arith in
     linked_after known _ _ c.args.link _ c.loop-index.index c.loop-index.invariant.machine all
-    (rw c.is_made.ensures at c.set_online.ensures)
-    refl c.loop-index.invariant.requests c.loop-index.invariant.notes
+    (rw c.is_made.ensures at c.set_online.ensures) refl c.loop-index.invariant.requests c.loop-index.invariant.notes

@@ -6,10 +6,8 @@ use Rattle.lease_client.proofs.machine.Machine.link.Given as goal
 
 abbrev pub invariant-loop-index : goal.invariant-loop-index
 invariant-loop-index l = record {
-  machine : l.self
-      ≡ record l.fn.self { entries = entries_to (link_turn l.link l.fn.self.guid) l.fn.self.entries l.index };
+  machine : l.self ≡ record l.fn.self { entries = entries_to (link_turn l.link l.fn.self.guid) l.fn.self.entries l.index };
   requests : l.requests.items
       ≡ map request_written (requests_to (link_turn l.link l.fn.self.guid) (client_of l.fn.self).entries l.index);
-  notes : map note_of l.notes.items
-      ≡ notes_to (link_turn l.link l.fn.self.guid) (client_of l.fn.self).entries l.index;
+  notes : map note_of l.notes.items ≡ notes_to (link_turn l.link l.fn.self.guid) (client_of l.fn.self).entries l.index;
 }

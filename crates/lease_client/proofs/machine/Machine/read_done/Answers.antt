@@ -8,5 +8,4 @@ pub returns-in-Some : goal.returns-in-Some
 returns-in-Some c =
     let fits : length c.args.bytes ≤ FILE_LIMIT = omega arith in
     rw (reads_by (client_of c.args.self.now) c.in-Some.file.0 c.args.file_id.0 c.args.bytes
-    (le-leb (length c.args.bytes) FILE_LIMIT fits) (sym c.in-Some.ensures.found))
-    c.tell.ensures
+    (le-leb (length c.args.bytes) FILE_LIMIT fits) (sym c.in-Some.ensures.found)) c.tell.ensures

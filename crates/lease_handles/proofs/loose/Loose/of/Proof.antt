@@ -70,8 +70,7 @@ of_spec 𝓤 𝓛 𝓜 𝓡 wired T A L LA g d dx dd allocator glue glued =
     (raw (fact 𝓤 (r.1 ≡ a)) ⊛ ‵ (box_owns (g.dealloc_token a) R r.0 v.value)))))) (id⊢ 𝓤 _) $
     await ! tt $ pick ! (λ r. split ! $ move ! (1 ∷ []) $ pick ! (λ _. split3 ! $ drop ! $ heard ! (r.1 ≡ a) (λ ea.
     in_a_block ! r.0 (λ p. box_owns (g.dealloc_token a) R p v.value) (fst∗ 𝓤 (never 𝓤)
-    (sem 𝓛 (g.dealloc_token a (bare (layout T)) null_ptr))) (λ b' o' e'.
-    move ! (1 ∷ []) $ split ! $ move ! (1
+    (sem 𝓛 (g.dealloc_token a (bare (layout T)) null_ptr))) (λ b' o' e'. move ! (1 ∷ []) $ split ! $ move ! (1
     ∷ []) $ fpick ! (λ vss. let others = vss.1 in fsplit ! $ feq_l ! (λ eu. fsplit ! $ feq_l !
     (λ ep. fsplit ! $ rewrite ! 0 (λ (s : A.Denot). ‵ (A.own_val s others.0)) ea refl $ handle_tells E.al ! a others.0
     (λ h' eh fits'.

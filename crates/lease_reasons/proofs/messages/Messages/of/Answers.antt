@@ -18,5 +18,4 @@ loop-index-preserved c =
     let next = mail-next c.args.client.0 c.args.facts.now c.loop-index.index c.index-facts-index.result
     c.loop-index-test.true c.index-facts-index.is in
     c.in_ok-note.ensures ∙ (ap (λ (mail : Mail). mail_after c.args.client.0 (c.loop-index.index + 1) (fact_of
-    c.index-facts-index.result) mail)
-    c.loop-index.invariant ∙ sym next)
+    c.index-facts-index.result) mail) c.loop-index.invariant ∙ sym next)

@@ -4,8 +4,7 @@ use Rattle.lease_world.specs.judge.Covers.{stack_in, layers_under, AreTops}
 use Rattle.lease_world.proofs.judging.covers.reach.Given as goal
 
 abbrev pub invariant-loop-tops : goal.invariant-loop-tops
-invariant-loop-tops l =
-    ((covers : List Cover) (n : ℕ) → stack_in (map (layers_under covers) l.tops.items) n
+invariant-loop-tops l = ((covers : List Cover) (n : ℕ) → stack_in (map (layers_under covers) l.tops.items) n
     ≡ stack_in (map (layers_under covers) l.fn.tops.items) n)
     × ((covers : List Cover) → AreTops covers l.fn.tops.items → AreTops covers l.tops.items)
 

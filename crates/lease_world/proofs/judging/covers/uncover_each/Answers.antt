@@ -10,8 +10,7 @@ loop-position-preserved c =
     let end = c.len-position-end.ensures in
     let inside : at < length now = omega (arith, c.loop-position-test.true, so_far.3, end, c.loop-position.tops.ok) in (
       λ n below. uncovers_one c.args.settled.now c.args.covers.now c.args.tops.now.items now at c.index.result.now
-          c.uncovered.result n
-          inside c.index.ensures c.uncovered.ensures.uncovered so_far.0 so_far.1 below,
+          c.uncovered.result n inside c.index.ensures c.uncovered.ensures.uncovered so_far.0 so_far.1 below,
       λ n above. leaves_rest c.args.covers.now c.args.tops.now.items now at c.uncovered.result n inside so_far.1 above,
       tops_set c.args.covers.now now at c.uncovered.result inside c.uncovered.ensures.inside so_far.2,
       so_far.3,

@@ -9,6 +9,5 @@ invariant-loop-position l =
     ((n : ℕ) → n < l.position → IsUncovered (is_open l.settled) (stack_in (map (layers_under l.covers) l.fn.tops.items) n)
     (stack_in (map (layers_under l.covers) l.tops.items) n))
     × ((n : ℕ) → l.position ≤ n → stack_in (map (layers_under l.covers) l.tops.items) n
-    ≡ stack_in (map (layers_under l.covers) l.fn.tops.items) n)
-    × AreTops l.covers l.tops.items
+    ≡ stack_in (map (layers_under l.covers) l.fn.tops.items) n) × AreTops l.covers l.tops.items
     × (vec_len l.tops ≡ vec_len l.fn.tops)

@@ -13,13 +13,11 @@ returns-then-not-contains-clause-uncovered c =
     c.loop-top.invariant.0 (sym c.contains.ensures ∙ c.if-not-contains.true) c.loop-top.invariant.1
 
 pub loop-top-smaller : goal.loop-top-smaller
-loop-top-smaller c =
-    (top_cover c.args.covers.now c.loop-top.top nothing c.requires.linked (omega (arith, c.loop-top-test.true))
+loop-top-smaller c = (top_cover c.args.covers.now c.loop-top.top nothing c.requires.linked (omega (arith, c.loop-top-test.true))
     c.loop-top.invariant.0).1
 
 pub loop-top-preserved : goal.loop-top-preserved
-loop-top-preserved c =
-    goes_down c.args.settled.now c.args.covers.now c.args.top c.loop-top.top nothing c.requires.linked
+loop-top-preserved c = goes_down c.args.settled.now c.args.covers.now c.args.top c.loop-top.top nothing c.requires.linked
     (omega (arith, c.loop-top-test.true))
     c.loop-top.invariant.0 (sym c.contains.ensures ∙ c.if-not-contains.false) c.loop-top.invariant.1
 

@@ -34,8 +34,7 @@ returns-in_ok-notes-in-Some c =
     rw (← c.self.view_is) (on_ok_weaker c.tell_notes.result (λ noted.
     client_took old popped c.keep.new.self c.tell.new.self new c.args.client.0 c.in-Some.reply (refl, refl, refl) popping there
     c.has_its_field.ensures c.in_ok-keep-in-Some.ensures.becomes c.in_ok-keep-in-Some.ensures.kept
-    c.in_ok-tell-in-Some.ensures.becomes
-    (subst (λ (w : Seen). StepsIn c.args.client.0 call w new) c.self-in-Some.view_is
+    c.in_ok-tell-in-Some.ensures.becomes (subst (λ (w : Seen). StepsIn c.args.client.0 call w new) c.self-in-Some.view_is
     (steps_in told new c.args.client.0 call c.in_ok-notes-in-Some.notes.items refl refl changed noted here)))
     c.tell_notes.ensures)
 

@@ -6,8 +6,7 @@ use Rattle.lease_world.proofs.world.World.happen.Goals as goal
 
 pub returns-then-not-has : goal.returns-then-not-has
 returns-then-not-has c = nothing_happens c.args.self.now c.client_of-client.result.0 (event_of c.args.event.now)
-    c.client_of-client.ensures
-    (sym c.has.ensures.value ∙ c.if-not-has.true)
+    c.client_of-client.ensures (sym c.has.ensures.value ∙ c.if-not-has.true)
 
 pub returns-in-App : goal.returns-in-App
 returns-in-App c =

@@ -17,6 +17,5 @@ returns c =
       λ world s. sent_stands old new c.args.client.0 c.args.request (refl, refl, refl)
           (seat_changed (λ before after. after ≡ with_requests (c.args.request ∷ []) before) old.seats c.args.client.0
           c.place_of.result c.index_mut-seat.result.now c.send.new.self c.place_of.ensures there c.index_mut-seat.ensures.value
-          sent)
-          world s,
+          sent) world s,
     )) c.send.ensures)

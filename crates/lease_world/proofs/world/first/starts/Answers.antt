@@ -4,8 +4,7 @@ use Rattle.lease_world.proofs.worlds.First.{one_more_start, all_starts}
 use Rattle.lease_world.proofs.world.first.starts.Goals as goal
 
 pub loop-place-preserved : goal.loop-place-preserved
-loop-place-preserved c =
-    rw (
+loop-place-preserved c = rw (
       c.in_ok-push.ensures.items,
       map-append fact_of c.loop-place.facts.items _,
       c.loop-place.invariant,

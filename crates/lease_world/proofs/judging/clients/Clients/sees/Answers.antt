@@ -15,7 +15,6 @@ returns c =
     (λ old new. Sees c.args.number.0 c.args.file.now c.args.place c.args.bytes.now old new same) n c.args.self.now
     (slice_set now c.from.result c.sees.new.self))) c.from.ensures
     (client_changed (λ same old new. Sees c.args.number.0 c.args.file.now c.args.place c.args.bytes.now old new same)
-    c.args.self.now now
-    c.from.result c.index_mut-seen.result.now c.sees.new.self c.sees.result inside
+    c.args.self.now now c.from.result c.index_mut-seen.result.now c.sees.new.self c.sees.result inside
     (λ k. ap (λ (s : List SeenClient). client_in s k) c.self.view_is ∙ c.in_ok-reach.ensures.same k)
     c.index_mut-seen.ensures.value c.sees.ensures)

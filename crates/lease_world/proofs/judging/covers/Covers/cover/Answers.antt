@@ -16,7 +16,6 @@ returns c = λ position.
     ap (λ (cs : List Cover). stack_in (map (layers_under cs) (slice_set tops c.args.position (c.len-count.result + 1))) position)
     c.in_ok-push.ensures.items
     ∙ (stack_cover covers tops c.args.layer c.args.position c.index-below.result.now (c.len-count.result + 1) position
-    c.self.invariant.0
-    (c.reach.ensures.tops covers c.self.invariant.1) inside c.index-below.ensures
+    c.self.invariant.0 (c.reach.ensures.tops covers c.self.invariant.1) inside c.index-below.ensures
     (let e = c.len-count.ensures in omega (arith, e, c.self.inside.covers.ok))
     ∙ ap (λ (ls : List Layer). if position == c.args.position then c.args.layer ∷ ls else ls) before)

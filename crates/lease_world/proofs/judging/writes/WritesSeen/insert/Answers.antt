@@ -9,6 +9,5 @@ returns-then-is_first c = λ n.
     (rw (← c.self.view_is) at within) n)
 
 pub returns-in_ok-push : goal.returns-in_ok-push
-returns-in_ok-push c = λ n.
-    rw (← c.self.view_is, c.in_ok-push.ensures.items)
+returns-in_ok-push c = λ n. rw (← c.self.view_is, c.in_ok-push.ensures.items)
     (write-push c.self.inside.first.items c.self.inside.rest.entries c.args.number c.args.write (omega arith) n)
