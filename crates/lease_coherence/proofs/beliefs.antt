@@ -4,6 +4,7 @@ pub mod Between
 pub mod Clients
 pub mod Closed
 pub mod Entries
+pub mod Forms
 pub mod Given
 pub mod Grants
 pub mod Leases

@@ -36,10 +36,7 @@ each-filter P t (x ∷ xs) all = go (t x) refl (each-filter P t xs all.1)
 
 any-append : {X : Type 0} (t : X → Bool) (xs ys : List X) → list_any t (xs ++ ys) ≡ (list_any t xs || list_any t ys)
 any-append t [] ys = refl
-any-append t (x ∷ xs) ys = ap (λ (b : Bool). t x || b) (any-append t xs ys) ∙ two (t x) (list_any t xs) (list_any t ys)
-  where
-    two : (a b c : Bool) → (a || (b || c)) ≡ ((a || b) || c)
-    two a b c = grind arith
+any-append t (x ∷ xs) ys = ap (λ (b : Bool). t x || b) (any-append t xs ys) ∙ (grind arith)
 
 -- ---- beliefs
 
@@ -72,9 +69,6 @@ any-put : (here : Belief) (beliefs : List Belief) (c : ℕ) → ((here.client.0 
     → list_any (is_of c) (put_belief here beliefs) ≡ true
 any-put here beliefs c before = any-append (is_of c) (others here.client.0 beliefs) (here ∷ []) ∙ go (here.client.0 == c) refl
   where
-    right : (a : Bool) → (a || (true || false)) ≡ true
-    right a = grind arith
-
     left : (a b : Bool) → a ≡ true → (a || b) ≡ true
     left a b e = grind arith
 
@@ -83,7 +77,7 @@ any-put here beliefs c before = any-append (is_of c) (others here.client.0 belie
 
     go : (b : Bool) → (here.client.0 == c) ≡ b → (list_any (is_of c) (others here.client.0 beliefs) || ((here.client.0 == c) ||
         false)) ≡ true
-    go true e = rw e (right (list_any (is_of c) (others here.client.0 beliefs)))
+    go true e = rw e (grind arith)
     go false e = left _ ((here.client.0 == c) || false)
         (any-filter_same (is_of c) (λ (o : Belief). not (o.client.0 == here.client.0)) true
         (λ b is. other_one b.client.0 c here.client.0 is e) beliefs ∙ before e)

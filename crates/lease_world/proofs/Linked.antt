@@ -113,11 +113,7 @@ pub stack_set : (covers : List Cover) (tops : List ℕ) (place top position : �
     ≡ (if position == place then layers_under covers top else stack_in (map (layers_under covers) tops) position)
 stack_set covers tops place top position inside = stack_found covers (slice_set tops place top) position
     ∙ (ap (found_under covers) (get-put tops place top position inside)
-    ∙ (by_case (position == place) ∙ rw (sym (stack_found covers tops position)) refl))
-  where
-    by_case : (b : Bool) → found_under covers (if b then Some top else slice_get tops position)
-        ≡ (if b then layers_under covers top else found_under covers (slice_get tops position))
-    by_case x1 = grind arith
+    ∙ ((grind arith) ∙ rw (sym (stack_found covers tops position)) refl))
 
 -- the same tops among more covers
 pub stack_later : (covers : List Cover) (one : Cover) (tops : List ℕ) (position : ℕ) → AreLinked covers → AreTops covers tops
@@ -216,11 +212,7 @@ stack_take covers (top ∷ tops) zero zero none =
     sym (ap (λ (n : ℕ). layers_under covers n) (none 0 (omega arith)) ∙ none_under covers)
 stack_take covers (top ∷ tops) zero (suc position) none =
     let rest = stack_take covers tops zero position (λ n le. none (suc n) (omega arith)) in
-    nothing_first covers tops position ∙ rest
-  where
-    nothing_first : (covers : List Cover) (tops : List ℕ) (position : ℕ)
-        → [] ≡ stack_in (map (layers_under covers) (take 0 tops)) position
-    nothing_first covers x2 position = grind arith
+    (grind arith) ∙ rest
 stack_take covers (top ∷ tops) (suc count) zero none = refl
 stack_take covers (top ∷ tops) (suc count) (suc position) none =
     stack_take covers tops count position (λ n le. none (suc n) (omega (arith, le)))

@@ -72,10 +72,7 @@ by_index_above (suc count) byte above =
     above-append 32 (by_index count byte) (byte count ∷ []) (by_index_above count byte above) last
 
 pub hyphenated_above : (guid : List ℕ) → all_above 32 (hyphenated_text lower guid) ≡ true
-hyphenated_above guid = by_index_above 36 _ (λ k. one (is_hyphen_place k) (nibble guid (digit_place k)))
+hyphenated_above guid = by_index_above 36 _ (λ k. grind arith)
   where
     digit : (small : Bool) (d : ℕ) → nat_lt d 10 ≡ small → nat_lt 32 (if small then 48 + d else 97 + d - 10) ≡ true
     digit x1 d e = grind arith
-
-    one : (hyphen : Bool) (d : ℕ) → nat_lt 32 (if hyphen then 45 else hex_digit 97 d) ≡ true
-    one x1 d = grind arith

@@ -190,10 +190,7 @@ fid_said fid is = spoken Field.FileId fid (decimal fid.0) (decimal_above fid.0 i
 
 abbrev pub offset_said : (offset : ℕ) → offset < 2 ^ 32 → Spoken Field.Offset
 offset_said offset small =
-    spoken Field.Offset offset (decimal offset) (decimal_above offset (wide small)) (offset_back offset small)
-  where
-    wide : offset < 2 ^ 32 → offset < 2 ^ 64
-    wide below = omega (arith, below)
+    spoken Field.Offset offset (decimal offset) (decimal_above offset (omega (arith, small))) (offset_back offset small)
 
 abbrev pub bytes_said : (bytes : List ℕ) → IsBytes bytes → Spoken Field.Bytes
 bytes_said bytes are = spoken Field.Bytes bytes (digits_word bytes) (digits_above bytes are) (bytes_back bytes are)

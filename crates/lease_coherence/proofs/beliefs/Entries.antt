@@ -1,8 +1,7 @@
 -- What a client does keeps what is believed of each file's lease.
 use Rattle.lease_laws.proofs.Words.{◌&&◌, ◌++◌, ◌+◌, ◌==◌, ◌||◌, ◌∙◌, ◌∷◌, ◌≡◌, ◌⊎◌, Bool, BreakNotice, CreateAnswer, Lease, List}
-use Rattle.lease_laws.proofs.Words.{LiveEntry, None, Phase, Reply, Request, Some, State, ℕ, ⊎_elim, [], ap, ap₂, arith}
-use Rattle.lease_laws.proofs.Words.{bytes_eq, eq-eqb, false, given_state, inl, inr, is_breaking, meet, refl, subst, sym, true}
-use Rattle.lease_laws.proofs.Words.{true≢false}
+use Rattle.lease_laws.proofs.Words.{LiveEntry, None, Phase, Reply, Request, Some, State, ℕ, ⊎_elim, [], ap, ap₂, arith, bytes_eq}
+use Rattle.lease_laws.proofs.Words.{eq-eqb, false, given_state, inl, inr, is_breaking, meet, refl, subst, sym, true, true≢false}
 use Rattle.lease_laws.proofs.server.Lists.{clash, and_parts, and_both}
 use Rattle.lease_coherence.specs.Creates.{one_if}
 use Rattle.lease_coherence.specs.Names.{Each}

@@ -9,8 +9,6 @@ use Rattle.lease_laws.proofs.server.Lists.{among_filter, among_filtered}
 use Rattle.lease_laws.proofs.world.Links.{stepped_links}
 use Rattle.lease_coherence.specs.Names.{Each, IsNamedAt, IsOwnCreate}
 use Rattle.lease_coherence.specs.Standing.{IsStandingAt}
-use Rattle.lease_laws.proofs.client.cases.Commands.{any_command}
-use Rattle.lease_laws.proofs.client.cases.Replies.{any_reply}
 use Rattle.lease_coherence.proofs.moves.Deeds.{IsSource}
 use Rattle.lease_coherence.proofs.moves.Events.{reply_gone, reply_taken}
 use Rattle.lease_coherence.proofs.moves.Foreign.{IsUnmoved, off_sound}
@@ -18,8 +16,8 @@ use Rattle.lease_coherence.proofs.moves.Own.{IsOwnMoved}
 use Rattle.lease_coherence.proofs.names.Names.{off_named}
 use Rattle.lease_coherence.proofs.standing.Runs.{link_of, standing_moves, was_up, gone_standing}
 use Rattle.lease_coherence.proofs.beliefs.Acked.{failed_trusted, done_trusted, held_trusted}
-use Rattle.lease_coherence.proofs.beliefs.Anchors.{AnchorsOn, commands_anchor, takes_anchor}
-use Rattle.lease_coherence.proofs.beliefs.Clients.{BelievesOn, TakesBelief, commands_believe, takes_believe}
+use Rattle.lease_coherence.proofs.beliefs.Anchors.{command_anchors, take_anchors}
+use Rattle.lease_coherence.proofs.beliefs.Clients.{command_believes, take_believes}
 use Rattle.lease_coherence.proofs.beliefs.Closed.{dropped_trusted, closed_trusted, timer_trusted, left_there}
 use Rattle.lease_coherence.proofs.beliefs.Given.{granted_trusted, reconnected_trusted}
 use Rattle.lease_coherence.proofs.beliefs.Sent.{refusal_bare, told_trusted, changed_trusted, off_trust, lower_trusted}
@@ -106,10 +104,10 @@ take_trusted world c reply queue first up s t =
     let left : gone.replies c ≡ queue = put_same world.replies c queue in
     let lowered : Each LowersWell (reply ∷ queue) = subst (Each LowersWell) first t.lowered in
     step_trusted gone c (taken machine reply) (reply ∷ queue) up (taken-stays machine reply).guid
-    (any_reply machine (λ r step. AnchorsOn machine step) (takes_anchor machine) reply)
+    (take_anchors machine reply)
     (λ file b. subst (IsBelieved (file_key world c file) file (world.server.leases (machine_key world c file))
     ((taken machine reply).client.entries file).phase (world.requests c ++ (taken machine reply).requests)) (sym left)
-    (any_reply machine (TakesBelief machine) (takes_believe machine) reply lowered.0 file
+    (take_believes machine reply lowered.0 file
     (world.server.leases (machine_key world c file)) (world.requests c) queue b)) (subst (Each LowersWell) (sym left) lowered.1)
     (λ file fresh. gone_known world c reply queue first file (t.files file fresh)) (gone_standing world c reply queue first s)
 
@@ -163,8 +161,8 @@ trust_moves = record {
       let was = was_up world c (commanded machine command) up in
       let t = a was in
       step_trusted world c (commanded machine command) (world.replies c) was (commanded-stays machine command).guid
-      (any_command machine (AnchorsOn machine) (commands_anchor machine) command)
-      (λ file b. any_command machine (BelievesOn machine) (commands_believe machine) command file
+      (command_anchors machine command)
+      (λ file b. command_believes machine command file
       (world.server.leases (machine_key world c file)) (world.requests c) (world.replies c) b)
       t.lowered (λ file fresh. let x = t.files file fresh in record { believed = x.believed; anchor = x.anchor })
       (v.opens c good was);

@@ -17,7 +17,7 @@ use Rattle.lease_coherence.proofs.moves.Frames.{stepped_requests, stepped_replie
 use Rattle.lease_coherence.proofs.standing.Runs.{each_flat}
 use Rattle.lease_coherence.proofs.standing.Standing.{IsStepped, step_of}
 use Rattle.lease_coherence.proofs.beliefs.Anchors.{AnchorsOn, AnchorsLive}
-use Rattle.lease_coherence.proofs.beliefs.Clients.{IsAboutFile, file_no_acks}
+use Rattle.lease_coherence.proofs.beliefs.Forms.{IsAboutFile, file_no_acks}
 use Rattle.lease_coherence.proofs.beliefs.Leases.{lease_gone}
 use Rattle.lease_coherence.proofs.beliefs.Trust.{file_key, IsAnchored, HasTrust}
 use Rattle.lease_coherence.proofs.beliefs.Words.{acks, acks_append, LowersWell, OpenTillAck, open_behind, open_before, IsBelieved}

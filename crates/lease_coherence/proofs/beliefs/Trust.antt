@@ -1,8 +1,8 @@
 -- While a client's link is up, what it believes it may do with writes its lease holds, of each file whose timer didn't run
 -- out.
-use Rattle.lease_laws.proofs.Words.{◌++◌, ◌==◌, ◌∙◌, ◌∷◌, ◌≡◌, ◌⊎◌, Among, Client, FileRequest, Held, List, Open, Phase}
-use Rattle.lease_laws.proofs.Words.{Reply, Request, Some, World, ℕ, ⊎_elim, [], ap, ap₂, arith, eqb-true, false, has_key, held_of}
-use Rattle.lease_laws.proofs.Words.{inl, inr, is_key, is_up, key_of, lease_key, list_any, machine_key, refl, subst, sym, true}
+use Rattle.lease_laws.proofs.Words.{◌++◌, ◌==◌, ◌∙◌, ◌∷◌, ◌≡◌, ◌⊎◌, Among, Client, FileRequest, Held, List, Open, Phase, Reply}
+use Rattle.lease_laws.proofs.Words.{Request, Some, World, ℕ, ⊎_elim, [], ap, ap₂, arith, eqb-true, false, has_key, held_of, inl}
+use Rattle.lease_laws.proofs.Words.{inr, is_key, is_up, key_of, lease_key, list_any, machine_key, refl, subst, sym, true}
 use Rattle.lease_laws.proofs.client.Thin.{put_same}
 use Rattle.lease_laws.proofs.server.Keys.{is_key-refl}
 use Rattle.lease_laws.proofs.server.Lists.{clash, not_true, has_any}

@@ -1,6 +1,6 @@
 -- While a client's link is up, a create of a file is under way exactly where its entry has asked for one.
-use Rattle.lease_laws.proofs.Words.{◌&&◌, ◌++◌, ◌+◌, ◌==◌, ◌∙◌, ◌∷◌, ◌≡◌, ◌≢◌, Among, Bool, Client, CreateAsk, Entry, Err}
-use Rattle.lease_laws.proofs.Words.{Fact, FileRequest, Held, IsAbout, IsInTurn, IsSoundEntry, IsSoundPhase, LeaseOf, Link, List}
+use Rattle.lease_laws.proofs.Words.{◌&&◌, ◌++◌, ◌+◌, ◌==◌, ◌∙◌, ◌∷◌, ◌≡◌, ◌≢◌, Among, Bool, Client, CreateAsk, Entry, Err, Fact}
+use Rattle.lease_laws.proofs.Words.{FileRequest, Held, IsAbout, IsInTurn, IsSoundEntry, IsSoundPhase, LeaseOf, Link, List}
 use Rattle.lease_laws.proofs.Words.{LiveEntry, None, Ok, Option, Pending, Phase, Reply, Request, Result, Server, SmallStep, Some}
 use Rattle.lease_laws.proofs.Words.{Status, Step, World, ℕ, ⊎_elim, [], all_turned, ap, ap₂, arith, break_notice, commanded}
 use Rattle.lease_laws.proofs.Words.{connect_turn, connection_made, eq-eqb, eqb-true, false, file_asked, file_of_create, filter}

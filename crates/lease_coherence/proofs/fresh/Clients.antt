@@ -11,7 +11,7 @@ use Rattle.lease_laws.proofs.server.Lists.{either, clash, not_true, not_false, o
 use Rattle.lease_laws.proofs.world.Links.{by_client}
 use Rattle.lease_coherence.specs.Creates.{answer_of, asked_by, one_if}
 use Rattle.lease_coherence.specs.Names.{Each, WasWritten}
-use Rattle.lease_coherence.proofs.beliefs.Clients.{IsAboutFile, writes_about, writes_close_about, keys_apart}
+use Rattle.lease_coherence.proofs.beliefs.Forms.{IsAboutFile, writes_about, writes_close_about, keys_apart}
 use Rattle.lease_coherence.proofs.beliefs.Words.{OnGiven, GivesNothing, is_ack_break}
 use Rattle.lease_laws.proofs.client.cases.Commands.{HasCommands}
 use Rattle.lease_laws.proofs.client.cases.Files.{never_found}

@@ -11,7 +11,7 @@ use Rattle.lease_laws.proofs.client.Thin.{put_same}
 use Rattle.lease_laws.proofs.server.Keys.{key_eq-refl, put_key-cases}
 use Rattle.lease_laws.proofs.server.Lists.{if_cases, either, clash, and_parts}
 use Rattle.lease_coherence.specs.Names.{Each, IsNamedAt, IsOwnOpen, WasWrittenOn}
-use Rattle.lease_coherence.proofs.beliefs.Clients.{keys_apart}
+use Rattle.lease_coherence.proofs.beliefs.Forms.{keys_apart}
 use Rattle.lease_coherence.proofs.beliefs.Grants.{grant_settled, grant_breaking}
 use Rattle.lease_coherence.proofs.beliefs.Leases.{settled_none}
 use Rattle.lease_coherence.proofs.beliefs.Sent.{is_bare}

@@ -15,7 +15,7 @@ use Rattle.lease_laws.proofs.world.Links.{stepped_links}
 use Rattle.lease_coherence.specs.Creates.{answers}
 use Rattle.lease_coherence.specs.Names.{Each, IsOwnOpen}
 use Rattle.lease_coherence.specs.Standing.{IsStandingAt}
-use Rattle.lease_coherence.proofs.beliefs.Clients.{IsAboutFile}
+use Rattle.lease_coherence.proofs.beliefs.Forms.{IsAboutFile}
 use Rattle.lease_coherence.proofs.beliefs.Closed.{lease_stays, left_there}
 use Rattle.lease_coherence.proofs.beliefs.Sent.{off_fresh, off_trust, refusal_bare}
 use Rattle.lease_coherence.proofs.beliefs.Trust.{file_key, HasTrust}

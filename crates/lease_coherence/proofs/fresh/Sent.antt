@@ -8,7 +8,7 @@ use Rattle.lease_laws.proofs.server.Keys.{is_key-refl, is_key-one}
 use Rattle.lease_laws.proofs.server.Lists.{either, clash, any_has, not_false}
 use Rattle.lease_coherence.specs.Names.{IsOwnOpen}
 use Rattle.lease_coherence.specs.Standing.{IsStandingAt}
-use Rattle.lease_coherence.proofs.beliefs.Clients.{keys_apart}
+use Rattle.lease_coherence.proofs.beliefs.Forms.{keys_apart}
 use Rattle.lease_coherence.proofs.beliefs.Sent.{is_bare}
 use Rattle.lease_coherence.proofs.beliefs.Trust.{file_key, nothing_stands}
 use Rattle.lease_coherence.proofs.beliefs.Words.{acks}

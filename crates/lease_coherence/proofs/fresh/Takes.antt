@@ -11,7 +11,7 @@ use Rattle.lease_laws.proofs.Words.{write_requests}
 use Rattle.lease_state.specs.Content.{patch as patched}
 use Rattle.lease_laws.proofs.server.Lists.{if_cases, clash, and_both, or_true, find_has}
 use Rattle.lease_coherence.specs.Names.{Each, IsNamedPhase, WasWritten}
-use Rattle.lease_coherence.proofs.beliefs.Clients.{IsAboutFile, writes_about, writes_close_about, keys_apart}
+use Rattle.lease_coherence.proofs.beliefs.Forms.{IsAboutFile, writes_about, writes_close_about, keys_apart}
 use Rattle.lease_laws.proofs.client.cases.Commands.{sent_of}
 use Rattle.lease_laws.proofs.client.cases.Files.{find_absent}
 use Rattle.lease_laws.proofs.client.cases.Replies.{HasTakes, is_live}

@@ -8,7 +8,7 @@ use Rattle.lease_laws.proofs.client.Thin.{put_same}
 use Rattle.lease_laws.proofs.server.Lists.{clash}
 use Rattle.lease_coherence.specs.Names.{Each, IsNamedAt, IsNamedRequest, IsNamedReply}
 use Rattle.lease_coherence.specs.Standing.{IsOpenFor, GivenWell, PhaseStands, IsStandingAt}
-use Rattle.lease_coherence.proofs.beliefs.Anchors.{AnchorsOn, commands_anchor, takes_anchor}
+use Rattle.lease_coherence.proofs.beliefs.Anchors.{AnchorsOn, command_anchors, take_anchors}
 use Rattle.lease_coherence.proofs.beliefs.Trust.{file_key, HasTrust}
 use Rattle.lease_coherence.proofs.beliefs.Words.{HoldsWrites, OnGiven}
 use Rattle.lease_laws.proofs.client.cases.Commands.{any_command}
@@ -101,7 +101,7 @@ command_late world c command known k a = let machine = world.clients c in
           (commanded-stays machine command).files (called_sound machine (ClientCall.Commanded command) ((k was).ground.clients c))
           (called_tells machine (ClientCall.Commanded command) ((k was).ground.clients c))
           (any_command machine (StepFrom machine no_settles) (commands_from machine) command)
-          (any_command machine (AnchorsOn machine) (commands_anchor machine) command))
+          (command_anchors machine command))
           (λ n. refl) a.entries
           (record { writes = u.writes; held = u.held; acks_keep = u.acks_keep; again = u.again; given = u.given });
     }
@@ -165,7 +165,7 @@ gone_well world c reply queue was k =
           (record { queued = k.names.requests; held = k.names.held });
       tells = called_tells machine (ClientCall.Taken reply) (k.ground.clients c);
       from = any_reply machine (λ r s. StepFrom machine (λ n. settles_of n r) s) (takes_from machine (k.ground.clients c)) reply;
-      anchors = any_reply machine (λ r s. AnchorsOn machine s) (takes_anchor machine) reply;
+      anchors = take_anchors machine reply;
       answers = λ file fresh. ⊎_elim (λ zero. inl zero) (λ a. inr a.bounds) (k.trust.files file fresh).believed.answers;
       stands = λ file live is fresh. let o = live_open world c k.stands file live is fresh in record {
         one = o.one;

@@ -1,6 +1,6 @@
 -- Grants, reconnects, closed opens and timers leave a client's writes safe.
-use Rattle.lease_laws.proofs.Words.{◌++◌, ◌==◌, ◌∙◌, ◌∷◌, ◌≡◌, ◌≤◌, Access, Among, Bool, CreateAsk, FileRequest, IsFree}
-use Rattle.lease_laws.proofs.Words.{IsSound, Lease, LeaseOf, Open, Pending, Reply, Share, Some, World, ℕ, ⊎_elim, [], ap, arith}
+use Rattle.lease_laws.proofs.Words.{◌++◌, ◌==◌, ◌∙◌, ◌∷◌, ◌≡◌, ◌≤◌, Access, Among, Bool, CreateAsk, FileRequest, IsFree, IsSound}
+use Rattle.lease_laws.proofs.Words.{Lease, LeaseOf, Open, Pending, Reply, Share, Some, World, ℕ, ⊎_elim, [], ap, arith}
 use Rattle.lease_laws.proofs.Words.{connected_again, false, has_key, is_breaking, is_touched, is_up, key_expired, key_of}
 use Rattle.lease_laws.proofs.Words.{knows_file, lease_after, lease_granted, lease_key, machine_key, new_open, not, opens_dropped}
 use Rattle.lease_laws.proofs.Words.{own_key, refl, subst, sym, true, with_opens}

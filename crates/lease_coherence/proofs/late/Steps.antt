@@ -1,9 +1,9 @@
 -- A step of a client leaves its writes safe, in its entries and on their way.
-use Rattle.lease_laws.proofs.Words.{◌&&◌, ◌++◌, ◌+◌, ◌==◌, ◌||◌, ◌∙◌, ◌∷◌, ◌≡◌, ◌≤◌, ◌⊎◌, Among, Bool, Client, Fact}
-use Rattle.lease_laws.proofs.Words.{FileRequest, Held, IsSound, IsSoundClient, Lease, List, LiveEntry, None, Note, Open, Parted}
-use Rattle.lease_laws.proofs.Words.{Patch, Pending, Phase, Reply, Request, Server, Some, Step, TellNumbers, World, ℕ, ⊎_elim, []}
-use Rattle.lease_laws.proofs.Words.{ap, ap₂, are_buffered, arith, eq-eqb, eqb-true, fact_of, false, given_state, has_buffered}
-use Rattle.lease_laws.proofs.Words.{inl, inr, is_touched, is_up, key_of, knows_file, lease_key, list_any, machine_key, refl}
+use Rattle.lease_laws.proofs.Words.{◌&&◌, ◌++◌, ◌+◌, ◌==◌, ◌||◌, ◌∙◌, ◌∷◌, ◌≡◌, ◌≤◌, ◌⊎◌, Among, Bool, Client, Fact, FileRequest}
+use Rattle.lease_laws.proofs.Words.{Held, IsSound, IsSoundClient, Lease, List, LiveEntry, None, Note, Open, Parted, Patch}
+use Rattle.lease_laws.proofs.Words.{Pending, Phase, Reply, Request, Server, Some, Step, TellNumbers, World, ℕ, ⊎_elim, [], ap}
+use Rattle.lease_laws.proofs.Words.{ap₂, are_buffered, arith, eq-eqb, eqb-true, fact_of, false, given_state, has_buffered, inl}
+use Rattle.lease_laws.proofs.Words.{inr, is_touched, is_up, key_of, knows_file, lease_key, list_any, machine_key, refl}
 use Rattle.lease_laws.proofs.Words.{stepped_in, subst, sym, true, was_opened, write_requests}
 use Rattle.lease_laws.proofs.server.Lists.{either, clash, and_parts, and_both, not_true, any_has, has_any, among_behind}
 use Rattle.lease_laws.proofs.world.Runs.{stepped_server}

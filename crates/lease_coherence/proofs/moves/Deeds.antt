@@ -7,8 +7,8 @@ use Rattle.lease_laws.proofs.Words.{Reply, Request, Server, Share, SmallStep, So
 use Rattle.lease_laws.proofs.Words.{all_delivered, answered, begun, break_begun, break_ended, break_notice, changed, closed}
 use Rattle.lease_laws.proofs.Words.{concluded, connected_again, connected_open, created, delivered, false, file_asked, granted}
 use Rattle.lease_laws.proofs.Words.{granted_form_of, granted_with, has_file, has_lease, held_left, held_of, if◌then◌else◌, inl}
-use Rattle.lease_laws.proofs.Words.{inr, is_behind, is_left_open, is_state_within, key_of, last_file_id, lease_after}
-use Rattle.lease_laws.proofs.Words.{lease_given, lease_lowered, lease_put, map, may_read, needs_acknowledgment, new_open, on_open}
+use Rattle.lease_laws.proofs.Words.{inr, is_behind, is_left_open, is_state_within, key_of, last_file_id, lease_after, lease_given}
+use Rattle.lease_laws.proofs.Words.{lease_lowered, lease_put, map, may_read, needs_acknowledgment, new_open, on_open}
 use Rattle.lease_laws.proofs.Words.{opens_dropped, own_key, put, read_done, reconnected, refl, refusal_of, refused, request_held}
 use Rattle.lease_laws.proofs.Words.{served, standing_lease, subst, sym, true, with_lease, with_opens, without}
 use Rattle.lease_state.specs.Content.{patch as patched}

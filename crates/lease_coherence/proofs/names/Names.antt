@@ -1,10 +1,10 @@
 -- In every run, all that a client names that hasn't strayed is in the record already; so a write that it settles as done
 -- was accepted.
-use Rattle.lease_laws.proofs.Words.{◌++◌, ◌+◌, ◌==◌, ◌∙◌, ◌∷◌, ◌≡◌, Access, Among, Client, CreateAsk, Fact, FileRequest}
-use Rattle.lease_laws.proofs.Words.{Held, Key, List, None, Open, Option, Patch, Reply, Request, Share, Some, Status, World, ℕ}
-use Rattle.lease_laws.proofs.Words.{⊎_elim, [], ap, asked_key, awaits, connected_again, eq-eqb, eqb-true, false, has_strayed}
-use Rattle.lease_laws.proofs.Words.{has_written, held_of, inl, is_accepted, is_left_open, lease_after, lease_key, map, new_open}
-use Rattle.lease_laws.proofs.Words.{not, opened_count, own_key, put, refl, refusal_of, subst, sym, true, true≢false, was_opened}
+use Rattle.lease_laws.proofs.Words.{◌++◌, ◌+◌, ◌==◌, ◌∙◌, ◌∷◌, ◌≡◌, Access, Among, Client, CreateAsk, Fact, FileRequest, Held}
+use Rattle.lease_laws.proofs.Words.{Key, List, None, Open, Option, Patch, Reply, Request, Share, Some, Status, World, ℕ, ⊎_elim}
+use Rattle.lease_laws.proofs.Words.{[], ap, asked_key, awaits, connected_again, eq-eqb, eqb-true, false, has_strayed, has_written}
+use Rattle.lease_laws.proofs.Words.{held_of, inl, is_accepted, is_left_open, lease_after, lease_key, map, new_open, not}
+use Rattle.lease_laws.proofs.Words.{opened_count, own_key, put, refl, refusal_of, subst, sym, true, true≢false, was_opened}
 use Rattle.lease_laws.proofs.Words.{with_opens}
 use Rattle.lease_laws.proofs.client.Thin.{put_same, put_other}
 use Rattle.lease_laws.proofs.server.Lists.{if_cases, and_parts, and_both, true_or, among_append, among_behind, among_filter}

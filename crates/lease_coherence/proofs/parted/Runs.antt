@@ -18,7 +18,7 @@ use Rattle.lease_coherence.specs.Agreement.{touched_since_lost}
 use Rattle.lease_coherence.specs.Creates.{asked_by, one_if, under_way, has_asked}
 use Rattle.lease_coherence.specs.Names.{Each, IsNamedAt, IsNamedRequest}
 use Rattle.lease_coherence.specs.Standing.{AskFits, again_of, IsStandingAt}
-use Rattle.lease_coherence.proofs.beliefs.Clients.{keys_apart}
+use Rattle.lease_coherence.proofs.beliefs.Forms.{keys_apart}
 use Rattle.lease_coherence.proofs.beliefs.Closed.{left_there}
 use Rattle.lease_coherence.proofs.beliefs.Runs.{own_create}
 use Rattle.lease_laws.proofs.client.cases.Commands.{any_command}

@@ -12,7 +12,7 @@ use Rattle.lease_laws.proofs.server.Lists.{if_cases, either, clash, and_parts, o
 use Rattle.lease_laws.proofs.world.Links.{by_client}
 use Rattle.lease_coherence.specs.Creates.{one_if, has_asked}
 use Rattle.lease_coherence.specs.Names.{Each, IsNamedReply}
-use Rattle.lease_coherence.proofs.beliefs.Clients.{IsAboutFile, writes_about, keys_apart}
+use Rattle.lease_coherence.proofs.beliefs.Forms.{IsAboutFile, writes_about, keys_apart}
 use Rattle.lease_coherence.proofs.beliefs.Words.{acks, acks_append, is_created, is_ack_break}
 use Rattle.lease_laws.proofs.client.cases.Commands.{HasCommands, sent_of}
 use Rattle.lease_laws.proofs.client.cases.Replies.{HasTakes, PassesOver, is_live}

@@ -14,7 +14,7 @@ use Rattle.lease_laws.proofs.server.Keys.{put_key-cases, key_eq-refl}
 use Rattle.lease_laws.proofs.server.Lists.{if_cases, either, clash, and_parts, not_parts}
 use Rattle.lease_laws.proofs.world.Runs.{stepped_server}
 use Rattle.lease_coherence.specs.Names.{Each}
-use Rattle.lease_coherence.proofs.beliefs.Clients.{keys_apart}
+use Rattle.lease_coherence.proofs.beliefs.Forms.{keys_apart}
 use Rattle.lease_coherence.proofs.beliefs.Runs.{own_create}
 use Rattle.lease_coherence.proofs.beliefs.Trust.{file_key}
 use Rattle.lease_coherence.proofs.beliefs.Words.{is_created}

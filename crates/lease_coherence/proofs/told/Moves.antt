@@ -10,7 +10,7 @@ use Rattle.lease_laws.proofs.server.Lists.{either, clash, and_parts, any_has, no
 use Rattle.lease_coherence.specs.Creates.{held_by}
 use Rattle.lease_coherence.specs.Names.{IsOwnOpen}
 use Rattle.lease_coherence.specs.Standing.{IsNoClose}
-use Rattle.lease_coherence.proofs.beliefs.Clients.{keys_apart}
+use Rattle.lease_coherence.proofs.beliefs.Forms.{keys_apart}
 use Rattle.lease_coherence.proofs.beliefs.Trust.{file_key, file_acks}
 use Rattle.lease_coherence.proofs.beliefs.Words.{acks}
 use Rattle.lease_laws.proofs.client.cases.Replies.{is_live}

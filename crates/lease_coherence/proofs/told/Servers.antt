@@ -15,7 +15,7 @@ use Rattle.lease_laws.proofs.server.Lists.{and_parts, and_both, has_any, not_par
 use Rattle.lease_coherence.specs.Creates.{held_by, one_if}
 use Rattle.lease_coherence.specs.Names.{Each, IsOwnOpen}
 use Rattle.lease_coherence.specs.Standing.{IsNoClose}
-use Rattle.lease_coherence.proofs.beliefs.Clients.{keys_apart}
+use Rattle.lease_coherence.proofs.beliefs.Forms.{keys_apart}
 use Rattle.lease_coherence.proofs.beliefs.Closed.{left_there}
 use Rattle.lease_coherence.proofs.beliefs.Grants.{grant_settled}
 use Rattle.lease_coherence.proofs.beliefs.Trust.{file_key, file_acks}
@@ -32,7 +32,8 @@ use Rattle.lease_coherence.proofs.moves.Events.{Ground, timed_out}
 use Rattle.lease_coherence.proofs.moves.Frames.{lease_put_rest}
 use Rattle.lease_coherence.proofs.moves.Moves.{IsOldest, rest_of, popped}
 use Rattle.lease_coherence.specs.Agreement.{as_requests, asked_of}
-use Rattle.lease_coherence.proofs.told.Moves.{ClosedIn, ToldBy, HasTold, told_map, kept_told, breaking_open, breaking_up, IsSameServer}
+use Rattle.lease_coherence.proofs.told.Moves.{ClosedIn, ToldBy, HasTold, told_map, kept_told, breaking_open, breaking_up}
+use Rattle.lease_coherence.proofs.told.Moves.{IsSameServer}
 use Rattle.lease_coherence.proofs.told.Moves.{open_place, off_server, answered_told, plain_answered}
 use Rattle.lease_coherence.proofs.told.Words.{HasMet, met_behind, met_last, is_granted, met_granted}
 use Rattle.lease_coherence.proofs.within.Moves.{HasWithin}

@@ -19,8 +19,6 @@ use Rattle.lease_coherence.proofs.beliefs.Sent.{refusal_bare, off_trust}
 use Rattle.lease_coherence.proofs.beliefs.Steps.{IsIdle, connect_idle}
 use Rattle.lease_coherence.proofs.beliefs.Trust.{file_key, HasTrust, nothing_stands}
 use Rattle.lease_coherence.proofs.beliefs.Words.{IsBelieved}
-use Rattle.lease_laws.proofs.client.cases.Commands.{any_command}
-use Rattle.lease_laws.proofs.client.cases.Replies.{any_reply}
 use Rattle.lease_coherence.proofs.moves.Deeds.{told_to, held_in, without_opens}
 use Rattle.lease_coherence.proofs.moves.Events.{timed_out, connected, reply_gone, reply_taken}
 use Rattle.lease_coherence.proofs.moves.Foreign.{IsUnmoved, off_sound}
@@ -31,7 +29,7 @@ use Rattle.lease_coherence.proofs.names.Names.{off_named}
 use Rattle.lease_coherence.proofs.names.Words.{each_append}
 use Rattle.lease_coherence.proofs.standing.Runs.{link_of, standing_moves, was_up}
 use Rattle.lease_coherence.proofs.standing.Standing.{step_of}
-use Rattle.lease_coherence.proofs.within.Clients.{StaysWithin, commands_stay, TakesWithin, takes_stay}
+use Rattle.lease_coherence.proofs.within.Clients.{command_stays, take_stays}
 use Rattle.lease_coherence.proofs.within.Leases.{plain_more, gone_more}
 use Rattle.lease_coherence.proofs.within.Moves.{HasWithin, IsUpWithin, told_within, changed_within, popped_within, off_within}
 use Rattle.lease_coherence.proofs.within.Moves.{granted_within, reconnected_within, lower_within, begin_within, done_within}
@@ -245,7 +243,7 @@ take_within world c reply queue v good first up w =
     step_stays gone c (taken machine reply) up (taken-stays machine reply).guid (subst (Each LowersFormed) (sym left) formed.1)
     (λ file fresh. subst (IsWithinFor (file_key world c file) file (world.server.leases (machine_key world c file))
     ((taken machine reply).client.entries file).phase (world.requests c ++ (taken machine reply).requests)) (sym left)
-    (any_reply machine (TakesWithin machine) (takes_stay machine (v.structure.ground.clients c)) reply formed.0 file
+    (take_stays machine (v.structure.ground.clients c) reply formed.0 file
     (world.server.leases (machine_key world c file)) (world.requests c) queue
     (subst (IsBelieved (file_key world c file) file (world.server.leases (machine_key world c file))
     ((world.clients c).entries file).phase (world.requests c)) first (t.files file fresh).believed)
@@ -351,7 +349,7 @@ within_moves = record {
       let was = was_up world c (commanded machine command) up in
       let w = a was in
       step_stays world c (commanded machine command) was (commanded-stays machine command).guid w.formed
-      (λ file fresh. any_command machine (StaysWithin machine) (commands_stay machine) command file
+      (λ file fresh. command_stays machine command file
       (world.server.leases (machine_key world c file)) (world.requests c) (world.replies c) (w.files file fresh));
   take = λ world c reply queue v good first a up.
       let was : is_up (world.links c) ≡ true = was_up (reply_gone world c queue) c (taken (world.clients c) reply) up in

@@ -1,6 +1,6 @@
 -- While a client's link is up, each write that it has sent is under way once: asked, held, or answered and not yet taken.
-use Rattle.lease_laws.proofs.Words.{◌++◌, ◌+◌, ◌==◌, ◌∙◌, ◌∷◌, ◌≡◌, ◌≢◌, Among, Bool, Client, ClientCall, Command, Entry}
-use Rattle.lease_laws.proofs.Words.{Err, Fact, FileRequest, Held, IsSoundEntry, IsSoundPhase, Link, List, None, Ok, Open, Option}
+use Rattle.lease_laws.proofs.Words.{◌++◌, ◌+◌, ◌==◌, ◌∙◌, ◌∷◌, ◌≡◌, ◌≢◌, Among, Bool, Client, ClientCall, Command, Entry, Err}
+use Rattle.lease_laws.proofs.Words.{Fact, FileRequest, Held, IsSoundEntry, IsSoundPhase, Link, List, None, Ok, Open, Option}
 use Rattle.lease_laws.proofs.Words.{Patch, Pending, Phase, Reply, Request, Result, Server, Some, Status, Step, TellNumbers, World}
 use Rattle.lease_laws.proofs.Words.{ℕ, ⊎_elim, [], all_turned, ap, ap₂, arith, break_notice, commanded, connect_turn}
 use Rattle.lease_laws.proofs.Words.{connected_open, connection_made, eq-eqb, eqb-true, false, file_asked, file_of_open, flat_map}

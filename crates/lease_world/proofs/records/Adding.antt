@@ -523,7 +523,8 @@ module _ (place : ℕ) (old new : Seen) (v : Verdict) (past : List Fact) (k : Kn
       ((k.clients client).caches file).belief parts.1 k.holders in
       two_judged fact e formed (two-where (fact ∷ past) client rival.other file rival.apart
       (goods client ∙ good) (goods rival.other ∙ rival.good)
-      (rw (own_belief client file state past, others_believe client file rival.other file state past rival.apart) rival.conflict)))
+      (rw (own_belief client file state past, others_believe client file rival.other file state past rival.apart)
+      rival.conflict)))
       (λ none (e, goes).
       let (changes, same) = goes.0 in
       client_judged client fact e same changes.1 (λ f. refl) (λ c ne. is_apart c client ne) (record {

@@ -56,12 +56,7 @@ patched_byte_by base o [] position write offset bytes = rw (bytes, offset) (
     let none : (nat_le o position && nat_lt position (o + 0)) ≡ false = grind arith in
     rw none refl)
 patched_byte_by base o (b ∷ d) position write offset bytes = rw (bytes, offset) (get_or-written base o (b ∷ d) position
-    ∙ by_cover (nat_le o position && nat_lt position (o + length (b ∷ d))))
-  where
-    by_cover : (c : Bool) → (if c then slice_index (b ∷ d) (position - o) else slice_index base position)
-        ≡ seen_byte base (if c then record { number = write.number; byte = slice_index (b ∷ d) (position - o) } ∷ [] else [])
-        position
-    by_cover x1 = grind arith
+    ∙ (grind arith))
 
 patched_byte : (base : List ℕ) (position : ℕ) (write : Waiting)
     → get_or (patch base write.patch) position 0 ≡ seen_byte base (layer_of position write) position

@@ -1,6 +1,7 @@
 -- What an acknowledgment makes of a call under way: it fails, or ends a break.
-use Rattle.lease_laws.proofs.Words.{◌≡◌, LeaseOf, None, Option, Progress, Reply, Some, State, Status, ℕ, acknowledged, Server, ◌≢◌, ⊤, sym, false, ◌∙◌, subst}
-use Rattle.lease_laws.proofs.Words.{break_ended, has_lease, is_state_within, judged, key_of, refl, replied, true}
+use Rattle.lease_laws.proofs.Words.{◌∙◌, ◌≡◌, ◌≢◌, LeaseOf, None, Option, Progress, Reply, Server, Some, State, Status, ℕ, ⊤}
+use Rattle.lease_laws.proofs.Words.{acknowledged, break_ended, false, has_lease, is_state_within, judged, key_of, refl, replied}
+use Rattle.lease_laws.proofs.Words.{subst, sym, true}
 use Rattle.lease_laws.proofs.server.Lists.{if_cases, clash}
 
 -- why an acknowledgment is refused: no lease of its key is breaking to a state that it lies within
