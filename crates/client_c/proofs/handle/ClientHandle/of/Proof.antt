@@ -36,7 +36,8 @@ of_spec 𝓤 𝓛 𝓜 𝓡 wired =
     ended.kept = (stay_dropped (plain (λ _. Lr)) yes, tt) in
     proved_at 𝓛 ended hs c 𝓜 𝓡 (Goes-dropped 𝓛 0 (plain (λ _. Lr)) yes (λ κs x w. refl), tt) #self fn
     (code.unfolded 𝓤 H 𝓜 𝓡 wired) (λ z are.
-    let (κs, qs, sides, args, places) = z.0 in let v = args.0 in let Post : Val → SProp 𝓤 = (walk_of 𝓛 ended hs c).post z in let Run : List Val
+    let (κs, qs, sides, args, places) = z.0 in let v = args.0 in
+    let Post : Val → SProp 𝓤 = (walk_of 𝓛 ended hs c).post z in let Run : List Val
     → SProp 𝓤 = λ ws. WpFn 𝓤 H 𝓣.C 𝓣.Λ fn ws Post in
     qed 𝓛 ((‵ ftrue ⊛ ‵ (owns (types_at ended.signature.params κs) args places)) ∷ raw ((c κs args).requires z.1) ∷ []) ∵ split !
     $ move ! (1 ∷ []) $ fsplit ! $ loose_out R Z LZ ghosts ! v places.0 (λ b o h e ws fits.
