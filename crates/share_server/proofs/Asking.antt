@@ -23,7 +23,7 @@ is_known key opens x3 fits = grind arith
 elsewhere_by : (key : Key) (at file : ℕ) (opens : List Open) → list_any (is_elsewhere key at) opens ≡ false
     → list_any (is_elsewhere key file) opens ≡ (not (at == file) && list_any (has_key key) opens)
 elsewhere_by key at file [] home = grind (arith)
-elsewhere_by key at file (one ∷ opens) home = let e1 = elsewhere_by key at file opens in grind arith
+elsewhere_by key at file (one ∷ opens) home = let later = elsewhere_by key at file opens in grind arith
 
 pub elsewhere_known : (key : Key) (file : ℕ) (opens : List Open) (known : Option LeaseRecord) (is : LeaseRecord)
     → known ≡ Some is → RecordFits key opens known

@@ -14,7 +14,7 @@ place_set [] i n file inside = absurd (omega arith)
 place_set (one ∷ files) zero zero file inside = refl
 place_set (one ∷ files) zero (suc n) file inside = grind (arith, nat_tests)
 place_set (one ∷ files) (suc i) zero file inside = grind (arith, nat_tests)
-place_set (one ∷ files) (suc i) (suc n) file inside = let e1 = place_set files i n file (omega arith) in grind arith
+place_set (one ∷ files) (suc i) (suc n) file inside = let later = place_set files i n file (omega arith) in grind arith
 
 -- what the tables have in a field of their files
 abbrev field_of : {X : Type 0} → (File → X) → List File → ℕ → X

@@ -28,12 +28,12 @@ here n id one filed = at_id n id.0 ∙ ap (λ m. m == n) (sym filed)
 pub find_filed : (n : ℕ) (entries : List (FileId × Open)) → AreFiled entries
     → lookup (test_at n) entries ≡ find (has_id n) (values_of entries)
 find_filed n [] filed = refl
-find_filed n (e ∷ entries) filed = let e1 = find_filed n entries filed.1 in grind arith
+find_filed n (e ∷ entries) filed = let later = find_filed n entries filed.1 in grind arith
 
 pub filed_removed : (n : ℕ) (entries : List (FileId × Open)) → AreFiled entries
     → AreFiled (remove_entry (test_at n) entries)
 filed_removed n [] filed = tt
-filed_removed n (e ∷ entries) filed = let e1 = filed_removed n entries filed.1 in grind arith
+filed_removed n (e ∷ entries) filed = let later = filed_removed n entries filed.1 in grind arith
 
 pub some_same : {x y : Open} → Some x ≡ Some y → x ≡ y
 some_same e = cc e

@@ -35,17 +35,17 @@ use Rattle.share_server.proofs.Ordering.{order_eq}
 parts_counted : (test : Key → Bool) (keys : List Key)
     → length keys ≡ length (filter test keys) + length (filter (λ key. not (test key)) keys)
 parts_counted test [] = refl
-parts_counted test (key ∷ keys) = let e1 = parts_counted test keys in grind arith
+parts_counted test (key ∷ keys) = let later = parts_counted test keys in grind arith
 
 any_filtered : (test other : Key → Bool) (keys : List Key)
     → list_any other (filter test keys) ≡ list_any (λ key. other key && test key) keys
 any_filtered test other [] = refl
-any_filtered test other (key ∷ keys) = let e1 = any_filtered test other keys in grind arith
+any_filtered test other (key ∷ keys) = let later = any_filtered test other keys in grind arith
 
 all_filtered : (P : Key → Type 0) (test : Key → Bool) (keys : List Key) → AllByRecursion P keys
     → AllByRecursion P (filter test keys)
 all_filtered P test [] all = all
-all_filtered P test (key ∷ keys) all = let e1 = all_filtered P test keys all.1 in grind arith
+all_filtered P test (key ∷ keys) all = let later = all_filtered P test keys all.1 in grind arith
 
 filter_sorted : (test : Key → Bool) (keys : List Key) → IsStrictlySortedBy key_order keys
     → IsStrictlySortedBy key_order (filter test keys)

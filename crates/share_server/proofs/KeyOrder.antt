@@ -17,7 +17,7 @@ pub before_from : (xs ys : List ℕ) (i : ℕ) → i < length xs → length xs �
 before_from [] ys i inside same = absurd (omega arith)
 before_from (x ∷ xs) [] i inside same = absurd (omega arith)
 before_from (x ∷ xs) (y ∷ ys) zero inside same = heads x y xs ys
-before_from (x ∷ xs) (y ∷ ys) (suc i) inside same = let e1 = before_from xs ys i (omega arith) (omega arith) in grind arith
+before_from (x ∷ xs) (y ∷ ys) (suc i) inside same = let later = before_from xs ys i (omega arith) (omega arith) in grind arith
 
 pub before_none : (xs ys : List ℕ) → length xs ≡ length ys
     → bytes_before (drop (length xs) xs) (drop (length xs) ys) ≡ false

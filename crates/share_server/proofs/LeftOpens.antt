@@ -82,7 +82,7 @@ ordered x1 less equal more = grind arith
 inserted_id : (fid : FileId) (ids : List FileId)
     → numbers (insert_key file_id_order ids fid) ≡ insert_key nat_cmp (numbers ids) fid.0
 inserted_id fid [] = refl
-inserted_id fid (x ∷ ids) = let e1 = inserted_id fid ids in grind arith
+inserted_id fid (x ∷ ids) = let later = inserted_id fid ids in grind arith
 
 less_is : (n m : ℕ) → n < m → nat_cmp n m ≡ Less
 less_is n m less = grind (arith, nat_tests, less)
@@ -100,14 +100,14 @@ inserted_first n (one ∷ opens) above = rw (less_is n one.file_id (above one (i
 pub none_more : (owner : Owner) (opens : List Open) (one : Open) → one.connected ≡ true
     → filter (waits owner) (opens ++ one ∷ []) ≡ filter (waits owner) opens
 none_more owner [] one here = rw (present owner one here) refl
-none_more owner (x ∷ opens) one here = let e1 = none_more owner opens one here in grind arith
+none_more owner (x ∷ opens) one here = let later = none_more owner opens one here in grind arith
 
 -- ---- an open goes
 
 waiting_without : (n : ℕ) (owner : Owner) (opens : List Open)
     → filter (waits owner) (without (has_id n) opens) ≡ without (has_id n) (filter (waits owner) opens)
 waiting_without n owner [] = refl
-waiting_without n owner (x ∷ opens) = let e1 = waiting_without n owner opens in grind arith
+waiting_without n owner (x ∷ opens) = let later = waiting_without n owner opens in grind arith
 
 none_waits : (n : ℕ) (owner : Owner) (opens : List Open) (one : Open) → AreInOrder opens
     → find (has_id n) opens ≡ Some one → waits owner one ≡ false
@@ -163,7 +163,7 @@ waiting_taken old new n owner opens one order found client file waiting changed 
 connected_now : (n : ℕ) (owner : Owner) (opens : List Open)
     → filter (waits owner) (map (connected_at n true) opens) ≡ without (has_id n) (filter (waits owner) opens)
 connected_now n owner [] = refl
-connected_now n owner (x ∷ opens) = let e1 = connected_now n owner opens in grind arith
+connected_now n owner (x ∷ opens) = let later = connected_now n owner opens in grind arith
 
 pub waiting_again : (old new : LeftOpens) (n : ℕ) (owner : Owner) (opens : List Open) (one : Open) → AreInOrder opens
     → find (has_id n) opens ≡ Some one → owner.client.0 ≡ one.client → owner.file.0 ≡ one.file → AreWaiting old opens

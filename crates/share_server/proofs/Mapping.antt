@@ -37,7 +37,7 @@ any_mapped test change (one ∷ opens) same = rw (same one, any_mapped test chan
 count_mapped : (test : Open → Bool) (change : Open → Open) (opens : List Open)
     → ((one : Open) → test (change one) ≡ test one) → count test (map change opens) ≡ count test opens
 count_mapped test change [] same = refl
-count_mapped test change (one ∷ opens) same = let e1 = count_mapped test change opens same in grind arith
+count_mapped test change (one ∷ opens) same = let later = count_mapped test change opens same in grind arith
 
 tally_mapped : (test : Open → Bool) (change : Open → Open) (opens : List Open) → KeepsCounted change
     → ((one : Open) → test (change one) ≡ test one) → tally_of test (map change opens) ≡ tally_of test opens

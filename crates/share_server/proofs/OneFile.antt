@@ -38,14 +38,14 @@ IsFor file test = (one : Open) → test one ≡ true → is_on file one ≡ true
 pub any_on : (file : ℕ) (test : Open → Bool) (opens : List Open) → IsFor file test
     → list_any test (on_file file opens) ≡ list_any test opens
 any_on file test [] only = refl
-any_on file test (one ∷ opens) only = let e1 = any_on file test opens only in grind arith
+any_on file test (one ∷ opens) only = let later = any_on file test opens only in grind arith
 
 filter_on : (file : ℕ) (here there : Open → Bool) (opens : List Open) → IsFor file there
     → ((one : Open) → Among one opens → is_on file one ≡ true → here one ≡ there one)
     → filter here (on_file file opens) ≡ filter there opens
 filter_on file here there [] only same = refl
 filter_on file here there (one ∷ opens) only same =
-    let e1 = filter_on file here there opens only (λ other a. same other (inr a)) in grind arith
+    let later = filter_on file here there opens only (λ other a. same other (inr a)) in grind arith
 
 lease_here : (file : ℕ) (server : Server) (key : Key) (one : Open) → Among one server.opens → is_on file one ≡ true
     → has_key key one ≡ true → (local file server).leases key ≡ server.leases key
@@ -67,7 +67,7 @@ lease_on file server one there on = go one.lease_key refl
 
 map_keys : (f g : Key → Want) (keys : List Key) → ((key : Key) → Among key keys → f key ≡ g key) → map f keys ≡ map g keys
 map_keys f g [] same = refl
-map_keys f g (key ∷ keys) same = let e1 = map_keys f g keys (λ other a. same other (inr a)) in grind arith
+map_keys f g (key ∷ keys) same = let later = map_keys f g keys (λ other a. same other (inr a)) in grind arith
 
 abbrev want_so : Server → (State → State) → Key → Want
 want_so server lowering key = record { key = key; lowered = lowering (server.leases key).state }
@@ -241,7 +241,7 @@ none_alike : (leases others : Key → Lease) (wants : List Want) → AreAlike le
     → list_all (λ want. breaks_to_none (leases want.key)) wants ≡ list_all (λ want. breaks_to_none (others want.key)) wants
 none_alike leases others [] same = refl
 none_alike leases others (want ∷ wants) same =
-    let e1 = none_alike leases others wants (λ other a. same other (inr a)) in grind arith
+    let later = none_alike leases others wants (λ other a. same other (inr a)) in grind arith
 
 ready_alike : (request : FileRequest) (leases others : Key → Lease) (wants : List Want) → AreAlike leases others wants
     → is_ready request leases wants ≡ is_ready request others wants
@@ -256,7 +256,7 @@ must_alike : (request : FileRequest) (leases others : Key → Lease) (wants : Li
     ≡ list_any (λ want. waits_for request (others want.key)) wants
 must_alike request leases others [] same = refl
 must_alike request leases others (want ∷ wants) same =
-    let e1 = must_alike request leases others wants (λ other a. same other (inr a)) in grind arith
+    let later = must_alike request leases others wants (λ other a. same other (inr a)) in grind arith
 
 pub none_within : (test p : Open → Bool) (opens : List Open) → list_any test opens ≡ false
     → list_any test (filter p opens) ≡ false

@@ -43,18 +43,18 @@ without_place q place = take place q ++ drop (place + 1) q
 front_left : (q : List Held) (place : ℕ) → place < length q → take place (without_place q place) ≡ take place q
 front_left [] place inside = absurd (omega arith)
 front_left (one ∷ q) zero inside = refl
-front_left (one ∷ q) (suc place) inside = let e1 = front_left q place (omega arith) in grind arith
+front_left (one ∷ q) (suc place) inside = let later = front_left q place (omega arith) in grind arith
 
 back_left : (q : List Held) (place : ℕ) → place < length q
     → drop place (without_place q place) ≡ drop (place + 1) q
 back_left [] place inside = absurd (omega arith)
 back_left (one ∷ q) zero inside = refl
-back_left (one ∷ q) (suc place) inside = let e1 = back_left q place (omega arith) in grind arith
+back_left (one ∷ q) (suc place) inside = let later = back_left q place (omega arith) in grind arith
 
 one_less : (q : List Held) (place : ℕ) → place < length q → length (without_place q place) + 1 ≡ length q
 one_less [] place inside = absurd (omega arith)
 one_less (one ∷ q) zero inside = omega arith
-one_less (one ∷ q) (suc place) inside = let e1 = one_less q place (omega arith) in grind arith
+one_less (one ∷ q) (suc place) inside = let later = one_less q place (omega arith) in grind arith
 
 pub got : (q : List Held) (place : ℕ) (one other : Held) → slice_get q place ≡ Some one → get_or q place other ≡ one
 got [] place one other is = absurd (cc is)
@@ -269,7 +269,7 @@ numbers_behind k (suc left) = (k + 1) ∷ numbers_behind (k + 1) left
 one_behind : (k left : ℕ) → numbers_behind k left ++ suc (k + left) ∷ [] ≡ numbers_behind k (suc left)
 unfolding numbers_behind
 one_behind k zero = let e : suc (k + 0) ≡ k + 1 = omega arith in ap (λ n. n ∷ []) e
-one_behind k (suc left) = let e1 = one_behind (k + 1) left in grind arith
+one_behind k (suc left) = let later = one_behind (k + 1) left in grind arith
 
 all_numbers : (n : ℕ) → numbers_to n ≡ numbers_behind 0 n
 unfolding numbers_behind

@@ -97,7 +97,7 @@ on_left : (file : ℕ) (test : Open → Bool) (opens : List Open)
     → ((one : Open) → Among one opens → is_on file one ≡ true → test one ≡ false)
     → on_file file (without test opens) ≡ on_file file opens
 on_left file test [] none = refl
-on_left file test (one ∷ opens) none = let e1 = on_left file test opens (λ other a. none other (inr a)) in grind arith
+on_left file test (one ∷ opens) none = let later = on_left file test opens (λ other a. none other (inr a)) in grind arith
 
 about_left : (file : ℕ) (test : Open → Bool) (count : ℕ) (opens : List Open) (leases later : Key → Lease) (client : ℕ)
     (request : FileRequest) → ((one : Open) → Among one opens → is_on file one ≡ true → test one ≡ false)
@@ -156,7 +156,7 @@ settled_closed files waiting now count opens left ids summaries after closed for
 on_more : (file : ℕ) (one : Open) (opens : List Open) → is_on file one ≡ false
     → on_file file (opens ++ one ∷ []) ≡ on_file file opens
 on_more file one [] off = rw off refl
-on_more file one (first ∷ opens) off = let e1 = on_more file one opens off in grind arith
+on_more file one (first ∷ opens) off = let later = on_more file one opens off in grind arith
 
 home_key : (one : Open) (bytes : Option (List ℕ)) (opens : List Open) (key : Key)
     → IsAtHome (key_under one.client bytes) one.file opens → is_key key one.client bytes ≡ true

@@ -169,7 +169,8 @@ taken_before : (queue : List Held) (one : Held) (place : ℕ) → place < length
     → take place (queue ++ one ∷ []) ≡ take place queue
 taken_before [] one place inside = absurd (omega (arith, inside))
 taken_before (first ∷ queue) one zero inside = refl
-taken_before (first ∷ queue) one (suc place) inside = let e1 = taken_before queue one place (omega (arith, inside)) in grind arith
+taken_before (first ∷ queue) one (suc place) inside =
+    let later = taken_before queue one place (omega (arith, inside)) in grind arith
 
 longer : (queue : List Held) (one : Held) → length (queue ++ one ∷ []) ≡ length queue + 1
 longer [] one = refl

@@ -151,7 +151,7 @@ gains_sums_up one marks old new less more leases later m short after s g = recor
 elsewhere_none : (key : Key) (file at : ℕ) (opens : List Open) → (at == file) ≡ false
     → list_any (is_elsewhere key at) opens ≡ false → list_any (has_key_on file key) opens ≡ false
 elsewhere_none key file at [] apart none = refl
-elsewhere_none key file at (one ∷ opens) apart none = let e1 = elsewhere_none key file at opens apart in grind arith
+elsewhere_none key file at (one ∷ opens) apart none = let later = elsewhere_none key file at opens apart in grind arith
 
 pub sums_up_apart : (one : Open) (marks : LeaseMarks) (file : ℕ) (summary : FileSummary) (less more : List Open)
     (leases later : Key → Lease)

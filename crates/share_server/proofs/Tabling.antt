@@ -70,7 +70,8 @@ none_above : (n : ℕ) (test : Open → Bool) (opens : List Open)
     → ((one : Open) → test one ≡ true → has_id n one ≡ true)
     → ((one : Open) → Among one opens → has_id n one ≡ false) → list_any test opens ≡ false
 none_above n test [] only apart = refl
-none_above n test (one ∷ opens) only apart = let e1 = none_above n test opens only (λ other a. apart other (inr a)) in grind arith
+none_above n test (one ∷ opens) only apart =
+    let later = none_above n test opens only (λ other a. apart other (inr a)) in grind arith
 
 find_none : (test : Open → Bool) (opens : List Open) → list_any test opens ≡ false → find test opens ≡ None
 find_none test [] none = refl
@@ -133,12 +134,12 @@ chosen test opens one order among = either (test one)
 pub filter_alike : (f g : Open → Bool) (opens : List Open) → ((one : Open) → Among one opens → f one ≡ g one)
     → without f opens ≡ without g opens
 filter_alike f g [] same = refl
-filter_alike f g (one ∷ opens) same = let e1 = filter_alike f g opens (λ other a. same other (inr a)) in grind arith
+filter_alike f g (one ∷ opens) same = let later = filter_alike f g opens (λ other a. same other (inr a)) in grind arith
 
 pub map_alike : (f g : Open → Open) (opens : List Open) → ((one : Open) → Among one opens → f one ≡ g one)
     → map f opens ≡ map g opens
 map_alike f g [] same = refl
-map_alike f g (one ∷ opens) same = let e1 = map_alike f g opens (λ other a. same other (inr a)) in grind arith
+map_alike f g (one ∷ opens) same = let later = map_alike f g opens (λ other a. same other (inr a)) in grind arith
 
 -- ---- opens that are closed
 
@@ -397,7 +398,7 @@ pub ids_more : (ids : List FileId) (i : ℕ) (d : FileId) → i < length ids
     → map (λ id. id.0) (take (i + 1) ids) ≡ map (λ id. id.0) (take i ids) ++ (get_or ids i d).0 ∷ []
 ids_more [] i d inside = absurd (omega (arith, inside))
 ids_more (id ∷ ids) zero d inside = refl
-ids_more (id ∷ ids) (suc i) d inside = let e1 = ids_more ids i d (omega (arith, inside)) in grind arith
+ids_more (id ∷ ids) (suc i) d inside = let later = ids_more ids i d (omega (arith, inside)) in grind arith
 
 pub ids_all : (ids : List FileId) (i : ℕ) → length ids ≤ i → map (λ id. id.0) (take i ids) ≡ map (λ id. id.0) ids
 ids_all [] zero less = refl

@@ -33,7 +33,7 @@ count_less test (one ∷ opens) = let e = count_less test opens in grind (arith,
 pub none_both : (test other : Open → Bool) (opens : List Open) → list_any test opens ≡ false
     → list_any (λ one. test one && other one) opens ≡ false
 none_both test other [] none = refl
-none_both test other (one ∷ opens) none = let e1 = none_both test other opens in grind arith
+none_both test other (one ∷ opens) none = let later = none_both test other opens in grind arith
 
 pub none_counted : (test : Open → Bool) (opens : List Open) → list_any test opens ≡ false → count test opens ≡ 0
 none_counted test [] none = refl
