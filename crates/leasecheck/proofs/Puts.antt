@@ -11,11 +11,6 @@ use Rattle.leasecheck.specs.declared.failure.Failure.{Failure}
 use Rattle.leasecheck.specs.declared.refusal.Refusal.{Refusal}
 use Rattle.leasecheck.specs.declared.tasks.Task.{Task}
 
-pub keeps_appends : (old new : Option (List ℕ)) → Keeps old new → Appends old new []
-keeps_appends None new keeps = tt
-keeps_appends (Some xs) None keeps = absurd keeps
-keeps_appends (Some xs) (Some ys) keeps = keeps ∙ sym (append-nil xs)
-
 pub appends_more : (first old new : Option (List ℕ)) (part more : List ℕ) → Appends first old part → Appends old new more
     → Appends first new (part ++ more)
 appends_more None old new part more had has = tt
@@ -35,11 +30,6 @@ puts_more first old new text left part count n is cut had has = (
       ∙ take-append-drop count left) ∙ is),
   appends_more first old new part (take count left) had has,
 )
-
-pub puts_begin : {T E : Type 0} (old new : Option (List ℕ)) (text : List ℕ) (answer : Result T E) → Puts old new text answer
-    → Begins old new text
-puts_begin old new text (Ok value) puts = (text, [], sym (append-nil text), puts)
-puts_begin old new text (Err e) puts = puts
 
 -- a text and a beginning of another one behind it
 pub begins_behind : {T E : Type 0} (first old new : Option (List ℕ)) (line second : List ℕ) (answer : Result T E)

@@ -21,25 +21,12 @@ use Rattle.leasecheck.specs.declared.tasks.Task.TheVariants as task
 
 -- ---- what is written
 
-appends_nothing : (known : Option (List ℕ)) → Appends known known []
-appends_nothing None = tt
-appends_nothing (Some bytes) = sym (append-nil bytes)
-
 keeps_if_nothing : (old new : Option (List ℕ)) (part : List ℕ) → Appends old new part → part ≡ [] → Keeps old new
 keeps_if_nothing None new part had none = tt
 keeps_if_nothing (Some xs) None part had none = absurd had
 keeps_if_nothing (Some xs) (Some ys) part had none = had ∙ (ap (λ t. xs ++ t) none ∙ append-nil xs)
 
 -- ---- what has gathered
-
-pub nothing_gathered : (known : Option (List ℕ)) (gathered : Gathered) → string_bytes gathered.text ≡ []
-    → HasGathered known known gathered []
-nothing_gathered known gathered none = record {
-  part = [];
-  written = appends_nothing known;
-  gathers = sym none;
-  begins = λ no. refl;
-}
 
 pub gathered_more : (first current : Option (List ℕ)) (old new : Gathered) (told more : List ℕ)
     → HasGathered first current old told
@@ -105,31 +92,7 @@ unwritten_whole first current new gathered told (Ok value) has begins = tt
 unwritten_whole first current new gathered told (Err why) has begins =
     unwritten first current new gathered told [] told why has begins.0 begins.1 (append-nil told)
 
--- what has gathered is written, and with it all that is told
-pub all_written : (first current new : Option (List ℕ)) (gathered : Gathered) (told : List ℕ)
-    → HasGathered first current gathered told
-    → Appends current new (string_bytes gathered.text) → Appends first new told
-all_written first current new gathered told has wrote =
-    subst (λ t. Appends first new t) (sym has.gathers)
-    (appends_more first current new has.part (string_bytes gathered.text) has.written wrote)
-
 -- ---- how a task ends
-
-lacks_memory : (asked : Task) (file : Option (List ℕ)) (why : Failure) → why ≡ failure.Memory → MayEnd asked file why
-lacks_memory (task.Ack argument) file why is = inl is
-lacks_memory (task.Show kind argument) file why is = inl is
-lacks_memory (task.Replay path telling) file why is = inl is
-lacks_memory (task.Judge path) file why is = inl is
-lacks_memory (task.Explain path) file why is = inl is
-lacks_memory (task.Draw path) file why is = inl is
-lacks_memory task.Version file why is = inl is
-
-pub ends_unwritten : (asked : Task) (file old new : Option (List ℕ)) (why : Failure) (text : List ℕ) (status : ℕ)
-    → refusal_of asked file ≡ None → IsTextOf asked file text status → IsUnwritten why old new text
-    → EndsWith asked file old new why
-ends_unwritten asked file old new why text status accepted prints (inl (is, begins)) =
-    inl (is, accepted, text, status, prints, begins)
-ends_unwritten asked file old new why text status accepted prints (inr (is, keeps)) = inr (keeps, lacks_memory asked file why is)
 
 -- ---- records that are told without messages
 

@@ -44,15 +44,3 @@ pub refusal_told : (words : List Text) (fault : ErrorKind) (text : String Global
     → IsUsageOf words (usage.Refused text)
 refusal_told words fault text not (inl memory) = absurd (not memory)
 refusal_told words fault text not (inr told) = (fault, told.0, told.1, told.2)
-
-pub version_asked : (words : List Text) (fault : ErrorKind) → fault ≡ error.DisplayVersion → Errs words fault
-    → AsksFor words Request.Version
-version_asked words fault is (inl memory) = let c : ⊥ = cc in absurd c
-version_asked words fault is (inr told) =
-    inl (refl, told.0, told.1, subst (λ (k : ErrorKind). IsAmong k (fault_of (leasecheck_app told.0) words)) is told.2)
-
-pub request_asked : (words : List Text) (rows : Option (Text × List Row)) (request : Request) (kinds : ValueParser)
-    → TakesKinds kinds → fault_of (leasecheck_app kinds) words ≡ [] → rows ≡ subcommand_of (leasecheck_app kinds) words
-    → Some request ≡ requested_by rows → AsksFor words request
-request_asked words rows request kinds takes whole is found =
-    inr (kinds, takes, whole, sym (found ∙ ap requested_by is))
