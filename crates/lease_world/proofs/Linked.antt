@@ -211,22 +211,16 @@ stack_take covers [] (suc count) position none = refl
 stack_take covers (top ∷ tops) zero zero none =
     sym (ap (λ (n : ℕ). layers_under covers n) (none 0 (omega arith)) ∙ none_under covers)
 stack_take covers (top ∷ tops) zero (suc position) none =
-    let rest = stack_take covers tops zero position (λ n le. none (suc n) (omega arith)) in
-    (grind arith) ∙ rest
+    let later = stack_take covers tops zero position (λ n le. none (suc n) (omega arith)) in grind arith
 stack_take covers (top ∷ tops) (suc count) zero none = refl
 stack_take covers (top ∷ tops) (suc count) (suc position) none =
-    stack_take covers tops count position (λ n le. none (suc n) (omega (arith, le)))
+    let later = stack_take covers tops count position (λ n le. none (suc n) (omega (arith, le))) in grind arith
 
 -- the last position that is left has a layer
 pub ends_covered : (covers : List Cover) (tops : List ℕ) (count : ℕ) → AreLinked covers → AreTops covers tops
     → count ≤ length tops
     → (count ≡ 0) ⊎ (get_or tops (count - 1) 0 ≢ 0) → EndsCovered (map (layers_under covers) (take count tops))
-ends_covered covers tops count linked inside within (inl none) =
-    inl (length_map (take count tops) ∙ (length-take-le count tops within ∙ none))
-  where
-    length_map : (xs : List ℕ) → length (map (layers_under covers) xs) ≡ length xs
-    length_map [] = refl
-    length_map (x ∷ xs) = ap suc (length_map xs)
+ends_covered covers tops count linked inside within (inl none) = grind arith
 ends_covered covers tops count linked inside within (inr some) = elim (cases_lt 0 count) [
   | inr none ↦ inl (length_map (take count tops) ∙ (length-take-le count tops within ∙ omega (arith, none)))
   | inl more ↦ inr (λ empty.

@@ -1,6 +1,8 @@
 -- What is kept of a client and a file, over one fact more.
-use Rattle.lease_laws.proofs.Words.{◌++◌, ◌∙◌, ◌∷◌, ◌≡◌, Bool, Fact, List, ℕ, [], ap, believed, filter, is_settled, not, refl}
-use Rattle.lease_laws.proofs.Words.{sym}
+use Rattle.std.proofs.Common.{◌≡◌, ℕ, Bool, List, [], ◌∷◌, ◌++◌, refl, sym, ap, ◌∙◌, arith}
+use Rattle.std.specs.Prelude.{filter, not}
+use Rattle.lease_model.specs.records.Facts.{Fact}
+use Rattle.lease_model.specs.records.Past.{is_settled, believed}
 use Rattle.lease_world.specs.judge.Knows.{KnowsCache}
 use Rattle.lease_world.specs.judge.Covers.{layers_at, stack_in}
 use Rattle.lease_world.specs.judge.Seen.{SeenCache, Waiting}
@@ -18,7 +20,7 @@ pub pending-agree : (client file : ℕ) (whole other past : List Fact)
 unfolding pending
 pending-agree client file whole other [] e = refl
 pending-agree client file whole other (Fact.Wrote writer of_file number patch buffered ∷ past) e =
-    rw (e number, pending-agree client file whole other past e) refl
+    let later = pending-agree client file whole other past e in grind arith
 pending-agree client file whole other (_ ∷ past) e = pending-agree client file whole other past e
 
 -- Where belief, settled numbers and writes are as before, so is all that is known of a cache.

@@ -117,23 +117,8 @@ next_message : (n : ℕ) (places : List (List Fact)) (first : ℕ) (rest : List 
     → drop n (map place_of places) ≡ first ∷ rest → NextMessage n places first rest
 next_message zero [] first rest e = let c : ⊥ = cc in absurd c
 next_message (suc n) [] first rest e = let c : ⊥ = cc in absurd c
-next_message zero (place ∷ places) first rest e = record {
-  within = omega arith;
-  place = place;
-  is = refl;
-  is_first = cc;
-  is_rest = cc;
-}
-next_message (suc n) (place ∷ places) first rest e =
-    let later : NextMessage n places first rest = next_message n places first rest e in
-    let inside = later.within in
-    record {
-      within = omega (arith, inside);
-      place = later.place;
-      is = later.is;
-      is_first = later.is_first;
-      is_rest = later.is_rest;
-    }
+next_message zero (place ∷ places) first rest e = grind arith
+next_message (suc n) (place ∷ places) first rest e = let later = next_message n places first rest e in grind arith
 
 no_message : (n : ℕ) (places : List (List Fact)) → drop n (map place_of places) ≡ [] → length places ≤ n
 no_message n [] e = omega arith

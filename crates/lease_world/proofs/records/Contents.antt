@@ -66,15 +66,12 @@ placed-below file (Fact.Changed other client number patch ∷ past) =
 placed-below file (_ ∷ past) = below-more (length past + 1) (suc (length past) + 1) (placed_changes file past) (omega arith)
     (placed-below file past)
 
-lt-so : (a b : ℕ) → a < b → nat_lt a b ≡ true
-lt-so a b h = grind arith
-
 ge-so : (a b : ℕ) → b ≤ a → nat_lt a b ≡ false
 ge-so a b h = grind arith
 
 before-all : (place : ℕ) (changes : List Change) → AllBelow place changes → before place changes ≡ changes
 before-all place [] b = refl
-before-all place (change ∷ changes) b = rw (lt-so change.place place b.0, before-all place changes b.1) refl
+before-all place (change ∷ changes) b = let later = before-all place changes b.1 in grind arith
 
 pub before-push : (place : ℕ) (changes : List Change) (change : Change) → place ≤ change.place
     → before place (changes ++ change ∷ []) ≡ before place changes

@@ -14,9 +14,7 @@ one_if b = if b then 1 else 0
 same_many : (p q : ℕ → Bool) (n : ℕ) → ((k : ℕ) → k < n → q k ≡ p k) → how_many q n ≡ how_many p n
 unfolding how_many
 same_many p q zero same = refl
-same_many p q (suc n) same =
-    let rest = same_many p q n (λ k lt. same k (omega (arith, lt))) in
-    rw (same n (omega arith), rest) refl
+same_many p q (suc n) same = let later = same_many p q n (λ k lt. same k (omega (arith, lt))) in grind arith
 
 -- where one number changes, so does the count
 one_changed : (p q : ℕ → Bool) (k n : ℕ) → k < n → ((j : ℕ) → j ≢ k → q j ≡ p j)
@@ -40,10 +38,7 @@ one_changed p q k (suc n) lt others = elim (cases_Bool (n == k)) [
 at_most : (p : ℕ → Bool) (n : ℕ) → how_many p n ≤ n
 unfolding how_many
 at_most p zero = omega arith
-at_most p (suc n) = let le = at_most p n in step (p n) le
-  where
-    step : (b : Bool) → how_many p n ≤ n → one_if b + how_many p n ≤ suc n
-    step x1 le = grind arith
+at_most p (suc n) = let later = at_most p n in grind arith
 
 -- one of them does
 some_one : (p : ℕ → Bool) (n : ℕ) → 0 < how_many p n → (k : ℕ) × (p k ≡ true)

@@ -21,9 +21,7 @@ use Rattle.lease_world.specs.judge.Seen.{Waiting}
 pub layers_push : (position : ℕ) (writes : List Waiting) (write : Waiting)
     → layers_at position (writes ++ write ∷ []) ≡ layer_of position write ++ layers_at position writes
 layers_push position [] write = sym (append-nil (layer_of position write))
-layers_push position (first ∷ writes) write =
-    ap (λ (ls : List Layer). ls ++ layer_of position first) (layers_push position writes write)
-    ∙ append_assoc (layer_of position write) (layers_at position writes) (layer_of position first)
+layers_push position (first ∷ writes) write = let later = layers_push position writes write in grind arith
 
 one_layer : (test : Layer → Bool) (covers passes : Bool) (layer : Layer) → test layer ≡ passes
     → filter test (if covers then layer ∷ [] else []) ≡ (if passes then (if covers then layer ∷ [] else []) else [])
@@ -51,12 +49,17 @@ layers_kept position test (write ∷ writes) = layers_if position (test write.nu
 -- ---- the byte at a position
 
 patched_byte_by : (base : List ℕ) (o : ℕ) (d : List ℕ) (position : ℕ) (write : Waiting) → write.patch.offset ≡ o
-    → write.patch.bytes ≡ d → get_or (patch base write.patch) position 0 ≡ seen_byte base (layer_of position write) position
-patched_byte_by base o [] position write offset bytes = rw (bytes, offset) (
-    let none : (nat_le o position && nat_lt position (o + 0)) ≡ false = grind arith in
-    rw none refl)
-patched_byte_by base o (b ∷ d) position write offset bytes = rw (bytes, offset) (get_or-written base o (b ∷ d) position
-    ∙ (grind arith))
+    → write.patch.bytes ≡ d
+    → get_or (patch base write.patch) position 0 ≡ seen_byte base (layer_of position write) position
+patched_byte_by base o [] position write offset bytes = grind arith
+patched_byte_by base o (b ∷ d) position write offset bytes =
+    rw (bytes, offset) (get_or-written base o (b ∷ d) position
+    ∙ by_cover (nat_le o position && nat_lt position (o + length (b ∷ d))))
+  where
+    by_cover : (c : Bool) → (if c then slice_index (b ∷ d) (position - o) else slice_index base position)
+        ≡ seen_byte base (if c then record { number = write.number; byte = slice_index (b ∷ d) (position - o) } ∷ [] else [])
+        position
+    by_cover x1 = grind arith
 
 patched_byte : (base : List ℕ) (position : ℕ) (write : Waiting)
     → get_or (patch base write.patch) position 0 ≡ seen_byte base (layer_of position write) position
@@ -140,9 +143,10 @@ patch_within base write size fits none =
 pub patched_within : (base : List ℕ) (writes : List Waiting) (size : ℕ) → length base ≤ size
     → ((position : ℕ) → size ≤ position → layers_at position writes ≡ []) → length (patches base (patches_waiting writes)) ≤ size
 patched_within base [] size fits none = fits
-patched_within base (write ∷ writes) size fits none = patched_within (patch base write.patch) writes size
-    (patch_within base write size fits (λ position past. (append_none (layers_at position writes) (layer_of position write)
-    (none position past)).1))
+patched_within base (write ∷ writes) size fits none =
+    patched_within (patch base write.patch) writes size
+    (patch_within base write size fits
+    (λ position past. (append_none (layers_at position writes) (layer_of position write) (none position past)).1))
     (λ position past. (append_none (layers_at position writes) (layer_of position write) (none position past)).0)
 
 -- ---- stacks whose topmost layers are open
@@ -238,7 +242,7 @@ take_more : (writes : List Waiting) (n : ℕ) (write : Waiting) → n < length w
 take_more [] n write inside is = absurd (omega (arith, inside))
 take_more (first ∷ writes) zero write inside is = ap (λ (w : Waiting). w ∷ []) (sym is)
 take_more (first ∷ writes) (suc n) write inside is =
-    ap (λ (ws : List Waiting). first ∷ ws) (take_more writes n write (omega (arith, inside)) is)
+    let later = take_more writes n write (omega (arith, inside)) is in grind arith
 
 filter_one : (test : Layer → Bool) (covers : Bool) (layer : Layer) (passes : Bool) → test layer ≡ passes
     → filter test (if covers then layer ∷ [] else []) ≡ (if passes then (if covers then layer ∷ [] else []) else [])

@@ -38,25 +38,14 @@ safe-here place fact past w one stale late done = rw (w, two_caches-test (fact �
 
 -- ---- one fact more
 
-else_else : (one two three : Verdict) → or_else (or_else one two) three ≡ or_else one (or_else two three)
-else_else x1 two three = grind arith
-
-safe_else : (one : Verdict) → or_else one Verdict.Safe ≡ one
-safe_else x1 = grind arith
-
 counted : (n m : ℕ) → (n + 1) + m ≡ n + suc m
 counted n m = omega arith
 
 verdict-push : (place : ℕ) (past facts : List Fact) (fact : Fact) → verdict_from place past (facts ++ fact ∷ [])
     ≡ or_else (verdict_from place past facts) (flaw_at (place + length facts) fact (reverse_aux facts past))
 unfolding verdict_from
-verdict-push place past [] fact =
-    let e : place + 0 ≡ place = omega arith in rw e (safe_else (flaw_at place fact past))
-verdict-push place past (x ∷ facts) fact =
-    ap (λ (v : Verdict). or_else (flaw_at place x past) v) (verdict-push (place + 1) (x ∷ past) facts fact)
-    ∙ (sym (else_else (flaw_at place x past) (verdict_from (place + 1) (x ∷ past) facts) _)
-    ∙ ap (λ (n : ℕ). or_else (or_else (flaw_at place x past) (verdict_from (place + 1) (x ∷ past) facts))
-    (flaw_at n fact (reverse_aux facts (x ∷ past)))) (counted place (length facts)))
+verdict-push place past [] fact = grind arith
+verdict-push place past (x ∷ facts) fact = let later = verdict-push (place + 1) (x ∷ past) facts fact in grind arith
 
 one_and : (n : ℕ) → 1 + n ≡ n + 1
 one_and n = omega arith

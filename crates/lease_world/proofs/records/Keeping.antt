@@ -13,16 +13,7 @@ use Rattle.lease_world.proofs.records.Contents.{before-push}
 before-longer : (place later : ℕ) (changes : List Change) → place ≤ later
     → length (before place changes) ≤ length (before later changes)
 before-longer place later [] le = omega arith
-before-longer place later (change ∷ changes) le =
-    one_longer (nat_lt change.place place) (nat_lt change.place later) (before place changes) (before later changes)
-    (before-longer place later changes le) (λ h. still change.place place later h le)
-  where
-    still : (n place later : ℕ) → nat_lt n place ≡ true → place ≤ later → nat_lt n later ≡ true
-    still n place later h le = grind arith
-
-    one_longer : (a b : Bool) (xs ys : List Change) → length xs ≤ length ys → (a ≡ true → b ≡ true)
-        → length (if a then change ∷ xs else []) ≤ length (if b then change ∷ ys else [])
-    one_longer x1 x2 xs ys le h = grind arith
+before-longer place later (change ∷ changes) le = let later = before-longer place later changes le in grind arith
 
 base-later : (file : SeenFile) (taken later : ℕ) (base : Option Snapshot) → taken ≤ later → IsBase file taken base
     → IsBase file later base
@@ -66,8 +57,7 @@ base-change file touches change taken (Some base) le is =
 
     before-within : (place : ℕ) (changes : List Change) → length (before place changes) ≤ length changes
     before-within place [] = omega arith
-    before-within place (x ∷ changes) =
-        let e = before-within place changes in shorter (nat_lt x.place place) x (before place changes) (length changes) e
+    before-within place (x ∷ changes) = let later = before-within place changes in grind arith
 
 pub contents-change : (file : SeenFile) (touches : Touches) (change : Change) (taken : ℕ) (cache : SeenCache)
     → taken ≤ change.place → HasContents file taken cache

@@ -42,8 +42,7 @@ part_at : (past : List Fact) (places : List (List Fact)) (k : ℕ) (place : List
     → slice_get places k ≡ Some place → PartOf past place
 part_at past [] zero place all e = let c : ⊥ = cc in absurd c
 part_at past [] (suc k) place all e = let c : ⊥ = cc in absurd c
-part_at past (x ∷ places) zero place ((newer, is), all) e =
-    let same : x ≡ place = cc in (newer, rw (← same) is)
+part_at past (x ∷ places) zero place ((newer, is), all) e = grind arith
 part_at past (x ∷ places) (suc k) place all e = part_at past places k place all.1 e
 
 part_of_last : (past : List Fact) (places : List (List Fact)) (n : ℕ) (place : List Fact) → AllParts past places

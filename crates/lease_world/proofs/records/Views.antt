@@ -39,15 +39,9 @@ advances taken later (suc k) (change ∷ changes) le inside = elim (cases_Bool (
       | inr h ↦ absurd (nothing_before (nat_lt change.place taken) k change (before taken changes) h inside)
     ]
 
-take-if : (b : Bool) (place : ℕ) (change : Change) (changes : List Change)
-    → take (length (before place changes)) changes ≡ before place changes
-    → take (length (if b then change ∷ before place changes else [])) (change ∷ changes)
-    ≡ (if b then change ∷ before place changes else [])
-take-if x1 place change changes e = grind arith
-
 take-before : (place : ℕ) (changes : List Change) → take (length (before place changes)) changes ≡ before place changes
 take-before place [] = refl
-take-before place (change ∷ changes) = take-if (nat_lt change.place place) place change changes (take-before place changes)
+take-before place (change ∷ changes) = let later = take-before place changes in grind arith
 
 -- ---- the file at the place
 
@@ -85,8 +79,7 @@ first_base file taken started = (started, refl, omega arith)
 pub brought_bytes : (file : SeenFile) (taken place : ℕ) (base : Option Snapshot) → taken ≤ place → is_some file.start ≡ true
     → IsBase file taken base → (base_at file place base).bytes ≡ content_before file place
 brought_bytes file taken place (Some base) le started is = moved-bytes file taken place base le is
-brought_bytes file taken place None le started is =
-    moved-bytes file taken place (first_of file) le (first_base file taken started)
+brought_bytes file taken place None le started is = grind arith
 
 pub brought_base : (file : SeenFile) (taken place : ℕ) (base : Option Snapshot) → taken ≤ place → is_some file.start ≡ true
     → IsBase file taken base → IsBase file place (Some (base_at file place base))

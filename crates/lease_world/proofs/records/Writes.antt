@@ -18,12 +18,6 @@ abbrev pub is_buffered_on : ℕ → Option SeenWrite → Bool
 is_buffered_on file (Some write) = write.file == file && write.buffered
 is_buffered_on file None = false
 
-some_if : {X : Type 0} (b : Bool) (x : X) (o : Option X) → is_some (if b then Some x else o) ≡ b || is_some o
-some_if x1 x o = grind arith
-
-some_if_map : {X : Type 0} (b : Bool) (f : X → X) (o : Option X) → is_some (if b then option_map f o else o) ≡ is_some o
-some_if_map x1 f o = grind arith
-
 none_from : {X : Type 0} (o : Option X) → is_some o ≡ false → o ≡ None
 none_from x1 e = grind arith
 
@@ -33,10 +27,8 @@ pub number-told : (client number : ℕ) (past : List Fact) → has_number client
 unfolding has_number write_of
 number-told client number [] = refl
 number-told client number (Fact.Wrote writer file used patch buffered ∷ past) =
-    ap (λ (b : Bool). (writer == client && used == number) || b) (number-told client number past)
-    ∙ sym (some_if (writer == client && used == number) _ (write_of client number past))
-number-told client number (Fact.Changed file writer used patch ∷ past) = number-told client number past
-    ∙ sym (some_if_map (writer == client && used == number) (accepted_as file patch) (write_of client number past))
+    let later = number-told client number past in grind arith
+number-told client number (Fact.Changed file writer used patch ∷ past) = let later = number-told client number past in grind arith
 number-told client number (_ ∷ past) = number-told client number past
 
 -- a write that is well formed has a new number
@@ -83,9 +75,6 @@ keeps_test test x2 change x4 rest keeps e = grind arith
 pub accepted_file : (file : ℕ) (patch : Patch) (w : SeenWrite) → (accepted_as file patch w).file ≡ w.file
 accepted_file file patch w = grind arith
 
-accepted_patch : (file : ℕ) (patch : Patch) (w : SeenWrite) → (accepted_as file patch w).patch ≡ w.patch
-accepted_patch file patch w = grind arith
-
 accepted_buffered : (file : ℕ) (patch : Patch) (w : SeenWrite) → (accepted_as file patch w).buffered ≡ w.buffered
 accepted_buffered file patch w = grind arith
 
@@ -112,9 +101,7 @@ written-told client file number patch (Fact.Wrote writer other used bytes buffer
     (λ e. four_not (writer == client) (other == file) (used == number) (same_patch bytes patch) e)
     (written-told client file number patch past w.1)
 written-told client file number patch (Fact.Changed other writer used bytes ∷ past) w =
-    keeps_test (is_of file patch) (writer == client && used == number) (accepted_as other bytes) (write_of client number past)
-    (has_written client file number patch past)
-    (λ v. rw (accepted_file other bytes v, accepted_patch other bytes v) refl) (written-told client file number patch past w.1)
+    let later = written-told client file number patch past w.1 in grind arith
 written-told client file number patch (_ ∷ past) w = written-told client file number patch past w.1
 
 pub buffered-told : (client file number : ℕ) (past : List Fact) → EachFact WellFormed past
@@ -128,9 +115,7 @@ buffered-told client file number (Fact.Wrote writer other used bytes buffered �
     (λ e. four_so (writer == client) (other == file) (used == number) buffered true e)
     (λ e. four_not (writer == client) (other == file) (used == number) buffered e) (buffered-told client file number past w.1)
 buffered-told client file number (Fact.Changed other writer used bytes ∷ past) w =
-    keeps_test (is_buffered_on file) (writer == client && used == number) (accepted_as other bytes) (write_of client number past)
-    (has_buffered client file number past)
-    (λ v. rw (accepted_file other bytes v, accepted_buffered other bytes v) refl) (buffered-told client file number past w.1)
+    let later = buffered-told client file number past w.1 in grind arith
 buffered-told client file number (_ ∷ past) w = buffered-told client file number past w.1
 
 -- a Changed accepts the write where file and patch are the same
@@ -158,16 +143,8 @@ accepted-told client number (_ ∷ past) w = accepted-told client number past w.
 pub touch-bound : (client file : ℕ) (past : List Fact) → last_touch client file past ≤ length past
 unfolding last_touch
 touch-bound client file [] = omega arith
-touch-bound client file (Fact.Opened other opener ∷ past) =
-    touched_within (other == file && not (opener == client)) _ (length past) (touch-bound client file past)
-  where
-    touched_within : (b : Bool) (t n : ℕ) → t ≤ n → (if b then n + 1 else t) ≤ suc n
-    touched_within x1 t n le = grind arith
-touch-bound client file (Fact.Changed other writer number patch ∷ past) =
-    touched_within (other == file && not (writer == client)) _ (length past) (touch-bound client file past)
-  where
-    touched_within : (b : Bool) (t n : ℕ) → t ≤ n → (if b then n + 1 else t) ≤ suc n
-    touched_within x1 t n le = grind arith
+touch-bound client file (Fact.Opened other opener ∷ past) = let later = touch-bound client file past in grind arith
+touch-bound client file (Fact.Changed other writer number patch ∷ past) = let later = touch-bound client file past in grind arith
 touch-bound client file (_ ∷ past) = let le = touch-bound client file past in omega (arith, le)
 
 abbrev PlaceWithin : Option SeenWrite → ℕ → Type 0
@@ -177,24 +154,13 @@ PlaceWithin (Some write) high = write.place ≤ high
 within_more : (o : Option SeenWrite) (high : ℕ) → PlaceWithin o high → PlaceWithin o (suc high)
 within_more x1 high le = grind arith
 
-within_new : (same : Bool) (write : SeenWrite) (o : Option SeenWrite) (high : ℕ) → write.place ≤ suc high → PlaceWithin o high
-    → PlaceWithin (if same then Some write else o) (suc high)
-within_new x1 write o high here le = grind arith
-
-within_map : (same : Bool) (file : ℕ) (patch : Patch) (o : Option SeenWrite) (high : ℕ) → PlaceWithin o high
-    → PlaceWithin (if same then option_map (accepted_as file patch) o else o) (suc high)
-within_map x1 file patch x4 high le = grind arith
-
 place-within : (client number : ℕ) (past : List Fact) → PlaceWithin (write_of client number past) (length past)
 unfolding write_of
 place-within client number [] = tt
 place-within client number (Fact.Wrote writer file used patch buffered ∷ past) =
-    let here : length past + 1 ≤ suc (length past) = omega arith in
-    within_new (writer == client && used == number) _ (write_of client number past) (length past) here
-    (place-within client number past)
+    let later = place-within client number past in grind arith
 place-within client number (Fact.Changed file writer used patch ∷ past) =
-    within_map (writer == client && used == number) file patch (write_of client number past) (length past)
-    (place-within client number past)
+    let later = place-within client number past in grind arith
 place-within client number (_ ∷ past) = within_more (write_of client number past) (length past) (place-within client number past)
 
 below_next : (place high : ℕ) → place ≤ high → nat_lt place (high + 1) ≡ true

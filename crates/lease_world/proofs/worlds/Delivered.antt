@@ -99,20 +99,12 @@ pub given_told : (outs : List Out) → map fact_given (map out_written outs) ≡
 given_told [] = refl
 given_told (Out.Sent client reply ∷ outs) = ap (λ (xs : List Fact). Fact.Sent client ∷ xs) (given_told outs)
 given_told (Out.Opened file client ∷ outs) = ap (λ (xs : List Fact). Fact.Opened file client ∷ xs) (given_told outs)
-given_told (Out.Changed file client number patch ∷ outs) =
-    ap (λ (xs : List Fact). Fact.Changed file client number patch ∷ xs) (given_told outs)
+given_told (Out.Changed file client number patch ∷ outs) = let later = given_told outs in grind arith
 
 pub given_replies : RepliesAreReadBack → (client : ℕ) (outs : List Out) → EachOut OutHasBytes outs
     → map reply_of (replies_to client (map out_written outs)) ≡ told_to client outs
 given_replies back client [] each = refl
-given_replies back client (Out.Sent other reply ∷ outs) each =
-    go (other == client) (back reply each.0) (given_replies back client outs each.1)
-  where
-    go : (b : Bool) → reply_of (reply_written reply) ≡ reply
-        → map reply_of (replies_to client (map out_written outs)) ≡ told_to client outs
-        → map reply_of (if b then reply_written reply ∷ replies_to client (map out_written outs)
-        else replies_to client (map out_written outs)) ≡ (if b then reply ∷ told_to client outs else told_to client outs)
-    go x1 e rest = grind arith
+given_replies back client (Out.Sent other reply ∷ outs) each = let later = given_replies back client outs each.1 in grind arith
 given_replies back client (Out.Opened file other ∷ outs) each = given_replies back client outs each.1
 given_replies back client (Out.Changed file other number patch ∷ outs) each = given_replies back client outs each.1
 

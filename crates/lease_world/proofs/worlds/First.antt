@@ -56,14 +56,10 @@ take_all (x ∷ xs) (suc n) le = ap (λ ys. x ∷ ys) (take_all xs n (omega arit
 both_so : (a b : Bool) → a ≡ true → b ≡ true → (a && b) ≡ true
 both_so x1 b x3 e = grind arith
 
--- what holds of a head and, where it does, of the rest with one more
-head_and_rest : (a b c : Bool) → (b ≡ true → c ≡ true) → (a && b) ≡ true → (a && c) ≡ true
-head_and_rest x1 b c f e = grind arith
-
 all_and_one : {X : Type 0} (p : X → Bool) (xs : List X) (x : X) → p x ≡ true → list_all p xs ≡ true
     → list_all p (xs ++ x ∷ []) ≡ true
 all_and_one p [] x f e = both_so (p x) true f refl
-all_and_one p (y ∷ xs) x f e = head_and_rest (p y) (list_all p xs) (list_all p (xs ++ x ∷ [])) (all_and_one p xs x f) e
+all_and_one p (y ∷ xs) x f e = let later = all_and_one p xs x f in grind arith
 
 pub fit_one_more : (files : List (List ℕ)) (n : ℕ) (d : List ℕ) → n < length files → list_all is_content (take n files) ≡ true
     → length (get_or files n d) ≤ FILE_LIMIT → list_all is_content (take (n + 1) files) ≡ true
@@ -119,14 +115,8 @@ start_at : (files : List (List ℕ)) (first n : ℕ) (d : List ℕ) → n < leng
     → take (suc n) (starts_from first files) ≡ take n (starts_from first files) ++ Fact.Start (n + first) (get_or files n d) ∷ []
 unfolding starts_from
 start_at [] first n d lt = absurd (omega arith)
-start_at (file ∷ files) first zero d lt =
-    let e : first ≡ 0 + first = omega arith in
-    ap (λ (m : ℕ). Fact.Start m file ∷ []) e
-start_at (file ∷ files) first (suc n) d lt =
-    let e : n + (first + 1) ≡ suc n + first = omega arith in
-    ap (λ fs. Fact.Start first file ∷ fs) (subst (λ (m : ℕ). take (suc n) (starts_from (first + 1) files)
-    ≡ take n (starts_from (first + 1) files) ++ Fact.Start m (get_or files n d) ∷ []) e
-    (start_at files (first + 1) n d (omega arith)))
+start_at (file ∷ files) first zero d lt = grind arith
+start_at (file ∷ files) first (suc n) d lt = let later = start_at files (first + 1) n d (omega arith) in grind arith
 
 pub one_more_start : (files : List (List ℕ)) (n : ℕ) (d : List ℕ) → n < length files
     → take (n + 1) (starts_from 1 files) ≡ take n (starts_from 1 files) ++ Fact.Start (n + 1) (get_or files n d) ∷ []

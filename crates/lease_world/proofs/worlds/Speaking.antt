@@ -18,11 +18,7 @@ use Rattle.lease_world.proofs.worlds.Delivered.{told, delivers, notes_told}
 speaking_both : (xs ys : List Fact) → speaking (xs ++ ys) ≡ speaking xs + speaking ys
 unfolding speaking
 speaking_both [] ys = omega arith
-speaking_both (fact ∷ xs) ys = let rest = speaking_both xs ys in go fact rest
-  where
-    go : (f : Fact) → speaking (xs ++ ys) ≡ speaking xs + speaking ys
-        → speaking ((f ∷ xs) ++ ys) ≡ speaking (f ∷ xs) + speaking ys
-    go x1 e = grind arith
+speaking_both (fact ∷ xs) ys = let later = speaking_both xs ys in grind arith
 
 -- as many facts of a world speak of a message
 abbrev said : World → ℕ
