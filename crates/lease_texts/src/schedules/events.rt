@@ -123,6 +123,7 @@ pub fn read_request(alloc: Global, fields: &mut Fields) -> Result<Request, LineF
 
 // The event of a client, by the fields after those that name it and the client.
 #[tactic(auto, unfolding(crate::specs::Schedules::event_of))]
+#[inline(always)]
 fn read_event_of(
     alloc: Global,
     kind: &[u8],
@@ -171,6 +172,7 @@ fn read_event_of(
 ///
 /// `Refused` where they are no event of that kind, and `Memory` where there is none left for it.
 #[tactic(auto, unfolding(crate::specs::Schedules::event_named))]
+#[inline(always)]
 pub fn read_event(alloc: Global, kind: &[u8], fields: &mut Fields) -> Result<Event, LineFault>
     ensures { Takes (λ event. event) (event_named kind.now) fields.old fields.new result }
 {
