@@ -1,4 +1,5 @@
-ghost use Rattle.std.specs.Prelude.{◌≡◌, ◌++◌, IfOk, OnOk};
+ghost use Rattle.std.specs.Prelude.{◌≡◌, ◌<◌, ◌+◌, ◌++◌, ◌∷◌, [], codes, IfOk, OnOk};
+ghost use Rattle.std.specs.Fmt.{decimal};
 ghost use Rattle.std.specs.String.{string_bytes};
 ghost use Rattle.lease_facts.specs.declared.fact.Fact.TheVariants as fact;
 ghost use Rattle.lease_texts.specs.Records.{digits_word, outcome_word, patch_words, pair_words, read_words, fact_line};
@@ -6,7 +7,7 @@ ghost use Rattle.lease_texts.specs.Records.{digits_word, outcome_word, patch_wor
 use crate::words::state_letters;
 use lease_client::{Settlement, SharedBytes};
 use lease_facts::Fact;
-use lease_state::{ClientNo, FileNo, Patch};
+use lease_state::{ClientNo, FileNo, LeaseState, Patch};
 use std::alloc::{AllocError, Global};
 
 /// The digits of bytes, or a hyphen where there are none.
@@ -18,6 +19,60 @@ pub fn digits_of(alloc: Global, bytes: &[u8]) -> Result<String, AllocError>
     } else {
         hex::encode(alloc, bytes)
     }
+}
+
+// A digit.
+fn push_digit(text: &mut String, digit: u8) -> Result<(), AllocError>
+    requires { digit < 10 }
+    ensures { OnOk result (string_bytes text.new ≡ string_bytes text.old ++ (48 + digit) ∷ []) }
+{
+    text.push(char::from(b'0' + digit))
+}
+
+// The digits of a number. A line has some short ones, and a formatter costs several times what their digits do.
+#[tactic(auto, using(crate::proofs::Digits::decimal_one, crate::proofs::Digits::decimal_last))]
+fn push_number(text: &mut String, number: u64) -> Result<(), AllocError>
+    ensures { OnOk result (string_bytes text.new ≡ string_bytes text.old ++ decimal number) }
+{
+    if number < 10 {
+        return push_digit(text, number as u8);
+    }
+    push_number(text, number / 10)?;
+    push_digit(text, (number % 10) as u8)
+}
+
+// The word that a line begins with, which ends in a space, and its first number.
+fn push_first(text: &mut String, word: &str, number: u64) -> Result<(), AllocError>
+    ensures { OnOk result (string_bytes text.new ≡ string_bytes text.old ++ (word.now ++ decimal number)) }
+{
+    text.push_str(word)?;
+    push_number(text, number)
+}
+
+// A further number, after a space.
+fn push_next(text: &mut String, number: u64) -> Result<(), AllocError>
+    ensures { OnOk result (string_bytes text.new ≡ string_bytes text.old ++ (codes " " ++ decimal number)) }
+{
+    text.push_str(" ")?;
+    push_number(text, number)
+}
+
+// A line of a word and a number.
+fn push_one(text: &mut String, word: &str, number: u8) -> Result<(), AllocError>
+    ensures { OnOk result (string_bytes text.new ≡ string_bytes text.old ++ (word.now ++ decimal number ++ 10 ∷ [])) }
+{
+    push_first(text, word, u64::from(number))?;
+    text.push_str("\n")
+}
+
+// A line of a word and two numbers.
+fn push_two(text: &mut String, word: &str, first: u8, second: u8) -> Result<(), AllocError>
+    ensures { OnOk result (string_bytes text.new
+        ≡ string_bytes text.old ++ (word.now ++ decimal first ++ codes " " ++ decimal second ++ 10 ∷ [])) }
+{
+    push_first(text, word, u64::from(first))?;
+    push_next(text, u64::from(second))?;
+    text.push_str("\n")
 }
 
 fn outcome_word(outcome: Settlement) -> &'static str
@@ -36,8 +91,9 @@ pub fn push_patch(alloc: Global, text: &mut String, patch: &Patch) -> Result<(),
     ensures { OnOk result (string_bytes text.new ≡ string_bytes text.old ++ patch_words patch.now) }
 {
     let digits = digits_of(alloc, patch.bytes.as_slice())?;
-    let offset = patch.offset;
-    write!(text, "{offset} {digits}")
+    push_number(text, u64::from(patch.offset))?;
+    text.push_str(" ")?;
+    text.push_str(digits.as_str())
 }
 
 fn push_changed(
@@ -50,8 +106,10 @@ fn push_changed(
 ) -> Result<(), AllocError>
     ensures { OnOk result (string_bytes text.new ≡ string_bytes text.old ++ fact_line (fact.Changed file client number patch.now)) }
 {
-    let (file, client) = (file.0, client.0);
-    write!(text, "changed {file} {client} {number} ")?;
+    push_first(text, "changed ", u64::from(file.0))?;
+    push_next(text, u64::from(client.0))?;
+    push_next(text, number)?;
+    text.push_str(" ")?;
     push_patch(alloc, text, patch)?;
     text.push_str("\n")
 }
@@ -68,8 +126,10 @@ fn push_wrote(
     ensures { OnOk result (string_bytes text.new
         ≡ string_bytes text.old ++ fact_line (fact.Wrote client file number patch.now buffered)) }
 {
-    let (client, file) = (client.0, file.0);
-    write!(text, "wrote {client} {file} {number} ")?;
+    push_first(text, "wrote ", u64::from(client.0))?;
+    push_next(text, u64::from(file.0))?;
+    push_next(text, number)?;
+    text.push_str(" ")?;
     push_patch(alloc, text, patch)?;
     text.push_str(if buffered {
         " buffered\n"
@@ -117,6 +177,36 @@ fn push_cached_read(
     text.push_str("\n")
 }
 
+fn push_settled(
+    text: &mut String,
+    client: ClientNo,
+    number: u64,
+    outcome: Settlement,
+) -> Result<(), AllocError>
+    ensures { OnOk result (string_bytes text.new ≡ string_bytes text.old ++ fact_line (fact.Settled client number outcome)) }
+{
+    push_first(text, "settled ", u64::from(client.0))?;
+    push_next(text, number)?;
+    text.push_str(" ")?;
+    text.push_str(outcome_word(outcome))?;
+    text.push_str("\n")
+}
+
+fn push_believed(
+    text: &mut String,
+    client: ClientNo,
+    file: FileNo,
+    state: LeaseState,
+) -> Result<(), AllocError>
+    ensures { OnOk result (string_bytes text.new ≡ string_bytes text.old ++ fact_line (fact.Believes client file state)) }
+{
+    push_first(text, "believes ", u64::from(client.0))?;
+    push_next(text, u64::from(file.0))?;
+    text.push_str(" ")?;
+    text.push_str(state_letters(state))?;
+    text.push_str("\n")
+}
+
 /// Adds the line of a fact.
 pub fn push_fact(alloc: Global, text: &mut String, fact: &Fact) -> Result<(), AllocError>
     ensures { OnOk result (string_bytes text.new ≡ string_bytes text.old ++ fact_line fact.now) }
@@ -127,50 +217,23 @@ pub fn push_fact(alloc: Global, text: &mut String, fact: &Fact) -> Result<(), Al
             let file = file.0;
             writeln!(text, "start {file} {digits}")
         }
-        Fact::Joined(client) => {
-            let client = client.0;
-            writeln!(text, "joined {client}")
-        },
-        Fact::Dropped(client) => {
-            let client = client.0;
-            writeln!(text, "dropped {client}")
-        },
-        Fact::Expired(client, file) => {
-            let (client, file) = (client.0, file.0);
-            writeln!(text, "expired {client} {file}")
-        }
-        Fact::Sent(client) => {
-            let client = client.0;
-            writeln!(text, "sent {client}")
-        },
-        Fact::Took(client) => {
-            let client = client.0;
-            writeln!(text, "took {client}")
-        },
-        Fact::Opened(file, client) => {
-            let (file, client) = (file.0, client.0);
-            writeln!(text, "opened {file} {client}")
-        }
+        Fact::Joined(client) => push_one(text, "joined ", client.0),
+        Fact::Dropped(client) => push_one(text, "dropped ", client.0),
+        Fact::Expired(client, file) => push_two(text, "expired ", client.0, file.0),
+        Fact::Sent(client) => push_one(text, "sent ", client.0),
+        Fact::Took(client) => push_one(text, "took ", client.0),
+        Fact::Opened(file, client) => push_two(text, "opened ", file.0, client.0),
         Fact::Changed(file, client, number, patch) => {
             push_changed(alloc, text, *file, *client, *number, patch)
         }
         Fact::Wrote(client, file, number, patch, buffered) => {
             push_wrote(alloc, text, *client, *file, *number, patch, *buffered)
         }
-        Fact::Settled(client, number, outcome) => {
-            let (client, outcome) = (client.0, outcome_word(*outcome));
-            writeln!(text, "settled {client} {number} {outcome}")
-        }
-        Fact::Believes(client, file, state) => {
-            let (client, file, letters) = (client.0, file.0, state_letters(*state));
-            writeln!(text, "believes {client} {file} {letters}")
-        }
+        Fact::Settled(client, number, outcome) => push_settled(text, *client, *number, *outcome),
+        Fact::Believes(client, file, state) => push_believed(text, *client, *file, *state),
         Fact::CachedRead(client, file, bytes) => {
             push_cached_read(alloc, text, *client, *file, bytes)
         }
-        Fact::Strayed(client) => {
-            let client = client.0;
-            writeln!(text, "strayed {client}")
-        },
+        Fact::Strayed(client) => push_one(text, "strayed ", client.0),
     }
 }
