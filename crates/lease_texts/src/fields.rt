@@ -93,10 +93,7 @@ impl<'a> Fields<'a> {
     fn ordinal(&mut self) -> Result<u8, LineFault>
         ensures { Takes (λ n. n) (one ordinal_in) self.old self.new result }
     {
-        match u8::try_from(self.number()?) {
-            Ok(0) | Err(_) => Err(LineFault::Refused),
-            Ok(ordinal) => Ok(ordinal),
-        }
+        ordinal(self.next()?).ok_or(LineFault::Refused)
     }
 
     pub fn client(&mut self) -> Result<ClientNo, LineFault>
@@ -211,11 +208,21 @@ pub(crate) fn state_named(field: &[u8]) -> Option<LeaseState>
     }
 }
 
-/// Whether a field is this word.
+/// Whether a field is this word. The word is mostly known where this is called, and short, so that its
+/// bytes are compared one by one.
+#[inline(always)]
 pub fn is(field: &[u8], word: &[u8]) -> bool
     ensures { result ≡ bytes_eq field.now word.now }
 {
-    field == word
+    if field.len() != word.len() {
+        return false;
+    }
+    for place in 0..word.len() {
+        if field[place] != word[place] {
+            return false;
+        }
+    }
+    true
 }
 
 // Bytes as digits, or a hyphen for none.
@@ -243,6 +250,30 @@ pub(crate) fn number(digits: &[u8]) -> Option<u64>
     match digits {
         [] | [b'0', _, ..] => None,
         _ => number_of(digits),
+    }
+}
+
+// The number from 1 to 255 whose decimal digits these are. Most are of one digit.
+fn ordinal(digits: &[u8]) -> Option<u8>
+    ensures { result ≡ ordinal_in digits.now }
+{
+    match digits {
+        [digit] => ordinal_digit(*digit),
+        _ => match u8::try_from(number(digits)?) {
+            Ok(0) | Err(_) => None,
+            Ok(ordinal) => Some(ordinal),
+        },
+    }
+}
+
+#[tactic(auto, unfolding(crate::specs::Fields::number_in, crate::specs::Fields::number_after))]
+fn ordinal_digit(digit: u8) -> Option<u8>
+    ensures { result ≡ ordinal_in (digit ∷ []) }
+{
+    if digit.is_ascii_digit() && digit != b'0' {
+        Some(digit - b'0')
+    } else {
+        None
     }
 }
 
