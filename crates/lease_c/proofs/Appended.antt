@@ -1,5 +1,6 @@
 -- What writes one after another come to, and where a text's last context may begin.
-use Rattle.std.proofs.Common.{◌≡◌, ◌≢◌, ℕ, zero, suc, ◌+◌, ◌-◌, ◌≤◌, ◌++◌, List, [], ◌∷◌, length, drop, take, Option, Some, None, refl, arith, sym, ap, subst, replicate, ◌∙◌, IfSome, inl, inr}
+use Rattle.std.proofs.Common.{◌≡◌, ◌≢◌, ℕ, zero, suc, ◌+◌, ◌-◌, ◌≤◌, ◌++◌, List, [], ◌∷◌, length, drop, take, Option, Some, None}
+use Rattle.std.proofs.Common.{refl, arith, sym, ap, subst, replicate, ◌∙◌, IfSome, inl, inr}
 use Rattle.std.proofs.lemmas.Bool.Decides.{eqb_tells}
 use Rattle.std.proofs.lemmas.List.{drop-drop, append_assoc}
 use Rattle.std.proofs.Math.Seq.{take-append_seam, drop-append-add}
@@ -39,13 +40,13 @@ put_after place first second bytes count e fits =
 pub length_put : (place : ℕ) (part bytes : List ℕ) → place + length part ≤ length bytes
     → length (put place part bytes) ≡ length bytes
 length_put place part bytes fits = omega (
-      arith,
-      fits,
-      length-append (take place bytes) (part ++ drop (place + length part) bytes),
-      length-append part (drop (place + length part) bytes),
-      length-take-le place bytes (omega (arith, fits)),
-      length-drop (place + length part) bytes,
-    )
+  arith,
+  fits,
+  length-append (take place bytes) (part ++ drop (place + length part) bytes),
+  length-append part (drop (place + length part) bytes),
+  length-take-le place bytes (omega (arith, fits)),
+  length-drop (place + length part) bytes,
+)
 
 -- four writes, one after another
 pub put_four : (place : ℕ) (a b c d bytes : List ℕ) → place + (length a + length b + length c + length d) ≤ length bytes

@@ -11,7 +11,8 @@ use Rattle.lease_wire.specs.Notification.{Notice}
 use Rattle.lease_wire.specs.Acknowledgment.{KeyAndState}
 use Rattle.lease_c.specs.Flag.{is_set, flag_of}
 use Rattle.lease_c.specs.Create.{ask_held, ask_fields, answer_held, answer_fields}
-use Rattle.lease_c.specs.Messages.{notice_held, notice_fields, acknowledged_held, acknowledged_fields, responded_held, responded_fields}
+use Rattle.lease_c.specs.Messages.{notice_held, notice_fields, acknowledged_held, acknowledged_fields, responded_held}
+use Rattle.lease_c.specs.Messages.{responded_fields}
 
 pub state_held : (s : State) → state_of_bits (bits_of_state s) ≡ s
 state_held s = grind arith

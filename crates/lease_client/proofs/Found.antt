@@ -25,11 +25,11 @@ pub found_at : (test : ℕ → Bool) (files k : ℕ) → k < files → find test
     → find test (numbers_to files) ≡ Some (suc k)
 found_at test zero k below none is = absurd (omega arith)
 found_at test (suc files) k below none is = elim (cases_lt k files) [
-      | inl before ↦ find_before test (numbers_to files) (suc files ∷ []) (suc k) (found_at test files k before none is)
-      | inr last ↦
-          let e : k ≡ files = omega (arith, last) in
-          rw (← e) (find_behind test (numbers_to k) (suc k) none is)
-    ]
+  | inl before ↦ find_before test (numbers_to files) (suc files ∷ []) (suc k) (found_at test files k before none is)
+  | inr last ↦
+      let e : k ≡ files = omega (arith, last) in
+      rw (← e) (find_behind test (numbers_to k) (suc k) none is)
+]
 
 -- the same, where the next number is written as the code has it
 pub go_on : (test : ℕ → Bool) (k : ℕ) → find test (numbers_to k) ≡ None → test (k + 1) ≡ false

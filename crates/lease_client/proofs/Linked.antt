@@ -58,11 +58,12 @@ all_at : (turn : ℕ → Entry → Turn) (entries : List Entry) → LeavesClosed
 unfolding numbered
 all_at turn entries leaves zero = sym (leaves 0)
 all_at turn entries leaves (suc n) = elim (cases_lt n (length entries)) [
-      | inl within ↦ touched turn entries (length entries) n within (omega arith) | inr behind ↦
-          let e = past entries n behind in
-          past (entries_to turn entries (length entries)) n (omega (arith, length_to turn entries (length entries), behind))
-          ∙ sym (leaves (suc n)) ∙ ap (λ (x : Entry). (turn (suc n) x).entry) (sym e)
-    ]
+  | inl within ↦ touched turn entries (length entries) n within (omega arith)
+  | inr behind ↦
+      let e = past entries n behind in
+      past (entries_to turn entries (length entries)) n (omega (arith, length_to turn entries (length entries), behind))
+      ∙ sym (leaves (suc n)) ∙ ap (λ (x : Entry). (turn (suc n) x).entry) (sym e)
+]
 
 all_entries : (turn : ℕ → Entry → Turn) (entries : List Entry) → LeavesClosed turn
     → let after : ℕ → Entry = λ file. (turn file (numbered (closed_entry []) entries file)).entry in

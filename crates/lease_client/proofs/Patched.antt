@@ -13,14 +13,14 @@ no_zeros x n none = sym (append-nil x) ∙ ap (λ (k : ℕ). x ++ replicate k 0)
 -- the front of a list that was filled up with zeros
 filled : (x : List ℕ) (o n : ℕ) → o ≤ length x + n → take o (x ++ replicate n 0) ≡ take o x ++ replicate (o - length x) 0
 filled x o n room = elim (cases_lt o (length x)) [
-      | inl short ↦ take-append-le o x (replicate n 0) (omega (arith, short))
-          ∙ no_zeros (take o x) (o - length x) (omega (arith, short))
-      | inr long ↦ (let sum : o ≡ length x + (o - length x) = omega (arith, long) in
-          ap (λ (m : ℕ). take m (x ++ replicate n 0)) sum) ∙ (take-append-add x (replicate n 0) (o - length x)
-          ∙ (ap (λ (l : List ℕ). x ++ l)
-          (take-replicate (o - length x) n (let nothing : ℕ = 0 in nothing) (omega (arith, room, long)))
-          ∙ ap (λ (l : List ℕ). l ++ replicate (o - length x) 0) (sym (take_all o x long))))
-    ]
+  | inl short ↦ take-append-le o x (replicate n 0) (omega (arith, short))
+      ∙ no_zeros (take o x) (o - length x) (omega (arith, short))
+  | inr long ↦ (let sum : o ≡ length x + (o - length x) = omega (arith, long) in
+      ap (λ (m : ℕ). take m (x ++ replicate n 0)) sum) ∙ (take-append-add x (replicate n 0) (o - length x)
+      ∙ (ap (λ (l : List ℕ). x ++ l)
+      (take-replicate (o - length x) n (let nothing : ℕ = 0 in nothing) (omega (arith, room, long)))
+      ∙ ap (λ (l : List ℕ). l ++ replicate (o - length x) 0) (sym (take_all o x long))))
+]
 
 -- Bytes over those of a list, which is long enough. What stands behind the first `size` places was never there.
 pub inside : (x d w : List ℕ) (o size : ℕ) → 0 < length d → o + length d ≤ length x → size ≡ length x → w ≡ over x o d

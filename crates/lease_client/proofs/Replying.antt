@@ -96,7 +96,8 @@ created_rises : (client : Client) (file file_id : ℕ) (answer : Option CreateAn
 unfolding model.create_answered
 created_rises client file file_id None n other = within_self (belief_of (client.entries n))
 created_rises client file file_id (Some answer) n other = rw (created_by client file file_id answer)
-    (elim (either_free (file == n) (is_free answer.lease) other) [ | inl apart ↦ turned_apart client file _ n apart
+    (elim (either_free (file == n) (is_free answer.lease) other) [
+      | inl apart ↦ turned_apart client file _ n apart
       | inr free ↦ turned_lower client file _
           (created_lowers (lease_key client.guid file) file_id answer (client.entries file).sent (client.entries file).phase free)
           n

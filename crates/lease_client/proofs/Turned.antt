@@ -30,11 +30,11 @@ pub turned_still : (client : Client) (file : ℕ) (answer : Answer)
     → turned client file (turn_of (client.entries file) answer []) ≡ answered client answer
 unfolding turned
 turned_still client file answer = ap (λ (notes : List Note). record {
-      client = record client { entries = put client.entries file (client.entries file) };
-      answer = answer;
-      requests = [];
-      notes = notes;
-    }) (unnoted file (belief_of (client.entries file)))
+  client = record client { entries = put client.entries file (client.entries file) };
+  answer = answer;
+  requests = [];
+  notes = notes;
+}) (unnoted file (belief_of (client.entries file)))
     ∙ ap (λ (t : ℕ → Entry). answered (record client { entries = t }) answer) (put_same client.entries file)
 
 -- ---- the entry has turned in its place

@@ -1,24 +1,30 @@
 -- The words of std, of lease states, of the model and of the laws, for the files of lemmas.
-pub use Rattle.std.proofs.Common.{◌&&◌, ◌++◌, ◌+◌, ◌-◌, ◌<◌, ◌==◌, ◌||◌, ◌∙◌, ◌∷◌, ◌≡◌, ◌≢◌, ◌≤◌, ◌⊎◌, Bool, List, None, Option}
-pub use Rattle.std.proofs.Common.{Some, T, [], ℕ, ⊎_elim, add-one, ap, append-nil, append_assoc, ap₂, arith, codes, cond, false}
-pub use Rattle.std.proofs.Common.{filter, flat_map, get_or, if◌then◌else◌, inl, inr, leb→le, length, length-append, length-drop}
-pub use Rattle.std.proofs.Common.{map, max, nat_le, nat_lt, not, refl, reverse, rules, slice_index, subst, suc, sym, take, true}
-pub use Rattle.std.proofs.Common.{true≢false, vec_len, zero}
+pub use Rattle.std.proofs.Common.{◌&&◌, ◌++◌, ◌+◌, ◌-◌, ◌<◌, ◌==◌, ◌^◌, ◌||◌, ◌∙◌, ◌∷◌, ◌≡◌, ◌≢◌, ◌≤◌, ◌⊎◌, Bool, List, None}
+pub use Rattle.std.proofs.Common.{Option, Some, T, [], ℕ, ⊎_elim, add-one, ap, append-nil, append_assoc, ap₂, arith, codes, cond}
+pub use Rattle.std.proofs.Common.{false, filter, flat_map, get_or, if◌then◌else◌, inl, inr, leb→le, length, length-append}
+pub use Rattle.std.proofs.Common.{length-drop, map, max, nat_le, nat_lt, not, refl, reverse, rules, slice_index, subst, suc, sym}
+pub use Rattle.std.proofs.Common.{take, true, true≢false, vec_len, zero}
 pub use Rattle.std.proofs.Math.Path.{fun_ext}
 pub use Rattle.std.proofs.Math.Seq.{take-length}
 pub use Rattle.std.proofs.lemmas.Bool.{and_from, and_parts, both_ways, cases_Bool, cases_lt, eq-eqb, eqb-true, not-true, or_cases}
 pub use Rattle.std.proofs.lemmas.Bool.Decides.{Decides-eqb, nat_tests}
 pub use Rattle.std.proofs.lemmas.Grind.{flat_map-append}
 pub use Rattle.std.proofs.lemmas.List.{length-map, length-reverse, length-set, length-take, length-take-le, map-append}
-pub use Rattle.std.proofs.lemmas.List.{reverse-append, reverse-reverse}
+pub use Rattle.std.proofs.lemmas.List.{reverse-append, reverse-reverse, take_all}
 pub use Rattle.std.proofs.lemmas.List.Elements.{filter-append}
 pub use Rattle.std.proofs.lemmas.List.Folds.{list_any-append}
 pub use Rattle.std.proofs.lemmas.Result.{on_ok_weaker}
 pub use Rattle.std.proofs.lemmas.Slice.Eq.{bytes_eq-Decides}
+pub use Rattle.std.specs.BTreeMap.{Updates, get, is_at}
 pub use Rattle.std.specs.Fmt.{decimal}
+pub use Rattle.std.specs.Io.KnownBytes.{Appends}
 pub use Rattle.std.specs.List.{list_all, list_any, slice_set}
+pub use Rattle.std.specs.Map.{values_of}
 pub use Rattle.std.specs.Option.{option_map}
+pub use Rattle.std.specs.Ordering.{is_eq, nat_cmp}
 pub use Rattle.std.specs.Prelude.{Err, IfOk, IfSome, Ok, Result, ⊤, bytes_eq, drop, find, is_some, slice_get, unwrap_or}
+pub use Rattle.std.specs.String.{string_bytes}
+pub use Rattle.std.specs.declared.cmp.Ordering.TheVariants.{Less}
 pub use mathlib.Core.Bool.{beq}
 pub use mathlib.Core.List.{reverse_aux, reverse_aux-eq}
 pub use Rattle.lease_state.proofs.ContentLemmas.{length-written}
@@ -29,6 +35,7 @@ pub use Rattle.lease_state.specs.declared.access.Access.{Access}
 pub use Rattle.lease_state.specs.declared.access.Share.{Share}
 pub use Rattle.lease_state.specs.declared.content.TheConstants.{FILE_LIMIT}
 pub use Rattle.lease_state.specs.declared.number.ClientNo.{ClientNo}
+pub use Rattle.lease_state.specs.declared.number.FileId.{FileId}
 pub use Rattle.lease_state.specs.declared.number.FileNo.{FileNo}
 pub use Rattle.lease_state.specs.declared.patch.Patch.{Patch}
 pub use Rattle.lease_state.specs.declared.status.Status.{Status}

@@ -1,8 +1,10 @@
 -- The length and the bytes of a patched content.
-use Rattle.std.proofs.Common.{◌≡◌, ◌≤◌, ◌<◌, ℕ, ◌+◌, ◌-◌, max, ◌∙◌, zero, suc, refl, arith, sym, ap, List, [], ◌∷◌, ◌++◌, length, take, drop, replicate, inl, inr, length-append}
+use Rattle.std.proofs.Common.{◌≡◌, ◌≤◌, ◌<◌, ℕ, ◌+◌, ◌-◌, max, ◌∙◌, zero, suc, refl, arith, sym, ap, List, [], ◌∷◌, ◌++◌, length}
+use Rattle.std.proofs.Common.{take, drop, replicate, inl, inr, length-append}
 use Rattle.std.proofs.lemmas.Bool.{le-leb, lt-leb, lt-ltb, le-ltb, cases_lt}
 use Rattle.std.proofs.lemmas.Grind.{same_number_lists, common_steps}
-use Rattle.std.proofs.lemmas.List.{get_or_past, take_all, take_at, get_or-append_right, get_or_append_left, get_or-take, get_or-drop, length-replicate, length-take-le}
+use Rattle.std.proofs.lemmas.List.{get_or_past, take_all, take_at, get_or-append_right, get_or_append_left, get_or-take}
+use Rattle.std.proofs.lemmas.List.{get_or-drop, length-replicate, length-take-le}
 use Rattle.std.proofs.lemmas.List.FromFn.{length-map-range_with_len, get_or-map-range_with_len}
 use Rattle.std.proofs.Math.ListN.{get_or}
 use Rattle.lease_state.specs.Content.{byte_at, written, patch_at}
@@ -25,10 +27,11 @@ length-written x o d = length-map-range_with_len _ 0 _
 pub get_or-written : (x : List ℕ) (o : ℕ) (d : List ℕ) (k : ℕ) → get_or (written x o d) k 0 ≡ byte_at x o d k
 unfolding written
 get_or-written x o d k = elim (cases_lt k (max (length x) (o + length d))) [
-      | inl within ↦ get_or-map-range_with_len (byte_at x o d) 0 _ k k 0 within (omega arith) | inr past ↦
-          get_or_past (written x o d) k 0 (rw (length-written x o d) past)
-          ∙ sym (byte_at_behind x o d k (omega (arith, past)) ∙ get_or_past x k 0 (omega (arith, past)))
-    ]
+  | inl within ↦ get_or-map-range_with_len (byte_at x o d) 0 _ k k 0 within (omega arith)
+  | inr past ↦
+      get_or_past (written x o d) k 0 (rw (length-written x o d) past)
+      ∙ sym (byte_at_behind x o d k (omega (arith, past)) ∙ get_or_past x k 0 (omega (arith, past)))
+]
 
 -- a list is what is written where it is as long and has its bytes
 pub written_by_places : (x : List ℕ) (o : ℕ) (d all : List ℕ) → length all ≡ max (length x) (o + length d)
@@ -57,19 +60,20 @@ length-over x o d room = grind (arith, common_steps)
 
 get_or-over : (x : List ℕ) (o : ℕ) (d : List ℕ) (k : ℕ) → o + length d ≤ length x → get_or (over x o d) k 0 ≡ byte_at x o d k
 get_or-over x o d k room = elim (cases_lt k o) [
-      | inl before ↦
-          get_or_append_left (take o x) (d ++ drop (o + length d) x) 0 k (omega (arith, length-take-le o x (omega (arith, room))))
-          ∙ get_or-take o x k 0 before ∙ sym (byte_at_before x o d k before)
-      | inr from ↦
-          get_or-append_right (take o x) (d ++ drop (o + length d) x) o k 0 (length-take-le o x (omega (arith, room))) from
-          ∙ elim (cases_lt k (o + length d)) [ | inl below ↦
-                get_or_append_left d (drop (o + length d) x) 0 (k - o) (omega (arith, from, below))
-                ∙ sym (byte_at_within x o d k from below)
-            | inr behind ↦ get_or-append_right d (drop (o + length d) x) (length d) (k - o) 0 refl (omega (arith, from, behind))
-                ∙ get_or-drop (o + length d) x (k - o - length d) 0 ∙ (let place : o + length d + (k - o - length d)
-                ≡ k = omega (arith, from, behind) in ap (λ n. get_or x n 0) place) ∙ sym (byte_at_behind x o d k behind)
-          ]
-    ]
+  | inl before ↦
+      get_or_append_left (take o x) (d ++ drop (o + length d) x) 0 k (omega (arith, length-take-le o x (omega (arith, room))))
+      ∙ get_or-take o x k 0 before ∙ sym (byte_at_before x o d k before)
+  | inr from ↦
+      get_or-append_right (take o x) (d ++ drop (o + length d) x) o k 0 (length-take-le o x (omega (arith, room))) from
+      ∙ elim (cases_lt k (o + length d)) [
+        | inl below ↦
+            get_or_append_left d (drop (o + length d) x) 0 (k - o) (omega (arith, from, below))
+            ∙ sym (byte_at_within x o d k from below)
+        | inr behind ↦ get_or-append_right d (drop (o + length d) x) (length d) (k - o) 0 refl (omega (arith, from, behind))
+            ∙ get_or-drop (o + length d) x (k - o - length d) 0 ∙ (let place : o + length d + (k - o - length d)
+            ≡ k = omega (arith, from, behind) in ap (λ n. get_or x n 0) place) ∙ sym (byte_at_behind x o d k behind)
+      ]
+]
 
 -- a byte depends on the content by its byte at that place alone
 pub byte_at_same : (x y : List ℕ) (o : ℕ) (d : List ℕ) (k : ℕ) → get_or x k 0 ≡ get_or y k 0 → byte_at x o d k ≡ byte_at y o d k

@@ -10,8 +10,9 @@ use Rattle.lease_state.proofs.ContentLemmas.{byte_at_within, byte_at_before, byt
 -- ---- one patch, by places
 pub get_or-patch_at : (x : List ℕ) (o : ℕ) (d : List ℕ) (k : ℕ) → get_or (patch_at x o d) k 0 ≡ byte_at x o d k
 get_or-patch_at x o [] k = elim (cases_lt k o) [
-      | inl before ↦ sym (byte_at_before x o [] k before) | inr from ↦ sym (byte_at_behind x o [] k (omega (arith, from)))
-    ]
+  | inl before ↦ sym (byte_at_before x o [] k before)
+  | inr from ↦ sym (byte_at_behind x o [] k (omega (arith, from)))
+]
 get_or-patch_at x o (b ∷ d) k = get_or-written x o (b ∷ d) k
 
 -- how far bytes at an offset reach: no bytes reach nowhere
@@ -53,30 +54,32 @@ Settles ps k = (x y : List ℕ) → get_or (patches x ps) k 0 ≡ get_or (patche
 keeps_or_settles-one : (p : Patch) (k : ℕ) → ((x : List ℕ) → get_or (patch x p) k 0 ≡ get_or x k 0)
     ⊎ ((x y : List ℕ) → get_or (patch x p) k 0 ≡ get_or (patch y p) k 0)
 keeps_or_settles-one p k = elim (cases_lt k p.offset) [
-      | inl before ↦ inl (λ x. get_or-patch_at x p.offset p.bytes k ∙ byte_at_before x p.offset p.bytes k before)
-      | inr from ↦ elim (cases_lt k (p.offset + length p.bytes)) [ | inl below ↦ inr (λ x y.
-            get_or-patch_at x p.offset p.bytes k ∙ byte_at_within x p.offset p.bytes k from below
-            ∙ sym (get_or-patch_at y p.offset p.bytes k ∙ byte_at_within y p.offset p.bytes k from below))
-        | inr behind ↦ inl (λ x. get_or-patch_at x p.offset p.bytes k ∙ byte_at_behind x p.offset p.bytes k behind)
-      ]
-    ]
+  | inl before ↦ inl (λ x. get_or-patch_at x p.offset p.bytes k ∙ byte_at_before x p.offset p.bytes k before)
+  | inr from ↦ elim (cases_lt k (p.offset + length p.bytes)) [
+    | inl below ↦ inr (λ x y.
+        get_or-patch_at x p.offset p.bytes k ∙ byte_at_within x p.offset p.bytes k from below
+        ∙ sym (get_or-patch_at y p.offset p.bytes k ∙ byte_at_within y p.offset p.bytes k from below))
+    | inr behind ↦ inl (λ x. get_or-patch_at x p.offset p.bytes k ∙ byte_at_behind x p.offset p.bytes k behind)
+  ]
+]
 
 -- and so do many
 keeps_or_settles : (ps : List Patch) (k : ℕ) → Keeps ps k ⊎ Settles ps k
 keeps_or_settles [] k = inl (λ x. refl)
 keeps_or_settles (p ∷ ps) k = elim (keeps_or_settles ps k) [
-      | inr settles ↦ inr (λ x y. settles (patch x p) (patch y p)) | inl keeps ↦ elim (keeps_or_settles-one p k) [
-        | inl one ↦ inl (λ x. keeps (patch x p) ∙ one x)
-        | inr one ↦ inr (λ x y. keeps (patch x p) ∙ one x y ∙ sym (keeps (patch y p)))
-      ]
-    ]
+  | inr settles ↦ inr (λ x y. settles (patch x p) (patch y p))
+  | inl keeps ↦ elim (keeps_or_settles-one p k) [
+    | inl one ↦ inl (λ x. keeps (patch x p) ∙ one x)
+    | inr one ↦ inr (λ x y. keeps (patch x p) ∙ one x y ∙ sym (keeps (patch y p)))
+  ]
+]
 
 -- ---- the law
 -- patches that were put on change nothing when they are put on again
 pub patches-again : (x : List ℕ) (ps : List Patch) → patches (patches x ps) ps ≡ patches x ps
 patches-again x ps = same_number_lists (patches (patches x ps) ps) (patches x ps)
     (omega (arith, length-patches (patches x ps) ps, length-patches x ps))
-    (λ k within. elim (keeps_or_settles ps k) [ | inl keeps ↦ keeps (patches x ps) | inr settles ↦ settles (patches x ps) x ])
+    (λ k within. elim (keeps_or_settles ps k) [ inl keeps ↦ keeps (patches x ps) | inr settles ↦ settles (patches x ps) x ])
 
 pub patches-append : (x : List ℕ) (ps qs : List Patch) → patches x (ps ++ qs) ≡ patches (patches x ps) qs
 patches-append x [] qs = refl

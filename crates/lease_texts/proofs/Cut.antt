@@ -1,4 +1,5 @@
-use Rattle.std.proofs.Common.{◌≡◌, ◌≢◌, ℕ, zero, suc, ◌+◌, ◌≤◌, ◌<◌, List, [], ◌∷◌, length, take, drop, refl, sym, arith, add-one, length-drop, ◌-◌, slice_index, ◌==◌, true, false, Bool, if◌then◌else◌}
+use Rattle.std.proofs.Common.{◌≡◌, ◌≢◌, ℕ, zero, suc, ◌+◌, ◌≤◌, ◌<◌, List, [], ◌∷◌, length, take, drop, refl, sym, arith, add-one}
+use Rattle.std.proofs.Common.{length-drop, ◌-◌, slice_index, ◌==◌, true, false, Bool, if◌then◌else◌}
 use Rattle.std.proofs.lemmas.Bool.Decides.{nat_tests}
 use Rattle.std.proofs.Common.{Option, Some, None, Result, Ok}
 use Rattle.lease_texts.specs.Pieces.{pieces, longer, lines_of}

@@ -10,4 +10,5 @@ decimal_one old all n one is = rw (decimal_digit n one) is
 pub decimal_last : (old mid all : List ℕ) (n : ℕ) → 10 ≤ n → n < 2 ^ 64 → mid ≡ old ++ decimal (n / 10)
     → all ≡ mid ++ (48 + n % 10) ∷ [] → all ≡ old ++ decimal n
 decimal_last old mid all n several small is whole =
-    rw (decimal_step n several small) (whole ∙ (ap (λ t. t ++ (48 + n % 10) ∷ []) is ∙ append_assoc old (decimal (n / 10)) ((48 + n % 10) ∷ [])))
+    rw (decimal_step n several small) (whole ∙ (ap (λ t. t ++ (48 + n % 10) ∷ []) is ∙ append_assoc old (decimal (n / 10))
+    ((48 + n % 10) ∷ [])))

@@ -1,5 +1,6 @@
 -- The canonical text of a value holds that value.
-use Rattle.std.proofs.Common.{◌≡◌, ◌<◌, ◌^◌, ℕ, ◌+◌, List, [], ◌∷◌, length, Bool, true, false, Option, Some, None, refl, arith, IfSome}
+use Rattle.std.proofs.Common.{◌≡◌, ◌<◌, ◌^◌, ℕ, ◌+◌, List, [], ◌∷◌, length, Bool, true, false, Option, Some, None, refl, arith}
+use Rattle.std.proofs.Common.{IfSome}
 use Rattle.std.proofs.lemmas.List.{append-nil}
 use Rattle.lease_wire.specs.Chain.{ContextView, IsContext, LeadsOn, next_of}
 use Rattle.lease_wire.specs.Names.{LeaseView, CreateView, HoldsValue, lease_name, durable_name, reconnect_name}
@@ -7,7 +8,8 @@ use Rattle.lease_wire.specs.Canonical.{canonical_text, context_bytes, lease_body
 use Rattle.lease_wire.specs.Create.{WrittenHoldsValue, WrittenReadsBack}
 use Rattle.lease_wire.specs.declared.create.Direction.{Direction}
 use Rattle.lease_wire.specs.declared.create.Direction.TheVariants.{Request, Reply}
-use Rattle.lease_wire.proofs.WrittenContexts.{written, Calm, is_written, leads_on, leads_nowhere, lease_is, length-lease_body, durable_is, length-durable_body, reconnect_is}
+use Rattle.lease_wire.proofs.WrittenContexts.{written, Calm, is_written, leads_on, leads_nowhere, lease_is, length-lease_body}
+use Rattle.lease_wire.proofs.WrittenContexts.{durable_is, length-durable_body, reconnect_is}
 use Rattle.lease_wire.proofs.ReadingLaws.{value_is_read}
 
 -- the three kinds of pieces, and the contexts that they are

@@ -1,5 +1,6 @@
 -- What the tests of a context's header say of its fields.
-use Rattle.std.proofs.Common.{◌≡◌, ◌≢◌, ◌≤◌, ◌<◌, ◌%◌, ℕ, ◌+◌, Bool, true, false, ◌||◌, ◌&&◌, not, if◌then◌else◌, ◌==◌, nat_lt, Option, Some, None, refl, arith, ◌⊎◌, inl, inr, rules}
+use Rattle.std.proofs.Common.{◌≡◌, ◌≢◌, ◌≤◌, ◌<◌, ◌%◌, ℕ, ◌+◌, Bool, true, false, ◌||◌, ◌&&◌, not, if◌then◌else◌, ◌==◌, nat_lt}
+use Rattle.std.proofs.Common.{Option, Some, None, refl, arith, ◌⊎◌, inl, inr, rules}
 use Rattle.std.proofs.lemmas.Bool.Decides.{nat_tests, eqb_tells}
 use Rattle.lease_wire.specs.Reading.{header_fault, size_of, has_bad_next, has_bad_name, has_bad_data}
 use Rattle.lease_wire.specs.declared.fault.WireFault.{WireFault}
@@ -53,7 +54,7 @@ data_inside place left h none more =
 pub next_inside : (place left : ℕ) (h : Header) → header_fault place left h ≡ None → h.next ≤ left
 next_inside place left h none =
     let fits = header_fits place left h none in
-    elim (eqb_tells h.next 0) [ | inl zero ↦ rw (zero.1) (omega arith) | inr more ↦ (fits.next more.1).2 ]
+    elim (eqb_tells h.next 0) [ inl zero ↦ rw (zero.1) (omega arith) | inr more ↦ (fits.next more.1).2 ]
 
 -- and a header whose fields fit fails no test
 none_of : (b : Bool) (fault : WireFault) (other : Option WireFault) → b ≡ false → other ≡ None

@@ -1,5 +1,6 @@
 -- The items that a reader gives are those of the text.
-use Rattle.std.proofs.Common.{◌≡◌, ◌≢◌, ◌≤◌, ℕ, zero, suc, ◌+◌, ◌*◌, List, [], ◌∷◌, ◌++◌, map, length, take, drop, Option, Some, None, Ok, Err, refl, arith, zero-add, add-zero, sym, ◌∙◌, subst, ◌⊎◌, inl, inr, length-append}
+use Rattle.std.proofs.Common.{◌≡◌, ◌≢◌, ◌≤◌, ℕ, zero, suc, ◌+◌, ◌*◌, List, [], ◌∷◌, ◌++◌, map, length, take, drop, Option, Some}
+use Rattle.std.proofs.Common.{None, Ok, Err, refl, arith, zero-add, add-zero, sym, ◌∙◌, subst, ◌⊎◌, inl, inr, length-append}
 use Rattle.std.specs.List.{concat}
 use Rattle.std.proofs.lemmas.List.{take-append-drop, append-nil, append_assoc}
 use Rattle.lease_wire.specs.Chain.{ContextView, AreLinked, AreLaidOut, next_of}
@@ -74,7 +75,8 @@ module _ (start : ℕ) (bytes : List ℕ) (further : length (drop (next_of bytes
   })
   by_next none (inr more) =
       let leading = leading_is start bytes none more in
-      elim (further leading.less) [ | inl behind ↦ inl (laid_more none more leading behind)
+      elim (further leading.less) [
+        | inl behind ↦ inl (laid_more none more leading behind)
         | inr behind ↦ inr (faulty_more none more leading behind)
       ]
 

@@ -1,5 +1,6 @@
 -- What a reader gives of the bytes at a place where a context is due.
-use Rattle.std.proofs.Common.{◌≡◌, ◌≢◌, ◌≤◌, ℕ, zero, suc, ◌+◌, ◌-◌, ◌==◌, if◌then◌else◌, false, List, [], ◌∷◌, length, drop, Option, Some, None, Ok, Err, refl, arith, sym, ◌∙◌, inl, inr}
+use Rattle.std.proofs.Common.{◌≡◌, ◌≢◌, ◌≤◌, ℕ, zero, suc, ◌+◌, ◌-◌, ◌==◌, if◌then◌else◌, false, List, [], ◌∷◌, length, drop}
+use Rattle.std.proofs.Common.{Option, Some, None, Ok, Err, refl, arith, sym, ◌∙◌, inl, inr}
 use Rattle.std.proofs.lemmas.Bool.Decides.{eqb_tells, nat_tests}
 use Rattle.lease_wire.specs.Chain.{next_of, ContextView}
 use Rattle.lease_wire.specs.Reading.{items_behind, item_before, layout_fault, header_fault, context_at, header_of}
@@ -62,9 +63,9 @@ pub items_behind-read : (place next : ℕ) (bytes : List ℕ) (context : Context
     → context ≡ context_at place bytes → next ≡ next_of bytes
     → items_behind place 0 bytes ≡ Ok context ∷ (if next == 0 then [] else items_behind (place + next) 0 (drop next bytes))
 items_behind-read place next bytes context none is_context is_next = elim (eqb_tells (next_of bytes) 0) [
-      | inl last ↦ rw (is_context, is_next, last.0) (items_behind-last place bytes none last.1)
-      | inr more ↦ rw (is_context, is_next, more.0) (items_behind-more place bytes none more.1)
-    ]
+  | inl last ↦ rw (is_context, is_next, last.0) (items_behind-last place bytes none last.1)
+  | inr more ↦ rw (is_context, is_next, more.0) (items_behind-more place bytes none more.1)
+]
 
 -- the tests of a header that was read
 pub layout_fault-read : (place : ℕ) (bytes : List ℕ) (h : Header) (answer : Option WireFault) → h ≡ header_of bytes

@@ -1,7 +1,9 @@
 -- What is written of a break message is read back, and has 0 in all that is free.
 use Rattle.std.proofs.Common.{◌≡◌, ◌++◌, length, take, drop, refl, sym}
-use Rattle.lease_wire.specs.Notification.{Notice, IsNotification, HasFreeFieldsZero, notification_bytes, NotificationReadsBack, NotificationFreeFields}
-use Rattle.lease_wire.specs.Acknowledgment.{KeyAndState, IsAcknowledgment, AcknowledgmentFreeFieldsZero, acknowledgment_bytes, AcknowledgmentReadsBack, AcknowledgmentFreeFields}
+use Rattle.lease_wire.specs.Notification.{Notice, IsNotification, HasFreeFieldsZero, notification_bytes, NotificationReadsBack}
+use Rattle.lease_wire.specs.Notification.{NotificationFreeFields}
+use Rattle.lease_wire.specs.Acknowledgment.{KeyAndState, IsAcknowledgment, AcknowledgmentFreeFieldsZero, acknowledgment_bytes}
+use Rattle.lease_wire.specs.Acknowledgment.{AcknowledgmentReadsBack, AcknowledgmentFreeFields}
 use Rattle.lease_wire.proofs.Cells.{sixteen_cells}
 use Rattle.lease_wire.proofs.Fields.{state_of_bits-written, written_state_small, flag-written, written_flag_small}
 

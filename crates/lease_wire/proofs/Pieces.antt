@@ -1,11 +1,13 @@
 -- A piece that stands at the front of some bytes is read as the context that it is, and what is read
 -- there is the context that stands there.
-use Rattle.std.proofs.Common.{◌≡◌, ◌≢◌, ◌≤◌, ℕ, zero, suc, ◌+◌, ◌==◌, false, List, [], ◌++◌, length, take, drop, None, refl, arith, sym, ◌∙◌, ap, length-append, length-drop, rules}
+use Rattle.std.proofs.Common.{◌≡◌, ◌≢◌, ◌≤◌, ℕ, zero, suc, ◌+◌, ◌==◌, false, List, [], ◌++◌, length, take, drop, None, refl}
+use Rattle.std.proofs.Common.{arith, sym, ◌∙◌, ap, length-append, length-drop, rules}
 use Rattle.std.proofs.lemmas.List.{drop-append-le, take-append-le, take-append-drop, length-take-le, append-nil}
 use Rattle.std.proofs.lemmas.Bool.Decides.{nat_tests}
 use Rattle.byteorder.specs.Numbers.{little_from-append}
 use Rattle.lease_wire.specs.Field.{number_at, bytes_at}
-use Rattle.lease_wire.specs.Chain.{ContextView, IsData, IsContext, LeadsOn, next_of, name_offset_of, name_length_of, data_offset_of, data_length_of}
+use Rattle.lease_wire.specs.Chain.{ContextView, IsData, IsContext, LeadsOn, next_of, name_offset_of, name_length_of}
+use Rattle.lease_wire.specs.Chain.{data_offset_of, data_length_of}
 use Rattle.lease_wire.specs.Reading.{layout_fault, header_of, context_at, size_of}
 use Rattle.lease_wire.proofs.HeaderFacts.{HeaderFits, header_fits, fitting_header}
 
@@ -47,12 +49,12 @@ data_length_of-front piece others long = number_at-front 12 4 piece others (omeg
 -- the header of the bytes is that of the piece at their front
 header_of-front : (piece others : List ℕ) → 16 ≤ length piece → header_of (piece ++ others) ≡ header_of piece
 header_of-front piece others long = rw (
-      next_of-front piece others long,
-      name_offset_of-front piece others long,
-      name_length_of-front piece others long,
-      data_offset_of-front piece others long,
-      data_length_of-front piece others long,
-    ) refl
+  next_of-front piece others long,
+  name_offset_of-front piece others long,
+  name_length_of-front piece others long,
+  data_offset_of-front piece others long,
+  data_length_of-front piece others long,
+) refl
 
 -- what the parts of a context say of its header
 data_is : (piece : List ℕ) (offset count : ℕ) (part : List ℕ) → IsData piece offset count part

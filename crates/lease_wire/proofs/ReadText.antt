@@ -1,6 +1,7 @@
 -- What a reader makes of a text is the value that the text holds, or its fault; part one: from the
 -- reader to the layout.
-use Rattle.std.proofs.Common.{◌≡◌, ◌≢◌, ◌≤◌, ℕ, zero, suc, ◌+◌, List, [], ◌∷◌, ◌++◌, length, take, drop, Option, Some, None, Result, Ok, Err, refl, arith, sym, ◌∙◌, subst, ◌⊎◌, inl, inr, length-append, add-zero}
+use Rattle.std.proofs.Common.{◌≡◌, ◌≢◌, ◌≤◌, ℕ, zero, suc, ◌+◌, List, [], ◌∷◌, ◌++◌, length, take, drop, Option, Some, None}
+use Rattle.std.proofs.Common.{Result, Ok, Err, refl, arith, sym, ◌∙◌, subst, ◌⊎◌, inl, inr, length-append, add-zero}
 use Rattle.std.specs.List.{concat}
 use Rattle.std.proofs.lemmas.List.{take-append-drop, append-nil, append_assoc}
 use Rattle.std.proofs.lemmas.Bool.Decides.{eqb_tells}
@@ -184,13 +185,15 @@ module _ (direction : Direction) (start : ℕ) (bytes : List ℕ) (before : List
     unfolding gathered
     faulty_by_next none (inl last) =
         let read = rw (items_behind-last start bytes none last) at e in
-        elim (carried_err _ _ fault read) [ | inl broken ↦ faulty_name none broken
+        elim (carried_err _ _ fault read) [
+          | inl broken ↦ faulty_name none broken
           | inr step ↦ let clash : ◌≡◌ {A = Result CreateView WireFault} (Ok step.0) (Err fault) = step.2 in cc
         ]
     faulty_by_next none (inr more) =
         let read = rw (items_behind-more start bytes none more) at e in
         let leading = leading_is start bytes none more in
-        elim (carried_err _ _ fault read) [ | inl broken ↦ faulty_name none broken
+        elim (carried_err _ _ fault read) [
+          | inl broken ↦ faulty_name none broken
           | inr step ↦ faulty_more direction start bytes before fault leading
               (further step.0 (value_after direction before v step.0 (context_at start bytes) have step.1) leading.less step.2)
         ]

@@ -1,10 +1,12 @@
 -- One more context: what it adds to the value of those before it, or the rule of names that it breaks.
-use Rattle.std.proofs.Common.{◌≡◌, ℕ, Bool, true, false, if◌then◌else◌, List, [], ◌∷◌, ◌++◌, Option, Some, None, Result, Ok, Err, option_to_list, refl, sym, ◌∙◌, ap, arith}
+use Rattle.std.proofs.Common.{◌≡◌, ℕ, Bool, true, false, if◌then◌else◌, List, [], ◌∷◌, ◌++◌, Option, Some, None, Result, Ok, Err}
+use Rattle.std.proofs.Common.{option_to_list, refl, sym, ◌∙◌, ap, arith}
 use Rattle.std.specs.List.{cons_option}
 use Rattle.std.proofs.lemmas.List.{append-nil}
 use Rattle.std.proofs.lemmas.List.Elements.{filter_map-append}
 use Rattle.lease_wire.specs.Chain.{ContextView}
-use Rattle.lease_wire.specs.Names.{Meaning, LeaseView, CreateView, HaveValue, meaning_of, values_of_kind, lease_in, durable_in, reconnect_in, wrong_length_in}
+use Rattle.lease_wire.specs.Names.{Meaning, LeaseView, CreateView, HaveValue, meaning_of, values_of_kind, lease_in, durable_in}
+use Rattle.lease_wire.specs.Names.{reconnect_in, wrong_length_in}
 use Rattle.lease_wire.specs.Names.Meaning.{Unknown, WrongLength, Lease, Durable, Reconnect}
 use Rattle.lease_wire.specs.Faults.{meaning_fault, twice_if}
 use Rattle.lease_wire.specs.Gathering.{with_meaning, with_lease, with_durable, with_reconnect, no_values}

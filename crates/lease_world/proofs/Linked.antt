@@ -130,20 +130,20 @@ stack_later covers one tops position linked inside = stack_found (covers ++ one 
 
 pub tops_more : (covers : List Cover) (tops : List ℕ) → AreTops covers tops → AreTops covers (tops ++ 0 ∷ [])
 tops_more covers tops inside position top is = elim (cases_Bool (position == length tops)) [
-      | inl here ↦
-          let same : Some 0 ≡ Some top = sym (get-push tops 0 position ∙ rw here refl) ∙ is in
-          let it : 0 ≡ top = cc in omega (arith, it)
-      | inr other ↦ inside position top (sym (get-push tops 0 position ∙ rw other refl) ∙ is)
-    ]
+  | inl here ↦
+      let same : Some 0 ≡ Some top = sym (get-push tops 0 position ∙ rw here refl) ∙ is in
+      let it : 0 ≡ top = cc in omega (arith, it)
+  | inr other ↦ inside position top (sym (get-push tops 0 position ∙ rw other refl) ∙ is)
+]
 
 pub tops_set : (covers : List Cover) (tops : List ℕ) (place top : ℕ) → place < length tops → top ≤ length covers
     → AreTops covers tops → AreTops covers (slice_set tops place top)
 tops_set covers tops place top at low inside position other is = elim (cases_Bool (position == place)) [
-      | inl here ↦
-          let same : Some top ≡ Some other = sym (get-put tops place top position at ∙ rw here refl) ∙ is in
-          let it : top ≡ other = cc in omega (arith, it, low)
-      | inr apart ↦ inside position other (sym (get-put tops place top position at ∙ rw apart refl) ∙ is)
-    ]
+  | inl here ↦
+      let same : Some top ≡ Some other = sym (get-put tops place top position at ∙ rw here refl) ∙ is in
+      let it : top ≡ other = cc in omega (arith, it, low)
+  | inr apart ↦ inside position other (sym (get-put tops place top position at ∙ rw apart refl) ∙ is)
+]
 
 -- ---- what a loop finds
 

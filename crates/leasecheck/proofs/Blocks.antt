@@ -1,5 +1,6 @@
 -- Texts of whole lines, and the lines of what is put after them.
-use Rattle.std.proofs.Common.{◌≡◌, ◌≢◌, inl, inr, ℕ, zero, suc, ◌+◌, ◌≤◌, ◌<◌, ◌++◌, List, [], ◌∷◌, refl, sym, ap, subst, append_assoc, length, take, slice_index, arith, ◌==◌, true, false, if◌then◌else◌, add-one}
+use Rattle.lease_laws.proofs.Words.{◌++◌, ◌+◌, ◌<◌, ◌==◌, ◌∷◌, ◌≡◌, ◌≢◌, ◌≤◌, List, ℕ, [], add-one, ap, append_assoc, arith}
+use Rattle.lease_laws.proofs.Words.{false, if◌then◌else◌, inl, inr, length, refl, slice_index, subst, suc, sym, take, true, zero}
 use Rattle.lease_texts.specs.Pieces.{pieces, longer, lines_of}
 use Rattle.leasecheck.specs.Judging.{EndsLine}
 
@@ -15,8 +16,7 @@ longer_some byte (piece ∷ rest) = λ same. cc
 -- a text that isn't empty has a line
 lines_some : (byte : ℕ) (text : List ℕ) → pieces 10 [] (byte ∷ text) ≢ []
 unfolding pieces
-lines_some byte text =
-    if_cases (λ all. all ≢ []) (byte == 10) ([] ∷ pieces 10 [] text) (longer byte (pieces 10 [] text))
+lines_some byte text = if_cases (λ all. all ≢ []) (byte == 10) ([] ∷ pieces 10 [] text) (longer byte (pieces 10 [] text))
     (λ _. λ same. cc) (λ _. longer_some byte (pieces 10 [] text))
 
 longer_append : (byte : ℕ) (some more : List (List ℕ)) → some ≢ [] → longer byte (some ++ more) ≡ longer byte some ++ more

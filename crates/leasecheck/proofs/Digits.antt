@@ -1,10 +1,7 @@
 -- How the digits of an argument are taken from its text.
-use Rattle.std.proofs.Common.{◌≡◌, ◌&&◌, ℕ, ◌-◌, ◌<◌, ◌≤◌, ◌++◌, List, [], ◌∷◌, length, take, drop, slice_index, true, false, refl, sym, ap, ◌∙◌, subst, arith}
-use Rattle.std.proofs.lemmas.Bool.{and_parts}
-use Rattle.std.proofs.lemmas.List.{take_all}
+use Rattle.lease_laws.proofs.Words.{◌&&◌, ◌++◌, ◌-◌, ◌<◌, ◌∙◌, ◌∷◌, ◌≡◌, ◌≤◌, List, Ok, ℕ, [], and_parts, ap, arith, drop, false}
+use Rattle.lease_laws.proofs.Words.{length, list_all, refl, slice_index, subst, sym, take, take_all, true}
 use Rattle.std.proofs.lemmas.List.Sums.{list_all-from_AllPass}
-use Rattle.std.specs.Prelude.{Ok}
-use Rattle.std.specs.List.{list_all}
 use Rattle.hex.specs.Hex.{decode_of, is_hex_digit}
 use Rattle.hex.proofs.HexLemmas.{decode_of-ok}
 use Rattle.leasecheck.specs.Arguments.{is_separator, digits_in, without_prefix, argument_bytes}
@@ -109,12 +106,10 @@ bad_separated (a ∷ b ∷ c ∷ []) behind n more aft all is digits = absurd (o
 bad_separated (a ∷ b ∷ c ∷ d ∷ rest) behind n more aft all is digits =
     let count : n ≡ length (c ∷ d ∷ rest) - 1 = subst (λ t. n ≡ length t - 1) aft all in
     let whole : take n (d ∷ rest) ≡ d ∷ rest = take_all n (d ∷ rest) (omega (arith, count)) in
-    rw aft (bad_apart a b c d rest digits (subst (λ t. is_separator (slice_index t 0) ≡ true) aft is)
-    ∙ ap from_bad (sym whole))
+    rw aft (bad_apart a b c d rest digits (subst (λ t. is_separator (slice_index t 0) ≡ true) aft is) ∙ ap from_bad (sym whole))
 
 pub bad_joined : (text behind : List ℕ) → 3 < length text → behind ≡ drop 2 text → is_separator (slice_index behind 0) ≡ false
-    → (is_hex_digit (slice_index text 0) && is_hex_digit (slice_index text 1)) ≡ true
-    → from_bad text ≡ from_bad behind
+    → (is_hex_digit (slice_index text 0) && is_hex_digit (slice_index text 1)) ≡ true → from_bad text ≡ from_bad behind
 bad_joined [] behind more aft is digits = absurd (omega arith)
 bad_joined (a ∷ []) behind more aft is digits = absurd (omega arith)
 bad_joined (a ∷ b ∷ []) behind more aft is digits = absurd (omega arith)

@@ -1,6 +1,5 @@
 -- What is shown of a message's body is shown of the message.
-use Rattle.std.proofs.Common.{◌≡◌, Ok, Err, subst}
-use Rattle.std.specs.Prelude.{Result, IfOk}
+use Rattle.lease_laws.proofs.Words.{◌≡◌, Err, IfOk, Ok, Result, subst}
 
 pub shown_behind : {X F : Type 0} (P : X → Type 0) (shown result : Result X F) → IfOk shown P
     → IfOk result (λ text. shown ≡ Ok text) → IfOk result P

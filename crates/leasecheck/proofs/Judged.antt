@@ -1,7 +1,5 @@
 -- What a record is refused as, and what else is said.
-use Rattle.std.proofs.Common.{◌≡◌, inl, inr, ℕ, List, Option, Some, None, Err, sym, ap, ◌∙◌, subst}
-use Rattle.std.specs.Prelude.{IfSome}
-use Rattle.std.specs.String.{string_bytes}
+use Rattle.lease_laws.proofs.Words.{◌∙◌, ◌≡◌, Err, IfSome, List, None, Option, Some, ℕ, ap, inl, inr, string_bytes, subst, sym}
 use Rattle.lease_texts.specs.Pieces.{lines_of}
 use Rattle.leasecheck.proofs.Puts.{says_more}
 use Rattle.leasecheck.specs.Judging.{Judges, RefusesLine, bare}

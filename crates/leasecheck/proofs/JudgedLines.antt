@@ -1,6 +1,7 @@
-use Rattle.std.proofs.Common.{◌≡◌, ◌⊎◌, inl, inr, ℕ, ◌+◌, ◌-◌, ◌^◌, ◌≤◌, ◌<◌, ◌++◌, List, [], ◌∷◌, map, Some, None, Result, Ok, Err, true, false, refl, sym, ap, ◌∙◌, subst, append_assoc, length, length-append, length-drop, take, drop, slice_index, arith, ◌==◌}
-use Rattle.std.proofs.lemmas.List.{append-nil, take_all, take-append-drop}
-use Rattle.std.proofs.lemmas.Bool.Decides.{nat_tests}
+use Rattle.lease_laws.proofs.Words.{◌++◌, ◌+◌, ◌-◌, ◌<◌, ◌==◌, ◌^◌, ◌∙◌, ◌∷◌, ◌≡◌, ◌≤◌, ◌⊎◌, Err, List, None, Ok, Result, Some, ℕ}
+use Rattle.lease_laws.proofs.Words.{[], ap, append-nil, append_assoc, arith, drop, false, inl, inr, length, length-append}
+use Rattle.lease_laws.proofs.Words.{length-drop, map, nat_tests, refl, slice_index, subst, sym, take, take_all, true}
+use Rattle.std.proofs.lemmas.List.{take-append-drop}
 use Rattle.lease_texts.specs.Pieces.{pieces, lines_of}
 use Rattle.lease_facts.specs.Facts.{fact_of}
 use Rattle.lease_facts.specs.declared.fact.Fact.{Fact}
@@ -59,8 +60,7 @@ length_more (y ∷ xs) x = let rest = length_more xs x in omega (arith, rest)
 
 pub read_line : (old new : Progress) (line : List ℕ) (lines : List (List ℕ)) → (has : HasRead old lines)
     → new.number ≡ old.number + 1 → (more : List Fact) × (with_line has.facts line ≡ Some more)
-    × HasJudged new.judge (map fact_of more)
-    → HasRead new (lines ++ line ∷ [])
+    × HasJudged new.judge (map fact_of more) → HasRead new (lines ++ line ∷ [])
 read_line old new line lines has next taken = record {
   facts = taken.0;
   judged = taken.2;
@@ -71,17 +71,15 @@ read_line old new line lines has next taken = record {
 
 pub refuse_line : (old : Progress) (line : List ℕ) (lines : List (List ℕ)) (told : Refusal) → (has : HasRead old lines)
     → (told ≡ bare failure.Memory) ⊎ ((with_line has.facts line ≡ None) × (told.failure ≡ failure.Line old.number)
-    × SaysLine old.number line told)
-    → (told ≡ bare failure.Memory) ⊎ RunsOut (length (lines ++ line ∷ [])) told
+    × SaysLine old.number line told) → (told ≡ bare failure.Memory) ⊎ RunsOut (length (lines ++ line ∷ [])) told
     ⊎ ((more : List (List ℕ)) → RefusesLine (lines ++ (line ∷ [] ++ more)) told)
 refuse_line old line lines told has (inl memory) = inl memory
-refuse_line old line lines told has (inr refused) =
-    inr (inr (λ more. (
-      old.number,
-      refused_line line more old.number has.facts _ refused.0 (has.read (line ∷ more)),
-      refused.1,
-      subst (λ l. SaysLine old.number l told) (sym (line_behind lines line more old.number has.counted)) refused.2,
-    )))
+refuse_line old line lines told has (inr refused) = inr (inr (λ more. (
+  old.number,
+  refused_line line more old.number has.facts _ refused.0 (has.read (line ∷ more)),
+  refused.1,
+  subst (λ l. SaysLine old.number l told) (sym (line_behind lines line more old.number has.counted)) refused.2,
+)))
 
 pub run_out : (old : Progress) (line : List ℕ) (lines : List (List ℕ)) → HasRead old lines → old.number ≡ 2 ^ 64 - 1
     → RunsOut (length (lines ++ line ∷ [])) (bare failure.Lines)
@@ -120,11 +118,9 @@ stop_at told line behind rest text lines taken (inr (inl out)) first same =
     ≡ length (lines ++ (taken ++ (line ∷ lines_of behind))) = ap (λ all. length (lines ++ all)) (sym whole) in
     inr (inl (out.0, omega (arith, out.1, counted, length-append {A = List ℕ})))
 stop_at told line behind rest text lines taken (inr (inr refused)) first same =
-    inr (inr (λ more. subst (λ all. RefusesLine all told)
-    (append_assoc lines taken (line ∷ (lines_of behind ++ more))
+    inr (inr (λ more. subst (λ all. RefusesLine all told) (append_assoc lines taken (line ∷ (lines_of behind ++ more))
     ∙ ap (λ all. lines ++ all) (sym (append_assoc taken (line ∷ lines_of behind) more)
-    ∙ ap (λ all. all ++ more) (ap (λ all. taken ++ all) (sym first) ∙ same)))
-    (refused (lines_of behind ++ more))))
+    ∙ ap (λ all. all ++ more) (ap (λ all. taken ++ all) (sym first) ∙ same))) (refused (lines_of behind ++ more))))
 
 -- ---- blocks
 
@@ -140,8 +136,7 @@ text_read progress text more ends whole has = record {
 pub refused_in : (told : Refusal) (text more : List ℕ) → EndsLine text → EndsLine (text ++ more)
     → ((lines : List (List ℕ)) → RefusesLine (lines_of text ++ (lines_of more ++ lines)) told)
     → (rest : List ℕ) → RefusesLine (lines_of ((text ++ more) ++ rest)) told
-refused_in told text more ends whole refused rest =
-    subst (λ lines. RefusesLine lines told)
+refused_in told text more ends whole refused rest = subst (λ lines. RefusesLine lines told)
     (sym (append_assoc (lines_of text) (lines_of more) (lines_of rest))
     ∙ (ap (λ lines. lines ++ lines_of rest) (sym (lines_behind text more ends)) ∙ sym (lines_behind (text ++ more) rest whole)))
     (refused (lines_of rest))
@@ -163,8 +158,7 @@ refuse_in told text lines all more ends whole is (inr (inl out)) =
     let counted : length (text ++ all) ≡ length (text ++ (lines ++ more)) = ap (λ t. length (text ++ t)) is in
     inr (inl (ran_out_in told text lines out (length (text ++ all)) (omega (arith, counted, length-append {A = ℕ}))))
 refuse_in told text lines all more ends whole is (inr (inr refused)) =
-    inr (inr (λ rest. subst (λ t. RefusesLine (lines_of t) told)
-    (append_assoc text lines (more ++ rest)
+    inr (inr (λ rest. subst (λ t. RefusesLine (lines_of t) told) (append_assoc text lines (more ++ rest)
     ∙ ap (λ t. text ++ t) (sym (append_assoc lines more rest) ∙ ap (λ t. t ++ rest) (sym is)))
     (refused_in told text lines ends whole refused (more ++ rest))))
 
@@ -194,10 +188,8 @@ block_behind text lines old new block rest (Err told) is (inl memory) = inl memo
 block_behind text lines old new block rest (Err told) is (inr (inl out)) =
     inr (inl (subst (λ t. RunsOut (length t) told) (append_assoc text lines rest ∙ ap (λ t. text ++ t) (sym is)) out))
 block_behind text lines old new block rest (Err told) is (inr (inr refused)) =
-    inr (inr (λ more. subst (λ t. RefusesLine (lines_of t) told)
-    (append_assoc text lines (rest ++ more)
-    ∙ ap (λ t. text ++ t) (sym (append_assoc lines rest more) ∙ ap (λ t. t ++ more) (sym is)))
-    (refused more)))
+    inr (inr (λ more. subst (λ t. RefusesLine (lines_of t) told) (append_assoc text lines (rest ++ more)
+    ∙ ap (λ t. text ++ t) (sym (append_assoc lines rest more) ∙ ap (λ t. t ++ more) (sym is))) (refused more)))
 
 -- The line that a block ends, with what had begun before the block.
 pub first_ends : (text old block lines : List ℕ) (place : ℕ) → place < length block → slice_index block place ≡ 10

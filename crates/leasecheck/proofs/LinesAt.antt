@@ -1,6 +1,6 @@
 -- The line of a number.
-use Rattle.std.proofs.Common.{◌≡◌, ℕ, suc, ◌+◌, ◌-◌, ◌<◌, ◌≤◌, ◌++◌, List, [], ◌∷◌, length, get_or, refl, sym, arith, true, ◌==◌}
-use Rattle.std.proofs.lemmas.Bool.Decides.{nat_tests}
+use Rattle.lease_laws.proofs.Words.{◌++◌, ◌+◌, ◌-◌, ◌<◌, ◌==◌, ◌∷◌, ◌≡◌, ◌≤◌, List, ℕ, [], arith, get_or, length, nat_tests, refl}
+use Rattle.lease_laws.proofs.Words.{suc, sym, true}
 use Rattle.lease_texts.specs.Pieces.{lines_of, pieces}
 use Rattle.leasecheck.specs.LineRemarks.{line_among, line_at}
 

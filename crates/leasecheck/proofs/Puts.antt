@@ -1,10 +1,9 @@
 -- Texts of which a beginning was written.
-use Rattle.std.proofs.Common.{◌≡◌, inl, inr, ◌⊎◌, refl, ℕ, ◌++◌, List, [], Option, Some, None, Result, Ok, Err, sym, ap, ◌∙◌, append_assoc, take, drop, ◌-◌, length, length-drop, arith}
-use Rattle.std.proofs.lemmas.List.{append-nil, take_all, take-append-drop}
-use Rattle.std.specs.Io.KnownBytes.{Appends, Keeps}
-use Rattle.std.specs.Prelude.{IfSome, unwrap_or}
-use Rattle.std.specs.Option.{option_map}
-use Rattle.std.specs.String.{string_bytes}
+use Rattle.lease_laws.proofs.Words.{◌++◌, ◌-◌, ◌∙◌, ◌≡◌, ◌⊎◌, Appends, Err, IfSome, List, None, Ok, Option, Result, Some, ℕ, []}
+use Rattle.lease_laws.proofs.Words.{ap, append-nil, append_assoc, arith, drop, inl, inr, length, length-drop, option_map, refl}
+use Rattle.lease_laws.proofs.Words.{string_bytes, sym, take, take_all, unwrap_or}
+use Rattle.std.proofs.lemmas.List.{take-append-drop}
+use Rattle.std.specs.Io.KnownBytes.{Keeps}
 use Rattle.leasecheck.specs.Remarks.{IsRemark, Says, second_of}
 use Rattle.leasecheck.specs.Refusals.{Begins, Puts, IsSecond}
 use Rattle.leasecheck.specs.declared.failure.Failure.{Failure}
@@ -20,8 +19,7 @@ appends_more (Some xs) (Some ys) (Some zs) part more had has = has ∙ (ap (λ t
 
 -- a part more was written
 pub puts_more : (first old new : Option (List ℕ)) (text left part : List ℕ) (count n : ℕ) → part ++ left ≡ text
-    → n ≡ length left - count
-    → Appends first old part → Appends old new (take count left)
+    → n ≡ length left - count → Appends first old part → Appends old new (take count left)
     → (more : List ℕ) × (more ++ take n (drop count left) ≡ text) × Appends first new more
 puts_more first old new text left part count n is cut had has = (
   part ++ take count left,
@@ -33,8 +31,7 @@ puts_more first old new text left part count n is cut had has = (
 
 -- a text and a beginning of another one behind it
 pub begins_behind : {T E : Type 0} (first old new : Option (List ℕ)) (line second : List ℕ) (answer : Result T E)
-    → Appends first old line
-    → Puts old new second answer → Begins first new (line ++ second)
+    → Appends first old line → Puts old new second answer → Begins first new (line ++ second)
 begins_behind first old new line second (Ok value) had has =
     (line ++ second, [], sym (append-nil (line ++ second)), appends_more first old new line second had has)
 begins_behind first old new line second (Err e) had (part, rest, is, has) =

@@ -1,9 +1,8 @@
 -- Records that are written as they are made.
-use Rattle.std.proofs.Common.{◌≡◌, inl, inr, refl, ℕ, ◌++◌, List, [], ◌∷◌, Bool, true, false, Option, Some, None, Result, Ok, Err, sym, ap, ◌∙◌, subst, append_assoc}
-use Rattle.std.proofs.lemmas.List.{append-nil}
+use Rattle.lease_laws.proofs.Words.{◌++◌, ◌∙◌, ◌∷◌, ◌≡◌, Appends, Bool, Err, List, None, Ok, Option, Result, Some, ℕ, [], ap}
+use Rattle.lease_laws.proofs.Words.{append-nil, append_assoc, false, inl, inr, refl, string_bytes, subst, sym, true}
 use Rattle.std.specs.Prelude.{IfErr}
-use Rattle.std.specs.Io.KnownBytes.{Appends, Keeps}
-use Rattle.std.specs.String.{string_bytes}
+use Rattle.std.specs.Io.KnownBytes.{Keeps}
 use Rattle.lease_facts.specs.declared.fact.Fact.{Fact}
 use Rattle.lease_facts.specs.declared.fact.Fact.TheVariants as fact
 use Rattle.lease_state.specs.declared.reply.Reply.{Reply}
@@ -84,8 +83,7 @@ unwritten first current new gathered told rest whole why has is (part, left, cut
     )
 
 pub unwritten_whole : {T : Type 0} (first current new : Option (List ℕ)) (gathered : Gathered) (told : List ℕ)
-    (answer : Result T Failure)
-    → HasGathered first current gathered told
+    (answer : Result T Failure) → HasGathered first current gathered told
     → IfErr answer (λ why. (why ≡ failure.Output) × Begins current new (string_bytes gathered.text))
     → IfErr answer (λ why. IsUnwritten why first new told)
 unwritten_whole first current new gathered told (Ok value) has begins = tt

@@ -1,8 +1,8 @@
 -- A text that is judged block by block, round after round.
-use Rattle.std.proofs.Common.{◌≡◌, inl, inr, ℕ, ◌+◌, ◌-◌, ◌^◌, ◌≤◌, ◌<◌, ◌++◌, List, [], map, Option, Some, None, Result, Ok, Err, refl, sym, ap, ◌∙◌, subst, append_assoc, length, length-append, arith}
-use Rattle.std.specs.Prelude.{IfSome}
+use Rattle.lease_laws.proofs.Words.{◌++◌, ◌+◌, ◌-◌, ◌<◌, ◌^◌, ◌∙◌, ◌≡◌, ◌≤◌, Err, IfSome, List, None, Ok, Option, Result, Some, ℕ}
+use Rattle.lease_laws.proofs.Words.{[], ap, append-nil, append_assoc, arith, inl, inr, length, length-append, map, refl, subst}
+use Rattle.lease_laws.proofs.Words.{sym}
 use Rattle.std.specs.Io.KnownBytes.{Consumes, IsAtEnd}
-use Rattle.std.proofs.lemmas.List.{append-nil}
 use Rattle.lease_world.specs.declared.verdict.Verdict.{Verdict}
 use Rattle.lease_facts.specs.Facts.{fact_of}
 use Rattle.lease_model.specs.records.Facts as told
@@ -66,8 +66,7 @@ goes_on (Some all) (Some rest) (Some left) progress next begun more block round 
 -- a refusal in a block is that of the whole text
 pub stops : (whole old new : Option (List ℕ)) (progress : Progress) (told : Refusal) (begun more block : List ℕ) (round : ℕ)
     → IsSoFar whole old progress begun round → Consumes old new block
-    → ((text : List ℕ) → HasReadText progress text → ReadsBlock text begun more block (Err told))
-    → Judges whole (Err told)
+    → ((text : List ℕ) → HasReadText progress text → ReadsBlock text begun more block (Err told)) → Judges whole (Err told)
 stops None old new progress told begun more block round so_far consumes reads = unknown (reads so_far.text so_far.read)
   where
     unknown : ReadsBlock so_far.text begun more block (Err told) → Judges None (Err told)
@@ -114,8 +113,7 @@ ends (Some all) (Some rest) (Some left) progress begun round answer so_far consu
 
 -- rounds run out only in a text of as many bytes
 pub runs_out : (whole left : Option (List ℕ)) (progress : Progress) (begun : List ℕ) (round : ℕ)
-    → IsSoFar whole left progress begun round
-    → round ≡ 2 ^ 64 - 1 → Judges whole (Err (bare failure.Lines))
+    → IsSoFar whole left progress begun round → round ≡ 2 ^ 64 - 1 → Judges whole (Err (bare failure.Lines))
 runs_out None left progress begun round so_far last = inr (inr (inl refl))
 runs_out (Some all) left progress begun round so_far last =
     inr (inr (inl (refl, omega (arith, so_far.known.3, last, ap length so_far.known.2, length-append {A = ℕ}))))
@@ -141,19 +139,16 @@ judged_whole next verdict text begun whole has tells = (
 pub refused_whole : (told : Refusal) (text begun : List ℕ) → EndsLine text
     → ReadsMore (lines_of text) (lines_of begun) (Err told) → JudgesText (text ++ begun) (Err told)
 refused_whole told text begun whole (inl memory) = inl memory
-refused_whole told text begun whole (inr (inl out)) =
-    inr (inr (inl (
-      out.0,
-      omega (
-        arith,
-        out.1,
-        lines_count text,
-        lines_count begun,
-        length-append {A = List ℕ},
-        length-append
-            {A = ℕ},
-      ),
-    )))
-refused_whole told text begun whole (inr (inr refused)) =
-    inr (inr (inr (subst (λ lines. RefusesLine lines told)
+refused_whole told text begun whole (inr (inl out)) = inr (inr (inl (
+  out.0,
+  omega (
+    arith,
+    out.1,
+    lines_count text,
+    lines_count begun,
+    length-append {A = List ℕ},
+    length-append {A = ℕ},
+  ),
+)))
+refused_whole told text begun whole (inr (inr refused)) = inr (inr (inr (subst (λ lines. RefusesLine lines told)
     (ap (λ lines. lines_of text ++ lines) (append-nil (lines_of begun)) ∙ sym (lines_behind text begun whole)) (refused []))))

@@ -1,10 +1,8 @@
 -- Machines that answered some lines of a text.
-use Rattle.std.proofs.Common.{◌≡◌, ◌≢◌, ℕ, ◌+◌, ◌++◌, ◌==◌, true, false, Bool, if◌then◌else◌, List, [], ◌∷◌, Option, Some, None, Ok, Err, refl, sym, ap, ◌∙◌, subst, append_assoc, length, length-append, arith}
-use Rattle.std.specs.Prelude.{IfSome}
+use Rattle.lease_laws.proofs.Words.{◌++◌, ◌+◌, ◌==◌, ◌∙◌, ◌∷◌, ◌≡◌, ◌≢◌, Appends, Bool, Err, IfSome, List, None, Ok, Option, Some}
+use Rattle.lease_laws.proofs.Words.{ℕ, [], ap, append-nil, append_assoc, arith, false, if◌then◌else◌, length, length-append}
+use Rattle.lease_laws.proofs.Words.{nat_tests, refl, subst, sym, true}
 use Rattle.std.specs.Io.BufRead.{take_through, drop_through}
-use Rattle.std.specs.Io.KnownBytes.{Appends}
-use Rattle.std.proofs.lemmas.Bool.Decides.{nat_tests}
-use Rattle.std.proofs.lemmas.List.{append-nil}
 use Rattle.lease_lines.specs.Machines.{Machines, answered, transcript}
 use Rattle.lease_texts.specs.Pieces.{lines_of, pieces, longer}
 use Rattle.leasecheck.specs.Conversing.{Converses, GivesLine, HasSpoken}
@@ -108,8 +106,7 @@ behind_line : (lines rest : List (List ℕ)) (all_lines : List (List ℕ)) (text
 behind_line lines rest all_lines text is = is ∙ sym (append_assoc lines (text ∷ []) rest)
 
 given_line : (bytes line behind text : List ℕ) → bytes ≢ [] → lines_of bytes ≡ line ∷ lines_of behind
-    → bytes ≡ take_through 10 text
-    → lines_of text ≡ line ∷ lines_of (drop_through 10 text)
+    → bytes ≡ take_through 10 text → lines_of text ≡ line ∷ lines_of (drop_through 10 text)
 given_line bytes line behind [] some first is = absurd (some is)
 given_line bytes line behind (byte ∷ text) some first is =
     let one = first_of byte text in
@@ -141,14 +138,12 @@ goes_on whole left new start now next number first old written bytes line behind
         ∙ ap (λ n. (answered (after_lines start 1 so_far.lines) n line).text) so_far.counted
 
     more : transcript start 1 (so_far.lines ++ line ∷ []) ≡ transcript start 1 so_far.lines ++ (answered now number line).text
-    more = transcript_behind start 1 so_far.lines (line ∷ [])
-        ∙ ap (λ t. transcript start 1 so_far.lines
+    more = transcript_behind start 1 so_far.lines (line ∷ []) ∙ ap (λ t. transcript start 1 so_far.lines
         ++ t) (append-nil (answered (after_lines start 1 so_far.lines) (1 + length so_far.lines) line).text ∙ sym told_text)
 
     knows : (known left : Option (List ℕ))
         → IfSome known (λ all. (rest : List ℕ) × (left ≡ Some rest) × (lines_of all ≡ so_far.lines ++ lines_of rest))
-        → GivesLine left new bytes
-        → IfSome known (λ all. (rest : List ℕ) × (new ≡ Some rest)
+        → GivesLine left new bytes → IfSome known (λ all. (rest : List ℕ) × (new ≡ Some rest)
         × (lines_of all ≡ (so_far.lines ++ line ∷ []) ++ lines_of rest))
     knows None left had gives = tt
     knows (Some all) None had gives = absurd (let e = had.1 in cc)
@@ -172,8 +167,7 @@ no_lines (byte ∷ text) none = absurd (taken_some byte text none)
 
 -- nothing is left
 pub ends : {T : Type 0} (whole left new : Option (List ℕ)) (start now : Machines) (number : ℕ) (first old : Option (List ℕ))
-    (bytes : List ℕ) (done : T)
-    → IsSoFar whole left start now number first old → GivesLine left new bytes → bytes ≡ []
+    (bytes : List ℕ) (done : T) → IsSoFar whole left start now number first old → GivesLine left new bytes → bytes ≡ []
     → Converses start whole first old (Ok done)
 unfolding pieces
 ends None left new start now number first old bytes done so_far gives none = (so_far.lines, so_far.answers)
@@ -199,8 +193,7 @@ begun_text start first old new lines more text had begun rest is = (
 
 -- no line more was answered
 pub stops : (T : Type 0) (whole left : Option (List ℕ)) (start now : Machines) (number : ℕ) (first old : Option (List ℕ))
-    (told : Failure)
-    → IsSoFar whole left start now number first old → Converses {T = T} start whole first old (Err told)
+    (told : Failure) → IsSoFar whole left start now number first old → Converses {T = T} start whole first old (Err told)
 stops T whole left start now number first old told so_far = at whole so_far.known
   where
     none_more : (old : Option (List ℕ)) → Appends old old []
@@ -213,8 +206,7 @@ stops T whole left start now number first old told so_far = at whole so_far.know
         (transcript_behind start 1 so_far.lines more)
 
     at : (known : Option (List ℕ)) → IfSome known (λ all. (rest : List ℕ) × (left ≡ Some rest)
-        × (lines_of all ≡ so_far.lines ++ lines_of rest))
-        → Converses {T = T} start known first old (Err told)
+        × (lines_of all ≡ so_far.lines ++ lines_of rest)) → Converses {T = T} start known first old (Err told)
     at None had = (so_far.lines, subst (λ ls. Begins first old (transcript start 1 ls)) (append-nil so_far.lines) (so []))
     at (Some all) had = subst (λ ls. Begins first old (transcript start 1 ls)) (sym had.2) (so (lines_of had.0))
 
@@ -236,8 +228,7 @@ breaks_off T whole left new start now number first old written bytes line behind
     so : (more : List (List ℕ)) → Begins first written (transcript start 1 (so_far.lines ++ line ∷ more))
     so more = begun_text start first old written so_far.lines (line ∷ more) (answered now number line).text so_far.answers begun
         (transcript (answered (after_lines start 1 so_far.lines) (1 + length so_far.lines) line).state
-        ((1 + length so_far.lines) + 1) more)
-        (transcript_behind start 1 so_far.lines (line ∷ more)
+        ((1 + length so_far.lines) + 1) more) (transcript_behind start 1 so_far.lines (line ∷ more)
         ∙ ap (λ t. transcript start 1 so_far.lines
         ++ (t ++ transcript (answered (after_lines start 1 so_far.lines) (1 + length so_far.lines) line).state
         ((1 + length so_far.lines) + 1) more)) (sym told_text))

@@ -1,6 +1,7 @@
 -- Facts that are printed one after another, each after the message that it speaks of.
-use Rattle.std.proofs.Common.{◌≡◌, ℕ, zero, suc, ◌+◌, ◌<◌, ◌≤◌, List, [], ◌∷◌, ◌++◌, length, drop, get_or, refl, sym, ap, subst, ◌∙◌, arith}
-use Rattle.std.proofs.lemmas.List.{append_assoc, append-nil, drop_more}
+use Rattle.lease_laws.proofs.Words.{◌++◌, ◌+◌, ◌<◌, ◌∙◌, ◌∷◌, ◌≡◌, ◌≤◌, List, ℕ, [], ap, append-nil, append_assoc, arith, drop}
+use Rattle.lease_laws.proofs.Words.{get_or, length, refl, subst, suc, sym, zero}
+use Rattle.std.proofs.lemmas.List.{drop_more}
 use Rattle.lease_facts.specs.declared.fact.Fact.{Fact}
 use Rattle.lease_state.specs.declared.reply.Reply.{Reply}
 use Rattle.lease_texts.specs.Records.{fact_line}
@@ -8,10 +9,8 @@ use Rattle.leasecheck.specs.Messages.{message_before, messages_behind, record_wi
 
 pub told_more : (text before after whole : List ℕ) (facts : List Fact) (n : ℕ) (fact : Fact) (left behind : List Reply)
     → n < length facts → fact ≡ get_or facts n fact
-    → before ≡ text ++ message_before fact left → behind ≡ messages_behind fact left
-    → after ≡ before ++ fact_line fact
-    → text ++ record_with_messages (drop n facts) left ≡ whole
-    → after ++ record_with_messages (drop (n + 1) facts) behind ≡ whole
+    → before ≡ text ++ message_before fact left → behind ≡ messages_behind fact left → after ≡ before ++ fact_line fact
+    → text ++ record_with_messages (drop n facts) left ≡ whole → after ++ record_with_messages (drop (n + 1) facts) behind ≡ whole
 unfolding record_with_messages
 told_more text before after whole facts n fact left behind lt is message rest line so_far =
     let more : List ℕ = record_with_messages (drop (n + 1) facts) (messages_behind fact left) in

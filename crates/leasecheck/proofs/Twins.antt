@@ -1,7 +1,8 @@
 -- The first of a list's items that stands again after it.
-use Rattle.std.proofs.Common.{◌≡◌, ℕ, zero, suc, ◌+◌, ◌-◌, ◌<◌, ◌≤◌, List, [], ◌∷◌, length, take, drop, get_or, Some, None, refl, sym, ap, ◌∙◌, arith, add-one, drop-cons}
-use Rattle.std.specs.Prelude.{bytes_eq, position}
-use Rattle.std.proofs.lemmas.List.{take_all, length-drop}
+use Rattle.lease_laws.proofs.Words.{◌+◌, ◌-◌, ◌<◌, ◌∙◌, ◌∷◌, ◌≡◌, ◌≤◌, List, None, Some, ℕ, [], add-one, ap, arith, bytes_eq}
+use Rattle.lease_laws.proofs.Words.{drop, get_or, length, length-drop, refl, suc, sym, take, take_all, zero}
+use Rattle.std.proofs.Common.{drop-cons}
+use Rattle.std.specs.Prelude.{position}
 use Rattle.leasecheck.specs.SetupRemarks.{twins}
 
 drop_rest : (guids : List (List ℕ)) (n : ℕ) (d : List ℕ) → n < length guids → drop n guids ≡ get_or guids n d ∷ drop (n + 1) guids

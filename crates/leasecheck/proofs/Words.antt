@@ -1,7 +1,9 @@
 -- What words ask for, from what clap says of them.
-use Rattle.std.proofs.Common.{◌≡◌, ◌≢◌, ◌⊎◌, true, List, [], Option, Some, Result, Ok, Err, inl, inr, refl, sym, ap, subst, ◌∙◌, String, Global}
-use Rattle.std.specs.Prelude.{IfOk}
-use Rattle.clap.specs.Words.{App, Row, Text, fault_of, is_simple, is_simple_and_free, kind_of, subcommand_of, subcommand_rows_of, FailsBy, HasMatchesOf, IsAmong}
+use Rattle.lease_laws.proofs.Words.{◌∙◌, ◌≡◌, ◌≢◌, ◌⊎◌, Err, IfOk, List, Ok, Option, Result, Some, [], ap, inl, inr, refl, subst}
+use Rattle.lease_laws.proofs.Words.{sym, true}
+use Rattle.std.proofs.Common.{String, Global}
+use Rattle.clap.specs.Words.{App, Row, Text, fault_of, is_simple, is_simple_and_free, kind_of, subcommand_of, subcommand_rows_of}
+use Rattle.clap.specs.Words.{FailsBy, HasMatchesOf, IsAmong}
 use Rattle.clap.specs.declared.builder.value_parser.ValueParser.{ValueParser}
 use Rattle.clap.specs.declared.error.Error.{Error}
 use Rattle.clap.specs.declared.error.kind.ErrorKind.{ErrorKind}
@@ -17,16 +19,13 @@ is_free_app : (kinds : ValueParser) → is_simple_and_free (leasecheck_app kinds
 is_free_app kinds = refl
 
 pub parses : (app : App) (kinds : ValueParser) (words : List Text) (answer : Result ArgMatches Error) → TakesKinds kinds
-    → app ≡ leasecheck_app kinds
-    → IfOk answer (λ matches. HasMatchesOf app words matches)
-    → (is_simple_and_free app ≡ true → FailsBy (fault_of app words) answer)
-    → Parses words answer
+    → app ≡ leasecheck_app kinds → IfOk answer (λ matches. HasMatchesOf app words matches)
+    → (is_simple_and_free app ≡ true → FailsBy (fault_of app words) answer) → Parses words answer
 parses app kinds words (Ok matches) takes is found fails = (
   kinds,
   takes,
   subst (λ (a : App). fault_of a words ≡ []) is (fails (ap is_simple_and_free is ∙ is_free_app kinds)),
-  subst (λ (a : App). subcommand_rows_of matches ≡ subcommand_of a words) is
-      (found (ap is_simple is ∙ is_simple_app kinds)).1,
+  subst (λ (a : App). subcommand_rows_of matches ≡ subcommand_of a words) is (found (ap is_simple is ∙ is_simple_app kinds)).1,
 )
 parses app kinds words (Err fault) takes is found fails = go (fails (ap is_simple_and_free is ∙ is_free_app kinds))
   where

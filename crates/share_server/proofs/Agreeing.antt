@@ -1,19 +1,15 @@
 -- Records and summaries together agree with the list of opens.
-use Rattle.std.proofs.Common.{◌≡◌, ℕ, Bool, true, false, not, List, refl, ap, sym, ◌∙◌, subst, true≢false, arith}
-use Rattle.std.specs.Prelude.{if◌then◌else◌, Option, Some, None}
-use Rattle.std.specs.BTreeMap.{get}
-use Rattle.std.specs.List.{list_any}
+use Rattle.lease_laws.proofs.Words.{◌∙◌, ◌≡◌, Bool, FileNo, Key, List, None, Open, Option, Some, ℕ, ap, arith, false, get}
+use Rattle.lease_laws.proofs.Words.{has_key, if◌then◌else◌, key_eq, key_of_open, list_any, no_lease, not, refl, subst, sym, true}
+use Rattle.lease_laws.proofs.Words.{true≢false}
 use Rattle.lease_laws.proofs.server.Keys.{key_eq-same}
-use Rattle.lease_model.specs.server.Naming.{key_of_open}
-use Rattle.lease_model.specs.server.State.{Open, has_key, no_lease}
 use Rattle.lease_model.specs.server.State as model
-use Rattle.lease_model.specs.values.Keys.{Key, key_eq}
-use Rattle.lease_state.specs.declared.number.FileNo.{FileNo}
 use Rattle.share_server.specs.Hindering.{marks_of}
 use Rattle.share_server.specs.KeyOrder.{key_order}
 use Rattle.share_server.specs.Leases.{lease_of}
 use Rattle.share_server.specs.Looks.{is_elsewhere}
-use Rattle.share_server.specs.Summaries.{Agrees, IsPut, IsRecord, AreAfter, IsAtHome, RecordFits, SummaryFits, record_at, summary_at, lease_in, lease_or_none, has_key_on, file_order}
+use Rattle.share_server.specs.Summaries.{Agrees, IsPut, IsRecord, AreAfter, IsAtHome, RecordFits, SummaryFits, record_at}
+use Rattle.share_server.specs.Summaries.{summary_at, lease_in, lease_or_none, has_key_on, file_order}
 use Rattle.share_server.specs.declared.lease.Lease.{Lease}
 use Rattle.share_server.specs.declared.lease_marks.LeaseMarks.{LeaseMarks}
 use Rattle.share_server.specs.declared.summaries.LeaseRecord.{LeaseRecord}
@@ -24,8 +20,7 @@ use Rattle.share_server.proofs.Recording.{on_file_alike}
 -- a change of the summaries alone
 pub agrees_from : (after during : Summaries) (opens : List Open) → after.leases ≡ during.leases
     → ((key : Key) → RecordFits key opens (record_at during key))
-    → ((file : FileNo) → SummaryFits file.0 opens (lease_in during) (summary_at after file))
-    → Agrees after opens
+    → ((file : FileNo) → SummaryFits file.0 opens (lease_in during) (summary_at after file)) → Agrees after opens
 agrees_from after during opens same records files = record {
   records = λ key. subst (λ l. RecordFits key opens (get key_order l key)) (sym same) (records key);
   files = λ file. subst (λ l. SummaryFits file.0 opens (λ key. lease_or_none (get key_order l key)) (summary_at after file))
@@ -33,14 +28,12 @@ agrees_from after during opens same records files = record {
 }
 
 -- a change of the records alone
-pub files_kept : (before during : Summaries) (opens : List Open) (leases : Key → model.Lease)
-    → during.files ≡ before.files
+pub files_kept : (before during : Summaries) (opens : List Open) (leases : Key → model.Lease) → during.files ≡ before.files
     → ((file : FileNo) → SummaryFits file.0 opens leases (summary_at before file))
     → (file : FileNo) → SummaryFits file.0 opens leases (summary_at during file)
 files_kept before during opens leases same fits = grind arith
 
-pub leases_same : (after during : Summaries) (key : Key) → after.leases ≡ during.leases
-    → lease_in after key ≡ lease_in during key
+pub leases_same : (after during : Summaries) (key : Key) → after.leases ≡ during.leases → lease_in after key ≡ lease_in during key
 leases_same after during key same = ap (λ l. lease_or_none (get key_order l key)) same
 
 twice : (b : Bool) → b ≡ not (not b)
@@ -58,8 +51,7 @@ never_has one key own has = absurd (true≢false (sym has ∙ has_key_none one k
 
 -- the leases once an open of a key has come
 pub after_gain : (key : Key) (one : Open) (lease : Lease) (marks : LeaseMarks) (less : List Open) (before during : Summaries)
-    → key_of_open one ≡ Some key → list_any (is_elsewhere key one.file) less ≡ false
-    → marks_of (lease_of lease) ≡ marks
+    → key_of_open one ≡ Some key → list_any (is_elsewhere key one.file) less ≡ false → marks_of (lease_of lease) ≡ marks
     → ((other : Key) → lease_in during other ≡ (if key_eq other key then lease_of lease else lease_in before other))
     → AreAfter one marks less (lease_in before) (lease_in during)
 after_gain key one lease marks less before during own home is now = record {
@@ -78,10 +70,8 @@ pub at_home : (own : Option Key) (key : Key) (file : ℕ) (opens : List Open) �
     → list_any (is_elsewhere key file) opens ≡ false
 at_home own key file opens is home = subst (λ o. IsAtHome o file opens) is home
 
-pub is_put : (key : Key) (lease : model.Lease) (marks : LeaseMarks) (leases later : Key → model.Lease)
-    → marks_of lease ≡ marks
-    → ((other : Key) → later other ≡ (if key_eq other key then lease else leases other))
-    → IsPut key marks leases later
+pub is_put : (key : Key) (lease : model.Lease) (marks : LeaseMarks) (leases later : Key → model.Lease) → marks_of lease ≡ marks
+    → ((other : Key) → later other ≡ (if key_eq other key then lease else leases other)) → IsPut key marks leases later
 is_put key lease marks leases later is now = grind arith
 
 -- a key that an open has has a record

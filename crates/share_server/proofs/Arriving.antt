@@ -1,20 +1,11 @@
 -- A request that comes and has to wait.
-use Rattle.std.proofs.Common.{◌≡◌, ℕ, true, false, List, [], ◌∷◌, ◌++◌, refl, ap, sym, ◌∙◌, arith}
-use Rattle.std.specs.Prelude.{Result, Ok, Err}
-use Rattle.lease_state.specs.declared.access.Access.{Access}
-use Rattle.lease_state.specs.declared.access.Share.{Share}
-use Rattle.lease_state.specs.declared.status.Status.{Status}
+use Rattle.lease_laws.proofs.Words.{◌++◌, ◌∙◌, ◌∷◌, ◌≡◌, Access, Err, FileRequest, List, Ok, Out, Outcome, Progress, Reply}
+use Rattle.lease_laws.proofs.Words.{Result, Server, Share, Status, Tried, ℕ, [], after_first_try, ap, arith, arrived_on}
+use Rattle.lease_laws.proofs.Words.{ask_found, ended, false, file_asked, held_of, is_behind, put, refl, refused, request_held}
+use Rattle.lease_laws.proofs.Words.{sym, tried, true}
 use Rattle.lease_wire.specs.Names.{CreateView}
 use Rattle.lease_wire.specs.declared.fault.WireFault.{WireFault}
-use Rattle.lease_model.specs.messages.FromBytes.{ask_found}
-use Rattle.lease_model.specs.messages.Replies.{Reply, Out}
-use Rattle.lease_model.specs.messages.Requests.{FileRequest}
-use Rattle.lease_model.specs.server.Attempt.{Outcome, Tried, ended, tried}
-use Rattle.lease_model.specs.server.Calls.{arrived_on, after_first_try, held_of, first_tried, file_asked}
-use Rattle.lease_model.specs.server.Passes.{is_behind}
-use Rattle.lease_model.specs.server.Progress.{Progress, request_held, refused}
-use Rattle.lease_model.specs.server.State.{Server}
-use Rattle.lease_model.specs.values.Tables.{put}
+use Rattle.lease_model.specs.server.Calls.{first_tried}
 use Rattle.share_server.proofs.Breaking.{silent}
 use Rattle.share_server.specs.Outs.{progress_of}
 use Rattle.share_server.specs.Passing.{is_waiting}
@@ -32,25 +23,20 @@ unfolding request_held
 held_now table after outs client file request is = silent table after outs _ is
 
 pub behind_held : (table after : Table) (outs : List Out) (client file : ℕ) (request : FileRequest)
-    → is_behind client ((server_of table).held file) ≡ true
-    → server_of after ≡ with_held (server_of table) client file request
+    → is_behind client ((server_of table).held file) ≡ true → server_of after ≡ with_held (server_of table) client file request
     → progress_of after outs ≡ arrived_on client request (progress_of table outs) (Ok file)
-behind_held table after outs client file request behind is =
-    rw behind (held_now table after outs client file request is)
+behind_held table after outs client file request behind is = rw behind (held_now table after outs client file request is)
 
-waiting_held : (client file : ℕ) (request : FileRequest) (progress : Progress) (outcome : Outcome)
-    → is_waiting outcome ≡ true
+waiting_held : (client file : ℕ) (request : FileRequest) (progress : Progress) (outcome : Outcome) → is_waiting outcome ≡ true
     → after_first_try client file request progress outcome ≡ request_held file (held_of client request) progress
 waiting_held client file request progress x5 e = grind arith
 
 pub tried_and_held : (before during after : Table) (outs more : List Out) (client file : ℕ) (request : FileRequest)
-    (outcome : Outcome)
-    → is_behind client ((server_of before).held file) ≡ false
+    (outcome : Outcome) → is_behind client ((server_of before).held file) ≡ false
     → ended (progress_of during more) outcome ≡ tried client request (progress_of before outs)
     → is_waiting outcome ≡ true → server_of after ≡ with_held (server_of during) client file request
     → progress_of after more ≡ arrived_on client request (progress_of before outs) (Ok file)
-tried_and_held before during after outs more client file request outcome first end waits is =
-    rw first
+tried_and_held before during after outs more client file request outcome first end waits is = rw first
     (held_now during after more client file request is
     ∙ (sym (waiting_held client file request (progress_of during more) outcome waits)
     ∙ ap (λ (t : Tried). after_first_try client file request t.progress t.outcome) end))
@@ -58,8 +44,7 @@ tried_and_held before during after outs more client file request outcome first e
 -- a create whose contexts have a fault
 pub faulty_create : (table : Table) (outs more : List Out) (client file : ℕ) (access : Access) (share : Share)
     (fault : WireFault) (found : Result CreateView WireFault) → Err fault ≡ found
-    → more ≡ outs ++ Out.Sent client (Reply.CreateFailed file Status.InvalidParameter) ∷ []
-    → progress_of table more
+    → more ≡ outs ++ Out.Sent client (Reply.CreateFailed file Status.InvalidParameter) ∷ [] → progress_of table more
     ≡ first_tried client (FileRequest.Create file access share (ask_found found)) (progress_of table outs)
 unfolding file_asked refused
 faulty_create table outs more client file access share fault found is told = grind arith

@@ -1,14 +1,7 @@
 -- What lease records and file summaries tell of the opens that they agree with.
-use Rattle.std.proofs.Common.{◌≡◌, ℕ, false, not, List, [], ◌∷◌, sym, arith, subst}
-use Rattle.std.specs.Prelude.{◌&&◌, ◌==◌, Option, Some, None, is_some}
-use Rattle.std.specs.List.{list_any}
-use Rattle.std.proofs.lemmas.Bool.Decides.{nat_tests}
-use Rattle.lease_model.specs.server.Allowed.{conflicts_on, is_other_on}
-use Rattle.lease_model.specs.server.State.{Open, Lease, has_key, has_own_key}
-use Rattle.lease_model.specs.values.Keys.{Key}
-use Rattle.lease_state.specs.Access.{conflict}
-use Rattle.lease_state.specs.declared.access.Access.{Access}
-use Rattle.lease_state.specs.declared.access.Share.{Share}
+use Rattle.lease_laws.proofs.Words.{◌&&◌, ◌==◌, ◌∷◌, ◌≡◌, Access, Key, Lease, List, None, Open, Option, Share, Some, ℕ, [], arith}
+use Rattle.lease_laws.proofs.Words.{conflict, conflicts_on, false, has_key, has_own_key, is_other_on, is_some, list_any}
+use Rattle.lease_laws.proofs.Words.{nat_tests, not, subst, sym}
 use Rattle.share_server.specs.Looks.{is_elsewhere}
 use Rattle.share_server.specs.Summaries.{RecordFits, IsRecord, SummaryFits, IsSummary, is_on}
 use Rattle.share_server.specs.Tallies.{tally_conflicts}
@@ -26,8 +19,7 @@ elsewhere_by key at file [] home = grind (arith)
 elsewhere_by key at file (one ∷ opens) home = let later = elsewhere_by key at file opens in grind arith
 
 pub elsewhere_known : (key : Key) (file : ℕ) (opens : List Open) (known : Option LeaseRecord) (is : LeaseRecord)
-    → known ≡ Some is → RecordFits key opens known
-    → not (is.file.0 == file) ≡ list_any (is_elsewhere key file) opens
+    → known ≡ Some is → RecordFits key opens known → not (is.file.0 == file) ≡ list_any (is_elsewhere key file) opens
 elsewhere_known key file opens known is same fits =
     let there : IsRecord key opens is = subst (RecordFits key opens) same fits in
     let e = elsewhere_by key is.file.0 file opens there.one_file in
@@ -40,8 +32,7 @@ elsewhere_none key file opens known none fits =
     sym (none_both (has_key key) (λ one. not (one.file == file)) opens (subst (RecordFits key opens) none fits))
 
 pub conflict_known : (file : ℕ) (access : Access) (share : Share) (opens : List Open) (leases : Key → Lease)
-    (known : Option FileSummary) (is : FileSummary)
-    → known ≡ Some is → SummaryFits file opens leases known
+    (known : Option FileSummary) (is : FileSummary) → known ≡ Some is → SummaryFits file opens leases known
     → tally_conflicts access share is.tally ≡ list_any (conflicts_on file access share) opens
 unfolding conflicts_on
 conflict_known file access share opens leases known is same fits =
@@ -49,8 +40,7 @@ conflict_known file access share opens leases known is same fits =
     rw there.sums_up.tally (conflicts_are access share (is_on file) opens)
 
 pub conflict_none : (file : ℕ) (access : Access) (share : Share) (opens : List Open) (leases : Key → Lease)
-    (known : Option FileSummary)
-    → known ≡ None → SummaryFits file opens leases known
+    (known : Option FileSummary) → known ≡ None → SummaryFits file opens leases known
     → false ≡ list_any (conflicts_on file access share) opens
 unfolding conflicts_on
 conflict_none file access share opens leases known none fits =

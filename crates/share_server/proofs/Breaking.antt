@@ -1,13 +1,10 @@
 -- Small steps of a try, from what they make of the tables.
-use Rattle.std.proofs.Common.{◌≡◌, ◌⊎◌, inl, inr, true, false, Bool, List, [], ◌∷◌, ◌++◌, refl, ap, sym, ◌∙◌, append-nil, not, arith}
-use Rattle.std.specs.Prelude.{ℕ, Some, None, if◌then◌else◌, ◌&&◌}
-use Rattle.lease_state.specs.State.{State, needs_acknowledgment}
-use Rattle.lease_model.specs.messages.Replies.{Out, Reply}
-use Rattle.lease_model.specs.server.Attempt.{lease_broken}
-use Rattle.lease_model.specs.server.Progress.{Progress, stepped, with_opens, with_lease, opens_dropped, lease_lowered, break_begun, break_notice, replied}
-use Rattle.lease_model.specs.server.State.{Server, Open, Lease, has_lease, is_breaking}
-use Rattle.lease_model.specs.values.Keys.{Key}
-use Rattle.lease_model.specs.values.Lists.{without}
+use Rattle.lease_laws.proofs.Words.{◌&&◌, ◌++◌, ◌∙◌, ◌∷◌, ◌≡◌, ◌⊎◌, Bool, Key, Lease, List, None, Open, Out, Progress, Reply}
+use Rattle.lease_laws.proofs.Words.{Server, Some, State, ℕ, [], ap, append-nil, arith, break_begun, break_notice, false}
+use Rattle.lease_laws.proofs.Words.{has_lease, if◌then◌else◌, inl, inr, is_breaking, lease_broken, lease_lowered}
+use Rattle.lease_laws.proofs.Words.{needs_acknowledgment, not, opens_dropped, refl, replied, sym, true, with_lease, with_opens}
+use Rattle.lease_laws.proofs.Words.{without}
+use Rattle.lease_model.specs.server.Progress.{stepped}
 use Rattle.lease_laws.proofs.server.Lists.{if_cases, clash, not_parts, and_parts}
 use Rattle.share_server.specs.Outs.{progress_of}
 use Rattle.share_server.specs.Table.{Table, server_of}
@@ -19,8 +16,7 @@ at_step outs server = record { server = server; outs = outs }
 -- a step that gives nothing out
 pub silent : (table after : Table) (outs : List Out) (server : Server) → server_of after ≡ server
     → progress_of after outs ≡ stepped (progress_of table outs) server []
-silent table after outs server is =
-    ap (at_step outs) is ∙ ap (λ given. at_step given server) (sym (append-nil outs))
+silent table after outs server is = ap (at_step outs) is ∙ ap (λ given. at_step given server) (sym (append-nil outs))
 
 pub dropped : (table after : Table) (outs : List Out) (test : Open → Bool)
     → server_of after ≡ with_opens (server_of table) (without test (server_of table).opens)
@@ -41,14 +37,11 @@ chosen : {X : Type 0} (there breaking : Bool) (x y : X) → there ≡ true → b
     → (if there && not breaking then x else y) ≡ x
 chosen there breaking x y a b = rw (a, b) refl
 
-begun_or_lowered : (table after : Table) (outs given : List Out) (key : Key) (lowered : State)
-    → server_of after
+begun_or_lowered : (table after : Table) (outs given : List Out) (key : Key) (lowered : State) → server_of after
     ≡ with_lease (server_of table) key (broken_so ((server_of table).leases key).state lowered)
     → given ≡ outs ++ Out.Sent key.client (break_notice key ((server_of table).leases key).state lowered) ∷ []
-    → progress_of after given
-    ≡ (if needs_acknowledgment ((server_of table).leases key).state
-    then break_begun key lowered (progress_of table outs)
-    else lease_lowered key lowered (progress_of table outs))
+    → progress_of after given ≡ (if needs_acknowledgment ((server_of table).leases key).state
+    then break_begun key lowered (progress_of table outs) else lease_lowered key lowered (progress_of table outs))
 unfolding lease_lowered break_begun
 begun_or_lowered table after outs given key lowered is told = grind arith
 
@@ -70,6 +63,5 @@ pub dropped_and_told : (table after : Table) (outs given : List Out) (test : Ope
     → server_of after ≡ with_opens (server_of table) (without test (server_of table).opens)
     → given ≡ outs ++ Out.Sent client reply ∷ []
     → progress_of after given ≡ replied client reply (opens_dropped test (progress_of table outs))
-dropped_and_told table after outs given test client reply is told =
-    at_both _ _ _ _ refl told
+dropped_and_told table after outs given test client reply is told = at_both _ _ _ _ refl told
     ∙ ap (replied client reply) (dropped table after outs test is)

@@ -1,26 +1,22 @@
 -- The counts of requests that wait still, as the tables change.
-use Rattle.std.proofs.Common.{◌≡◌, ⊎_elim, inl, inr, ℕ, ◌+◌, ◌<◌, zero, suc, take, Bool, true, false, not, cond, List, [], ◌∷◌, ◌++◌, map, filter, length, get_or, refl, ap, sym, ◌∙◌, arith, subst}
+use Rattle.lease_laws.proofs.Words.{◌&&◌, ◌++◌, ◌+◌, ◌<◌, ◌==◌, ◌||◌, ◌∙◌, ◌∷◌, ◌≡◌, Among, AreInOrder, Bool, Decides-eqb, FileId}
+use Rattle.lease_laws.proofs.Words.{FileNo, FileRequest, Held, Key, List, None, Open, Option, Server, Some, ℕ, ⊎_elim, [], ap}
+use Rattle.lease_laws.proofs.Words.{arith, cond, false, filter, find, get_or, has_key, if◌then◌else◌, inl, inr, is_at}
+use Rattle.lease_laws.proofs.Words.{is_leased_elsewhere, length, list_any, map, nat_tests, not, refl, subst, suc, sym, take, true}
+use Rattle.lease_laws.proofs.Words.{zero}
 use Rattle.std.proofs.Math.ListN.{set}
-use Rattle.std.proofs.lemmas.Bool.Decides.{nat_tests, Decides-eqb}
-use Rattle.std.specs.BTreeMap.{is_at}
 use Rattle.std.specs.Map.{lookup}
-use Rattle.std.specs.List.{list_any, slice_get}
-use Rattle.std.specs.Prelude.{Option, Some, None, find, if◌then◌else◌, ◌==◌, ◌&&◌, ◌||◌}
+use Rattle.std.specs.List.{slice_get}
 use Rattle.lease_laws.proofs.server.Goes.{one_id}
-use Rattle.lease_laws.proofs.server.Lists.{either, clash, and_both, not_true, any_has, has_any, none_has, find_has, among_filter, among_filtered}
-use Rattle.lease_laws.specs.server.Laws.{Among, AreInOrder}
-use Rattle.lease_model.specs.server.Findings.{is_leased_elsewhere}
-use Rattle.lease_model.specs.values.Keys.{Key}
-use Rattle.lease_model.specs.messages.Requests.{FileRequest}
-use Rattle.lease_model.specs.server.State.{Server, Open, Held, has_key}
-use Rattle.lease_state.specs.declared.number.FileId.{FileId}
-use Rattle.lease_state.specs.declared.number.FileNo.{FileNo}
+use Rattle.lease_laws.proofs.server.Lists.{either, clash, and_both, not_true, any_has, has_any, none_has, find_has, among_filter}
+use Rattle.lease_laws.proofs.server.Lists.{among_filtered}
 use Rattle.share_server.specs.Filed.{has_id}
 use Rattle.share_server.specs.Kept.{AreKept, listed, is_one_of}
 use Rattle.share_server.specs.Looks.{is_elsewhere}
 use Rattle.share_server.specs.OneFile.{on_file, asks_with}
 use Rattle.share_server.specs.declared.summaries.LeaseRecord.{LeaseRecord}
-use Rattle.share_server.specs.StillWaiting.{counted, IsTriedInVain, WaitStill, HasOnlyToWait, deciding, count_in, StaysAt, StaysLocally, AreCounted, HaveForgotten, HaveForgottenFor}
+use Rattle.share_server.specs.StillWaiting.{counted, IsTriedInVain, WaitStill, HasOnlyToWait, deciding, count_in, StaysAt}
+use Rattle.share_server.specs.StillWaiting.{StaysLocally, AreCounted, HaveForgotten, HaveForgottenFor}
 use Rattle.share_server.specs.Summaries.{Agrees, RecordFits, file_order, record_at, lease_in, is_on}
 use Rattle.share_server.specs.Table.{Table, File, file_in, lease_at, server_of}
 use Rattle.share_server.specs.declared.summaries.Summaries.{Summaries}
@@ -28,7 +24,8 @@ use Rattle.share_server.specs.declared.waiting.Waiting.{Waiting}
 use Rattle.share_server.proofs.FilePlaces.{place_set}
 use Rattle.share_server.proofs.Places.{file_there}
 use Rattle.share_server.proofs.Recording.{lease_unused}
-use Rattle.share_server.proofs.StillWaiting.{HasNoSpare, in_vain, decider, waits_decided, waits_really, about_same, none_counted, one_counted, counted_before}
+use Rattle.share_server.proofs.StillWaiting.{HasNoSpare, in_vain, decider, waits_decided, waits_really, about_same, none_counted}
+use Rattle.share_server.proofs.StillWaiting.{one_counted, counted_before}
 use Rattle.share_server.proofs.OneFile.{none_within, waits_here_only, waits_there_too}
 use Rattle.share_server.proofs.Tabling.{leases_are, listed_lease, one_more}
 
@@ -49,8 +46,7 @@ known_with P files i new inside here others n =
     let is = (Decides-eqb n i).0 its in
     subst (λ (f : File). P n f.held) (sym (at ∙ ap (λ b. cond b new (file_in files n)) its))
     (subst (λ m. P m new.held) (sym is) here))
-    (λ its.
-    subst (λ (f : File). P n f.held) (sym (at ∙ ap (λ b. cond b new (file_in files n)) its)) (others n))
+    (λ its. subst (λ (f : File). P n f.held) (sym (at ∙ ap (λ b. cond b new (file_in files n)) its)) (others n))
 
 -- one file's count becomes this one
 abbrev pub IsCountPut : Waiting → Waiting → ℕ → ℕ → Type 0
@@ -86,27 +82,23 @@ pub known_held : (server : Server) (files : List File) (i : ℕ) (old new : File
 known_held server files i old new one waiting inside is more known =
     known_with (λ n queue. AreCounted server n queue (count_in waiting n)) files i new inside
     (subst (λ (f : File). AreCounted server i f.held (count_in waiting i)) (sym more)
-    (counted_before server i old.held one (count_in waiting i) (here_known server files i old waiting inside is known)))
-    known
+    (counted_before server i old.held one (count_in waiting i) (here_known server files i old waiting inside is known))) known
 
 pub known_counted : (server : Server) (files : List File) (i place : ℕ) (before after : Waiting)
     → IsCountPut before after i (place + 1) → count_in before i ≡ place → place < length (file_in files i).held
     → ((one : Held) → slice_get (file_in files i).held place ≡ Some one
-    → StaysLocally server i (take place (file_in files i).held) one)
-    → Known server files before → Known server files after
+    → StaysLocally server i (take place (file_in files i).held) one) → Known server files before → Known server files after
 known_counted server files i place before after put is inside stays known = grind arith
 
 -- ---- what is known of the server
 
 server_decides : (table : Table) (summaries : Summaries) → table.leases ≡ listed summaries
     → deciding table.count table.opens (lease_in summaries) ≡ decider (server_of table)
-server_decides table summaries same =
-    ap (deciding table.count table.opens) (sym (leases_are summaries) ∙ ap lease_at (sym same))
+server_decides table summaries same = ap (deciding table.count table.opens) (sym (leases_are summaries) ∙ ap lease_at (sym same))
 
 no_spare : (table : Table) (summaries : Summaries) → AreKept table.opens summaries table.last_id
     → table.leases ≡ listed summaries → HasNoSpare (server_of table)
-no_spare table summaries kept same = λ key none.
-    ap (λ leases. lease_at leases key) same
+no_spare table summaries kept same = λ key none. ap (λ leases. lease_at leases key) same
     ∙ (listed_lease summaries key ∙ lease_unused key table.opens (record_at summaries key) (kept.agree.records key) none)
 
 pub in_vain_now : (table : Table) (summaries : Summaries) (file client : ℕ) (request : FileRequest)
@@ -125,8 +117,7 @@ home_of opens summaries file key agree some =
   where
     go : (one : Open) → Among one opens → has_key key one ≡ true → one.file ≡ file → (found : Option LeaseRecord)
         → RecordFits key opens found → list_any (is_elsewhere key file) opens ≡ false
-    go one among has at None fits =
-        clash (list_any (has_key key) opens) (has_any (has_key key) one opens among has) fits
+    go one among has at None fits = clash (list_any (has_key key) opens) (has_any (has_key key) one opens among has) fits
     go one among has at (Some found) fits =
         let away = none_has (is_elsewhere key found.file.0) one opens fits.one_file among in
         either (one.file == found.file.0)
@@ -146,8 +137,7 @@ wait_still table summaries file count kept same known = record {
       (waits_really (server_of table) file one.client one.request
       (subst (λ server. HasOnlyToWait server file one.client one.request) (server_decides table summaries same)
       (waits_there_too file (deciding table.count table.opens (lease_in summaries)) one.client one.request
-      (λ key some. home_of table.opens summaries file key kept.agree some) has.1 has.0)))))
-      (known.each place one less is);
+      (λ key some. home_of table.opens summaries file key kept.agree some) has.1 has.0))))) (known.each place one less is);
 }
 
 pub stays_decided : (table : Table) (summaries : Summaries) (file : ℕ) (queue : List Held) (place : ℕ)
@@ -164,8 +154,7 @@ stays_decided table summaries file queue place same stays = λ one is. ⊎_elim
           (subst (λ server. HasOnlyToWait server file one.client one.request) (sym (server_decides table summaries same))
           (waits_decided (server_of table) file one.client one.request has.0)),
       about,
-    ))
-    (stays one is)
+    )) (stays one is)
 
 -- ---- what is forgotten
 
@@ -187,8 +176,7 @@ forgotten_home key opens before after home put none = forgotten_at (has_key key)
     (none_has (is_elsewhere key home) one opens none a)))
 
 pub forgotten_id : (id : ℕ) (opens : List Open) (one : Open) (before after : Waiting) → AreInOrder opens
-    → Some one ≡ find (has_id id) opens → IsCountPut before after one.file 0
-    → HaveForgotten (has_id id) opens before after
+    → Some one ≡ find (has_id id) opens → IsCountPut before after one.file 0 → HaveForgotten (has_id id) opens before after
 forgotten_id id opens one before after order found put = forgotten_at (has_id id) opens before after one.file put
     (λ other a has.
     let there = find_has (has_id id) one opens (sym found) in
@@ -214,9 +202,7 @@ forgotten_more ids id opens before during after first last = λ file. ⊎_elim
     (λ was. inr (
       same.0 ∙ was.0,
       λ one a on. one_more ids id one ∙ (ap (λ b. b || has_id id one) (was.1 one a on) ∙ same.1 one a on),
-    ))
-    (first file))
-    (last file)
+    )) (first file)) (last file)
 
 asked_none : (test : Held → Bool) (files : List File) (n : ℕ) (held : Held)
     → list_any (λ file. list_any test file.held) files ≡ false → Among held (file_in files n).held → test held ≡ false

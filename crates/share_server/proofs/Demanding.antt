@@ -1,36 +1,25 @@
 -- Which keys are wanted, by records and summaries and by the list of opens.
-use Rattle.std.proofs.Common.{◌≡◌, inl, inr, ⊎_elim, ℕ, suc, ◌<◌, ◌≤◌, Bool, true, false, not, List, [], ◌∷◌, map, filter, length, refl, ap, sym, ◌∙◌, arith, subst, true≢false, nat_lt}
-use Rattle.std.specs.Prelude.{if◌then◌else◌, ◌==◌, ◌&&◌, Option, Some, None, is_some, ⊤}
-use Rattle.std.specs.BTreeMap.{is_at}
+use Rattle.lease_laws.proofs.Words.{◌&&◌, ◌<◌, ◌==◌, ◌∙◌, ◌∷◌, ◌≡◌, ◌≤◌, Access, Among, AreInKeyOrder, Bool, Decides-eqb, FileNo}
+use Rattle.lease_laws.proofs.Words.{Key, Lease, Less, List, None, Open, Option, Server, Share, Some, State, ℕ, ⊎_elim, ⊤, [], ap}
+use Rattle.lease_laws.proofs.Words.{arith, conflict, conflicts_on, false, filter, has_key, has_own_key, holds_any, if◌then◌else◌}
+use Rattle.lease_laws.proofs.Words.{inl, inr, is_at, is_eq, is_key, is_other_on, is_some, key_before, key_eq, key_of, keys_of}
+use Rattle.lease_laws.proofs.Words.{lease_of, length, list_any, map, nat_lt, nat_tests, not, refl, subst, suc, sym, true}
+use Rattle.lease_laws.proofs.Words.{true≢false, wants_where}
 use Rattle.std.specs.BTreeSet.{BTreeSet, contains}
-use Rattle.std.specs.List.{list_any, AllByRecursion}
+use Rattle.std.specs.List.{AllByRecursion}
 use Rattle.std.specs.List.Sorted.{IsStrictlySortedBy}
-use Rattle.std.specs.Ordering.{is_eq, is_lt}
-use Rattle.std.specs.declared.cmp.Ordering.TheVariants.{Less}
-use Rattle.std.proofs.lemmas.Bool.Decides.{nat_tests, Decides-eqb}
+use Rattle.std.specs.Ordering.{is_lt}
 use Rattle.lease_laws.proofs.server.Keys.{key_eq-same, key_eq-refl, lease_by-key, is_key-one, is_key-refl}
 use Rattle.lease_laws.proofs.server.KeyOrder.{keys_of-all, among_mapped}
-use Rattle.lease_laws.proofs.server.Lists.{either, clash, and_parts, and_both, not_true, any_has, has_any, none_has, among_filter, among_filtered}
+use Rattle.lease_laws.proofs.server.Lists.{either, clash, and_parts, and_both, not_true, any_has, has_any, none_has, among_filter}
+use Rattle.lease_laws.proofs.server.Lists.{among_filtered}
 use Rattle.lease_laws.proofs.server.Wanted.{wants_where-exact, key_before-then, key_before-self}
 use Rattle.lease_laws.proofs.server.Wants.{keys_of-has}
-use Rattle.lease_laws.specs.server.Laws.{Among}
-use Rattle.lease_laws.specs.server.Wanted.{AreInKeyOrder}
-use Rattle.lease_model.specs.server.Allowed.{is_other_on, conflicts_on}
-use Rattle.lease_model.specs.server.KeyOrder.{keys_of}
-use Rattle.lease_model.specs.server.Naming.{key_of, lease_of}
-use Rattle.lease_model.specs.server.State.{Server, Open, Lease, has_key, is_key, has_own_key}
-use Rattle.lease_model.specs.server.Wants.{wants_where}
-use Rattle.lease_model.specs.values.Keys.{Key, key_eq, key_before}
-use Rattle.lease_model.specs.values.LeaseStates.{holds_any}
-use Rattle.lease_state.specs.Access.{conflict}
-use Rattle.lease_state.specs.State.{State}
 use Rattle.share_server.specs.KeyOrder.{key_order}
-use Rattle.lease_state.specs.declared.access.Access.{Access}
-use Rattle.lease_state.specs.declared.access.Share.{Share}
-use Rattle.lease_state.specs.declared.number.FileNo.{FileNo}
 use Rattle.share_server.specs.Leases as leases
 use Rattle.share_server.specs.Looks.{is_elsewhere}
-use Rattle.share_server.specs.Summaries.{StandFor, SumsUp, RecordFits, record_at, lease_in, lease_or_none, is_on, has_key_on, is_keyless_on}
+use Rattle.share_server.specs.Summaries.{StandFor, SumsUp, RecordFits, record_at, lease_in, lease_or_none, is_on, has_key_on}
+use Rattle.share_server.specs.Summaries.{is_keyless_on}
 use Rattle.share_server.specs.Tallies.{tally_conflicts}
 use Rattle.share_server.specs.Wanted.{is_own_key, own_count, keys_for, needs_known, is_wanted_key}
 use Rattle.share_server.specs.Wishes.{is_wanted, is_demanded}
@@ -79,13 +68,11 @@ wants_ordered lowering (key ∷ keys) ordered = (
 
 pub keys_ordered : (server : Server) (test : Open → Bool) → AreOrdered (keys_of (filter test server.opens))
 unfolding wants_where
-keys_ordered server test =
-    wants_ordered (λ key. (server.leases key).state) (keys_of (filter test server.opens))
+keys_ordered server test = wants_ordered (λ key. (server.leases key).state) (keys_of (filter test server.opens))
     (wants_where-exact server test (λ state. state)).in_order
 
 apart_keys : (key other : Key) → key_before key other ≡ true → key ≡ other → ⊥
-apart_keys key other before same =
-    true≢false (sym before ∙ (ap (key_before key) (sym same) ∙ key_before-self key))
+apart_keys key other before same = true≢false (sym before ∙ (ap (key_before key) (sym same) ∙ key_before-self key))
 
 -- two lists in order with the same keys are one
 pub one_list : (xs ys : List Key) → AreOrdered xs → AreOrdered ys → ((key : Key) → Among key xs → Among key ys)
@@ -106,8 +93,7 @@ one_list (x ∷ xs) (y ∷ ys) a b to from =
 -- ---- members of sets
 
 pub member : (keys : BTreeSet Key) (key : Key) → Among key keys.keys → contains key_order keys key ≡ true
-member keys key among =
-    has_any (is_at (key_order key)) key keys.keys among (order_eq key key ∙ key_eq-refl key)
+member keys key among = has_any (is_at (key_order key)) key keys.keys among (order_eq key key ∙ key_eq-refl key)
 
 pub among_members : (keys : BTreeSet Key) (key : Key) → contains key_order keys key ≡ true → Among key keys.keys
 among_members keys key has =
@@ -138,8 +124,7 @@ others_counted own [] sorted = grind (arith, nat_tests)
 others_counted own (key ∷ keys) sorted = either (key_eq key own)
     (λ t.
     let same = key_eq-same key own t in
-    let apart : (other : Key) → Among other keys → key_eq other own ≡ false =
-    λ other a. sym (order_eq-back own other)
+    let apart : (other : Key) → Among other keys → key_eq other own ≡ false = λ other a. sym (order_eq-back own other)
     ∙ ap is_eq (ap (λ k. key_order k other) (sym same) ∙ before_all key keys sorted.0 other a) in
     rw (t, order_eq-back own key, t) (none_own own keys apart ∙ one_below (length keys)))
     (λ t. rw (t, order_eq-back own key, t) (sym (below own key keys)))
@@ -185,15 +170,13 @@ pub others_are : (own : Option Key) (file : ℕ) (opens : List Open) (keys : BTr
     → list_any (is_keyless_on file) opens ≡ false
     → list_any (λ key. not (is_own_key own key)) keys.keys ≡ list_any (is_other_on own file) opens
 unfolding is_other_on
-others_are own file opens keys are keyless =
-    both_so _ _
+others_are own file opens keys are keyless = both_so _ _
     (λ some.
     let key = any_has (λ k. not (is_own_key own k)) keys.keys some in
     let one = any_has (has_key_on file key.0) opens (sym (are key.0) ∙ member keys key.0 key.1) in
     let parts = and_parts (is_on file one.0) (has_key key.0 one.0) one.2 in
     has_any (λ o. o.file == file && not (has_own_key own o)) one.0 opens one.1
-    (and_both (is_on file one.0) (not (has_own_key own one.0)) parts.0
-    (ap not (own_alike own key.0 one.0 parts.1) ∙ key.2)))
+    (and_both (is_on file one.0) (not (has_own_key own one.0)) parts.0 (ap not (own_alike own key.0 one.0 parts.1) ∙ key.2)))
     (λ some.
     let one = any_has (λ o. o.file == file && not (has_own_key own o)) opens some in
     let parts = and_parts (is_on file one.0) (not (has_own_key own one.0)) one.2 in
@@ -265,8 +248,7 @@ conflicted file access share one c = (and_parts (one.file == file) (conflict acc
 -- an open of the key is on the key's file
 at_file : (key : Key) (at : ℕ) (opens : List Open) (one : Open) → list_any (is_elsewhere key at) opens ≡ false
     → Among one opens → has_key key one ≡ true → one.file ≡ at
-at_file key at opens one home among has =
-    (Decides-eqb one.file at).0 (on_true (has_key key one) (one.file == at)
+at_file key at opens one home among has = (Decides-eqb one.file at).0 (on_true (has_key key one) (one.file == at)
     (none_has (is_elsewhere key at) one opens home among) has)
   where
     on_true : (has on : Bool) → (has && not on) ≡ false → has ≡ true → on ≡ true
@@ -349,8 +331,7 @@ wants_from (NoHandles access share) own file key summaries server summary (Some 
       there = s.keys key ∙ has_any (has_key_on file.0 key) one server.opens there o.0;
       apart = o.1;
       needs = and_both (tally_conflicts access share known.tally) (leases.lease_of known.lease).state.handle
-          (ap (tally_conflicts access share) fits.tally
-          ∙ (conflicts_are access share (has_key key) server.opens
+          (ap (tally_conflicts access share) fits.tally ∙ (conflicts_are access share (has_key key) server.opens
           ∙ has_any (λ x. has_key key x && conflict access share x.access x.share) one server.opens there
           (and_both (has_key key one) (conflict access share one.access one.share) has (conflicted file.0 access share one b.0))))
           (ap (λ (l : Lease). l.state.handle) (sym (lease_known summaries server key one known stand is has)) ∙ a.1);
@@ -361,8 +342,7 @@ wants_from NoWrites own file key summaries server summary (Some known) one stand
     let writes = ap (λ (l : Lease). l.state.write) (sym (lease_known summaries server key one known stand is has)) ∙ a.1 in
     record {
       there = s.writers key ∙ and_both (list_any (has_key_on file.0 key) server.opens) (lease_in summaries key).state.write
-          (has_any (has_key_on file.0 key) one server.opens there o.0)
-          (ap (λ r. (lease_or_none r).state.write) is ∙ writes);
+          (has_any (has_key_on file.0 key) one server.opens there o.0) (ap (λ r. (lease_or_none r).state.write) is ∙ writes);
       apart = o.1;
       needs = writes;
     }

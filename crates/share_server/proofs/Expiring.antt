@@ -1,10 +1,6 @@
 -- A key whose timer runs out is listed among the expired ones.
-use Rattle.std.proofs.Common.{◌≡◌, Bool, true, cond, List, [], ◌∷◌, ◌++◌, ap, arith}
-use Rattle.std.proofs.Math.Path.{fun_ext}
-use Rattle.std.specs.List.{list_any}
-use Rattle.lease_model.specs.server.State.{Server}
-use Rattle.lease_model.specs.values.Keys.{Key, key_eq}
-use Rattle.lease_model.specs.values.Tables.{put_key}
+use Rattle.lease_laws.proofs.Words.{◌++◌, ◌∷◌, ◌≡◌, Bool, Key, List, Server, [], ap, arith, cond, fun_ext, key_eq, list_any}
+use Rattle.lease_laws.proofs.Words.{put_key, true}
 use Rattle.share_server.specs.Table.{Table, server_of}
 
 expired_at : (keys : List Key) (new key : Key)
@@ -21,7 +17,6 @@ expired_more keys new = fun_ext (expired_at keys new)
 abbrev with_expired : Server → (Key → Bool) → Server
 with_expired server expired = record server { expired = expired }
 
-pub table_expired : (table : Table) (new : Key)
-    → server_of (record table { expired = table.expired ++ new ∷ [] })
+pub table_expired : (table : Table) (new : Key) → server_of (record table { expired = table.expired ++ new ∷ [] })
     ≡ record (server_of table) { expired = put_key (server_of table).expired new true }
 table_expired table new = ap (with_expired (server_of table)) (expired_more table.expired new)

@@ -1,10 +1,8 @@
 -- A file that is put in the place of its number: the other numbers have what they had.
-use Rattle.std.proofs.Common.{◌≡◌, ℕ, ◌<◌, zero, suc, cond, eqb, List, [], ◌∷◌, length, get_or, refl, ap, ◌∙◌, arith}
+use Rattle.lease_laws.proofs.Words.{◌<◌, ◌∙◌, ◌∷◌, ◌≡◌, Held, List, Server, ℕ, [], ap, arith, cond, fun_ext, get_or, length}
+use Rattle.lease_laws.proofs.Words.{nat_tests, put, refl, suc, zero}
+use Rattle.std.proofs.Common.{eqb}
 use Rattle.std.proofs.Math.ListN.{set}
-use Rattle.std.proofs.Math.Path.{fun_ext}
-use Rattle.std.proofs.lemmas.Bool.Decides.{nat_tests}
-use Rattle.lease_model.specs.server.State.{Server, Held}
-use Rattle.lease_model.specs.values.Tables.{put}
 use Rattle.share_server.specs.Table.{Table, File, file_in, server_of}
 use Rattle.share_server.proofs.Places.{file_there}
 
@@ -40,22 +38,18 @@ files_same : (server : Server) (contents bytes : ℕ → List ℕ) (held queues 
 files_same server contents bytes held queues b c = grind arith
 
 -- another queue on one file
-held_put : (table : Table) (i : ℕ) (old : File) (held : List Held) → i < length table.files
-    → old ≡ get_or table.files i old
+held_put : (table : Table) (i : ℕ) (old : File) (held : List Held) → i < length table.files → old ≡ get_or table.files i old
     → server_of (record table { files = set table.files i (record old { held = held }) })
     ≡ record (server_of table) { held = put (server_of table).held i held }
-held_put table i old held inside is =
-    files_same (server_of table) _ _ _ _
+held_put table i old held inside is = files_same (server_of table) _ _ _ _
     (field_same (λ (file : File). file.content) table.files i (record old { held = held }) old inside is refl)
     (field_put (λ (file : File). file.held) table.files i (record old { held = held }) inside)
 
 -- another content of one file
-content_put : (table : Table) (i : ℕ) (old : File) (content : List ℕ) → i < length table.files
-    → old ≡ get_or table.files i old
+content_put : (table : Table) (i : ℕ) (old : File) (content : List ℕ) → i < length table.files → old ≡ get_or table.files i old
     → server_of (record table { files = set table.files i (record old { content = content }) })
     ≡ record (server_of table) { contents = put (server_of table).contents i content }
-content_put table i old content inside is =
-    files_same (server_of table) _ _ _ _
+content_put table i old content inside is = files_same (server_of table) _ _ _ _
     (field_put (λ (file : File). file.content) table.files i (record old { content = content }) inside)
     (field_same (λ (file : File). file.held) table.files i (record old { content = content }) old inside is refl)
 
@@ -63,8 +57,7 @@ pub held_edit : (edit : List Held → List Held) (table : Table) (i : ℕ) (old 
     → old ≡ get_or table.files i old
     → server_of (record table { files = set table.files i (record old { held = edit old.held }) })
     ≡ record (server_of table) { held = put (server_of table).held i (edit ((server_of table).held i)) }
-held_edit edit table i old inside is =
-    held_put table i old (edit old.held) inside is
+held_edit edit table i old inside is = held_put table i old (edit old.held) inside is
     ∙ ap (λ (file : File). record (server_of table) { held = put (server_of table).held i (edit file.held) })
     (file_there table.files i old inside is)
 
@@ -72,7 +65,6 @@ pub content_edit : (edit : List ℕ → List ℕ) (table : Table) (i : ℕ) (old
     → old ≡ get_or table.files i old
     → server_of (record table { files = set table.files i (record old { content = edit old.content }) })
     ≡ record (server_of table) { contents = put (server_of table).contents i (edit ((server_of table).contents i)) }
-content_edit edit table i old inside is =
-    content_put table i old (edit old.content) inside is
+content_edit edit table i old inside is = content_put table i old (edit old.content) inside is
     ∙ ap (λ (file : File). record (server_of table) { contents = put (server_of table).contents i (edit file.content) })
     (file_there table.files i old inside is)

@@ -1,18 +1,13 @@
 -- Opens in a map by their FileIds, as the list of the opens.
-use Rattle.std.proofs.Common.{◌≡◌, inl, inr, ℕ, ◌<◌, Bool, true, false, List, [], ◌∷◌, ◌++◌, map, refl, ap, sym, ◌∙◌, arith, subst}
-use Rattle.std.specs.Prelude.{if◌then◌else◌, ◌==◌, Option, Some, None, IfSome, find}
-use Rattle.std.specs.BTreeMap.{insert_entry, is_at}
+use Rattle.lease_laws.proofs.Words.{◌++◌, ◌<◌, ◌==◌, ◌∙◌, ◌∷◌, ◌≡◌, Among, AreInOrder, Bool, Decides-eqb, FileId, IfSome, Less}
+use Rattle.lease_laws.proofs.Words.{List, None, Open, Option, Some, ℕ, [], ap, arith, false, find, if◌then◌else◌, inl, inr, is_at}
+use Rattle.lease_laws.proofs.Words.{is_eq, map, nat_cmp, nat_tests, refl, subst, sym, true, values_of, without}
+use Rattle.std.specs.BTreeMap.{insert_entry}
 use Rattle.std.specs.List.{AllByRecursion}
 use Rattle.std.specs.List.Sorted.{IsStrictlySortedBy}
-use Rattle.std.specs.Map.{lookup, remove_entry, set_value, keys_of, values_of}
-use Rattle.std.specs.Ordering.{is_eq, nat_cmp}
-use Rattle.std.specs.declared.cmp.Ordering.TheVariants.{Less, Greater}
-use Rattle.std.proofs.lemmas.Bool.Decides.{nat_tests, Decides-eqb}
+use Rattle.std.specs.Map.{lookup, remove_entry, set_value, keys_of}
+use Rattle.std.specs.declared.cmp.Ordering.TheVariants.{Greater}
 use Rattle.lease_laws.proofs.server.Lists.{either}
-use Rattle.lease_laws.specs.server.Laws.{Among, AreInOrder}
-use Rattle.lease_model.specs.server.State.{Open}
-use Rattle.lease_model.specs.values.Lists.{without}
-use Rattle.lease_state.specs.declared.number.FileId.{FileId}
 use Rattle.share_server.specs.Filed.{has_id, file_id_order, AreFiled}
 use Rattle.share_server.specs.Summaries.{IsOneMore}
 
@@ -30,16 +25,14 @@ pub find_filed : (n : ℕ) (entries : List (FileId × Open)) → AreFiled entrie
 find_filed n [] filed = refl
 find_filed n (e ∷ entries) filed = let later = find_filed n entries filed.1 in grind arith
 
-pub filed_removed : (n : ℕ) (entries : List (FileId × Open)) → AreFiled entries
-    → AreFiled (remove_entry (test_at n) entries)
+pub filed_removed : (n : ℕ) (entries : List (FileId × Open)) → AreFiled entries → AreFiled (remove_entry (test_at n) entries)
 filed_removed n [] filed = tt
 filed_removed n (e ∷ entries) filed = let later = filed_removed n entries filed.1 in grind arith
 
 pub some_same : {x y : Open} → Some x ≡ Some y → x ≡ y
 some_same e = cc e
 
-pub one_removed : (n : ℕ) (entries : List (FileId × Open)) (one : Open) → AreFiled entries
-    → lookup (test_at n) entries ≡ Some one
+pub one_removed : (n : ℕ) (entries : List (FileId × Open)) (one : Open) → AreFiled entries → lookup (test_at n) entries ≡ Some one
     → IsOneMore one (values_of (remove_entry (test_at n) entries)) (values_of entries)
 one_removed n [] one filed found = absurd (cc found)
 one_removed n (e ∷ entries) one filed found = either (test_at n e.0)
@@ -109,11 +102,10 @@ pub inserted_last : (n : ℕ) (one : Open) (entries : List (FileId × Open)) →
     → ((other : Open) → Among other (values_of entries) → other.file_id < n)
     → insert_entry file_id_order entries (record { 0 = n }) one ≡ entries ++ (record { 0 = n }, one) ∷ []
 inserted_last n one [] filed below = refl
-inserted_last n one ((id, other) ∷ entries) filed below =
-    rw (
-      greater n id.0 (subst (λ m. m < n) filed.0 (below other (inl refl))),
-      inserted_last n one entries filed.1 (λ other a. below other (inr a)),
-    ) refl
+inserted_last n one ((id, other) ∷ entries) filed below = rw (
+  greater n id.0 (subst (λ m. m < n) filed.0 (below other (inl refl))),
+  inserted_last n one entries filed.1 (λ other a. below other (inr a)),
+) refl
 
 pub filed_last : (n : ℕ) (one : Open) (entries : List (FileId × Open)) → AreFiled entries → one.file_id ≡ n
     → AreFiled (entries ++ (record { 0 = n }, one) ∷ [])
@@ -171,8 +163,7 @@ values_set n change (e ∷ entries) one filed order found = either (test_at n e.
     rw (at, its) (ap (λ x. e.1 ∷ x) (values_set n change entries one filed.1 order.1 (rw at at found))))
 
 pub values_unset : (n : ℕ) (change : Open → Open) (entries : List (FileId × Open))
-    → AreFiled entries → lookup (test_at n) entries ≡ None
-    → values_of entries ≡ map (changed_at n change) (values_of entries)
+    → AreFiled entries → lookup (test_at n) entries ≡ None → values_of entries ≡ map (changed_at n change) (values_of entries)
 values_unset n change [] filed found = refl
 values_unset n change (e ∷ entries) filed found = either (test_at n e.0)
     (λ at. absurd (cc (rw at at found)))
@@ -193,8 +184,7 @@ set_so n change old new one written is now = now ∙ ap (λ o. set_value (test_a
 pub filed_written : (n : ℕ) (change : Open → Open) (old new : List (FileId × Open)) (one written : Open)
     → ((o : Open) → (change o).file_id ≡ o.file_id) → AreFiled old
     → lookup (test_at n) old ≡ Some one → written ≡ change one → new ≡ set_value (test_at n) old written
-    → IsStrictlySortedBy file_id_order (keys_of new)
-    → AreFiled new × AreInOrder (values_of new)
+    → IsStrictlySortedBy file_id_order (keys_of new) → AreFiled new × AreInOrder (values_of new)
 filed_written n change old new one written same filed found is now sorted =
     let f : AreFiled new = rw (set_so n change old new one written is now) (filed_set n change old one same filed found) in
     (f, in_order new f sorted)

@@ -1,25 +1,17 @@
 -- Whether a lease hinders a write, by summaries, by the list of opens and by what the rules want.
-use Rattle.std.proofs.Common.{◌≡◌, ℕ, ◌+◌, ◌-◌, Bool, true, false, not, List, [], ◌∷◌, length, filter, refl, ap, sym, ◌∙◌, subst, arith, true≢false, nat_lt}
-use Rattle.std.specs.Prelude.{if◌then◌else◌, ◌&&◌, ◌||◌, Option, Some, None, is_some}
-use Rattle.std.specs.BTreeMap.{is_at}
+use Rattle.lease_laws.proofs.Words.{◌&&◌, ◌+◌, ◌-◌, ◌||◌, ◌∙◌, ◌∷◌, ◌≡◌, Bool, Finding, Key, Lease, Less, List, None, Open}
+use Rattle.lease_laws.proofs.Words.{Option, Server, Some, Want, ℕ, [], all_wants, ap, arith, breaks_to_none, false, filter}
+use Rattle.lease_laws.proofs.Words.{has_key, holds_any, if◌then◌else◌, is_at, is_other_on, is_some, keys_of, lease_by, lease_of}
+use Rattle.lease_laws.proofs.Words.{length, list_all, list_any, nat_lt, not, nothing_cached, refl, subst, sym, true, true≢false}
+use Rattle.lease_laws.proofs.Words.{wants_where}
 use Rattle.std.specs.BTreeSet.{contains}
-use Rattle.std.specs.List.{list_any, list_all, AllByRecursion}
+use Rattle.std.specs.List.{AllByRecursion}
 use Rattle.std.specs.List.Sorted.{IsStrictlySortedBy}
-use Rattle.std.specs.declared.cmp.Ordering.TheVariants.{Less}
 use Rattle.lease_laws.proofs.server.Keys.{key_eq-same, key_eq-refl, lease_by-key}
 use Rattle.lease_laws.proofs.server.KeyOrder.{keys_of-all, among_mapped}
-use Rattle.lease_laws.proofs.server.Lists.{any_has, has_any, all_each, each_all, and_parts, and_both, not_parts, none_has, not_true, clash, either, among_filter, among_filtered, among_map}
+use Rattle.lease_laws.proofs.server.Lists.{any_has, has_any, all_each, each_all, and_parts, and_both, not_parts, none_has}
+use Rattle.lease_laws.proofs.server.Lists.{not_true, clash, either, among_filter, among_filtered, among_map}
 use Rattle.lease_laws.proofs.server.Wants.{keys_of-has}
-use Rattle.lease_model.specs.server.Allowed.{is_other_on}
-use Rattle.lease_model.specs.server.Findings.{Finding}
-use Rattle.lease_model.specs.server.KeyOrder.{keys_of}
-use Rattle.lease_model.specs.server.Naming.{lease_of, lease_by}
-use Rattle.lease_model.specs.server.Ready.{breaks_to_none}
-use Rattle.lease_model.specs.server.State.{Server, Open, Lease, has_key}
-use Rattle.lease_model.specs.server.Wants.{Want, wants_where, all_wants}
-use Rattle.lease_model.specs.values.Keys.{Key}
-use Rattle.lease_model.specs.values.LeaseStates.{holds_any}
-use Rattle.lease_state.specs.State.{nothing_cached}
 use Rattle.share_server.specs.Findings.{Look, looked}
 use Rattle.share_server.specs.Hindering.{hinders_writes, is_harmless, is_hinderer}
 use Rattle.share_server.specs.KeyOrder.{key_order}
@@ -27,7 +19,8 @@ use Rattle.share_server.specs.Summaries.{StandFor, SumsUp, lease_in, is_on, has_
 use Rattle.share_server.specs.Wanted.{is_own_key, is_hindering, own_hindering}
 use Rattle.share_server.specs.declared.file_summary.FileSummary.{FileSummary}
 use Rattle.share_server.specs.declared.summaries.Summaries.{Summaries}
-use Rattle.share_server.proofs.Demanding.{filter_ordered, sorted_ordered, one_list, member, among_members, both_so, all_counted, others_counted, key_there, other_on, on_other, other_here}
+use Rattle.share_server.proofs.Demanding.{filter_ordered, sorted_ordered, one_list, member, among_members, both_so, all_counted}
+use Rattle.share_server.proofs.Demanding.{others_counted, key_there, other_on, on_other, other_here}
 use Rattle.share_server.proofs.Ordering.{order_eq}
 
 -- ---- how many hinder
@@ -62,8 +55,7 @@ is_marked summary key = contains key_order summary.harmless key
 abbrev hindering : FileSummary → List Key
 hindering summary = filter (λ key. not (is_marked summary key)) summary.keys.keys
 
-marked_are : (summary : FileSummary)
-    → ((key : Key) → is_marked summary key ≡ true → contains key_order summary.keys key ≡ true)
+marked_are : (summary : FileSummary) → ((key : Key) → is_marked summary key ≡ true → contains key_order summary.keys key ≡ true)
     → IsStrictlySortedBy key_order summary.keys.keys → IsStrictlySortedBy key_order summary.harmless.keys
     → filter (is_marked summary) summary.keys.keys ≡ summary.harmless.keys
 marked_are summary among sorted marked =
@@ -82,10 +74,8 @@ hindering_counted summary among sorted marked =
     let m = ap (λ (keys : List Key). length keys) (marked_are summary among sorted marked) in
     omega arith
 
-own_among : (own : Key) (summary : FileSummary)
-    → list_any (is_at (key_order own)) (hindering summary) ≡ is_hindering summary own
-own_among own summary =
-    both_so _ _
+own_among : (own : Key) (summary : FileSummary) → list_any (is_at (key_order own)) (hindering summary) ≡ is_hindering summary own
+own_among own summary = both_so _ _
     (λ some.
     let key = any_has (is_at (key_order own)) (hindering summary) some in
     let same = key_eq-same own key.0 (sym (order_eq own key.0) ∙ key.2) in
@@ -103,16 +93,14 @@ others_hinder : (own : Option Key) (summary : FileSummary) → IsStrictlySortedB
     → list_any (λ key. not (is_own_key own key)) (hindering summary)
     ≡ nat_lt (own_hindering own summary) (length (hindering summary))
 others_hinder None summary sorted = all_counted (hindering summary)
-others_hinder (Some own) summary sorted =
-    others_counted own (hindering summary) sorted
+others_hinder (Some own) summary sorted = others_counted own (hindering summary) sorted
     ∙ ap (λ (b : Bool). nat_lt (if b then 1 else 0) (length (hindering summary))) (own_among own summary)
 
 -- on the list of keys, each of them is a member
 here_alike : (own : Option Key) (summary : FileSummary)
     → list_any (λ key. not (is_own_key own key) && not (is_marked summary key)) summary.keys.keys
     ≡ list_any (λ key. not (is_own_key own key) && is_hindering summary key) summary.keys.keys
-here_alike own summary =
-    both_so _ _
+here_alike own summary = both_so _ _
     (λ some.
     let key = any_has (λ k. not (is_own_key own k) && not (is_marked summary k)) summary.keys.keys some in
     let parts = and_parts (not (is_own_key own key.0)) (not (is_marked summary key.0)) key.2 in
@@ -144,8 +132,7 @@ others_hindering own file opens leases summary s sorted marked =
 
 lease_summed : (summaries : Summaries) (server : Server) (key : Key) (one : Open) → StandFor summaries server
     → has_key key one ≡ true → lease_of server one ≡ lease_in summaries key
-lease_summed summaries server key one stand has =
-    lease_by-key server key one.client one.lease_key has ∙ stand.leases key
+lease_summed summaries server key one stand has = lease_by-key server key one.client one.lease_key has ∙ stand.leases key
 
 -- an open without a key has no lease, and hinders nothing
 hinderer_keyed : (server : Server) (client : ℕ) (bytes : Option (List ℕ))
@@ -156,8 +143,7 @@ pub hindered_by : (own : Option Key) (file : ℕ) (summaries : Summaries) (serve
     → StandFor summaries server → SumsUp file server.opens (lease_in summaries) summary
     → list_any (λ key. not (is_own_key own key) && is_hindering summary key) summary.keys.keys
     ≡ list_any (is_hinderer server own file) server.opens
-hindered_by own file summaries server summary stand s =
-    both_so _ _
+hindered_by own file summaries server summary stand s = both_so _ _
     (λ some.
     let key = any_has (λ k. not (is_own_key own k) && is_hindering summary k) summary.keys.keys some in
     let apart = and_parts (not (is_own_key own key.0)) (is_hindering summary key.0) key.2 in
@@ -180,8 +166,7 @@ hindered_by own file summaries server summary stand s =
     let hinders = ap hinders_writes (sym (lease_summed summaries server key.0 one.0 stand key.1)) ∙ parts.1 in
     let marked = hinders_unmarked _ (list_any (has_key_on file key.0) server.opens) _ (s.harmless key.0) hinders in
     has_any (λ k. not (is_own_key own k) && is_hindering summary k) key.0 summary.keys.keys
-    (among_members summary.keys key.0 there)
-    (and_both (not (is_own_key own key.0)) (is_hindering summary key.0) other.1
+    (among_members summary.keys key.0 there) (and_both (not (is_own_key own key.0)) (is_hindering summary key.0) other.1
     (and_both (contains key_order summary.keys key.0) (not (contains key_order summary.harmless key.0)) there (ap not marked))))
   where
     hinders_unmarked : (marked used hinders : Bool) → marked ≡ (used && not hinders) → hinders ≡ true → marked ≡ false
@@ -193,8 +178,7 @@ hindered_by own file summaries server summary stand s =
 -- where no open is on the file
 pub hindered_none : (own : Option Key) (file : ℕ) (server : Server) → list_any (is_on file) server.opens ≡ false
     → false ≡ list_any (is_hinderer server own file) server.opens
-hindered_none own file server none =
-    sym (not_true (list_any (is_hinderer server own file) server.opens) (λ some.
+hindered_none own file server none = sym (not_true (list_any (is_hinderer server own file) server.opens) (λ some.
     let one = any_has (is_hinderer server own file) server.opens some in
     let parts = and_parts (is_other_on own file one.0) (hinders_writes (lease_of server one.0)) one.2 in
     clash (is_on file one.0) (other_here own file one.0 parts.0) (none_has (is_on file) one.0 server.opens none one.1)))
@@ -215,8 +199,7 @@ abbrev want_at : Key → Want
 want_at key = record { key = key; lowered = nothing_cached }
 
 -- each lease that a write wants breaks to nothing where none hinders the write
-unhindered_ready : (server : Server) (own : Option Key) (file : ℕ)
-    → list_any (is_hinderer server own file) server.opens ≡ false
+unhindered_ready : (server : Server) (own : Option Key) (file : ℕ) → list_any (is_hinderer server own file) server.opens ≡ false
     → list_all (λ want. breaks_to_none (server.leases want.key)) (all_wants server own file) ≡ true
 unfolding all_wants wants_where
 unhindered_ready server own file none =
@@ -227,14 +210,12 @@ unhindered_ready server own file none =
     let parts = and_parts (is_other_on own file found.0) (holds_any (lease_of server found.0).state) there.1 in
     let settled = none_has (is_hinderer server own file) found.0 server.opens none there.0 in
     let same = lease_by-key server key.0 (found.0).client (found.0).lease_key found.2 in
-    ap (λ (w : Want). breaks_to_none (server.leases w.key)) key.2
-    ∙ (ap breaks_to_none (sym same)
+    ap (λ (w : Want). breaks_to_none (server.leases w.key)) key.2 ∙ (ap breaks_to_none (sym same)
     ∙ gives_up (holds_any (lease_of server found.0).state) (breaks_to_none (lease_of server found.0)) parts.1
     (rw parts.0 at settled)))
 
 -- and where one hinders it, that one doesn't
-hindered_unready : (server : Server) (own : Option Key) (file : ℕ)
-    → list_any (is_hinderer server own file) server.opens ≡ true
+hindered_unready : (server : Server) (own : Option Key) (file : ℕ) → list_any (is_hinderer server own file) server.opens ≡ true
     → list_all (λ want. breaks_to_none (server.leases want.key)) (all_wants server own file) ≡ false
 unfolding all_wants wants_where
 hindered_unready server own file some =
@@ -255,19 +236,15 @@ hindered_unready server own file some =
 -- ---- what a write needs
 
 abbrev write_looked : Server → Option Key → ℕ → Look
-write_looked server own file =
-    looked (λ wants. list_all (λ want. breaks_to_none (server.leases want.key)) wants)
+write_looked server own file = looked (λ wants. list_all (λ want. breaks_to_none (server.leases want.key)) wants)
     (Finding.Needs (all_wants server own file))
 
 pub unhindered : (server : Server) (own : Option Key) (file : ℕ)
     → list_any (is_hinderer server own file) server.opens ≡ false → Look.Ready ≡ write_looked server own file
-unhindered server own file none =
-    ap (λ b. if b then Look.Ready else Look.Needs (all_wants server own file))
+unhindered server own file none = ap (λ b. if b then Look.Ready else Look.Needs (all_wants server own file))
     (sym (unhindered_ready server own file none))
 
-pub hindered : (server : Server) (own : Option Key) (file : ℕ)
-    → list_any (is_hinderer server own file) server.opens ≡ true
+pub hindered : (server : Server) (own : Option Key) (file : ℕ) → list_any (is_hinderer server own file) server.opens ≡ true
     → Look.Needs (all_wants server own file) ≡ write_looked server own file
-hindered server own file some =
-    ap (λ b. if b then Look.Ready else Look.Needs (all_wants server own file))
+hindered server own file some = ap (λ b. if b then Look.Ready else Look.Needs (all_wants server own file))
     (sym (hindered_unready server own file some))

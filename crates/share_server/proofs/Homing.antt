@@ -1,28 +1,13 @@
 -- A create that is ready has no open under its key on another file, and a write that is ready ends within the limit of a file.
-use Rattle.std.proofs.Common.{◌≡◌, refl, sym, ap, ◌∙◌, subst, ℕ, zero, suc, Bool, true, false, not, List, arith}
-use Rattle.std.specs.Prelude.{◌&&◌, ◌==◌, if◌then◌else◌, Option, Some, None}
-use Rattle.std.specs.List.{list_any}
-use Rattle.std.proofs.lemmas.Bool.Decides.{Decides-eqb}
-use Rattle.lease_state.specs.declared.access.Access.{Access}
-use Rattle.lease_state.specs.declared.access.Share.{Share}
-use Rattle.lease_state.specs.declared.patch.Patch.{Patch}
-use Rattle.lease_state.specs.declared.status.Status.{Status}
+use Rattle.lease_laws.proofs.Words.{◌&&◌, ◌==◌, ◌∙◌, ◌≡◌, Access, Bool, Decides-eqb, FileRequest, Finding, IsFree, Key, LeaseOf}
+use Rattle.lease_laws.proofs.Words.{List, None, Open, Option, Outcome, Patch, Progress, Server, Share, Some, Status, Tried, Want}
+use Rattle.lease_laws.proofs.Words.{ℕ, after_breaks, after_finding, all_wants, ap, arith, asked_key, by_open, connected_open}
+use Rattle.lease_laws.proofs.Words.{ended, false, finding, has_key, if◌then◌else◌, is_leased_elsewhere, is_ready, is_within_limit}
+use Rattle.lease_laws.proofs.Words.{key_of_open, key_under, list_any, may_write, must_wait, not, own_key, refl, subst, suc, sym}
+use Rattle.lease_laws.proofs.Words.{tried, tried_for, true, wants_met, write_finding, zero}
 use Rattle.lease_laws.proofs.server.Lists.{if_cases, either, has_none}
 use Rattle.lease_laws.proofs.server.Ready.{RequestFree, CreateFree, ready-free}
 use Rattle.lease_laws.proofs.server.Tries.{IsFoundReady}
-use Rattle.lease_laws.specs.server.SmallSteps.{IsFree}
-use Rattle.lease_model.specs.messages.Requests.{FileRequest, LeaseOf}
-use Rattle.lease_model.specs.server.Attempt.{Outcome, Tried, ended, must_wait, after_breaks, after_finding, tried_for, tried, wants_met}
-use Rattle.lease_model.specs.server.Findings.{Finding, finding, by_open, connected_open, write_finding, is_leased_elsewhere}
-use Rattle.lease_model.specs.server.Grant.{asked_key}
-use Rattle.lease_model.specs.server.Naming.{own_key, key_under, key_of_open}
-use Rattle.lease_model.specs.server.Progress.{Progress}
-use Rattle.lease_model.specs.server.Ready.{is_ready}
-use Rattle.lease_model.specs.server.State.{Server, Open, has_key}
-use Rattle.lease_model.specs.server.Wants.{Want, all_wants}
-use Rattle.lease_model.specs.values.Keys.{Key}
-use Rattle.lease_model.specs.values.Patches.{is_within_limit}
-use Rattle.lease_model.specs.values.Sharing.{may_write}
 use Rattle.share_server.specs.Kept.{CanBeAnswered, IsCreateAtHome}
 use Rattle.share_server.specs.Looks.{is_elsewhere}
 use Rattle.share_server.specs.Summaries.{IsAtHome, RecordFits}
@@ -33,8 +18,7 @@ abbrev EndsReady : ℕ → FileRequest → Tried → Type 0
 EndsReady client request done = done.outcome ≡ Outcome.Ready → IsFoundReady client request done.progress
 
 finding_ready : (again : Progress → Tried) (client : ℕ) (request : FileRequest) (progress : Progress) (found : Finding)
-    → finding progress.server client request ≡ found
-    → ((next : Progress) → EndsReady client request (again next))
+    → finding progress.server client request ≡ found → ((next : Progress) → EndsReady client request (again next))
     → EndsReady client request (after_finding again request progress found)
 finding_ready again client request progress x5 e good = grind arith
 
@@ -105,8 +89,7 @@ home_kept a b client (FileRequest.Write file_id number patch) same home = home
 home_kept a b client (FileRequest.Close file_id) same home = tt
 
 pub home_asked : (server : Server) (client file : ℕ) (asked : Option LeaseOf) (bytes : Option (List ℕ)) → bytes ≡ asked_key asked
-    → is_leased_elsewhere server (own_key client asked) file ≡ false
-    → IsAtHome (key_under client bytes) file server.opens
+    → is_leased_elsewhere server (own_key client asked) file ≡ false → IsAtHome (key_under client bytes) file server.opens
 unfolding is_leased_elsewhere
 home_asked server client file x4 bytes same home = grind arith
 

@@ -1,15 +1,7 @@
 -- A client that joins: its connection is listed, and its keys are taken off the expired ones.
-use Rattle.std.proofs.Common.{◌≡◌, ℕ, zero, suc, map, refl, Bool, true, false, not, List, [], ◌∷◌, ◌++◌, ap, ◌∙◌, arith}
-use Rattle.std.proofs.Math.Path.{fun_ext}
-use Rattle.std.proofs.lemmas.Bool.Decides.{nat_tests}
-use Rattle.std.specs.Prelude.{◌==◌, if◌then◌else◌, filter}
-use Rattle.std.specs.List.{list_any}
-use Rattle.lease_state.specs.declared.number.ClientNo.{ClientNo}
-use Rattle.lease_model.specs.server.Calls.{joined, client_forgotten}
-use Rattle.lease_model.specs.server.Progress.{Progress}
-use Rattle.lease_model.specs.server.State.{Server, Held}
-use Rattle.lease_model.specs.values.Keys.{Key, key_eq}
-use Rattle.lease_model.specs.values.Tables.{put}
+use Rattle.lease_laws.proofs.Words.{◌++◌, ◌==◌, ◌∙◌, ◌∷◌, ◌≡◌, Bool, ClientNo, Held, Key, List, Progress, Server, ℕ, [], ap}
+use Rattle.lease_laws.proofs.Words.{arith, client_forgotten, false, filter, fun_ext, if◌then◌else◌, joined, key_eq, list_any, map}
+use Rattle.lease_laws.proofs.Words.{nat_tests, not, put, refl, suc, true, zero}
 use Rattle.share_server.specs.Outs.{progress_of}
 use Rattle.share_server.specs.Table.{Table, File, file_in, file_without, server_of}
 
@@ -35,14 +27,12 @@ same_known : (server : Server) (present others : ℕ → Bool) (expired keys : K
     → with_known server present expired ≡ with_known server others keys
 same_known server present others expired keys a b = grind arith
 
-pub tables_joined : (table : Table) (client : ClientNo)
-    → progress_of (record table {
-      present = table.present ++ client ∷ [];
-      expired = filter (λ key. not (key.client == client.0)) table.expired;
-    }) [] ≡ joined client.0 (progress_of table [])
+pub tables_joined : (table : Table) (client : ClientNo) → progress_of (record table {
+  present = table.present ++ client ∷ [];
+  expired = filter (λ key. not (key.client == client.0)) table.expired;
+}) [] ≡ joined client.0 (progress_of table [])
 unfolding joined
-tables_joined table client =
-    same_known (server_of table) _ _ _ _ (fun_ext (present_more table.present client))
+tables_joined table client = same_known (server_of table) _ _ _ _ (fun_ext (present_more table.present client))
     (fun_ext (expired_less table.expired client.0))
 
 -- a client that is forgotten: its connection is taken off the list, and so are its requests
@@ -68,14 +58,12 @@ same_clients : (server : Server) (contents bytes : ℕ → List ℕ) (held queue
     → with_clients server contents held present ≡ with_clients server bytes queues others
 same_clients server contents bytes held queues present others a b c = grind arith
 
-pub tables_forgotten : (table : Table) (client : ClientNo)
-    → progress_of (record table {
-      files = map (file_without client.0) table.files;
-      present = filter (λ one. not (one.0 == client.0)) table.present;
-    }) [] ≡ client_forgotten client.0 (progress_of table [])
+pub tables_forgotten : (table : Table) (client : ClientNo) → progress_of (record table {
+  files = map (file_without client.0) table.files;
+  present = filter (λ one. not (one.0 == client.0)) table.present;
+}) [] ≡ client_forgotten client.0 (progress_of table [])
 unfolding client_forgotten
-tables_forgotten table client =
-    same_clients (server_of table) _ _ _ _ _ _
+tables_forgotten table client = same_clients (server_of table) _ _ _ _ _ _
     (fun_ext (λ n. ap (λ (file : File). file.content) (places_without client.0 table.files n)))
     (fun_ext (λ n. ap (λ (file : File). file.held) (places_without client.0 table.files n)))
     (fun_ext (present_less table.present client))

@@ -1,8 +1,6 @@
 -- The laws of every server in the words of its opens and leases.
-use Rattle.std.proofs.Common.{ap, ◌∙◌, arith}
+use Rattle.lease_laws.proofs.Words.{◌∙◌, IsSound, Lease, ap, arith, is_breaking}
 use Rattle.lease_laws.proofs.server.Keys.{lease_by-key}
-use Rattle.lease_laws.specs.server.Laws.{IsSound}
-use Rattle.lease_model.specs.server.State.{Lease, is_breaking}
 use Rattle.share_server.specs.Laws.{HasOneWriter, HasNoConflict, KeepsWhatLasts, BreaksToLess}
 use Rattle.share_server.specs.Table.{Table, server_of}
 

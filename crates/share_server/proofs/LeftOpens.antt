@@ -1,21 +1,14 @@
 -- The opens that wait for their clients, as opens come, go, are left and are connected again.
-use Rattle.std.proofs.Common.{◌≡◌, inl, inr, ℕ, ◌<◌, Bool, true, false, not, List, [], ◌∷◌, ◌++◌, map, filter, length, drop, get_or, refl, ap, ap₂, sym, ◌∙◌, arith, subst, true≢false}
-use Rattle.std.specs.Prelude.{bytes_eq, if◌then◌else◌, ◌==◌, ◌&&◌, Option, Some, None, find}
+use Rattle.lease_laws.proofs.Words.{◌&&◌, ◌++◌, ◌<◌, ◌==◌, ◌∙◌, ◌∷◌, ◌≡◌, Among, AreInOrder, Bool, Decides-eqb, FileId, Key, Less}
+use Rattle.lease_laws.proofs.Words.{List, None, Open, Option, Some, ℕ, [], ap, ap₂, arith, bytes_eq, drop, false, filter, find}
+use Rattle.lease_laws.proofs.Words.{get_or, has_key, if◌then◌else◌, inl, inr, is_key, is_left_open, length, list_any, map}
+use Rattle.lease_laws.proofs.Words.{nat_cmp, nat_tests, not, option_map, refl, subst, sym, true, true≢false, without}
 use Rattle.std.specs.BTreeSet.{insert_key}
-use Rattle.std.specs.List.{list_any, slice_get}
-use Rattle.std.specs.Option.{option_map}
-use Rattle.std.specs.Ordering.{nat_cmp}
+use Rattle.std.specs.List.{slice_get}
 use Rattle.std.specs.Set.{remove_key}
 use Rattle.std.specs.declared.cmp.Ordering.{Ordering}
-use Rattle.std.specs.declared.cmp.Ordering.TheVariants.{Less, Equal, Greater}
-use Rattle.std.proofs.lemmas.Bool.Decides.{nat_tests, Decides-eqb}
+use Rattle.std.specs.declared.cmp.Ordering.TheVariants.{Equal, Greater}
 use Rattle.lease_laws.proofs.server.Lists.{either, among_filter, clash, find_has, none_has, not_true, not_parts, and_parts}
-use Rattle.lease_laws.specs.server.Laws.{Among, AreInOrder}
-use Rattle.lease_model.specs.server.Attempt.{is_left_open}
-use Rattle.lease_model.specs.server.State.{Open, has_key, is_key}
-use Rattle.lease_model.specs.values.Keys.{Key}
-use Rattle.lease_model.specs.values.Lists.{without}
-use Rattle.lease_state.specs.declared.number.FileId.{FileId}
 use Rattle.share_server.proofs.Filing.{test_at, at_id, none_behind, some_same, none_changed, greater}
 use Rattle.share_server.specs.Filed.{has_id, connected_at, file_id_order}
 use Rattle.share_server.specs.LeftOpens.{AreWaiting, has_key_in, ids_of, is_owner, left_at, numbers}
@@ -36,8 +29,7 @@ present owner one here = grind (arith, nat_tests, here)
 another : (owner : Owner) (one : Open) → is_its owner one ≡ false → waits owner one ≡ false
 another owner one apart = grind (arith, nat_tests, apart)
 
-left_now : (owner : Owner) (one : Open) → is_its owner one ≡ true
-    → waits owner (record one { connected = false }) ≡ true
+left_now : (owner : Owner) (one : Open) → is_its owner one ≡ true → waits owner (record one { connected = false }) ≡ true
 left_now owner one its = grind (arith, nat_tests, its)
 
 pub apart_from : (other owner : Owner) (one : Open) → owner.client.0 ≡ one.client → owner.file.0 ≡ one.file
@@ -70,8 +62,7 @@ removed_id n (x ∷ ids) (one ∷ opens) same order =
     (λ its.
     let at : test_at n x ≡ true = at_id n x.0 ∙ (ap (λ m. m == n) first ∙ its) in
     let is = (Decides-eqb one.file_id n).0 its in
-    rw (at, its)
-    (later ∙ ap ids_of (sym (none_behind n opens (λ other a. subst (λ m. m < other.file_id) is (order.0 other a))))))
+    rw (at, its) (later ∙ ap ids_of (sym (none_behind n opens (λ other a. subst (λ m. m < other.file_id) is (order.0 other a))))))
     (λ its.
     let at : test_at n x ≡ false = at_id n x.0 ∙ (ap (λ m. m == n) first ∙ its) in
     rw (at, its) (ap₂ (λ m l. m ∷ l) first (removed_id n ids opens later order.1)))
@@ -118,8 +109,7 @@ none_waits n owner (x ∷ opens) one order found away = either (has_id n x)
     let is : x ≡ one = some_same (rw its at found) in
     let here : waits owner x ≡ false = ap (waits owner) is ∙ away in
     let same = (Decides-eqb x.file_id n).0 its in
-    rw here
-    (none_behind n (filter (waits owner) opens)
+    rw here (none_behind n (filter (waits owner) opens)
     (λ other a. subst (λ m. m < other.file_id) same (order.0 other (among_filter (waits owner) other opens a).0))))
     (λ its.
     let later = none_waits n owner opens one order.1 (rw its at found) away in
@@ -132,9 +122,7 @@ still_waiting : (old new : LeftOpens) (n : ℕ) (owner : Owner) (opens : List Op
     ≡ (if is_owner other owner then remove_key (test_at n) (left_at old other) else left_at old other))
     → (other : Owner) → numbers (left_at new other) ≡ ids_of (without (has_id n) (filter (waits other) opens))
 still_waiting old new n owner opens one order found client file waiting changed other = either (is_owner other owner)
-    (λ its.
-    rw (changed other, its)
-    (removed_id n (left_at old other) (filter (waits other) opens) (waiting other)
+    (λ its. rw (changed other, its) (removed_id n (left_at old other) (filter (waits other) opens) (waiting other)
     (in_order_filter (waits other) opens order)))
     (λ its.
     let apart = another other one (apart_from other owner one client file its) in
@@ -177,15 +165,12 @@ waiting_again old new n owner opens one order found client file waiting changed 
 -- ---- an open is left
 
 rest_unchanged : (n : ℕ) (connected : Bool) (one : Open) (opens : List Open) → one.file_id ≡ n
-    → ((other : Open) → Among other opens → one.file_id < other.file_id)
-    → map (connected_at n connected) opens ≡ opens
-rest_unchanged n connected one opens is above =
-    none_changed n (λ (o : Open). record o { connected = connected }) opens
+    → ((other : Open) → Among other opens → one.file_id < other.file_id) → map (connected_at n connected) opens ≡ opens
+rest_unchanged n connected one opens is above = none_changed n (λ (o : Open). record o { connected = connected }) opens
     (λ other a. subst (λ m. m < other.file_id) is (above other a))
 
 one_more : (n : ℕ) (owner : Owner) (opens : List Open) (one : Open) → AreInOrder opens
-    → find (has_id n) opens ≡ Some one → is_its owner one ≡ true
-    → insert_key nat_cmp (ids_of (filter (waits owner) opens)) n
+    → find (has_id n) opens ≡ Some one → is_its owner one ≡ true → insert_key nat_cmp (ids_of (filter (waits owner) opens)) n
     ≡ ids_of (filter (waits owner) (map (connected_at n false) opens))
 one_more n owner [] one order found its = absurd (cc found)
 one_more n owner (x ∷ opens) one order found its = either (has_id n x)
@@ -196,9 +181,7 @@ one_more n owner (x ∷ opens) one order found its = either (has_id n x)
     let now : waits owner (record x { connected = false }) ≡ true = left_now owner x (ap (is_its owner) is ∙ its) in
     either (waits owner x)
     (λ w. rw (w, at, rest, now, same, equal_is n) refl)
-    (λ w.
-    rw (w, at, rest, now)
-    (inserted_first n (filter (waits owner) opens)
+    (λ w. rw (w, at, rest, now) (inserted_first n (filter (waits owner) opens)
     (λ other a. subst (λ m. m < other.file_id) same (order.0 other (among_filter (waits owner) other opens a).0))
     ∙ ap (λ m. m ∷ ids_of (filter (waits owner) opens)) (sym same))))
     (λ at.
@@ -232,14 +215,9 @@ pub waiting_left : (old new : LeftOpens) (fid : FileId) (owner : Owner) (opens :
     ≡ (if is_owner other owner then insert_key file_id_order (left_at old other) fid else left_at old other))
     → AreWaiting new (map (connected_at fid.0 false) opens)
 waiting_left old new fid owner opens one order found client file waiting changed = λ other. either (is_owner other owner)
-    (λ its.
-    rw (changed other, its)
-    (inserted_id fid (left_at old other)
-    ∙ (ap (λ l. insert_key nat_cmp l fid.0) (waiting other)
+    (λ its. rw (changed other, its) (inserted_id fid (left_at old other) ∙ (ap (λ l. insert_key nat_cmp l fid.0) (waiting other)
     ∙ one_more fid.0 other opens one order found (its_own other owner one client file its))))
-    (λ its.
-    rw (changed other, its)
-    (waiting other
+    (λ its. rw (changed other, its) (waiting other
     ∙ ap ids_of (sym (none_left fid.0 other opens one order found (apart_from other owner one client file its)))))
 
 -- ---- what is asked
@@ -248,11 +226,9 @@ found_first : (test : Open → Bool) (opens : List Open) → find test opens ≡
 found_first test [] = refl
 found_first test (one ∷ opens) = either (test one) (λ t. rw t refl) (λ t. rw t (found_first test opens))
 
-pub first_waiting : (ids : List FileId) (test : Open → Bool) (opens : List Open)
-    → numbers ids ≡ ids_of (filter test opens)
+pub first_waiting : (ids : List FileId) (test : Open → Bool) (opens : List Open) → numbers ids ≡ ids_of (filter test opens)
     → option_map (λ file_id. file_id.0) (slice_get ids 0) ≡ option_map (λ one. one.file_id) (find test opens)
-first_waiting ids test opens same =
-    first_mapped ids ∙ (ap (λ l. slice_get l 0) same ∙ (first_open (filter test opens)
+first_waiting ids test opens same = first_mapped ids ∙ (ap (λ l. slice_get l 0) same ∙ (first_open (filter test opens)
     ∙ ap (option_map (λ one. one.file_id)) (sym (found_first test opens))))
   where
     first_mapped : (xs : List FileId) → option_map (λ file_id. file_id.0) (slice_get xs 0) ≡ slice_get (numbers xs) 0
@@ -263,8 +239,7 @@ first_waiting ids test opens same =
     first_open [] = refl
     first_open (x ∷ xs) = refl
 
-found_itself : (opens : List Open) (one : Open) → AreInOrder opens → Among one opens
-    → find (has_id one.file_id) opens ≡ Some one
+found_itself : (opens : List Open) (one : Open) → AreInOrder opens → Among one opens → find (has_id one.file_id) opens ≡ Some one
 found_itself [] one order among = absurd among
 found_itself (x ∷ opens) one order (inl same) = grind arith
 found_itself (x ∷ opens) one order (inr among) =
@@ -305,8 +280,7 @@ left_of_key key file (x ∷ opens) home =
     let away : is_left_open key x ≡ false = not_true (is_left_open key x) (λ is. apart key x file here left is) in
     rw (left, away) later)
   where
-    of_key : (key : Key) (client : ℕ) (own : Option (List ℕ)) → is_key key client own ≡ true
-        → (client == key.client) ≡ true
+    of_key : (key : Key) (client : ℕ) (own : Option (List ℕ)) → is_key key client own ≡ true → (client == key.client) ≡ true
     of_key key client x3 has = grind arith
 
     of_client : (key : Key) (x : Open) → has_key key x ≡ true → (x.client == key.client) ≡ true
@@ -316,8 +290,7 @@ left_of_key key file (x ∷ opens) home =
         → is_left_open key x ≡ true → ⊥
     apart key x file here left is = grind arith
 
-pub none_of_key : (key : Key) (opens : List Open) → list_any (has_key key) opens ≡ false
-    → filter (is_left_open key) opens ≡ []
+pub none_of_key : (key : Key) (opens : List Open) → list_any (has_key key) opens ≡ false → filter (is_left_open key) opens ≡ []
 none_of_key key [] none = refl
 none_of_key key (x ∷ opens) none =
     let here : has_key key x ≡ false = none_has (has_key key) x (x ∷ opens) none (inl refl) in

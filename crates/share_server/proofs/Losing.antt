@@ -1,11 +1,6 @@
 -- The opens that a lost connection closes, by the leases that there are.
-use Rattle.std.proofs.Common.{◌≡◌, ℕ, List, refl, ap, not, arith}
-use Rattle.std.proofs.Math.Path.{fun_ext}
-use Rattle.std.specs.Prelude.{Option, Some, None, ◌==◌, ◌&&◌}
-use Rattle.lease_state.specs.declared.number.ClientNo.{ClientNo}
-use Rattle.lease_model.specs.server.Calls.{is_lost, outlives_connection}
-use Rattle.lease_model.specs.server.Naming.{key_under, lease_by}
-use Rattle.lease_model.specs.server.State.{Server, Open, Lease}
+use Rattle.lease_laws.proofs.Words.{◌&&◌, ◌==◌, ◌≡◌, ClientNo, Lease, List, None, Open, Option, Server, Some, ℕ, ap, arith}
+use Rattle.lease_laws.proofs.Words.{fun_ext, is_lost, key_under, lease_by, not, outlives_connection, refl}
 use Rattle.share_server.specs.Closing.{closes, lease_under, outlives_under}
 use Rattle.share_server.specs.declared.closing.Closing.TheVariants.{LostBy}
 

@@ -1,16 +1,12 @@
 -- Opens that are connected or disconnected are counted as they were.
-use Rattle.std.proofs.Common.{◌≡◌, ℕ, Bool, not, List, [], ◌∷◌, map, refl, ap, ap₂, sym, ◌∙◌, arith}
-use Rattle.std.specs.Prelude.{if◌then◌else◌, ◌==◌, ◌&&◌, Option, Some, None, is_some}
-use Rattle.std.specs.List.{list_any}
+use Rattle.lease_laws.proofs.Words.{◌&&◌, ◌==◌, ◌∙◌, ◌∷◌, ◌≡◌, Access, Bool, Key, Lease, List, None, Open, Option, Share, Some, ℕ}
+use Rattle.lease_laws.proofs.Words.{[], allowed_by, ap, ap₂, arith, has_key, if◌then◌else◌, is_key, is_some, list_any, map, not}
+use Rattle.lease_laws.proofs.Words.{refl, sym, uses_of}
 use Rattle.lease_laws.proofs.server.Lists.{either}
-use Rattle.lease_model.specs.server.State.{Open, Lease, has_key, is_key}
-use Rattle.lease_model.specs.values.Keys.{Key}
-use Rattle.lease_state.specs.Access.{uses_of, allowed_by}
-use Rattle.lease_state.specs.declared.access.Access.{Access}
-use Rattle.lease_state.specs.declared.access.Share.{Share}
 use Rattle.share_server.specs.Hindering.{is_harmless}
 use Rattle.share_server.specs.Looks.{is_elsewhere}
-use Rattle.share_server.specs.Summaries.{Agrees, RecordFits, SummaryFits, record_at, summary_at, lease_in, is_on, has_key_on, is_keyless_on}
+use Rattle.share_server.specs.Summaries.{Agrees, RecordFits, SummaryFits, record_at, summary_at, lease_in, is_on, has_key_on}
+use Rattle.share_server.specs.Summaries.{is_keyless_on}
 use Rattle.share_server.specs.Tallies.{count, tally_of}
 use Rattle.share_server.specs.declared.file_summary.FileSummary.{FileSummary}
 use Rattle.share_server.specs.declared.summaries.LeaseRecord.{LeaseRecord}
@@ -41,9 +37,7 @@ count_mapped test change (one ∷ opens) same = let later = count_mapped test ch
 
 tally_mapped : (test : Open → Bool) (change : Open → Open) (opens : List Open) → KeepsCounted change
     → ((one : Open) → test (change one) ≡ test one) → tally_of test (map change opens) ≡ tally_of test opens
-tally_mapped test change opens keeps same =
-    tally_same _ _ _ _ _ _ _ _ _ _
-    (count_mapped test change opens same)
+tally_mapped test change opens keeps same = tally_same _ _ _ _ _ _ _ _ _ _ (count_mapped test change opens same)
     (count_mapped _ change opens (λ one. ap₂ ◌&&◌ (same one) (ap (λ (a : Access). (uses_of a).read) (keeps.access one))))
     (count_mapped _ change opens (λ one. ap₂ ◌&&◌ (same one) (ap (λ (a : Access). (uses_of a).write) (keeps.access one))))
     (count_mapped _ change opens (λ one. ap₂ ◌&&◌ (same one) (ap (λ (s : Share). not (allowed_by s).read) (keeps.share one))))
@@ -62,14 +56,12 @@ record_mapped key change opens (Some known) keeps fits = record {
   tally = fits.tally ∙ sym (tally_mapped (has_key key) change opens keeps (has_same key change keeps));
   is_used = any_mapped (has_key key) change opens (has_same key change keeps) ∙ fits.is_used;
   one_file = any_mapped (is_elsewhere key known.file.0) change opens
-      (λ one. ap₂ (λ h o. h && not o) (has_same key change keeps one) (on_same known.file.0 change keeps one))
-      ∙ fits.one_file;
+      (λ one. ap₂ (λ h o. h && not o) (has_same key change keeps one) (on_same known.file.0 change keeps one)) ∙ fits.one_file;
 }
 
 summary_mapped : (file : ℕ) (leases : Key → Lease) (change : Open → Open) (opens : List Open) (known : Option FileSummary)
     → KeepsCounted change → SummaryFits file opens leases known → SummaryFits file (map change opens) leases known
-summary_mapped file leases change opens None keeps fits =
-    any_mapped (is_on file) change opens (on_same file change keeps) ∙ fits
+summary_mapped file leases change opens None keeps fits = any_mapped (is_on file) change opens (on_same file change keeps) ∙ fits
 summary_mapped file leases change opens (Some known) keeps fits =
     let on_key : (key : Key) → list_any (has_key_on file key) (map change opens) ≡ list_any (has_key_on file key) opens =
     λ key. any_mapped (has_key_on file key) change opens

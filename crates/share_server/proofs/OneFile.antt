@@ -1,31 +1,17 @@
 -- A look at a request about a file sees the opens on that file alone, and the leases of their keys.
-use Rattle.std.proofs.Common.{◌≡◌, inl, inr, ℕ, Bool, true, false, not, List, [], ◌∷◌, map, filter, refl, ap, sym, ◌∙◌, subst, arith}
-use Rattle.std.specs.List.{list_any, list_all}
-use Rattle.std.specs.Prelude.{Option, Some, None, find, if◌then◌else◌, ◌==◌, ◌&&◌, ◌||◌}
-use Rattle.std.proofs.lemmas.Bool.Decides.{Decides-eqb}
+use Rattle.lease_laws.proofs.Words.{◌&&◌, ◌==◌, ◌||◌, ◌∙◌, ◌∷◌, ◌≡◌, Access, Among, Bool, CreateAsk, Decides-eqb, FileRequest}
+use Rattle.lease_laws.proofs.Words.{Finding, Key, Lease, List, None, Open, Option, Patch, Server, Share, Some, State, Status}
+use Rattle.lease_laws.proofs.Words.{Want, ℕ, [], all_wants, ap, arith, asked_finding, awaits, breaks_to_none, by_open}
+use Rattle.lease_laws.proofs.Words.{conflicts_on, connected_open, create_finding, false, filter, find, finding, handle_wants}
+use Rattle.lease_laws.proofs.Words.{has_file, has_key, holds_any, if◌then◌else◌, inl, inr, is_breaking, is_key}
+use Rattle.lease_laws.proofs.Words.{is_leased_elsewhere, is_left_open, is_other_on, is_ready, is_within_limit, key_of}
+use Rattle.lease_laws.proofs.Words.{key_of_open, keys_of, lease_by, lease_of, list_all, list_any, map, may_write, not, option_map}
+use Rattle.lease_laws.proofs.Words.{own_key, reconnect_finding, refl, subst, sym, true, waits_for, wants_where, write_finding}
+use Rattle.lease_laws.proofs.Words.{write_wants}
 use Rattle.lease_laws.proofs.server.Keys.{is_key-refl}
-use Rattle.lease_laws.proofs.server.Lists.{either, clash, and_parts, and_both, not_parts, not_true, among_filter, among_filtered, any_has, has_any, has_none, none_has, each_all, all_each}
+use Rattle.lease_laws.proofs.server.Lists.{either, clash, and_parts, and_both, not_parts, not_true, among_filter, among_filtered}
+use Rattle.lease_laws.proofs.server.Lists.{any_has, has_any, has_none, none_has, each_all, all_each}
 use Rattle.lease_laws.proofs.server.Wants.{keys_of-has}
-use Rattle.lease_laws.specs.server.Laws.{Among}
-use Rattle.lease_state.specs.State.{State}
-use Rattle.lease_state.specs.declared.access.Access.{Access}
-use Rattle.lease_state.specs.declared.access.Share.{Share}
-use Rattle.lease_model.specs.server.Allowed.{conflicts_on, is_other_on}
-use Rattle.lease_model.specs.server.Findings.{Finding, finding, create_finding, reconnect_finding, asked_finding, write_finding, by_open, awaits, connected_open, is_leased_elsewhere}
-use Rattle.lease_model.specs.server.Attempt.{is_left_open}
-use Rattle.lease_model.specs.server.Ready.{is_ready, waits_for, breaks_to_none}
-use Rattle.lease_model.specs.messages.Requests.{FileRequest, CreateAsk}
-use Rattle.lease_model.specs.values.Patches.{is_within_limit}
-use Rattle.lease_model.specs.values.Sharing.{may_write}
-use Rattle.lease_state.specs.declared.patch.Patch.{Patch}
-use Rattle.lease_state.specs.declared.status.Status.{Status}
-use Rattle.std.specs.Option.{option_map}
-use Rattle.lease_model.specs.server.KeyOrder.{keys_of}
-use Rattle.lease_model.specs.server.Naming.{key_of, own_key, key_of_open, lease_of, lease_by}
-use Rattle.lease_model.specs.server.State.{Server, Open, Lease, has_key, has_file, is_key, is_breaking}
-use Rattle.lease_model.specs.server.Wants.{Want, wants_where, handle_wants, write_wants, all_wants}
-use Rattle.lease_model.specs.values.Keys.{Key}
-use Rattle.lease_model.specs.values.LeaseStates.{holds_any}
 use Rattle.share_server.specs.OneFile.{on_file, local, IsOnlyAbout}
 use Rattle.share_server.specs.StillWaiting.{is_under_way, HasOnlyToWait}
 use Rattle.share_server.specs.Looks.{is_elsewhere}
@@ -61,8 +47,7 @@ lease_on file server one there on = go one.lease_key refl
     go : (bytes : Option (List ℕ)) → one.lease_key ≡ bytes
         → lease_by (local file server) one.client bytes ≡ lease_by server one.client bytes
     go None is = refl
-    go (Some bytes) is =
-        lease_here file server (key_of one.client bytes) one there on
+    go (Some bytes) is = lease_here file server (key_of one.client bytes) one there on
         (ap (is_key (key_of one.client bytes) one.client) is ∙ is_key-refl one.client bytes)
 
 map_keys : (f g : Key → Want) (keys : List Key) → ((key : Key) → Among key keys → f key ≡ g key) → map f keys ≡ map g keys
@@ -76,8 +61,7 @@ wants_on : (file : ℕ) (server : Server) (here there : Open → Bool) (lowering
     → ((one : Open) → Among one server.opens → is_on file one ≡ true → here one ≡ there one)
     → wants_where (local file server) here lowering ≡ wants_where server there lowering
 unfolding wants_where
-wants_on file server here there lowering only same =
-    ap (λ opens. map (want_so (local file server) lowering) (keys_of opens))
+wants_on file server here there lowering only same = ap (λ opens. map (want_so (local file server) lowering) (keys_of opens))
     (filter_on file here there server.opens only same)
     ∙ map_keys (want_so (local file server) lowering) (want_so server lowering) (keys_of (filter there server.opens))
     (λ key a.
@@ -97,8 +81,7 @@ other_for own file one is = (and_parts (is_on file one) _ is).0
 pub handles_on : (file : ℕ) (server : Server) (own : Option Key) (access : Access) (share : Share)
     → handle_wants (local file server) own file access share ≡ handle_wants server own file access share
 unfolding handle_wants
-handles_on file server own access share =
-    wants_on file server _ _ _
+handles_on file server own access share = wants_on file server _ _ _
     (λ one is.
     let both = (and_parts (conflicts_on file access share one && is_other_on own file one) _ is).0 in
     conflicts_for file access share one (and_parts (conflicts_on file access share one) _ both).0)
@@ -108,16 +91,13 @@ handles_on file server own access share =
 pub writes_on : (file : ℕ) (server : Server) (own : Option Key)
     → write_wants (local file server) own file ≡ write_wants server own file
 unfolding write_wants
-writes_on file server own =
-    wants_on file server _ _ _
+writes_on file server own = wants_on file server _ _ _
     (λ one is. other_for own file one (and_parts (is_other_on own file one) _ is).0)
     (λ one there on. ap (λ (lease : Lease). is_other_on own file one && lease.state.write) (lease_on file server one there on))
 
-pub all_on : (file : ℕ) (server : Server) (own : Option Key)
-    → all_wants (local file server) own file ≡ all_wants server own file
+pub all_on : (file : ℕ) (server : Server) (own : Option Key) → all_wants (local file server) own file ≡ all_wants server own file
 unfolding all_wants
-all_on file server own =
-    wants_on file server _ _ _
+all_on file server own = wants_on file server _ _ _
     (λ one is. other_for own file one (and_parts (is_other_on own file one) _ is).0)
     (λ one there on.
     ap (λ (lease : Lease). is_other_on own file one && holds_any lease.state) (lease_on file server one there on))
@@ -125,8 +105,7 @@ all_on file server own =
 elsewhere_here : (file : ℕ) (server : Server) (own : Option Key) → is_leased_elsewhere (local file server) own file ≡ false
 unfolding is_leased_elsewhere
 elsewhere_here file server None = refl
-elsewhere_here file server (Some key) =
-    has_none (λ one. has_key key one && not (one.file == file)) (on_file file server.opens)
+elsewhere_here file server (Some key) = has_none (λ one. has_key key one && not (one.file == file)) (on_file file server.opens)
     (λ one a.
     let on = (among_filter (is_on file) one server.opens a).1 in
     either (has_key key one) (λ has. rw (has, on) refl) (λ has. rw has refl))
@@ -151,8 +130,7 @@ awaits_for client file x3 file_id one is = grind arith
 reconnect_on : (file : ℕ) (server : Server) (client : ℕ) (own : Option Key) (file_id : ℕ)
     → reconnect_finding (local file server) client file own file_id ≡ reconnect_finding server client file own file_id
 unfolding reconnect_finding
-reconnect_on file server client own file_id =
-    ap (λ b. if b then Finding.Needs [] else Finding.Fails Status.ObjectNameNotFound)
+reconnect_on file server client own file_id = ap (λ b. if b then Finding.Needs [] else Finding.Fails Status.ObjectNameNotFound)
     (any_on file (awaits client file own file_id) server.opens (awaits_for client file own file_id))
 
 create_file : (file : ℕ) (server : Server) (client : ℕ) (access : Access) (share : Share) (ask : CreateAsk)
@@ -189,8 +167,7 @@ found_on test p (x ∷ xs) one found is = either (test x)
 write_same : (file : ℕ) (server : Server) (one : Open) (patch : Patch) → one.file ≡ file
     → write_finding (local file server) one patch ≡ write_finding server one patch
 unfolding write_finding
-write_same file server one patch same =
-    ap (λ wants. if may_write one.access
+write_same file server one patch same = ap (λ wants. if may_write one.access
     then (if is_within_limit patch then Finding.Needs wants else Finding.Fails Status.InvalidParameter)
     else Finding.Fails Status.AccessDenied)
     (subst (λ n. all_wants (local file server) (key_of_open one) n ≡ all_wants server (key_of_open one) n) (sym same)
@@ -203,8 +180,7 @@ write_on : (file : ℕ) (server : Server) (client file_id number : ℕ) (patch :
 unfolding finding
 write_on file server client file_id number patch about = go (connected_open server client file_id) refl about
   where
-    go : (found : Option Open) → connected_open server client file_id ≡ found
-        → option_map (λ one. one.file) found ≡ Some file
+    go : (found : Option Open) → connected_open server client file_id ≡ found → option_map (λ one. one.file) found ≡ Some file
         → by_open (connected_open (local file server) client file_id) (λ one. write_finding (local file server) one patch)
         ≡ by_open (connected_open server client file_id) (λ one. write_finding server one patch)
     go None is there = absurd (cc there)
@@ -212,8 +188,7 @@ write_on file server client file_id number patch about = go (connected_open serv
         let same = some_file one.file file there in
         let here = found_on (λ x. x.file_id == file_id && x.client == client && x.connected) (is_on file) server.opens one is
         ((Decides-eqb one.file file).1 same) in
-        ap (λ o. by_open o (λ x. write_finding (local file server) x patch)) here
-        ∙ (write_same file server one patch same
+        ap (λ o. by_open o (λ x. write_finding (local file server) x patch)) here ∙ (write_same file server one patch same
         ∙ sym (ap (λ o. by_open o (λ x. write_finding server x patch)) is))
 
 pub finding_on : (file : ℕ) (server : Server) (client : ℕ) (request : FileRequest)
@@ -252,8 +227,7 @@ ready_alike (FileRequest.Write file_id number patch) leases others wants same = 
 ready_alike (FileRequest.Close file_id) leases others wants same = refl
 
 must_alike : (request : FileRequest) (leases others : Key → Lease) (wants : List Want) → AreAlike leases others wants
-    → list_any (λ want. waits_for request (leases want.key)) wants
-    ≡ list_any (λ want. waits_for request (others want.key)) wants
+    → list_any (λ want. waits_for request (leases want.key)) wants ≡ list_any (λ want. waits_for request (others want.key)) wants
 must_alike request leases others [] same = refl
 must_alike request leases others (want ∷ wants) same =
     let later = must_alike request leases others wants (λ other a. same other (inr a)) in grind arith
@@ -268,8 +242,7 @@ any_twice : (file : ℕ) (test : Open → Bool) (opens : List Open) → list_any
 any_twice file test opens some =
     let known = any_has test (on_file file opens) some in
     has_any test known.0 (on_file file (on_file file opens))
-    (among_filtered (is_on file) known.0 (on_file file opens) known.1 (among_filter (is_on file) known.0 opens known.1).1)
-    known.2
+    (among_filtered (is_on file) known.0 (on_file file opens) known.1 (among_filter (is_on file) known.0 opens known.1).1) known.2
 
 pub any_once : (p test : Open → Bool) (opens : List Open) → list_any test (filter p opens) ≡ true → list_any test opens ≡ true
 any_once p test opens some =
@@ -281,8 +254,7 @@ under_here : (file : ℕ) (server : Server) (key : Key) → is_under_way server 
 under_here file server key is =
     let parts = and_parts (is_breaking (server.leases key)) _ is in
     let rest = and_parts (not (list_any (is_left_open key) server.opens)) _ parts.1 in
-    and_both _ _ (ap is_breaking (lease_same file server key rest.1) ∙ parts.0)
-    (and_both _ _
+    and_both _ _ (ap is_breaking (lease_same file server key rest.1) ∙ parts.0) (and_both _ _
     (ap not (none_within (is_left_open key) (is_on file) server.opens (not_parts _ rest.0)))
     (any_twice file (has_key key) server.opens rest.1))
 
@@ -294,12 +266,10 @@ HasHomes server file = (key : Key) → list_any (has_key key) (on_file file serv
 none_left_over : (file : ℕ) (server : Server) (key : Key) → list_any (is_elsewhere key file) server.opens ≡ false
     → list_any (is_left_open key) (on_file file server.opens) ≡ false → list_any (is_left_open key) server.opens ≡ false
 none_left_over file server key home none =
-    has_none (is_left_open key) server.opens (λ one a. not_true (is_left_open key one) (λ left.
-    either (is_on file one)
+    has_none (is_left_open key) server.opens (λ one a. not_true (is_left_open key one) (λ left. either (is_on file one)
     (λ on. clash (is_left_open key one) left
     (none_has (is_left_open key) one (on_file file server.opens) none (among_filtered (is_on file) one server.opens a on)))
-    (λ off. clash (is_elsewhere key file one)
-    (and_both (has_key key one) _ (and_parts (has_key key one) _ left).0 (ap not off))
+    (λ off. clash (is_elsewhere key file one) (and_both (has_key key one) _ (and_parts (has_key key one) _ left).0 (ap not off))
     (none_has (is_elsewhere key file) one server.opens home a))))
 
 under_there : (file : ℕ) (server : Server) (key : Key) → HasHomes server file

@@ -1,12 +1,9 @@
 -- Keys in the order in which maps keep them: equal where they are one key, and less where the one is broken before.
-use Rattle.std.proofs.Common.{◌≡◌, ℕ, false, List, [], ◌∷◌, refl, sym, arith}
-use Rattle.std.specs.Prelude.{bytes_eq, Option, Some, None, is_some}
-use Rattle.std.specs.Ordering.{is_eq, is_lt, nat_cmp}
+use Rattle.lease_laws.proofs.Words.{◌∷◌, ◌≡◌, Key, List, None, Open, Option, Some, ℕ, [], arith, bytes_before, bytes_eq, false}
+use Rattle.lease_laws.proofs.Words.{has_key, is_eq, is_key, is_some, key_before, key_eq, key_of, key_of_open, key_under, nat_cmp}
+use Rattle.lease_laws.proofs.Words.{nat_tests, refl, sym}
+use Rattle.std.specs.Ordering.{is_lt}
 use Rattle.std.specs.Cmp.Lexicographic.{slice_cmp}
-use Rattle.std.proofs.lemmas.Bool.Decides.{nat_tests}
-use Rattle.lease_model.specs.server.Naming.{key_of, key_under, key_of_open}
-use Rattle.lease_model.specs.server.State.{Open, is_key, has_key}
-use Rattle.lease_model.specs.values.Keys.{Key, key_eq, key_before, bytes_before}
 use Rattle.share_server.specs.KeyOrder.{key_order}
 
 bytes_same : (xs ys : List ℕ) → is_eq (slice_cmp nat_cmp xs ys) ≡ bytes_eq xs ys
@@ -49,8 +46,7 @@ has_key_by client x2 own key e = grind arith
 pub has_key_own : (one : Open) (own key : Key) → key_of_open one ≡ Some own → has_key key one ≡ key_eq key own
 has_key_own one own key e = has_key_by one.client one.lease_key own key e
 
-has_none_by : (client : ℕ) (bytes : Option (List ℕ)) (key : Key) → key_under client bytes ≡ None
-    → is_key key client bytes ≡ false
+has_none_by : (client : ℕ) (bytes : Option (List ℕ)) (key : Key) → key_under client bytes ≡ None → is_key key client bytes ≡ false
 has_none_by client x2 key e = grind arith
 
 pub has_key_none : (one : Open) (key : Key) → key_of_open one ≡ None → has_key key one ≡ false

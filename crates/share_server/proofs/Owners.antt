@@ -1,11 +1,9 @@
 -- The map of the opens that wait, as it changes at one client and file.
-use Rattle.std.proofs.Common.{◌≡◌, true, [], refl, ap₂, sym, arith, subst}
-use Rattle.std.specs.Prelude.{if◌then◌else◌, ◌==◌, Some, None}
-use Rattle.std.specs.BTreeMap.{BTreeMap, Updates, get, is_at}
+use Rattle.lease_laws.proofs.Words.{◌==◌, ◌≡◌, Decides-eqb, FileId, None, Some, Updates, [], ap₂, arith, get, if◌then◌else◌}
+use Rattle.lease_laws.proofs.Words.{is_at, nat_tests, refl, subst, sym, true}
+use Rattle.std.specs.BTreeMap.{BTreeMap}
 use Rattle.std.specs.BTreeSet.{BTreeSet, insert_key}
-use Rattle.std.proofs.lemmas.Bool.Decides.{nat_tests, Decides-eqb}
 use Rattle.lease_laws.proofs.server.Lists.{either, and_parts}
-use Rattle.lease_state.specs.declared.number.FileId.{FileId}
 use Rattle.share_server.specs.Filed.{file_id_order}
 use Rattle.share_server.specs.LeftOpens.{ids_or_none, is_owner, owner_order}
 use Rattle.share_server.specs.declared.left_opens.Owner.{Owner}
@@ -19,8 +17,7 @@ refused_at old new owner ids written there updates same other = grind arith
 -- a list comes where there was none
 pub first_at : (old new : BTreeMap Owner (BTreeSet FileId)) (owner : Owner) (fid : FileId) (written : BTreeSet FileId)
     → get owner_order old owner ≡ None → Updates owner_order old new owner (Some written)
-    → written.keys ≡ insert_key file_id_order [] fid
-    → (other : Owner) → ids_or_none (get owner_order new other)
+    → written.keys ≡ insert_key file_id_order [] fid → (other : Owner) → ids_or_none (get owner_order new other)
     ≡ (if is_owner other owner then insert_key file_id_order (ids_or_none (get owner_order old other)) fid
     else ids_or_none (get owner_order old other))
 first_at old new owner fid written there updates same other = grind arith

@@ -1,20 +1,13 @@
 -- A pass over a file's queue, place by place, and the passes one after another.
-use Rattle.std.proofs.Common.{◌≡◌, ℕ, ◌+◌, ◌-◌, ◌<◌, ◌≤◌, zero, suc, Bool, true, false, List, [], ◌∷◌, ◌++◌, length, get_or, take, drop, refl, ap, sym, ◌∙◌, arith, subst}
+use Rattle.lease_laws.proofs.Words.{◌++◌, ◌+◌, ◌-◌, ◌<◌, ◌∙◌, ◌∷◌, ◌≡◌, ◌≤◌, Bool, FileRequest, Held, List, Out, Outcome, Pass}
+use Rattle.lease_laws.proofs.Words.{PassesAreEnough, Progress, Server, Some, Tried, ℕ, [], after_try, all_passes, ap, arith}
+use Rattle.lease_laws.proofs.Words.{concluded, drop, ended, false, get_or, held_left, if◌then◌else◌, is_behind, left_waiting}
+use Rattle.lease_laws.proofs.Words.{length, numbers_to, one_pass, pass_answered, pass_over, passes, passes_for, passes_over, put}
+use Rattle.lease_laws.proofs.Words.{refl, subst, suc, sym, take, tried, tried_again, true, zero}
 use Rattle.std.proofs.lemmas.List.{drop_all}
 use Rattle.std.proofs.Math.Seq.{take-suc, drop-cons}
 use Rattle.std.specs.List.{remove, slice_get}
-use Rattle.std.specs.Prelude.{Some, if◌then◌else◌}
 use Rattle.lease_laws.proofs.server.Held.{tried_for-held, concluded-held, held_left-here, one_pass-fewer}
-use Rattle.lease_laws.specs.server.Enough.{PassesAreEnough}
-use Rattle.lease_model.specs.messages.Replies.{Out}
-use Rattle.lease_model.specs.messages.Requests.{FileRequest}
-use Rattle.lease_model.specs.server.Answers.{concluded}
-use Rattle.lease_model.specs.server.Attempt.{Outcome, Tried, ended, tried}
-use Rattle.lease_model.specs.server.Passes.{Pass, is_behind, left_waiting, pass_answered, after_try, tried_again, pass_over, one_pass, passes_for, passes, passes_over, all_passes}
-use Rattle.lease_model.specs.server.Progress.{Progress, held_left}
-use Rattle.lease_model.specs.server.State.{Server, Held}
-use Rattle.lease_model.specs.values.Lists.{numbers_to}
-use Rattle.lease_model.specs.values.Tables.{put}
 use Rattle.share_server.proofs.Breaking.{silent}
 use Rattle.share_server.specs.Kept.{CanBeAnswered}
 use Rattle.share_server.specs.Outs.{progress_of}
@@ -28,8 +21,7 @@ cells : (q : List Held) (place : ℕ) (one : Held) → place < length q → one 
     → drop place q ≡ one ∷ drop (place + 1) q
 cells q place one inside is =
     let e : suc place ≡ place + 1 = omega arith in
-    drop-cons q place one inside
-    ∙ (ap (λ x. x ∷ drop (suc place) q) (sym is) ∙ ap (λ n. one ∷ drop n q) e)
+    drop-cons q place one inside ∙ (ap (λ x. x ∷ drop (suc place) q) (sym is) ∙ ap (λ n. one ∷ drop n q) e)
 
 taken : (q : List Held) (place : ℕ) (one : Held) → place < length q → one ≡ get_or q place one
     → take (place + 1) q ≡ take place q ++ one ∷ []
@@ -45,8 +37,7 @@ front_left [] place inside = absurd (omega arith)
 front_left (one ∷ q) zero inside = refl
 front_left (one ∷ q) (suc place) inside = let later = front_left q place (omega arith) in grind arith
 
-back_left : (q : List Held) (place : ℕ) → place < length q
-    → drop place (without_place q place) ≡ drop (place + 1) q
+back_left : (q : List Held) (place : ℕ) → place < length q → drop place (without_place q place) ≡ drop (place + 1) q
 back_left [] place inside = absurd (omega arith)
 back_left (one ∷ q) zero inside = refl
 back_left (one ∷ q) (suc place) inside = let later = back_left q place (omega arith) in grind arith
@@ -72,12 +63,10 @@ next_step file place has progress one =
     tried_again file one (drop (place + 1) (progress.server.held file)) (so_far file place has progress)
 
 one_on : (file place : ℕ) (has : Bool) (before : Progress) (one : Held)
-    → place < length (before.server.held file) → one ≡ get_or (before.server.held file) place one
-    → pass_at file place has before
+    → place < length (before.server.held file) → one ≡ get_or (before.server.held file) place one → pass_at file place has before
     ≡ pass_over file (drop (place + 1) (before.server.held file)) (next_step file place has before one)
 unfolding pass_over
-one_on file place has before one inside is =
-    ap (λ waiting. pass_over file waiting (so_far file place has before))
+one_on file place has before one inside is = ap (λ waiting. pass_over file waiting (so_far file place has before))
     (cells (before.server.held file) place one inside is)
 
 left_here : (file place : ℕ) (has : Bool) (before after : Progress) (one : Held)
@@ -85,12 +74,10 @@ left_here : (file place : ℕ) (has : Bool) (before after : Progress) (one : Hel
     → after.server.held file ≡ before.server.held file
     → next_step file place has before one ≡ left_waiting one (so_far file place has before) after
     → pass_at file (place + 1) has after ≡ pass_at file place has before
-left_here file place has before after one inside is same step =
-    ap (λ (q : List Held). pass_over file (drop (place + 1) q)
+left_here file place has before after one inside is same step = ap (λ (q : List Held). pass_over file (drop (place + 1) q)
     (record { passed = take (place + 1) q; progress = after; has_answered = has })) same
     ∙ (ap (λ passed. pass_over file (drop (place + 1) (before.server.held file))
-    (record { passed = passed; progress = after; has_answered = has }))
-    (taken (before.server.held file) place one inside is)
+    (record { passed = passed; progress = after; has_answered = has })) (taken (before.server.held file) place one inside is)
     ∙ (ap (pass_over file (drop (place + 1) (before.server.held file))) (sym step)
     ∙ sym (one_on file place has before one inside is)))
 
@@ -104,16 +91,14 @@ behind_here file place has before one inside is behind =
 
 tried_then : (file place : ℕ) (has : Bool) (before after : Progress) (one : Held) (outcome : Outcome)
     → is_behind one.client (take place (before.server.held file)) ≡ false
-    → ended after outcome ≡ tried one.client one.request before
-    → next_step file place has before one
+    → ended after outcome ≡ tried one.client one.request before → next_step file place has before one
     ≡ after_try file one (drop (place + 1) (before.server.held file)) (so_far file place has before) after outcome
 unfolding tried_again
 tried_then file place has before after one outcome first end = grind arith
 
 pub same_held : (file client : ℕ) (request : FileRequest) (before after : Progress) (outcome : Outcome)
     → ended after outcome ≡ tried client request before → after.server.held file ≡ before.server.held file
-same_held file client request before after outcome end =
-    ap (λ (t : Tried). t.progress.server.held file) end
+same_held file client request before after outcome end = ap (λ (t : Tried). t.progress.server.held file) end
     ∙ ap (λ (held : ℕ → List Held). held file) (tried_for-held 3 client request before)
 
 waiting_is : (file : ℕ) (one : Held) (waiting : List Held) (pass : Pass) (after : Progress) (outcome : Outcome)
@@ -130,10 +115,8 @@ pub waits_here : (file place : ℕ) (has : Bool) (before after : Progress) (one 
     → is_behind one.client (take place (before.server.held file)) ≡ false
     → ended after outcome ≡ tried one.client one.request before → is_waiting outcome ≡ true
     → pass_at file (place + 1) has after ≡ pass_at file place has before
-waits_here file place has before after one outcome inside is first end waits =
-    left_here file place has before after one inside is
-    (same_held file one.client one.request before after outcome end)
-    (tried_then file place has before after one outcome first end
+waits_here file place has before after one outcome inside is first end waits = left_here file place has before after one inside is
+    (same_held file one.client one.request before after outcome end) (tried_then file place has before after one outcome first end
     ∙ waiting_is file one (drop (place + 1) (before.server.held file)) (so_far file place has before) after outcome waits)
 
 -- ---- an answer
@@ -141,14 +124,12 @@ waits_here file place has before after one outcome inside is first end waits =
 released : (before after : Table) (outs : List Out) (file place : ℕ) (q : List Held)
     → server_of after ≡ record (server_of before) {
       held = put (server_of before).held file (remove ((server_of before).held file) place);
-    }
-    → (server_of before).held file ≡ q
+    } → (server_of before).held file ≡ q
     → progress_of after outs ≡ held_left file (without_place q place) (progress_of before outs)
 unfolding held_left
 released before after outs file place q is same =
     let e : suc place ≡ place + 1 = omega arith in
-    silent before after outs _ is
-    ∙ ap (λ left. held_left file left (progress_of before outs))
+    silent before after outs _ is ∙ ap (λ left. held_left file left (progress_of before outs))
     (ap (λ (xs : List Held). remove xs place) same ∙ ap (λ n. take place q ++ drop n q) e)
 
 -- what a held request that is answered leaves behind
@@ -163,10 +144,8 @@ pub answered_here : (file place : ℕ) (before : Progress) (one again : Held) (d
     → ended (progress_of during outs) outcome ≡ tried one.client one.request before → is_waiting outcome ≡ false
     → server_of after ≡ record (server_of during) {
       held = put (server_of during).held file (remove ((server_of during).held file) place);
-    }
-    → slice_get ((server_of during).held file) place ≡ Some again
-    → last ≡ concluded again.client again.request (progress_of after outs) outcome
-    → IsAnswered file place before last
+    } → slice_get ((server_of during).held file) place ≡ Some again
+    → last ≡ concluded again.client again.request (progress_of after outs) outcome → IsAnswered file place before last
 answered_here file place before one again during after outs outcome last inside is first end ready left found told =
     let q : List Held = before.server.held file in
     let same = same_held file one.client one.request before (progress_of during outs) outcome end in
@@ -182,8 +161,7 @@ answered_here file place before one again during after outs outcome last inside 
     (held_left file (without_place (before.server.held file) place) (progress_of during outs)) outcome)
     ∙ held_left-here file (without_place (before.server.held file) place) (progress_of during outs)) in
     record {
-      step = λ has.
-          ap (λ (xs : List Held). pass_over file (drop place xs)
+      step = λ has. ap (λ (xs : List Held). pass_over file (drop place xs)
           (record { passed = take place xs; progress = last; has_answered = true })) queue
           ∙ (ap (λ waiting. pass_over file waiting (record {
             passed = take place (without_place (before.server.held file) place);
@@ -191,30 +169,25 @@ answered_here file place before one again during after outs outcome last inside 
             has_answered = true;
           })) (back_left (before.server.held file) place inside)
           ∙ (ap (λ passed. pass_over file (drop (place + 1) (before.server.held file))
-          (record { passed = passed; progress = last; has_answered = true }))
-          (front_left (before.server.held file) place inside)
+          (record { passed = passed; progress = last; has_answered = true })) (front_left (before.server.held file) place inside)
           ∙ (ap (λ (p : Progress). pass_over file (drop (place + 1) (before.server.held file)) (record {
             passed = take place (before.server.held file);
             progress = p;
             has_answered = true;
-          })) finished
-          ∙ (ap (pass_over file (drop (place + 1) (before.server.held file)))
+          })) finished ∙ (ap (pass_over file (drop (place + 1) (before.server.held file)))
           (sym (tried_then file place has before (progress_of during outs) one outcome first end
           ∙ answer_is file one (drop (place + 1) (before.server.held file)) (so_far file place has before)
-          (progress_of during outs) outcome ready))
-          ∙ sym (one_on file place has before one inside is)))));
+          (progress_of during outs) outcome ready)) ∙ sym (one_on file place has before one inside is)))));
       fewer = rw queue (one_less (before.server.held file) place inside);
     }
 
 -- a create that is answered has no open under its key on another file
 pub home_again : (file place : ℕ) (before : Progress) (one again : Held) (during after : Table)
-    (outs : List Out) (outcome : Outcome)
-    → one ≡ get_or (before.server.held file) place one
+    (outs : List Out) (outcome : Outcome) → one ≡ get_or (before.server.held file) place one
     → ended (progress_of during outs) outcome ≡ tried one.client one.request before
     → server_of after ≡ record (server_of during) {
       held = put (server_of during).held file (remove ((server_of during).held file) place);
-    }
-    → slice_get ((server_of during).held file) place ≡ Some again
+    } → slice_get ((server_of during).held file) place ≡ Some again
     → outcome ≡ Outcome.Ready → CanBeAnswered again.client again.request (server_of after)
 home_again file place before one again during after outs outcome is end left found ready =
     let same = same_held file one.client one.request before (progress_of during outs) outcome end in
@@ -243,8 +216,7 @@ pass_done file place has now whole all is =
 
 -- ---- passes
 
-pub another_pass : PassesAreEnough → (file : ℕ) (progress : Progress)
-    → (one_pass file progress).has_answered ≡ true
+pub another_pass : PassesAreEnough → (file : ℕ) (progress : Progress) → (one_pass file progress).has_answered ≡ true
     → passes file (one_pass file progress).progress ≡ passes file progress
 unfolding passes_for
 another_pass enough file progress has =
@@ -252,8 +224,7 @@ another_pass enough file progress has =
     let e : length (progress.server.held file) + 1 ≡ suc (length (progress.server.held file)) = omega arith in
     sym (enough (length (progress.server.held file)) file (one_pass file progress).progress less)
     ∙ (ap (λ b. if b then passes_for (length (progress.server.held file)) file (one_pass file progress).progress
-    else (one_pass file progress).progress) (sym has)
-    ∙ ap (λ n. passes_for n file progress) (sym e))
+    else (one_pass file progress).progress) (sym has) ∙ ap (λ n. passes_for n file progress) (sym e))
 
 pub last_pass : (file : ℕ) (progress : Progress) → (one_pass file progress).has_answered ≡ false
     → (one_pass file progress).progress ≡ passes file progress
@@ -276,11 +247,9 @@ unfolding numbers_behind
 all_numbers zero = refl
 all_numbers (suc n) =
     let e : suc n ≡ suc (0 + n) = omega arith in
-    ap (λ xs. xs ++ suc n ∷ []) (all_numbers n)
-    ∙ (ap (λ m. numbers_behind 0 n ++ m ∷ []) e ∙ one_behind 0 n)
+    ap (λ xs. xs ++ suc n ∷ []) (all_numbers n) ∙ (ap (λ m. numbers_behind 0 n ++ m ∷ []) e ∙ one_behind 0 n)
 
-pub first_file : (progress : Progress)
-    → passes_over (numbers_behind 0 (progress.server.files - 0)) progress ≡ all_passes progress
+pub first_file : (progress : Progress) → passes_over (numbers_behind 0 (progress.server.files - 0)) progress ≡ all_passes progress
 unfolding all_passes
 first_file progress =
     let e : progress.server.files - 0 ≡ progress.server.files = omega arith in

@@ -1,8 +1,7 @@
 -- Places for the numbers of files.
-use Rattle.std.proofs.Common.{◌≡◌, ℕ, ◌<◌, zero, suc, List, [], ◌∷◌, ◌++◌, map, length, get_or, refl, arith}
+use Rattle.lease_laws.proofs.Words.{◌++◌, ◌<◌, ◌∷◌, ◌≡◌, List, ℕ, [], arith, get_or, length, map, numbered, refl, suc, unwrap_or}
+use Rattle.lease_laws.proofs.Words.{zero}
 use Rattle.std.specs.List.{slice_get}
-use Rattle.std.specs.Prelude.{unwrap_or}
-use Rattle.lease_model.specs.values.Tables.{numbered}
 use Rattle.share_server.specs.Table.{File, file_in, no_file, fresh_file}
 
 -- a file that was read from its place is what is in it

@@ -1,13 +1,8 @@
 -- The rounds of a try, one after another.
-use Rattle.std.proofs.Common.{◌≡◌, ℕ, ◌+◌, ◌-◌, ◌<◌, ◌≤◌, suc, Bool, true, false, List, refl, ap, sym, ◌∙◌, arith}
-use Rattle.std.specs.Prelude.{if◌then◌else◌}
+use Rattle.lease_laws.proofs.Words.{◌+◌, ◌-◌, ◌<◌, ◌∙◌, ◌≡◌, ◌≤◌, Bool, FileRequest, Finding, List, Outcome, Progress, Tried}
+use Rattle.lease_laws.proofs.Words.{Want, ℕ, after_breaks, after_finding, ap, arith, ended, false, finding, if◌then◌else◌}
+use Rattle.lease_laws.proofs.Words.{is_ready, must_wait, refl, suc, sym, tried_for, true, wants_met}
 use Rattle.lease_laws.proofs.server.Lists.{either}
-use Rattle.lease_model.specs.messages.Requests.{FileRequest}
-use Rattle.lease_model.specs.server.Attempt.{Outcome, Tried, ended, must_wait, wants_met, after_breaks, after_finding, tried_for}
-use Rattle.lease_model.specs.server.Findings.{Finding, finding}
-use Rattle.lease_model.specs.server.Progress.{Progress}
-use Rattle.lease_model.specs.server.Ready.{is_ready}
-use Rattle.lease_model.specs.server.Wants.{Want}
 use Rattle.share_server.specs.Findings.{Look, looked}
 
 -- a round by what the look at its start comes to
@@ -21,34 +16,28 @@ look_at client request progress =
     looked (λ wants. is_ready request progress.server.leases wants) (finding progress.server client request)
 
 pub looks : (rounds client : ℕ) (request : FileRequest) (progress : Progress) (look : Look)
-    → look ≡ look_at client request progress
-    → tried_for (suc rounds) client request progress
+    → look ≡ look_at client request progress → tried_for (suc rounds) client request progress
     ≡ after_look (tried_for rounds client request) request progress look
 unfolding tried_for
 looks rounds client request progress look is = grind arith
 
 breaks : (rounds client : ℕ) (request : FileRequest) (progress after : Progress) (wants : List Want)
     → Look.Needs wants ≡ look_at client request progress → after ≡ wants_met wants progress
-    → tried_for (suc rounds) client request progress
-    ≡ after_breaks (tried_for rounds client request) request wants after
-breaks rounds client request progress after wants is met =
-    looks rounds client request progress (Look.Needs wants) is
+    → tried_for (suc rounds) client request progress ≡ after_breaks (tried_for rounds client request) request wants after
+breaks rounds client request progress after wants is met = looks rounds client request progress (Look.Needs wants) is
     ∙ ap (after_breaks (tried_for rounds client request) request wants) (sym met)
 
 pub waits : (rounds client : ℕ) (request : FileRequest) (progress after : Progress) (wants : List Want)
-    → Look.Needs wants ≡ look_at client request progress → after ≡ wants_met wants progress
-    → must_wait request after wants ≡ true
+    → Look.Needs wants ≡ look_at client request progress → after ≡ wants_met wants progress → must_wait request after wants ≡ true
     → tried_for (suc rounds) client request progress ≡ ended after Outcome.Waits
-waits rounds client request progress after wants is met must =
-    breaks rounds client request progress after wants is met
+waits rounds client request progress after wants is met must = breaks rounds client request progress after wants is met
     ∙ ap (λ b. if b then ended after Outcome.Waits else tried_for rounds client request after) must
 
 pub again : (rounds client : ℕ) (request : FileRequest) (progress after : Progress) (wants : List Want)
     → Look.Needs wants ≡ look_at client request progress → after ≡ wants_met wants progress
     → must_wait request after wants ≡ false
     → tried_for (suc rounds) client request progress ≡ tried_for rounds client request after
-again rounds client request progress after wants is met must =
-    breaks rounds client request progress after wants is met
+again rounds client request progress after wants is met must = breaks rounds client request progress after wants is met
     ∙ ap (λ b. if b then ended after Outcome.Waits else tried_for rounds client request after) must
 
 -- ---- at most three

@@ -1,8 +1,7 @@
 -- Break messages are written as what is read in them.
-use Rattle.std.proofs.Common.{◌≡◌, List, ℕ, take, Some, ap, sym, ◌∙◌, arith}
-use Rattle.std.proofs.lemmas.List.{take_all}
-use Rattle.lease_laws.specs.messages.Bytes.{NotificationIsFound, AcknowledgmentIsFound, noticed_as, acknowledged_as}
-use Rattle.lease_model.specs.messages.FromBytes.{notice_in, acknowledged_in}
+use Rattle.lease_laws.proofs.Words.{◌∙◌, ◌≡◌, AcknowledgmentIsFound, List, NotificationIsFound, Some, ℕ, acknowledged_in, ap}
+use Rattle.lease_laws.proofs.Words.{arith, notice_in, sym, take, take_all}
+use Rattle.lease_laws.specs.messages.Bytes.{noticed_as, acknowledged_as}
 use Rattle.lease_model.specs.messages.ToBytes.{notice_bytes, lease_message_bytes}
 use Rattle.lease_wire.specs.Acknowledgment.{KeyAndState, IsAcknowledgment, acknowledgment_bytes}
 use Rattle.lease_wire.specs.Notification.{Notice, IsNotification, notification_bytes}
@@ -25,5 +24,4 @@ acknowledgment_found bytes v law layout =
 
 pub acknowledgment_back : (bytes : List ℕ) (v : KeyAndState) → AcknowledgmentIsFound → IsAcknowledgment bytes v
     → bytes ≡ acknowledgment_bytes v → lease_message_bytes (acknowledged_in bytes) ≡ bytes
-acknowledgment_back bytes v law layout text =
-    ap lease_message_bytes (acknowledgment_found bytes v law layout) ∙ sym text
+acknowledgment_back bytes v law layout text = ap lease_message_bytes (acknowledgment_found bytes v law layout) ∙ sym text

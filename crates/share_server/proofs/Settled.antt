@@ -1,19 +1,12 @@
 -- Files that a change of opens or leases elsewhere leaves as they were: what is known of their requests stays known.
-use Rattle.std.proofs.Common.{◌≡◌, ◌⊎◌, ⊎_elim, inl, inr, ℕ, zero, suc, Bool, true, false, not, List, [], ◌∷◌, ◌++◌, refl, ap, sym, ◌∙◌, subst, arith}
-use Rattle.std.proofs.lemmas.Bool.Decides.{Decides-eqb}
-use Rattle.std.proofs.Math.Path.{fun_ext}
-use Rattle.std.specs.List.{list_any, slice_get}
-use Rattle.std.specs.Option.{option_map}
-use Rattle.std.specs.Prelude.{Option, Some, None, find, if◌then◌else◌, ◌==◌, ◌&&◌}
+use Rattle.lease_laws.proofs.Words.{◌&&◌, ◌++◌, ◌==◌, ◌∙◌, ◌∷◌, ◌≡◌, ◌⊎◌, Among, Bool, Decides-eqb, FileRequest, Held, Key, Lease}
+use Rattle.lease_laws.proofs.Words.{List, None, Open, Option, Server, Some, ℕ, ⊎_elim, [], ap, arith, false, find, fun_ext}
+use Rattle.lease_laws.proofs.Words.{has_key, has_own_key, if◌then◌else◌, inl, inr, is_key, is_leased_elsewhere, key_eq}
+use Rattle.lease_laws.proofs.Words.{key_of_open, key_under, list_any, no_lease, not, option_map, own_key, refl, subst, suc, sym}
+use Rattle.lease_laws.proofs.Words.{true, without, zero}
+use Rattle.std.specs.List.{slice_get}
 use Rattle.lease_laws.proofs.server.Keys.{key_eq-same}
 use Rattle.lease_laws.proofs.server.Lists.{either, clash, and_both, not_true, any_has, none_has, has_none, find_has, among_filter}
-use Rattle.lease_laws.specs.server.Laws.{Among}
-use Rattle.lease_model.specs.server.Findings.{is_leased_elsewhere}
-use Rattle.lease_model.specs.server.Naming.{own_key, key_under, key_of_open}
-use Rattle.lease_model.specs.values.Keys.{Key, key_eq}
-use Rattle.lease_model.specs.values.Lists.{without}
-use Rattle.lease_model.specs.messages.Requests.{FileRequest}
-use Rattle.lease_model.specs.server.State.{Server, Open, Lease, Held, has_key, is_key, has_own_key, no_lease}
 use Rattle.share_server.specs.Kept.{HaveClosed, is_one_of}
 use Rattle.share_server.specs.Looks.{is_elsewhere}
 use Rattle.share_server.specs.OneFile.{on_file, local, IsOnlyAbout, own_asked, asks_with}
@@ -51,10 +44,8 @@ known_settled files waiting now before after settled known = λ file. ⊎_elim
           (λ has. inr (
             subst (λ server. HasOnlyToWait server file one.client one.request) (sym same.1) has.0,
             same.2 one (among_got (file_in files file).held place one is) has.1,
-          ))
-          ((known file).each place one less is);
-    }))
-    (settled file)
+          )) ((known file).each place one less is);
+    })) (settled file)
 
 -- another lease for a key that has no open on the file
 lease_apart : (key other : Key) (lease was : Lease) (some : Bool) → some ≡ true → (key_eq other key ≡ true → some ≡ false)
@@ -63,8 +54,7 @@ lease_apart key other lease was some there none = grind arith
 
 leases_put : (opens : List Open) (key : Key) (lease : Lease) (leases later : Key → Lease)
     → ((other : Key) → later other ≡ (if key_eq other key then lease else leases other))
-    → list_any (has_key key) opens ≡ false → (other : Key)
-    → (if list_any (has_key other) opens then later other else no_lease)
+    → list_any (has_key key) opens ≡ false → (other : Key) → (if list_any (has_key other) opens then later other else no_lease)
     ≡ (if list_any (has_key other) opens then leases other else no_lease)
 leases_put opens key lease leases later put none other = either (list_any (has_key other) opens)
     (λ some. rw some (put other ∙ lease_apart key other lease (leases other) (list_any (has_key other) opens) some
@@ -72,14 +62,12 @@ leases_put opens key lease leases later put none other = either (list_any (has_k
     (λ some. rw some refl)
 
 none_on : (file : ℕ) (test : Open → Bool) (opens : List Open)
-    → ((one : Open) → Among one opens → is_on file one ≡ true → test one ≡ false)
-    → list_any test (on_file file opens) ≡ false
+    → ((one : Open) → Among one opens → is_on file one ≡ true → test one ≡ false) → list_any test (on_file file opens) ≡ false
 none_on file test opens none = has_none test (on_file file opens)
     (λ one a. let there = among_filter (is_on file) one opens a in none one there.0 there.1)
 
 pub settled_put : (files : List File) (waiting now : Waiting) (count : ℕ) (opens : List Open) (key : Key) (lease : Lease)
-    (leases later : Key → Lease)
-    → ((other : Key) → later other ≡ (if key_eq other key then lease else leases other))
+    (leases later : Key → Lease) → ((other : Key) → later other ≡ (if key_eq other key then lease else leases other))
     → HaveForgotten (has_key key) opens waiting now
     → IsSettled files waiting now (deciding count opens leases) (deciding count opens later)
 settled_put files waiting now count opens key lease leases later put forgotten = λ file. ⊎_elim
@@ -89,8 +77,7 @@ settled_put files waiting now count opens key lease leases later put forgotten =
       ap (deciding count (on_file file opens)) (fun_ext (leases_put (on_file file opens) key lease leases later put
           (none_on file (has_key key) opens same.1))),
       λ one a about. about_same (deciding count opens leases) (deciding count opens later) file one.client one.request refl about,
-    ))
-    (forgotten file)
+    )) (forgotten file)
 
 -- opens that are closed, none of them on the file
 on_left : (file : ℕ) (test : Open → Bool) (opens : List Open)
@@ -130,8 +117,7 @@ about_left file test count opens leases later client (FileRequest.Write file_id 
 about_left file test count opens leases later client (FileRequest.Close file_id) none about = absurd about
 
 pub settled_closed : (files : List File) (waiting now : Waiting) (count : ℕ) (opens left : List Open) (ids : List ℕ)
-    (summaries after : Summaries) → HaveClosed opens ids summaries left after
-    → HaveForgotten (is_one_of ids) opens waiting now
+    (summaries after : Summaries) → HaveClosed opens ids summaries left after → HaveForgotten (is_one_of ids) opens waiting now
     → IsSettled files waiting now (deciding count opens (lease_in summaries)) (deciding count left (lease_in after))
 settled_closed files waiting now count opens left ids summaries after closed forgotten = λ file. ⊎_elim
     (λ none. inl none)
@@ -149,8 +135,7 @@ settled_closed files waiting now count opens left ids summaries after closed for
       λ one a about. subst (λ os. IsOnlyAbout (deciding count os (lease_in after)) file one.client one.request)
           (sym closed.opens_left)
           (about_left file (is_one_of ids) count opens (lease_in summaries) (lease_in after) one.client one.request same.1 about),
-    ))
-    (forgotten file)
+    )) (forgotten file)
 
 -- an open that comes on another file
 on_more : (file : ℕ) (one : Open) (opens : List Open) → is_on file one ≡ false
@@ -163,20 +148,17 @@ home_key : (one : Open) (bytes : Option (List ℕ)) (opens : List Open) (key : K
     → list_any (is_elsewhere key one.file) opens ≡ false
 unfolding key_eq
 home_key one None opens key home has = absurd (cc has)
-home_key one (Some bytes) opens key home has =
-    subst (λ k. list_any (is_elsewhere k one.file) opens ≡ false)
+home_key one (Some bytes) opens key home has = subst (λ k. list_any (is_elsewhere k one.file) opens ≡ false)
     (sym (key_eq-same key (record { client = one.client; bytes = bytes }) has)) home
 
 apart_here : (file : ℕ) (one : Open) (opens : List Open) (key : Key) → is_on file one ≡ false
-    → IsAtHome (key_of_open one) one.file opens → list_any (has_key key) (on_file file opens) ≡ true
-    → has_key key one ≡ false
+    → IsAtHome (key_of_open one) one.file opens → list_any (has_key key) (on_file file opens) ≡ true → has_key key one ≡ false
 apart_here file one opens key off home some = not_true (has_key key one) (λ has.
     let known = any_has (has_key key) (on_file file opens) some in
     let there = among_filter (is_on file) known.0 opens known.1 in
     let none = none_has (is_elsewhere key one.file) known.0 opens (home_key one one.lease_key opens key home has) there.0 in
     either ((known.0).file == one.file)
-    (λ t. clash (is_on file one)
-    ((Decides-eqb one.file file).1
+    (λ t. clash (is_on file one) ((Decides-eqb one.file file).1
     (sym ((Decides-eqb (known.0).file one.file).0 t) ∙ (Decides-eqb (known.0).file file).0 there.1)) off)
     (λ f. clash (is_elsewhere key one.file known.0) (and_both (has_key key known.0) _ known.2 (ap not f)) none))
 
@@ -209,14 +191,12 @@ about_more file count opens one leases later held apart about = go held.client h
         → IsOnlyAbout (deciding count opens leases) file client request
         → IsOnlyAbout (deciding count (opens ++ one ∷ []) later) file client request
     go client (FileRequest.Create other access share None) none told = absurd told
-    go client (FileRequest.Create other access share (Some ask)) none told =
-        (told.0, away (own_key client ask.lease) none told.1)
+    go client (FileRequest.Create other access share (Some ask)) none told = (told.0, away (own_key client ask.lease) none told.1)
     go client (FileRequest.Read file_id) none told = absurd told
     go client (FileRequest.Write file_id number patch) none told =
         write (find (λ x. x.file_id == file_id && x.client == client && x.connected) opens) refl told
       where
-        write : (found : Option Open)
-            → find (λ x. x.file_id == file_id && x.client == client && x.connected) opens ≡ found
+        write : (found : Option Open) → find (λ x. x.file_id == file_id && x.client == client && x.connected) opens ≡ found
             → option_map (λ x. x.file) found ≡ Some file
             → option_map (λ x. x.file) (find (λ x. x.file_id == file_id && x.client == client && x.connected)
             (opens ++ one ∷ [])) ≡ Some file
@@ -244,5 +224,4 @@ settled_opened files waiting now count opens more one lease leases later is put 
           (λ some. rw some refl))),
       λ held a about. subst (λ os. IsOnlyAbout (deciding count os later) file held.client held.request) (sym is)
           (about_more file count opens one leases later held (same.2 held a) about),
-    ))
-    (forgotten file)
+    )) (forgotten file)

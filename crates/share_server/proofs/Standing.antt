@@ -1,10 +1,6 @@
 -- What a call leaves behind stands for what the rules come to, and keeps the laws of servers.
-use Rattle.std.proofs.Common.{◌≡◌, List, map, sym, ap, ◌∙◌, subst, arith}
-use Rattle.lease_laws.specs.server.Laws.{IsSound}
+use Rattle.lease_laws.proofs.Words.{◌∙◌, ◌≡◌, Call, IsSound, List, Progress, Server, ap, arith, called, map, subst, sym}
 use Rattle.lease_model.specs.messages.Replies as model
-use Rattle.lease_model.specs.server.Calls.{Call, called}
-use Rattle.lease_model.specs.server.Progress.{Progress}
-use Rattle.lease_model.specs.server.State.{Server}
 use Rattle.share_server.specs.Outs.{IsAfter, progress_of}
 use Rattle.share_server.specs.Table.{Table, server_of}
 use Rattle.share_server.specs.Written.{out_written}

@@ -1,31 +1,21 @@
 -- Requests that have only to wait: a try of one changes nothing, and a pass may begin behind them.
-use Rattle.std.proofs.Common.{◌≡◌, ◌⊎◌, inl, inr, ⊎_elim, ℕ, ◌+◌, ◌<◌, ◌≤◌, zero, suc, Bool, true, false, not, List, [], ◌∷◌, ◌++◌, length, get_or, take, refl, ap, sym, ◌∙◌, arith, subst, append-nil}
-use Rattle.std.proofs.Math.Path.{fun_ext}
-use Rattle.std.proofs.lemmas.Bool.Decides.{nat_tests}
-use Rattle.std.specs.BTreeMap.{Updates, is_at}
-use Rattle.std.specs.List.{list_any, list_all, slice_get}
-use Rattle.std.specs.Prelude.{Option, Some, None, find, if◌then◌else◌, ◌&&◌, ◌==◌}
+use Rattle.lease_laws.proofs.Words.{◌&&◌, ◌++◌, ◌+◌, ◌<◌, ◌==◌, ◌∙◌, ◌∷◌, ◌≡◌, ◌≤◌, ◌⊎◌, Bool, FileNo, FileRequest, Held, Key}
+use Rattle.lease_laws.proofs.Words.{Lease, LeaseOf, List, None, Open, Option, Out, Outcome, Progress, Server, Some, Updates, Want}
+use Rattle.lease_laws.proofs.Words.{ℕ, ⊎_elim, [], all_wants, ap, append-nil, arith, create_finding, false, find, finding}
+use Rattle.lease_laws.proofs.Words.{fun_ext, get_or, handle_wants, has_key, if◌then◌else◌, inl, inr, is_at, is_behind}
+use Rattle.lease_laws.proofs.Words.{is_breaking, is_leased_elsewhere, is_left_open, is_ready, lease_broken, length, list_all}
+use Rattle.lease_laws.proofs.Words.{list_any, nat_tests, no_lease, not, one_pass, opens_dropped, option_map, own_key}
+use Rattle.lease_laws.proofs.Words.{reconnect_finding, refl, subst, suc, sym, take, true, want_met, wants_met, wants_where}
+use Rattle.lease_laws.proofs.Words.{with_opens, without, write_finding, write_wants, zero}
+use Rattle.std.specs.List.{slice_get}
 use Rattle.lease_laws.proofs.server.Lists.{either, clash, and_parts, not_parts}
-use Rattle.lease_model.specs.messages.Replies.{Out}
-use Rattle.lease_model.specs.messages.Requests.{FileRequest, LeaseOf}
-use Rattle.lease_model.specs.server.Attempt.{Outcome, wants_met, want_met, lease_broken, is_left_open}
-use Rattle.lease_model.specs.server.Findings.{finding, create_finding, reconnect_finding, write_finding, is_leased_elsewhere}
-use Rattle.lease_model.specs.server.Passes.{is_behind, one_pass}
-use Rattle.lease_model.specs.server.Progress.{Progress, opens_dropped, with_opens}
-use Rattle.lease_model.specs.server.Ready.{is_ready}
-use Rattle.lease_model.specs.server.State.{Server, Open, Lease, Held, has_key, no_lease, is_breaking}
-use Rattle.lease_model.specs.server.Wants.{Want, handle_wants, write_wants, all_wants, wants_where}
-use Rattle.lease_model.specs.values.Keys.{Key}
-use Rattle.lease_model.specs.values.Lists.{without}
 use Rattle.share_server.specs.Passing.{pass_at}
-use Rattle.lease_state.specs.declared.number.FileNo.{FileNo}
 use Rattle.share_server.specs.Summaries.{file_order}
 use Rattle.share_server.specs.declared.waiting.Waiting.{Waiting}
-use Rattle.share_server.specs.StillWaiting.{counted, count_in, at_call, IsTriedInVain, WaitStill, is_under_way, HasOnlyToWait, deciding, StaysLocally, AreCounted}
+use Rattle.share_server.specs.StillWaiting.{counted, count_in, at_call, IsTriedInVain, WaitStill, is_under_way, HasOnlyToWait}
+use Rattle.share_server.specs.StillWaiting.{deciding, StaysLocally, AreCounted}
 use Rattle.share_server.specs.OneFile.{IsOnlyAbout}
 use Rattle.share_server.proofs.Homing.{elsewhere_same}
-use Rattle.lease_model.specs.server.Naming.{own_key}
-use Rattle.std.specs.Option.{option_map}
 use Rattle.share_server.proofs.Breaking.{not_broken}
 use Rattle.share_server.proofs.Passing.{behind_here, waits_here}
 use Rattle.share_server.proofs.Rounds.{waits, unready_needs}
@@ -64,8 +54,7 @@ want_met_already : (server : Server) (file : ℕ) (want : Want) (outs : List Out
 unfolding want_met
 want_met_already server file want outs spare is =
     let parts = and_parts (is_breaking (server.leases want.key)) _ is in
-    ap (lease_broken want.key want.lowered)
-    (dropped_none server (is_left_open want.key) outs spare
+    ap (lease_broken want.key want.lowered) (dropped_none server (is_left_open want.key) outs spare
     (not_parts _ (and_parts (not (list_any (is_left_open want.key) server.opens)) _ parts.1).0))
     ∙ sym (not_broken (at_call server outs) want.key want.lowered (inr parts.0))
 
@@ -76,16 +65,13 @@ unfolding wants_met
 met_already server file [] outs spare all = refl
 met_already server file (want ∷ wants) outs spare all =
     let parts = and_parts (is_under_way server file want.key) _ all in
-    ap (wants_met wants) (want_met_already server file want outs spare parts.0)
-    ∙ met_already server file wants outs spare parts.1
+    ap (wants_met wants) (want_met_already server file want outs spare parts.0) ∙ met_already server file wants outs spare parts.1
 
 pub in_vain : (server : Server) (file client : ℕ) (request : FileRequest) → HasNoSpare server
     → HasOnlyToWait server file client request → IsTriedInVain server client request
-in_vain server file client request spare has outs =
-    waits 2 client request (at_call server outs) (at_call server outs) has.wants
+in_vain server file client request spare has outs = waits 2 client request (at_call server outs) (at_call server outs) has.wants
     (unready_needs (λ wants. is_ready request server.leases wants) (finding server client request) has.wants has.found
-    has.waits.unready)
-    (sym (met_already server file has.wants outs spare has.waits.under_way)) has.waits.must_wait
+    has.waits.unready) (sym (met_already server file has.wants outs spare has.waits.under_way)) has.waits.must_wait
 
 -- ---- what decides a try
 
@@ -146,8 +132,7 @@ pub count_changed : (before after : Waiting) (file : FileNo) (count : Option ℕ
     → (other : ℕ) → count_in after other ≡ (if other == file.0 then counted count else count_in before other)
 count_changed before after file count updates other = grind arith
 
-pub none_counted : (server : Server) (file : ℕ) (queue : List Held) (count : ℕ) → count ≡ 0
-    → AreCounted server file queue count
+pub none_counted : (server : Server) (file : ℕ) (queue : List Held) (count : ℕ) → count ≡ 0 → AreCounted server file queue count
 none_counted server file queue count none = grind arith
 
 pub none_still : (server : Server) (file : ℕ) → WaitStill server file 0
@@ -209,8 +194,7 @@ skipped file place has server outs count still less =
     (λ first. ⊎_elim
     (λ behind. clash (is_behind found.0.client (take place (server.held file))) behind first)
     (λ vain. waits_here file place has (at_call server outs) (at_call server outs) found.0 Outcome.Waits inside found.2 first
-    (sym (vain outs)) refl)
-    (still.each place found.0 less found.1))
+    (sym (vain outs)) refl) (still.each place found.0 less found.1))
 
 skipped_all : (file count : ℕ) (has : Bool) (server : Server) (outs : List Out) (place : ℕ) → WaitStill server file count
     → place ≤ count → pass_at file place has (at_call server outs) ≡ pass_at file 0 has (at_call server outs)
@@ -224,5 +208,4 @@ skipped_all file count has server outs (suc place) still within =
 -- a pass may begin behind the requests that wait still
 pub begins_behind : (file count : ℕ) (server : Server) (outs : List Out) → WaitStill server file count
     → pass_at file count false (at_call server outs) ≡ one_pass file (at_call server outs)
-begins_behind file count server outs still =
-    skipped_all file count false server outs count still (omega arith)
+begins_behind file count server outs still = skipped_all file count false server outs count still (omega arith)

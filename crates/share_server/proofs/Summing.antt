@@ -1,20 +1,16 @@
 -- How lease records and file summaries follow the list of opens: with one open more or less, and with another lease.
-use mathlib.Core.Bool.{beq}
-use Rattle.std.proofs.Common.{◌≡◌, ℕ, ◌+◌, ◌^◌, ◌<◌, Bool, true, false, not, List, [], ◌∷◌, length, refl, ap, sym, ◌∙◌, arith, subst, nat_eq, true≢false}
-use Rattle.std.specs.Prelude.{if◌then◌else◌, ◌&&◌, ◌||◌, ◌==◌, is_some, Option, Some, None}
-use Rattle.std.specs.BTreeMap.{BTreeMap, Updates, get}
-use Rattle.std.specs.List.{list_any}
-use Rattle.std.specs.Ordering.{is_eq, nat_cmp}
-use Rattle.std.proofs.lemmas.Bool.Decides.{nat_tests, Decides-eqb}
-use Rattle.lease_state.specs.Access.{uses_of, allowed_by}
-use Rattle.lease_state.specs.declared.number.FileNo.{FileNo}
-use Rattle.lease_model.specs.server.State.{Open, Lease, has_key}
-use Rattle.lease_model.specs.values.Keys.{Key, key_eq}
+use Rattle.lease_laws.proofs.Words.{◌&&◌, ◌+◌, ◌<◌, ◌==◌, ◌^◌, ◌||◌, ◌∙◌, ◌∷◌, ◌≡◌, Bool, Decides-eqb, FileNo, Key, Lease, List}
+use Rattle.lease_laws.proofs.Words.{None, Open, Option, Some, Updates, ℕ, [], allowed_by, ap, arith, beq, false, get, has_key}
+use Rattle.lease_laws.proofs.Words.{if◌then◌else◌, is_eq, is_some, key_eq, length, list_any, nat_cmp, nat_tests, not, refl, subst}
+use Rattle.lease_laws.proofs.Words.{sym, true, true≢false, uses_of}
+use Rattle.std.proofs.Common.{nat_eq}
+use Rattle.std.specs.BTreeMap.{BTreeMap}
 use Rattle.lease_laws.proofs.server.Keys.{key_eq-same}
 use Rattle.lease_laws.proofs.server.Lists.{either}
 use Rattle.share_server.specs.Hindering.{is_harmless, marks_of}
 use Rattle.share_server.specs.Looks.{is_elsewhere}
-use Rattle.share_server.specs.Summaries.{IsOneMore, file_order, is_on, has_key_on, is_keyless_on, SumsUp, IsSummary, SummaryFits, Gains, Loses, IsMarked, AreAfter, AreLeft, IsPut}
+use Rattle.share_server.specs.Summaries.{IsOneMore, file_order, is_on, has_key_on, is_keyless_on, SumsUp, IsSummary, SummaryFits}
+use Rattle.share_server.specs.Summaries.{Gains, Loses, IsMarked, AreAfter, AreLeft, IsPut}
 use Rattle.share_server.specs.Tallies.{count, tally_of, raised, lowered, tally_raised, tally_lowered}
 use Rattle.share_server.specs.declared.file_summary.FileSummary.{FileSummary}
 use Rattle.share_server.specs.declared.lease_marks.LeaseMarks.{LeaseMarks}
@@ -56,9 +52,7 @@ tally_same a b c d e v w x y z f g h i j = rw (f, g, h, i, j) refl
 
 pub raise_tally : (test : Open → Bool) (one : Open) (less more : List Open) → IsOneMore one less more
     → length more < 2 ^ 64 → test one ≡ true → tally_raised one (tally_of test less) ≡ tally_of test more
-raise_tally test one less more m short is =
-    tally_same _ _ _ _ _ _ _ _ _ _
-    (raise_count test one less more true m short is)
+raise_tally test one less more m short is = tally_same _ _ _ _ _ _ _ _ _ _ (raise_count test one less more true m short is)
     (raise_count _ one less more _ m short (both (test one) (uses_of one.access).read is))
     (raise_count _ one less more _ m short (both (test one) (uses_of one.access).write is))
     (raise_count _ one less more _ m short (both (test one) (not (allowed_by one.share).read) is))
@@ -66,9 +60,7 @@ raise_tally test one less more m short is =
 
 pub lower_tally : (test : Open → Bool) (one : Open) (less more : List Open) → IsOneMore one less more
     → test one ≡ true → tally_lowered one (tally_of test more) ≡ tally_of test less
-lower_tally test one less more m is =
-    tally_same _ _ _ _ _ _ _ _ _ _
-    (lower_count test one less more true m is)
+lower_tally test one less more m is = tally_same _ _ _ _ _ _ _ _ _ _ (lower_count test one less more true m is)
     (lower_count _ one less more _ m (both (test one) (uses_of one.access).read is))
     (lower_count _ one less more _ m (both (test one) (uses_of one.access).write is))
     (lower_count _ one less more _ m (both (test one) (not (allowed_by one.share).read) is))
@@ -85,9 +77,7 @@ plain_count test one less more m is = let e = counts test one less more m in gri
 
 pub keep_tally : (test : Open → Bool) (one : Open) (less more : List Open) → IsOneMore one less more
     → test one ≡ false → tally_of test less ≡ tally_of test more
-keep_tally test one less more m is =
-    tally_same _ _ _ _ _ _ _ _ _ _
-    (plain_count test one less more m is)
+keep_tally test one less more m is = tally_same _ _ _ _ _ _ _ _ _ _ (plain_count test one less more m is)
     (same_count test (λ x. (uses_of x.access).read) one less more m is)
     (same_count test (λ x. (uses_of x.access).write) one less more m is)
     (same_count test (λ x. not (allowed_by x.share).read) one less more m is)
@@ -112,8 +102,7 @@ pub gains_sums_up : (one : Open) (marks : LeaseMarks) (old new : FileSummary) (l
     → IsOneMore one less more → length more < 2 ^ 64 → AreAfter one marks less leases later
     → SumsUp one.file less leases old → Gains one marks old new → SumsUp one.file more later new
 gains_sums_up one marks old new less more leases later m short after s g = record {
-  tally = g.tally ∙ (ap (tally_raised one) s.tally
-      ∙ raise_tally (is_on one.file) one less more m short (on_itself one.file));
+  tally = g.tally ∙ (ap (tally_raised one) s.tally ∙ raise_tally (is_on one.file) one less more m short (on_itself one.file));
   keys = λ key.
       let now = g.keys key in
       let was = s.keys key in
@@ -154,8 +143,7 @@ elsewhere_none key file at [] apart none = refl
 elsewhere_none key file at (one ∷ opens) apart none = let later = elsewhere_none key file at opens apart in grind arith
 
 pub sums_up_apart : (one : Open) (marks : LeaseMarks) (file : ℕ) (summary : FileSummary) (less more : List Open)
-    (leases later : Key → Lease)
-    → IsOneMore one less more → is_on file one ≡ false → AreAfter one marks less leases later
+    (leases later : Key → Lease) → IsOneMore one less more → is_on file one ≡ false → AreAfter one marks less leases later
     → SumsUp file less leases summary → SumsUp file more later summary
 sums_up_apart one marks file summary less more leases later m apart after s = record {
   tally = s.tally ∙ keep_tally (is_on file) one less more m apart;
@@ -178,10 +166,8 @@ sums_up_apart one marks file summary less more leases later m apart after s = re
       (leases key) (later key) _ was (rw apart at e) (after.same key) (λ has. none (after.home key has));
 }
   where
-    stays : (mark : Lease → Bool) (has any_less any_more : Bool) (old new : Lease) (was : Bool)
-        → was ≡ (any_less && mark old)
-        → any_more ≡ any_less → (has ≡ false → new ≡ old) → (has ≡ true → any_less ≡ false)
-        → was ≡ (any_more && mark new)
+    stays : (mark : Lease → Bool) (has any_less any_more : Bool) (old new : Lease) (was : Bool) → was ≡ (any_less && mark old)
+        → any_more ≡ any_less → (has ≡ false → new ≡ old) → (has ≡ true → any_less ≡ false) → was ≡ (any_more && mark new)
     stays mark x2 any_less any_more old new was a b c d = grind arith
 
 has_on : (key : Key) (file : ℕ) (opens : List Open) → list_any (has_key_on file key) opens ≡ true
@@ -194,8 +180,7 @@ pub loses_sums_up : (one : Open) (last : Bool) (old new : FileSummary) (less mor
     → ((key : Key) → has_key key one ≡ true → last ≡ not (list_any (has_key_on one.file key) less))
     → SumsUp one.file more leases old → Loses one last old new → SumsUp one.file less later new
 loses_sums_up one last old new less more leases later m left is_last s l = record {
-  tally = l.tally ∙ (ap (tally_lowered one) s.tally
-      ∙ lower_tally (is_on one.file) one less more m (on_itself one.file));
+  tally = l.tally ∙ (ap (tally_lowered one) s.tally ∙ lower_tally (is_on one.file) one less more m (on_itself one.file));
   keys = λ key.
       let now = l.keys key in
       let was = s.keys key in
@@ -224,10 +209,8 @@ loses_sums_up one last old new less more leases later m left is_last s l = recor
       (λ some. left key (has_on key one.file less some));
 }
   where
-    lost_key : (has any_less any_more last : Bool) (was now : Bool)
-        → now ≡ (was && not (has && last)) → was ≡ any_more
-        → any_more ≡ (has || any_less) → (has ≡ true → last ≡ not any_less)
-        → now ≡ any_less
+    lost_key : (has any_less any_more last : Bool) (was now : Bool) → now ≡ (was && not (has && last)) → was ≡ any_more
+        → any_more ≡ (has || any_less) → (has ≡ true → last ≡ not any_less) → now ≡ any_less
     lost_key x1 x2 any_more last was now a b c d = grind arith
 
     lost_mark : (mark : Lease → Bool) (has any_less any_more last : Bool) (old new : Lease) (was now : Bool)
@@ -259,15 +242,13 @@ sums_up_away one file summary less more leases later m apart left s = record {
 }
   where
     stays : (mark : Lease → Bool) (any_less any_more : Bool) (old new : Lease) (was : Bool)
-        → was ≡ (any_more && mark old) → any_more ≡ any_less → (any_less ≡ true → new ≡ old)
-        → was ≡ (any_less && mark new)
+        → was ≡ (any_more && mark old) → any_more ≡ any_less → (any_less ≡ true → new ≡ old) → was ≡ (any_less && mark new)
     stays mark x2 any_more old new was a c d = grind arith
 
 -- ---- another lease of a key
 
 pub marked_sums_up : (file : ℕ) (key : Key) (marks : LeaseMarks) (old new : FileSummary) (opens : List Open)
-    (leases later : Key → Lease)
-    → IsPut key marks leases later
+    (leases later : Key → Lease) → IsPut key marks leases later
     → ((other : Key) → key_eq other key ≡ true → list_any (has_key_on file other) opens ≡ true)
     → SumsUp file opens leases old → IsMarked key marks old new → SumsUp file opens later new
 marked_sums_up file key marks old new opens leases later put there s w = grind arith
@@ -287,22 +268,18 @@ used_back : (test : Open → Bool) (one : Open) (less more : List Open) (b : Boo
 used_back test one less more b m is was = let e = anys test one less more m in grind (arith, e, is, was)
 
 fits_apart : (one : Open) (marks : LeaseMarks) (file : ℕ) (known : Option FileSummary) (less more : List Open)
-    (leases later : Key → Lease)
-    → IsOneMore one less more → is_on file one ≡ false → AreAfter one marks less leases later
+    (leases later : Key → Lease) → IsOneMore one less more → is_on file one ≡ false → AreAfter one marks less leases later
     → SummaryFits file less leases known → SummaryFits file more later known
-fits_apart one marks file None less more leases later m apart after fits =
-    used_same (is_on file) one less more false m apart fits
+fits_apart one marks file None less more leases later m apart after fits = used_same (is_on file) one less more false m apart fits
 fits_apart one marks file (Some summary) less more leases later m apart after fits = record {
   is_used = used_same (is_on file) one less more true m apart fits.is_used;
   sums_up = sums_up_apart one marks file summary less more leases later m apart after fits.sums_up;
 }
 
-fits_away : (one : Open) (file : ℕ) (known : Option FileSummary) (less more : List Open)
-    (leases later : Key → Lease)
+fits_away : (one : Open) (file : ℕ) (known : Option FileSummary) (less more : List Open) (leases later : Key → Lease)
     → IsOneMore one less more → is_on file one ≡ false → AreLeft less leases later
     → SummaryFits file more leases known → SummaryFits file less later known
-fits_away one file None less more leases later m apart left fits =
-    used_back (is_on file) one less more false m apart fits
+fits_away one file None less more leases later m apart left fits = used_back (is_on file) one less more false m apart fits
 fits_away one file (Some summary) less more leases later m apart left fits = record {
   is_used = used_back (is_on file) one less more true m apart fits.is_used;
   sums_up = sums_up_away one file summary less more leases later m apart left fits.sums_up;
@@ -365,8 +342,7 @@ now_unused file opens leases summary s none =
     grind (arith, nat_tests, e, c, none)
 
 pub summaries_lose : (one : Open) (last : Bool) (before after : FileNo → Option FileSummary) (old new : FileSummary)
-    (less more : List Open) (leases later : Key → Lease)
-    → IsOneMore one less more → AreLeft less leases later
+    (less more : List Open) (leases later : Key → Lease) → IsOneMore one less more → AreLeft less leases later
     → ((key : Key) → has_key key one ≡ true → last ≡ not (list_any (has_key_on one.file key) less))
     → before (record { 0 = one.file }) ≡ Some old → Loses one last old new
     → IsChangedAt one.file before after (Some new) → nat_eq new.tally.opens 0 ≡ false
@@ -382,8 +358,7 @@ summaries_lose one last before after old new less more leases later m left is_la
     (fits_away one file.0 (before file) less more leases later m (flip file.0 one.file false apart) left (fits file)))
 
 pub summaries_end : (one : Open) (last : Bool) (before after : FileNo → Option FileSummary) (old new : FileSummary)
-    (less more : List Open) (leases later : Key → Lease)
-    → IsOneMore one less more → AreLeft less leases later
+    (less more : List Open) (leases later : Key → Lease) → IsOneMore one less more → AreLeft less leases later
     → ((key : Key) → has_key key one ≡ true → last ≡ not (list_any (has_key_on one.file key) less))
     → before (record { 0 = one.file }) ≡ Some old → Loses one last old new
     → IsChangedAt one.file before after None → nat_eq new.tally.opens 0 ≡ true
@@ -405,17 +380,14 @@ never_closed one less more leases known m none fits =
     true≢false (sym e ∙ unused)
 
 pub changed_at_twice : (here : ℕ) (before during after : FileNo → Option FileSummary) (known other : Option FileSummary)
-    → IsChangedAt here before during known → IsChangedAt here during after other
-    → IsChangedAt here before after other
+    → IsChangedAt here before during known → IsChangedAt here during after other → IsChangedAt here before after other
 changed_at_twice here before during after known other first second = grind arith
 
 pub summaries_put : (file : ℕ) (key : Key) (marks : LeaseMarks) (before after : FileNo → Option FileSummary)
-    (old new : FileSummary) (opens : List Open) (leases later : Key → Lease)
-    → IsPut key marks leases later
+    (old new : FileSummary) (opens : List Open) (leases later : Key → Lease) → IsPut key marks leases later
     → list_any (has_key_on file key) opens ≡ true → list_any (is_elsewhere key file) opens ≡ false
     → before (record { 0 = file }) ≡ Some old → IsMarked key marks old new → IsChangedAt file before after (Some new)
-    → ((at : FileNo) → SummaryFits at.0 opens leases (before at))
-    → (at : FileNo) → SummaryFits at.0 opens later (after at)
+    → ((at : FileNo) → SummaryFits at.0 opens leases (before at)) → (at : FileNo) → SummaryFits at.0 opens later (after at)
 summaries_put file key marks before after old new opens leases later put there home was w changed fits =
     let s = known_sums_up file opens leases _ old was (fits (record { 0 = file })) in
     at_file (λ at. SummaryFits at.0 opens later (after at)) file
@@ -446,17 +418,13 @@ fits_alike : (file : ℕ) (opens : List Open) (leases later : Key → Lease) (kn
 fits_alike file opens leases later x5 same fits = grind arith
 
 pub summaries_alike : (key : Key) (lease : Lease) (opens : List Open) (leases later : Key → Lease)
-    (known : FileNo → Option FileSummary)
-    → ((other : Key) → later other ≡ (if key_eq other key then lease else leases other))
-    → marks_of lease ≡ marks_of (leases key)
-    → ((file : FileNo) → SummaryFits file.0 opens leases (known file))
+    (known : FileNo → Option FileSummary) → ((other : Key) → later other ≡ (if key_eq other key then lease else leases other))
+    → marks_of lease ≡ marks_of (leases key) → ((file : FileNo) → SummaryFits file.0 opens leases (known file))
     → (file : FileNo) → SummaryFits file.0 opens later (known file)
-summaries_alike key lease opens leases later known now same fits = λ file.
-    fits_alike file.0 opens leases later (known file)
+summaries_alike key lease opens leases later known now same fits = λ file. fits_alike file.0 opens leases later (known file)
     (λ other. either (key_eq other key)
     (λ e. ap marks_of (now other ∙ rw e refl) ∙ (same ∙ ap (λ k. marks_of (leases k)) (sym (key_eq-same other key e))))
-    (λ e. ap marks_of (now other ∙ rw e refl)))
-    (fits file)
+    (λ e. ap marks_of (now other ∙ rw e refl))) (fits file)
 
 pub marks_same : (a b : LeaseMarks) → not (beq a.writes b.writes && beq a.harmless b.harmless) ≡ false → a ≡ b
 marks_same a b e = grind arith

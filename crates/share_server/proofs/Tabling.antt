@@ -1,22 +1,14 @@
 -- The tables' opens and lease records as the server that they stand for.
-use Rattle.std.proofs.Common.{append-nil, ◌^◌, take, get_or, length, zero, suc, ◌≡◌, inl, inr, ⊎_elim, ℕ, ◌+◌, ◌≤◌, Bool, true, false, not, List, [], ◌∷◌, ◌++◌, map, filter, refl, ap, ap₂, sym, ◌∙◌, arith, subst, ◌<◌, true≢false}
-use Rattle.std.proofs.Math.Path.{fun_ext}
-use Rattle.std.proofs.lemmas.Bool.Decides.{nat_tests, Decides-eqb}
-use Rattle.std.specs.Prelude.{if◌then◌else◌, ◌==◌, ◌&&◌, ◌||◌, Option, Some, None, find}
-use Rattle.std.specs.BTreeMap.{is_at}
-use Rattle.std.specs.List.{list_any}
+use Rattle.lease_laws.proofs.Words.{◌&&◌, ◌++◌, ◌+◌, ◌<◌, ◌==◌, ◌^◌, ◌||◌, ◌∙◌, ◌∷◌, ◌≡◌, ◌≤◌, Among, AreInOrder, Bool}
+use Rattle.lease_laws.proofs.Words.{Decides-eqb, FileId, Key, Lease, List, None, Open, Option, Server, Some, ℕ, ⊎_elim, [], ap}
+use Rattle.lease_laws.proofs.Words.{append-nil, ap₂, arith, awaits, disconnected, false, filter, find, fun_ext, get_or, has_key}
+use Rattle.lease_laws.proofs.Words.{if◌then◌else◌, inl, inr, is_at, is_key, is_leased_elsewhere, is_left_behind, key_eq, length}
+use Rattle.lease_laws.proofs.Words.{list_any, map, nat_tests, no_lease, not, put_key, refl, subst, suc, sym, take, true}
+use Rattle.lease_laws.proofs.Words.{true≢false, with_lease, with_opens, without, zero}
 use Rattle.std.specs.Map.{lookup}
 use Rattle.lease_laws.proofs.server.Goes.{one_id}
-use Rattle.lease_laws.proofs.server.Lists.{either, clash, among_filter, among_filtered, among_append, any_has, has_any, not_true, among_map, or_of_true, and_parts}
-use Rattle.lease_laws.specs.server.Laws.{Among, AreInOrder}
-use Rattle.lease_model.specs.server.Calls.{disconnected, is_left_behind}
-use Rattle.lease_model.specs.server.Findings.{awaits, is_leased_elsewhere}
-use Rattle.lease_model.specs.server.Progress.{with_opens, with_lease}
-use Rattle.lease_model.specs.server.State.{Server, Open, Lease, has_key, is_key, no_lease}
-use Rattle.lease_model.specs.values.Keys.{Key, key_eq}
-use Rattle.lease_model.specs.values.Lists.{without}
-use Rattle.lease_model.specs.values.Tables.{put_key}
-use Rattle.lease_state.specs.declared.number.FileId.{FileId}
+use Rattle.lease_laws.proofs.server.Lists.{either, clash, among_filter, among_filtered, among_append, any_has, has_any, not_true}
+use Rattle.lease_laws.proofs.server.Lists.{among_map, or_of_true, and_parts}
 use Rattle.share_server.specs.Closing.{closes}
 use Rattle.share_server.specs.Filed.{has_id, is_of, disconnected_at}
 use Rattle.share_server.specs.KeyOrder.{key_order}
@@ -66,8 +58,7 @@ abbrev check : (Open → Bool) → Option Open → Bool
 check test None = false
 check test (Some one) = test one
 
-none_above : (n : ℕ) (test : Open → Bool) (opens : List Open)
-    → ((one : Open) → test one ≡ true → has_id n one ≡ true)
+none_above : (n : ℕ) (test : Open → Bool) (opens : List Open) → ((one : Open) → test one ≡ true → has_id n one ≡ true)
     → ((one : Open) → Among one opens → has_id n one ≡ false) → list_any test opens ≡ false
 none_above n test [] only apart = refl
 none_above n test (one ∷ opens) only apart =
@@ -173,16 +164,14 @@ closed_none opens summaries agree = record {
   leases = λ key. unused_lease key opens summaries agree;
 }
 
-any_left : (test out : Open → Bool) (opens : List Open) → list_any test (without out opens) ≡ true
-    → list_any test opens ≡ true
+any_left : (test out : Open → Bool) (opens : List Open) → list_any test (without out opens) ≡ true → list_any test opens ≡ true
 any_left test out [] some = some
 any_left test out (one ∷ opens) some = either (out one)
     (λ o. or_of_true (test one) (list_any test opens) (any_left test out opens (rw o at some)))
     (λ o. either (test one) (λ t. rw t refl) (λ t. rw t (any_left test out opens (rw (o, t) at some))))
 
 pub closed_more : (opens : List Open) (ids : List ℕ) (id : ℕ) (summaries during after : Summaries) (middle left : List Open)
-    → HaveClosed opens ids summaries middle during
-    → left ≡ without (has_id id) middle → Agrees after left
+    → HaveClosed opens ids summaries middle during → left ≡ without (has_id id) middle → Agrees after left
     → ((key : Key) → lease_in after key ≡ (if list_any (has_key key) left then lease_in during key else no_lease))
     → HaveClosed opens (ids ++ id ∷ []) summaries left after
 closed_more opens ids id summaries during after middle left closed is agree leases = record {
@@ -211,20 +200,16 @@ closes_alike closing summaries = ap (closes closing) (sym (leases_are summaries)
 pub table_closed : (table : Table) (closing : Closing) (ids : List ℕ) (summaries after : Summaries) (left : List Open)
     → table.leases ≡ listed summaries → AreInOrder table.opens
     → ids ≡ map (λ one. one.file_id) (filter (closes closing (lease_in summaries)) table.opens)
-    → HaveClosed table.opens ids summaries left after
-    → server_of (record table { opens = left; leases = listed after })
+    → HaveClosed table.opens ids summaries left after → server_of (record table { opens = left; leases = listed after })
     ≡ with_opens (server_of table) (without (closes closing (server_of table).leases) (server_of table).opens)
 unfolding with_opens
 table_closed table closing ids summaries after left same order are closed =
     let chosen_ones : (one : Open) → Among one table.opens → is_one_of ids one ≡ closes closing (lease_in summaries) one =
     λ one a. rw are (chosen (closes closing (lease_in summaries)) table.opens one order a) in
-    let is : left ≡ without (closes closing (lease_at table.leases)) table.opens =
-    closed.opens_left
+    let is : left ≡ without (closes closing (lease_at table.leases)) table.opens = closed.opens_left
     ∙ (filter_alike (is_one_of ids) (closes closing (lease_in summaries)) table.opens chosen_ones
     ∙ ap (λ f. without f table.opens) (closes_alike closing summaries ∙ ap (λ l. closes closing (lease_at l)) (sym same))) in
-    same_leases (server_of table) _ _ _ _ is
-    (fun_ext (λ key. listed_lease after key
-    ∙ (closed.leases key
+    same_leases (server_of table) _ _ _ _ is (fun_ext (λ key. listed_lease after key ∙ (closed.leases key
     ∙ ap₂ (λ b l. if b then l else no_lease) (ap (λ o. list_any (has_key key) o) is)
     (sym (listed_lease summaries key) ∙ ap (λ l. lease_at l key) (sym same)))))
 
@@ -236,38 +221,30 @@ kept_left opens ids summaries after left last_id kept closed = record {
       (among_filter (λ o. not (is_one_of ids o)) one opens (subst (λ xs. Among one xs) closed.opens_left a)).0;
 }
 
-pub lease_written : (table : Table) (key : Key) (lease : Lease) (summaries after : Summaries)
-    → table.leases ≡ listed summaries
+pub lease_written : (table : Table) (key : Key) (lease : Lease) (summaries after : Summaries) → table.leases ≡ listed summaries
     → ((other : Key) → lease_in after other ≡ (if key_eq other key then lease else lease_in summaries other))
     → server_of (record table { leases = listed after }) ≡ with_lease (server_of table) key lease
 unfolding put_key
-lease_written table key lease summaries after same now =
-    same_leases (server_of table) _ _ _ _ refl
-    (fun_ext (λ other. listed_lease after other
-    ∙ (now other
-    ∙ ap (λ l. if key_eq other key then lease else l)
+lease_written table key lease summaries after same now = same_leases (server_of table) _ _ _ _ refl
+    (fun_ext (λ other. listed_lease after other ∙ (now other ∙ ap (λ l. if key_eq other key then lease else l)
     (sym (listed_lease summaries other) ∙ ap (λ l. lease_at l other) (sym same)))))
 
 -- ---- a new open
 
 new_leases : (client : ℕ) (bytes : Option (List ℕ)) (server : Server) (lease : Lease) (later : Key → Lease) (opens : List Open)
-    (last : ℕ)
-    → ((key : Key) → later key ≡ (if is_key key client bytes then lease else server.leases key))
+    (last : ℕ) → ((key : Key) → later key ≡ (if is_key key client bytes then lease else server.leases key))
     → record server { opens = opens; leases = later; last_id = last }
     ≡ record (lease_put_by server client bytes lease) { opens = opens; last_id = last }
 unfolding put_key key_eq
 new_leases client x2 server lease later opens last now = grind arith
 
-pub table_opened : (table : Table) (one : Open) (lease : Lease) (summaries after : Summaries)
-    → table.leases ≡ listed summaries
+pub table_opened : (table : Table) (one : Open) (lease : Lease) (summaries after : Summaries) → table.leases ≡ listed summaries
     → ((key : Key) → lease_in after key ≡ (if has_key key one then lease else lease_in summaries key))
     → server_of (record table { opens = table.opens ++ one ∷ []; leases = listed after; last_id = one.file_id })
     ≡ opened_with (server_of table) one lease
 table_opened table one lease summaries after same now =
     new_leases one.client one.lease_key (server_of table) lease _ _ one.file_id
-    (λ key. listed_lease after key
-    ∙ (now key
-    ∙ ap (λ l. if has_key key one then lease else l)
+    (λ key. listed_lease after key ∙ (now key ∙ ap (λ l. if has_key key one then lease else l)
     (sym (listed_lease summaries key) ∙ ap (λ l. lease_at l key) (sym same))))
 
 below_next : (one : Open) (last next : ℕ) → one.file_id ≤ last → next ≡ last + 1 → one.file_id < next
@@ -321,8 +298,7 @@ disconnected_none (one ∷ opens) = ap (λ x. one ∷ x) (disconnected_none open
 pub disconnected_are : (client : ℕ) (ids : List ℕ) (opens : List Open) → AreInOrder opens
     → ids ≡ map (λ one. one.file_id) (filter (is_of client) opens)
     → map (disconnected_where (is_one_of ids)) opens ≡ map (disconnected client) opens
-disconnected_are client ids opens order are =
-    map_alike (disconnected_where (is_one_of ids)) (disconnected client) opens
+disconnected_are client ids opens order are = map_alike (disconnected_where (is_one_of ids)) (disconnected client) opens
     (λ one a. let e = chosen (is_of client) opens one order a in rw (are, e) refl)
 
 pub same_id_where : (test : Open → Bool) (b : Bool) (one : Open)
@@ -334,8 +310,7 @@ same_id_where test b one = either (test one) (λ t. rw t refl) (λ t. rw t refl)
 pub found_so : (n : ℕ) (test : Open → Bool) (opens : List Open) (one : Open)
     → ((other : Open) → test other ≡ true → has_id n other ≡ true) → AreInOrder opens
     → Some one ≡ find (has_id n) opens → test one ≡ true → Some one ≡ find test opens
-found_so n test opens one only order found is =
-    sym (find_one n test opens only order ∙ (ap (pick test) (sym found) ∙ rw is refl))
+found_so n test opens one only order found is = sym (find_one n test opens only order ∙ (ap (pick test) (sym found) ∙ rw is refl))
 
 pub found_not : (n : ℕ) (test : Open → Bool) (opens : List Open) (one : Open)
     → ((other : Open) → test other ≡ true → has_id n other ≡ true) → AreInOrder opens
@@ -346,20 +321,17 @@ found_not n test opens one only order found is =
 pub found_none : (n : ℕ) (test : Open → Bool) (opens : List Open)
     → ((other : Open) → test other ≡ true → has_id n other ≡ true) → AreInOrder opens
     → None ≡ find (has_id n) opens → None ≡ find test opens
-found_none n test opens only order found =
-    sym (find_one n test opens only order ∙ ap (pick test) (sym found))
+found_none n test opens only order found = sym (find_one n test opens only order ∙ ap (pick test) (sym found))
 
 pub any_so : (n : ℕ) (test : Open → Bool) (opens : List Open) (one : Open)
     → ((other : Open) → test other ≡ true → has_id n other ≡ true) → AreInOrder opens
     → Some one ≡ find (has_id n) opens → test one ≡ list_any test opens
-any_so n test opens one only order found =
-    sym (any_one n test opens only order ∙ ap (check test) (sym found))
+any_so n test opens one only order found = sym (any_one n test opens only order ∙ ap (check test) (sym found))
 
 pub any_none : (n : ℕ) (test : Open → Bool) (opens : List Open)
     → ((other : Open) → test other ≡ true → has_id n other ≡ true) → AreInOrder opens
     → None ≡ find (has_id n) opens → false ≡ list_any test opens
-any_none n test opens only order found =
-    sym (any_one n test opens only order ∙ ap (check test) (sym found))
+any_none n test opens only order found = sym (any_one n test opens only order ∙ ap (check test) (sym found))
 
 pub connected_only : (client n : ℕ) (one : Open) → is_connected_as client n one ≡ true → has_id n one ≡ true
 connected_only client n one is = grind arith
@@ -387,8 +359,7 @@ none_taken n (one ∷ opens) none = either (has_id n one)
 
 pub untaken_agrees : (n : ℕ) (opens left : List Open) (summaries : Summaries) → None ≡ find (has_id n) opens
     → left ≡ without (has_id n) opens → Agrees summaries opens → Agrees summaries left
-untaken_agrees n opens left summaries none is agree =
-    subst (Agrees summaries) (sym (is ∙ none_taken n opens none)) agree
+untaken_agrees n opens left summaries none is agree = subst (Agrees summaries) (sym (is ∙ none_taken n opens none)) agree
 
 pub unused_now : (key : Key) (opens : List Open) (summaries : Summaries) → Agrees summaries opens
     → lease_in summaries key ≡ (if list_any (has_key key) opens then lease_in summaries key else no_lease)
@@ -425,8 +396,7 @@ short_more opens one n is small =
 
 pub opened_now : (opens now : List Open) (one : Open) (summaries after : Summaries) (last : ℕ) → AreKept opens summaries last
     → one.file_id ≡ last + 1 → now ≡ opens ++ one ∷ [] → Agrees after now → AreKept now after one.file_id
-opened_now opens now one summaries after last kept is same agree =
-    subst (λ xs. AreKept xs after one.file_id) (sym same)
+opened_now opens now one summaries after last kept is same agree = subst (λ xs. AreKept xs after one.file_id) (sym same)
     (kept_opened opens one summaries after last kept is (subst (Agrees after) same agree))
 
 -- ---- the one open that may be closed
@@ -462,8 +432,7 @@ picked_not test one is = rw is refl
 
 pub ids_picked : (n : ℕ) (test : Open → Bool) (opens : List Open) (one : Open)
     → ((other : Open) → test other ≡ true → has_id n other ≡ true) → AreInOrder opens
-    → Some one ≡ find (has_id n) opens → test one ≡ true
-    → n ∷ [] ≡ map (λ o. o.file_id) (filter test opens)
+    → Some one ≡ find (has_id n) opens → test one ≡ true → n ∷ [] ≡ map (λ o. o.file_id) (filter test opens)
 ids_picked n test opens one only order found is =
     let chosen_one : filter test opens ≡ one ∷ [] =
     filter_one n test opens only order ∙ (ap (picked test) (sym found) ∙ picked_so test one is) in
@@ -471,8 +440,7 @@ ids_picked n test opens one only order found is =
 
 pub ids_unpicked : (n : ℕ) (test : Open → Bool) (opens : List Open) (one : Open)
     → ((other : Open) → test other ≡ true → has_id n other ≡ true) → AreInOrder opens
-    → Some one ≡ find (has_id n) opens → test one ≡ false
-    → [] ≡ map (λ o. o.file_id) (filter test opens)
+    → Some one ≡ find (has_id n) opens → test one ≡ false → [] ≡ map (λ o. o.file_id) (filter test opens)
 ids_unpicked n test opens one only order found is =
     let chosen_none : filter test opens ≡ [] =
     filter_one n test opens only order ∙ (ap (picked test) (sym found) ∙ picked_not test one is) in

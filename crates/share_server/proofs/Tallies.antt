@@ -1,12 +1,7 @@
 -- How counts of opens change with one open more or less, and what they tell.
-use Rattle.std.proofs.Common.{◌≡◌, ◌+◌, ◌≤◌, Bool, false, not, List, [], ◌∷◌, ◌++◌, length, refl, ap, ap₂, sym, ◌∙◌, arith}
-use Rattle.std.specs.Prelude.{if◌then◌else◌, ◌&&◌, ◌||◌}
-use Rattle.std.specs.List.{list_any}
-use Rattle.std.proofs.lemmas.Bool.Decides.{nat_tests}
-use Rattle.lease_model.specs.server.State.{Open}
-use Rattle.lease_state.specs.Access.{uses_of, allowed_by, conflict}
-use Rattle.lease_state.specs.declared.access.Access.{Access}
-use Rattle.lease_state.specs.declared.access.Share.{Share}
+use Rattle.lease_laws.proofs.Words.{◌&&◌, ◌++◌, ◌+◌, ◌||◌, ◌∙◌, ◌∷◌, ◌≡◌, ◌≤◌, Access, Bool, List, Open, Share, [], allowed_by}
+use Rattle.lease_laws.proofs.Words.{ap, ap₂, arith, conflict, false, if◌then◌else◌, length, list_any, nat_tests, not, refl, sym}
+use Rattle.lease_laws.proofs.Words.{uses_of}
 use Rattle.share_server.specs.Tallies.{count, tally_of, tally_conflicts, is_counted}
 use Rattle.share_server.specs.declared.tally.Tally.{Tally}
 
@@ -43,14 +38,13 @@ abbrev none : Tally
 none = record { opens = 0; reads = 0; writes = 0; refuses_reads = 0; refuses_writes = 0 }
 
 pub none_tallied : (test : Open → Bool) (opens : List Open) → list_any test opens ≡ false → none ≡ tally_of test opens
-none_tallied test opens nobody =
-    rw (
-      none_counted test opens nobody,
-      none_counted _ opens (none_both test (λ one. (uses_of one.access).read) opens nobody),
-      none_counted _ opens (none_both test (λ one. (uses_of one.access).write) opens nobody),
-      none_counted _ opens (none_both test (λ one. not (allowed_by one.share).read) opens nobody),
-      none_counted _ opens (none_both test (λ one. not (allowed_by one.share).write) opens nobody),
-    ) refl
+none_tallied test opens nobody = rw (
+  none_counted test opens nobody,
+  none_counted _ opens (none_both test (λ one. (uses_of one.access).read) opens nobody),
+  none_counted _ opens (none_both test (λ one. (uses_of one.access).write) opens nobody),
+  none_counted _ opens (none_both test (λ one. not (allowed_by one.share).read) opens nobody),
+  none_counted _ opens (none_both test (λ one. not (allowed_by one.share).write) opens nobody),
+) refl
 
 -- ---- conflicts
 
@@ -67,14 +61,12 @@ any_if test b other (one ∷ opens) = let e = any_if test b other opens in grind
 
 -- a conflict, by what either does and refuses
 abbrev conflicts_by : Access → Share → Open → Bool
-conflicts_by access share one =
-    (not (allowed_by share).read && (uses_of one.access).read)
+conflicts_by access share one = (not (allowed_by share).read && (uses_of one.access).read)
     || ((not (allowed_by share).write && (uses_of one.access).write)
     || (((uses_of access).read && not (allowed_by one.share).read)
     || ((uses_of access).write && not (allowed_by one.share).write)))
 
-parts : (a b c d e f g h : Bool)
-    → (not ((not a || b) && (not c || d)) || not ((not e || f) && (not g || h)))
+parts : (a b c d e f g h : Bool) → (not ((not a || b) && (not c || d)) || not ((not e || f) && (not g || h)))
     ≡ ((not f && e) || ((not h && g) || ((a && not b) || (c && not d))))
 parts a b c d e f g h = grind (arith)
 

@@ -1,17 +1,11 @@
 -- The wants of the keys whose leases are wanted.
-use Rattle.std.proofs.Common.{◌≡◌, map, refl, arith}
-use Rattle.std.specs.Prelude.{Option, filter}
-use Rattle.lease_state.specs.declared.number.FileNo.{FileNo}
-use Rattle.lease_model.specs.server.KeyOrder.{keys_of}
-use Rattle.lease_model.specs.server.State.{Server}
-use Rattle.lease_model.specs.server.Wants.{wants_where, handle_wants, write_wants, all_wants}
-use Rattle.lease_model.specs.values.Keys.{Key}
+use Rattle.lease_laws.proofs.Words.{◌≡◌, FileNo, Key, Option, Server, all_wants, arith, filter, handle_wants, keys_of, map, refl}
+use Rattle.lease_laws.proofs.Words.{wants_where, write_wants}
 use Rattle.share_server.specs.Wishes.{is_demanded, wants_for, want_of}
 use Rattle.share_server.specs.declared.want.Wish.{Wish}
 use Rattle.share_server.specs.declared.want.Wish.TheVariants.{NoHandles, NoWrites, Nothing}
 
-pub wants_are : (wish : Wish) (server : Server) (own : Option Key) (file : FileNo)
-    → map (want_of wish server)
+pub wants_are : (wish : Wish) (server : Server) (own : Option Key) (file : FileNo) → map (want_of wish server)
     (keys_of (filter (is_demanded (record { wish = wish; own = own; file = file }) server) server.opens))
     ≡ wants_for wish server own file.0
 unfolding wants_where handle_wants write_wants all_wants

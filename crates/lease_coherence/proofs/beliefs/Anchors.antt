@@ -24,7 +24,8 @@ AnchorsOn machine step = (file : ℕ) → (acks (lease_key machine.guid file) st
 about_none : (machine : Client) (step : Step) → Each IsAboutFile step.requests → AnchorsOn machine step
 about_none machine step about file = inl (file_no_acks (lease_key machine.guid file) step.requests about)
 
-turn_none : (machine : Client) (at : ℕ) (turn : Turn) → Each IsAboutFile turn.requests → AnchorsOn machine (turned machine at turn)
+turn_none : (machine : Client) (at : ℕ) (turn : Turn) → Each IsAboutFile turn.requests → AnchorsOn machine
+    (turned machine at turn)
 unfolding turned
 turn_none machine at turn about = about_none machine (turned machine at turn) about
 

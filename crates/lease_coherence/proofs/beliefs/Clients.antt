@@ -73,7 +73,8 @@ turn_takes machine reply at turn others here formed file lease asked queue b = b
     (λ (e : Entry). IsBelieved (lease_key machine.guid file) file lease e.phase (asked ++ turn.requests) queue)
     (sym (put_other machine.entries at turn.entry file ne))
     (step_kept (lease_key machine.guid file) file lease (machine.entries file).phase (machine.entries file).phase asked
-    turn.requests queue (λ live is. had_live (machine.entries file).phase live.belief (as_it_was (machine.entries file).phase live is)) (others file ne)
+    turn.requests queue (λ live is. had_live (machine.entries file).phase live.belief
+    (as_it_was (machine.entries file).phase live is)) (others file ne)
     (reply_kept (lease_key machine.guid file) file lease (machine.entries file).phase asked reply queue own))) b
 
 -- a break that an entry meets
@@ -129,7 +130,8 @@ granted_takes machine at file_id answer turn next is about from =
     (λ lease asked queue b. subst
     (λ p. IsBelieved (lease_key machine.guid at) at lease p (asked ++ turn.requests) queue) (sym is)
     (created_kept (lease_key machine.guid at) at file_id answer lease (machine.entries at).phase next asked turn.requests
-    queue (λ write. ⊎_elim inl (λ h. inr (had_live (machine.entries at).phase next.belief h)) from) (file_no_acks (lease_key machine.guid at) turn.requests about) b))
+    queue (λ write. ⊎_elim inl (λ h. inr (had_live (machine.entries at).phase next.belief h)) from)
+    (file_no_acks (lease_key machine.guid at) turn.requests about) b))
 
 believing : (machine : Client) → HasBeliefTakes machine (TakesBelief machine)
 believing machine = record {

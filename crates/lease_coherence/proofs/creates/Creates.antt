@@ -91,10 +91,12 @@ source_counts world off c request g source file = ⊎_elim
         (omega (
           arith,
           ap (λ n. held_creates file (held_by c (world.server.held n))) same ∙ ap
-              (λ (l : List Held). held_creates file (held_by c l)) h.held ∙ held_among file c h.before h.behind (held_of c request)
+              (λ (l : List Held). held_creates file (held_by c l)) h.held ∙ held_among file c h.before h.behind
+              (held_of c request)
               (eq-eqb c c refl) ∙ ap (λ (l : List Held). create_of file request + held_creates file (held_by c l))
               (sym (put_same world.server.held h.file (h.before ++ h.behind))) ∙ ap
-              (λ n. create_of file request + held_creates file (held_by c (put world.server.held h.file (h.before ++ h.behind) n)))
+              (λ n. create_of file request + held_creates file
+              (held_by c (put world.server.held h.file (h.before ++ h.behind) n)))
               (sym same),
         )))
         (λ there. let ne : file ≢ h.file = λ e. clash (file == h.file) (eq-eqb file h.file e) there in
@@ -188,7 +190,8 @@ hold_at world at one oldest turn a = same_counts world (held_in (popped world on
       ap
           (λ n. held_creates file (held_by one.client (put world.server.held at (world.server.held at ++ one ∷ []) n)))
           (eqb-true file at here) ∙ ap (λ (l : List Held). held_creates file (held_by one.client l))
-          (put_same world.server.held at (world.server.held at ++ one ∷ [])) ∙ held_among file one.client (world.server.held at) [] one
+          (put_same world.server.held at (world.server.held at ++ one ∷ [])) ∙ held_among file one.client (world.server.held at)
+          [] one
           (eq-eqb one.client one.client refl) ∙ ap (λ (l : List Held). create_of file one.request + held_creates file
           (held_by one.client l)) (append_none (world.server.held at)) ∙ ap
           (λ n. create_of file one.request + held_creates file (held_by one.client (world.server.held n)))

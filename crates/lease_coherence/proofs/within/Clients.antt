@@ -81,7 +81,8 @@ turn_takes machine reply at turn apart others here formed file lease asked queue
     (λ (e : Entry). IsWithinFor (lease_key machine.guid file) file lease e.phase (asked ++ turn.requests) queue)
     (sym (put_other machine.entries at turn.entry file ne))
     (step_within (lease_key machine.guid file) file lease (machine.entries file).phase (machine.entries file).phase asked
-    turn.requests queue (λ live is. had_less (machine.entries file).phase live.belief (as_it_was (machine.entries file).phase live is)) (others file ne)
+    turn.requests queue (λ live is. had_less (machine.entries file).phase live.belief
+    (as_it_was (machine.entries file).phase live is)) (others file ne)
     (reply_within (lease_key machine.guid file) file lease (machine.entries file).phase asked reply queue
     (λ live is. apart file ne) own))) b w
 
@@ -156,7 +157,8 @@ granted_takes machine at file_id answer turn next is about from =
     (λ lease asked queue b w. subst
     (λ p. IsWithinFor (lease_key machine.guid at) at lease p (asked ++ turn.requests) queue) (sym is)
     (created_within (lease_key machine.guid at) at file_id answer lease (machine.entries at).phase next asked turn.requests
-    queue (⊎_elim inl (λ h. inr (had_less (machine.entries at).phase next.belief h)) from) (file_no_acks (lease_key machine.guid at) turn.requests about) b w))
+    queue (⊎_elim inl (λ h. inr (had_less (machine.entries at).phase next.belief h)) from)
+    (file_no_acks (lease_key machine.guid at) turn.requests about) b w))
   where
     no_grant : {key : List ℕ} → lone_break key ≡ Reply.Created at file_id (Some answer) → ⊥
     no_grant e = cc

@@ -97,9 +97,11 @@ source_left world off c request source s file number counts = ⊎_elim
           arith,
           ap (λ n. held_writes number (held_by c (world.server.held n))) same ∙ ap
               (λ (l : List Held). held_writes number (held_by c l)) h.held ∙ held_writes_among number c h.before h.behind
-              (held_of c request) (eq-eqb c c refl) ∙ ap (λ (l : List Held). write_of number request + held_writes number (held_by c l))
+              (held_of c request) (eq-eqb c c refl) ∙ ap (λ (l : List Held). write_of number request + held_writes number
+              (held_by c l))
               (sym (put_same world.server.held h.file (h.before ++ h.behind))) ∙ ap
-              (λ n. write_of number request + held_writes number (held_by c (put world.server.held h.file (h.before ++ h.behind) n)))
+              (λ n. write_of number request + held_writes number
+              (held_by c (put world.server.held h.file (h.before ++ h.behind) n)))
               (sym same),
         )))
         (λ there. let ne : file ≢ h.file = λ e. clash (file == h.file) (eq-eqb file h.file e) there in
@@ -193,7 +195,8 @@ told_once world new c reply clients requests held replies written none s =
       ap (λ (h : ℕ → List Held). held_writes number
           (held_by c (h file))) held,
       ap (λ (r : ℕ → List Reply). settling number (r c)) replies ∙ ap
-          (λ (q : List Reply). settling number q) (put_same world.replies c (world.replies c ++ reply ∷ [])) ∙ settling_last number
+          (λ (q : List Reply). settling number q) (put_same world.replies c (world.replies c ++ reply ∷ []))
+          ∙ settling_last number
           (world.replies c) reply,
       none number,
     ))

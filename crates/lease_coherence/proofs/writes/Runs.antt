@@ -120,7 +120,8 @@ stepped_writes world c step up file number = omega (
   arith,
   ap (λ (q : ℕ → List Request). writes number (q c))
       (stepped_requests world c step) ∙ ap (λ (q : List Request). writes number q) (put_same world.requests c _) ∙ ap
-      (λ link. writes number (sent_over link (world.requests c) step.requests)) (up_link (world.links c) up) ∙ writes_append number
+      (λ link. writes number (sent_over link (world.requests c) step.requests)) (up_link (world.links c) up)
+      ∙ writes_append number
       (world.requests c) step.requests,
   ap (λ (s : Server). held_writes number (held_by c (s.held file))) (stepped_server world c step),
   ap (λ (r : ℕ → List Reply). settling number (r c)) (stepped_replies world c step),

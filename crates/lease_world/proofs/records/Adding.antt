@@ -378,11 +378,11 @@ module _ (place : ℕ) (old new : Seen) (v : Verdict) (past : List Fact) (k : Kn
       → is_late file client number old ≡ is_late_write (Fact.Changed file client number patch) past
   unfolding is_late_write
   late_told file client number patch = rw (
-        (k.clients client).strayed,
-        (k.files file).touches client,
-        (k.clients client).writes number,
-        touched-told client file number past k.well_formed,
-      ) refl
+    (k.clients client).strayed,
+    (k.files file).touches client,
+    (k.clients client).writes number,
+    touched-told client file number past k.well_formed,
+  ) refl
 
   changed_formed : (file client number : ℕ) (patch : Patch)
       → (is_started_in old.files file && is_within_limit patch) ≡ is_well_formed (Fact.Changed file client number patch) past

@@ -54,7 +54,9 @@ unfolding how_many
 no_one p zero none k lt = absurd (omega arith)
 no_one p (suc n) none k lt = elim (cases_Bool (p n)) [
   | inl e ↦ let some : one_if true + how_many p n ≡ 0 = rw e at none in absurd (omega (arith, some))
-  | inr ne ↦ elim (cases_Bool (k == n)) [ | inl is ↦ rw (eqb-true k n is) ne | inr apart ↦
+  | inr ne ↦ elim (cases_Bool (k == n)) [
+    | inl is ↦ rw (eqb-true k n is) ne
+    | inr apart ↦
         let nothing : one_if (p n) ≡ 0 = rw ne refl in
         no_one p n (omega (arith, none, nothing)) k (below k n lt apart)
   ]

@@ -49,11 +49,9 @@ layers_kept position test (write ∷ writes) = layers_if position (test write.nu
 -- ---- the byte at a position
 
 patched_byte_by : (base : List ℕ) (o : ℕ) (d : List ℕ) (position : ℕ) (write : Waiting) → write.patch.offset ≡ o
-    → write.patch.bytes ≡ d
-    → get_or (patch base write.patch) position 0 ≡ seen_byte base (layer_of position write) position
+    → write.patch.bytes ≡ d → get_or (patch base write.patch) position 0 ≡ seen_byte base (layer_of position write) position
 patched_byte_by base o [] position write offset bytes = grind arith
-patched_byte_by base o (b ∷ d) position write offset bytes =
-    rw (bytes, offset) (get_or-written base o (b ∷ d) position
+patched_byte_by base o (b ∷ d) position write offset bytes = rw (bytes, offset) (get_or-written base o (b ∷ d) position
     ∙ by_cover (nat_le o position && nat_lt position (o + length (b ∷ d))))
   where
     by_cover : (c : Bool) → (if c then slice_index (b ∷ d) (position - o) else slice_index base position)
@@ -95,7 +93,8 @@ uncovered_by base write position past =
     let long = length_patch_by base write.patch write.patch.offset write.patch.bytes refl refl in
     let outside : (nat_le write.patch.offset position && nat_lt position (end_of write.patch)) ≡ false =
     elim (cases_lt 0 (length write.patch.bytes)) [
-      | inl some ↦ let is = long.1 some in grind (arith, is, past) | inr none ↦ grind (arith, none)
+      | inl some ↦ let is = long.1 some in grind (arith, is, past)
+      | inr none ↦ grind (arith, none)
     ] in
     rw outside refl
 
@@ -129,7 +128,8 @@ patch_within : (base : List ℕ) (write : Waiting) (size : ℕ) → length base 
     → ((position : ℕ) → size ≤ position → layer_of position write ≡ []) → length (patch base write.patch) ≤ size
 patch_within base write size fits none =
     let long = length_patch_by base write.patch write.patch.offset write.patch.bytes refl refl in
-    elim (cases_lt 0 (length write.patch.bytes)) [ | inl some ↦
+    elim (cases_lt 0 (length write.patch.bytes)) [
+      | inl some ↦
           let is = long.1 some in
           elim (cases_lt size (end_of write.patch)) [
             | inl past ↦ absurd (covered_last write (end_of write.patch - 1) (omega (arith, some)) (omega (arith, some))
@@ -143,8 +143,7 @@ patch_within base write size fits none =
 pub patched_within : (base : List ℕ) (writes : List Waiting) (size : ℕ) → length base ≤ size
     → ((position : ℕ) → size ≤ position → layers_at position writes ≡ []) → length (patches base (patches_waiting writes)) ≤ size
 patched_within base [] size fits none = fits
-patched_within base (write ∷ writes) size fits none =
-    patched_within (patch base write.patch) writes size
+patched_within base (write ∷ writes) size fits none = patched_within (patch base write.patch) writes size
     (patch_within base write size fits
     (λ position past. (append_none (layers_at position writes) (layer_of position write) (none position past)).1))
     (λ position past. (append_none (layers_at position writes) (layer_of position write) (none position past)).0)
@@ -174,10 +173,11 @@ stacks_within : (is_open : Layer → Bool) (base : List ℕ) (stacks : List (Lis
 stacks_within is_open base stacks writes is = elim is.ends [
   | inl none ↦ omega (arith, none)
   | inr some ↦ elim (cases_lt (length stacks - 1) (length (patches base (patches_waiting writes)))) [
-        | inl inside ↦ omega (arith, inside) | inr past ↦
-            absurd (some (none_open is_open (stack_in stacks (length stacks - 1)) (is.tops (length stacks - 1))
-            (is.left (length stacks - 1) ∙ none_past base writes (length stacks - 1) past)))
-      ]
+    | inl inside ↦ omega (arith, inside)
+    | inr past ↦
+        absurd (some (none_open is_open (stack_in stacks (length stacks - 1)) (is.tops (length stacks - 1))
+        (is.left (length stacks - 1) ∙ none_past base writes (length stacks - 1) past)))
+  ]
 ]
 
 patched_length : (is_open : Layer → Bool) (base : List ℕ) (stacks : List (List Layer)) (writes : List Waiting)
@@ -297,7 +297,9 @@ shows_rest base bytes stacks at k same long covered at-is k-min is = decided sam
     behind : drop (length stacks) bytes ≡ drop k base → Shows base stacks bytes
     behind equal = record {
       long = long;
-      each = λ position within. elim (cases_lt position (length stacks)) [ | inl below ↦ covered position below | inr past ↦
+      each = λ position within. elim (cases_lt position (length stacks)) [
+        | inl below ↦ covered position below
+        | inr past ↦
             let at : length stacks + (position - length stacks) ≡ position = omega (arith, past) in
             let k-at : k ≡ length stacks = omega (arith, k-is, long, within, past) in
             let k-place : k + (position - length stacks) ≡ position = omega (arith, past, k-at) in

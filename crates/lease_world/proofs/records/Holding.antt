@@ -234,6 +234,7 @@ holders-move client file state seen past next old new told belief goods is other
 
     moved : is_good client past ≡ true → (f : ℕ)
         → IsCounted (held f next) (if f == file then believed_by seen file state old else holders_in old f)
-    moved good f = elim (cases_Bool (f == file)) [ | inl e ↦ rw (e, eqb-true f file e) (here good)
+    moved good f = elim (cases_Bool (f == file)) [
+      | inl e ↦ rw (e, eqb-true f file e) (here good)
       | inr ne ↦ rw ne (away f (λ same. differ f ne same))
     ]

@@ -40,12 +40,13 @@ pub two-where : (past : List Fact) (client other file : ℕ) → other ≢ clien
     → is_good client past ≡ true → is_good other past ≡ true
     → is_conflict (believed client file past) (believed other file past) ≡ true → has_two_caches past ≡ true
 two-where past client other file ne good good_too conflict = elim (cases_Bool (has_two_caches past)) [
-      | inl two ↦ two | inr none ↦
-          let one : OneWriteCache past = one_cache-test past none in
-          absurd (conflict_either (believed client file past) (believed other file past) conflict
-          (λ w. one file client other ne good w good_too)
-          (λ w. one file other client (λ e. ne (sym e)) good_too w good))
-    ]
+  | inl two ↦ two
+  | inr none ↦
+      let one : OneWriteCache past = one_cache-test past none in
+      absurd (conflict_either (believed client file past) (believed other file past) conflict
+      (λ w. one file client other ne good w good_too)
+      (λ w. one file other client (λ e. ne (sym e)) good_too w good))
+]
 
 -- where there is one write cache, no two good clients conflict
 pub none-conflicts : (past : List Fact) (client other file : ℕ) → OneWriteCache past → other ≢ client

@@ -58,9 +58,9 @@ pub pending-settled : (client file number : ℕ) (outcome : Settlement) (whole p
 unfolding pending is_settled
 pending-settled client file number outcome whole [] = refl
 pending-settled client file number outcome whole (Fact.Wrote writer other used patch buffered ∷ past) = rw (
-      same_client client (number == used),
-      regroup (writer == client && other == file) (number == used) (is_settled client used whole),
-    ) (with_or_without number (writer == client && other == file && not (is_settled client used whole)) (number == used)
+  same_client client (number == used),
+  regroup (writer == client && other == file) (number == used) (is_settled client used whole),
+) (with_or_without number (writer == client && other == file && not (is_settled client used whole)) (number == used)
     (pending client file (Fact.Settled client number outcome ∷ whole) past) (pending client file whole past)
     (record { number = used; patch = patch }) refl (pending-settled client file number outcome whole past))
 pending-settled client file number outcome whole (_ ∷ past) = pending-settled client file number outcome whole past

@@ -34,10 +34,10 @@ advances : (taken later k : ℕ) (changes : List Change) → taken ≤ later →
 advances taken later zero changes le inside = (refl, omega arith)
 advances taken later (suc k) [] le inside = absurd (omega arith)
 advances taken later (suc k) (change ∷ changes) le inside = elim (cases_Bool (nat_lt change.place taken)) [
-      | inl h ↦ advance-more later k change changes (still_below change.place taken later h le)
-          (advances taken later k changes le (all_before (nat_lt change.place taken) k change (before taken changes) h inside))
-      | inr h ↦ absurd (nothing_before (nat_lt change.place taken) k change (before taken changes) h inside)
-    ]
+  | inl h ↦ advance-more later k change changes (still_below change.place taken later h le)
+      (advances taken later k changes le (all_before (nat_lt change.place taken) k change (before taken changes) h inside))
+  | inr h ↦ absurd (nothing_before (nat_lt change.place taken) k change (before taken changes) h inside)
+]
 
 take-before : (place : ℕ) (changes : List Change) → take (length (before place changes)) changes ≡ before place changes
 take-before place [] = refl

@@ -39,7 +39,8 @@ pub any_judgement : (client : ℕ) (progress : Progress) (P : Option LeaseOf →
     → HasJudgements client progress P → (given : Option LeaseOf) → P given (acknowledged client given progress)
 unfolding acknowledged
 any_judgement client progress P h None = h.failed None Status.InvalidParameter tt
-any_judgement client progress P h (Some given) = if_cases (P (Some given)) (has_lease progress.server (key_of client given.key)) _ _
+any_judgement client progress P h (Some given) = if_cases (P (Some given))
+    (has_lease progress.server (key_of client given.key)) _ _
     (λ there. known_judgement client progress P h given there (progress.server.leases (key_of client given.key)).broken_to refl)
     (λ gone. h.failed (Some given) Status.ObjectNameNotFound
     (λ there. clash (has_lease progress.server (key_of client given.key)) there gone))

@@ -1,4 +1,4 @@
-use Rattle.std.proofs.Common.{◌∙◌, ap, ap₂}
+use Rattle.lease_laws.proofs.Words.{◌∙◌, ap, ap₂}
 use Rattle.std.proofs.lemmas.Result.{IfOk-weaker}
 use Rattle.clap.specs.Words.{App, with_subcommand}
 use Rattle.leasecheck.proofs.command_line.program.Goals as goal
@@ -20,6 +20,5 @@ returns c =
     IfOk-weaker c.subcommand-7.result _ _ (λ command added. (
       show.0,
       show.1,
-      added.shape c.server_command.ensures.own
-          ∙ ap₂ with_subcommand six (ap (λ (a : App). a.top) c.server_command.ensures.app),
+      added.shape c.server_command.ensures.own ∙ ap₂ with_subcommand six (ap (λ (a : App). a.top) c.server_command.ensures.app),
     )) c.subcommand-7.ensures

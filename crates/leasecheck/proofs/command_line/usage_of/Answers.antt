@@ -1,4 +1,4 @@
-use Rattle.std.proofs.Common.{◌∙◌, sym}
+use Rattle.lease_laws.proofs.Words.{◌∙◌, sym}
 use Rattle.clap.specs.Words.{kind_of}
 use Rattle.leasecheck.proofs.Words.{help_told, refusal_told}
 use Rattle.leasecheck.proofs.command_line.usage_of.Goals as goal

@@ -1,4 +1,4 @@
-use Rattle.std.proofs.Common.{◌∙◌, sym, subst}
+use Rattle.lease_laws.proofs.Words.{◌∙◌, subst, sym}
 use Rattle.lease_lines.specs.Tables.{machines_of}
 use Rattle.leasecheck.specs.Conversing.{GivesLine}
 use Rattle.leasecheck.proofs.Spoken.{begins, goes_on, ends, stops, breaks_off, none_left, some_left}
@@ -11,8 +11,7 @@ loop-number-init g c = begins (g.I.Read.remaining c.args.input.now) (g.O.Write.c
 pub returns-in-Err-clause-answered : goal.returns-in-Err-clause-answered
 returns-in-Err-clause-answered g c =
     stops _ (g.I.Read.remaining c.args.input.now) _ (machines_of c.args.machines) _ c.loop-number.number
-    (g.O.Write.contents c.args.out.now)
-    _ c.in-Err.failure c.loop-number.invariant
+    (g.O.Write.contents c.args.out.now) _ c.in-Err.failure c.loop-number.invariant
 
 pub returns-then-is_empty-clause-answered : goal.returns-then-is_empty-clause-answered
 returns-then-is_empty-clause-answered g c =
@@ -40,13 +39,10 @@ loop-number-preserved g c =
     let new = g.I.Read.remaining c.next_bytes.new.input in
     goes_on (g.I.Read.remaining c.args.input.now) old new (machines_of c.args.machines) _ _ c.loop-number.number
     (g.O.Write.contents c.args.out.now) _ _ c.as_slice-text.result.now c.first_line.result.0.now c.first_line.result.1.now
-    c.loop-number.invariant
-    (subst (λ bytes. GivesLine old new bytes) (sym c.as_slice-text.ensures.value) c.in-Ok.ensures.given)
+    c.loop-number.invariant (subst (λ bytes. GivesLine old new bytes) (sym c.as_slice-text.ensures.value) c.in-Ok.ensures.given)
     (some_left c.as_slice-text.result.now (sym c.is_empty.ensures ∙ c.if-is_empty.false)) c.first_line.ensures.lines
     c.in-Ok-answer_line.ensures.answered
 
 pub returns-clause-answered : goal.returns-clause-answered
-returns-clause-answered g c =
-    stops _ (g.I.Read.remaining c.args.input.now) _ (machines_of c.args.machines) _ c.loop-number.number
-    (g.O.Write.contents c.args.out.now)
-    _ _ c.loop-number.invariant
+returns-clause-answered g c = stops _ (g.I.Read.remaining c.args.input.now) _ (machines_of c.args.machines) _ c.loop-number.number
+    (g.O.Write.contents c.args.out.now) _ _ c.loop-number.invariant

@@ -1,4 +1,4 @@
-use Rattle.std.proofs.Common.{inr}
+use Rattle.lease_laws.proofs.Words.{inr}
 use Rattle.lease_texts.specs.Drafts.{draft_of}
 use Rattle.leasecheck.proofs.drawing.draw_schedule.Goals as goal
 

@@ -1,4 +1,4 @@
-use Rattle.std.proofs.Common.{inl}
+use Rattle.lease_laws.proofs.Words.{inl}
 use Rattle.leasecheck.proofs.drawing.draw_text.Goals as goal
 
 pub returns-in_ok-drawn-in-Ok-clause-drawn : goal.returns-in_ok-drawn-in-Ok-clause-drawn

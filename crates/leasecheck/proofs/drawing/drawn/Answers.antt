@@ -1,4 +1,4 @@
-use Rattle.std.proofs.Common.{List, ℕ, map, ap, ap₂, subst, ◌∙◌}
+use Rattle.lease_laws.proofs.Words.{◌∙◌, List, ℕ, ap, ap₂, map, subst}
 use Rattle.lease_facts.specs.Facts.{fact_of}
 use Rattle.lease_facts.specs.declared.fact.Fact.{Fact}
 use Rattle.lease_model.specs.records.Verdict as model

@@ -1,4 +1,4 @@
-use Rattle.std.proofs.Common.{◌≡◌, ◌++◌, length}
+use Rattle.lease_laws.proofs.Words.{◌++◌, ◌≡◌, length}
 use Rattle.leasecheck.specs.Arguments.{digits_in}
 use Rattle.leasecheck.proofs.hexadecimal.digits_in.Given as goal
 

@@ -1,4 +1,4 @@
-use Rattle.std.proofs.Common.{ℕ, arith, length-take, subst, take, ◌++◌}
+use Rattle.lease_laws.proofs.Words.{◌++◌, ℕ, arith, length-take, subst, take}
 use Rattle.std.specs.Io.KnownBytes.{Consumes}
 use Rattle.leasecheck.specs.Judging.{JudgesText}
 use Rattle.leasecheck.proofs.Rounds.{begins, goes_on, stops, ends, runs_out}
@@ -28,12 +28,9 @@ returns-then-count-eq0 g c =
     ends (g.I.Read.remaining c.args.input.now) _ new c.loop-round.progress c.loop-round.begun.items c.loop-round._round
     c.end.result
     c.loop-round.invariant (subst (λ n. Consumes (g.I.Read.remaining c.loop-round.input) new (take n c.read_block.new.block))
-    c.if-count-eq0.true c.in_ok-count.ensures.bytes)
-    (c.in_ok-count.ensures.end c.if-count-eq0.true)
+    c.if-count-eq0.true c.in_ok-count.ensures.bytes) (c.in_ok-count.ensures.end c.if-count-eq0.true)
     (λ text has. subst (λ t. JudgesText (text ++ t) c.end.result) c.as_slice.ensures.value (c.end.ensures text has))
 
 pub returns : goal.returns
-returns g c =
-    runs_out (g.I.Read.remaining c.args.input.now) _ c.loop-round.progress c.loop-round.begun.items c.loop-round._round
-    c.loop-round.invariant
-    (omega (arith, c.loop-round-test.false))
+returns g c = runs_out (g.I.Read.remaining c.args.input.now) _ c.loop-round.progress c.loop-round.begun.items c.loop-round._round
+    c.loop-round.invariant (omega (arith, c.loop-round-test.false))

@@ -1,4 +1,4 @@
-use Rattle.std.proofs.Common.{inr, ◌++◌, [], ◌∷◌, map, sym, ◌∙◌}
+use Rattle.lease_laws.proofs.Words.{◌++◌, ◌∙◌, ◌∷◌, [], inr, map, sym}
 use Rattle.lease_facts.specs.Facts.{fact_of}
 use Rattle.leasecheck.proofs.JudgedLines.{line_passed, line_told, line_refused, judged_more}
 use Rattle.leasecheck.proofs.judging.take_fact.Goals as goal
@@ -15,10 +15,9 @@ returns-in_ok-add-in-Ok c = λ facts judged. (
 )
 
 pub returns-in-Err-Refused : goal.returns-in-Err-Refused
-returns-in-Err-Refused c = λ facts judged.
-    inr (
-      line_refused facts c.args.line.now (sym c.is_passed_over.ensures ∙ c.if-is_passed_over.false)
-          (c.in-Err-Refused.ensures c.in-Err-Refused.field-0-is),
-      c.of_fact.ensures.failure,
-      c.of_fact.ensures.said,
-    )
+returns-in-Err-Refused c = λ facts judged. inr (
+  line_refused facts c.args.line.now (sym c.is_passed_over.ensures ∙ c.if-is_passed_over.false)
+      (c.in-Err-Refused.ensures c.in-Err-Refused.field-0-is),
+  c.of_fact.ensures.failure,
+  c.of_fact.ensures.said,
+)

@@ -1,5 +1,4 @@
-use Rattle.std.proofs.Common.{◌≡◌, List, ℕ, [], ◌++◌, Option, Some, None, refl, ◌∙◌, subst, ap}
-use Rattle.std.specs.Prelude.{IfSome}
+use Rattle.lease_laws.proofs.Words.{◌++◌, ◌∙◌, ◌≡◌, IfSome, List, None, Option, Some, ℕ, [], ap, refl, subst}
 use Rattle.leasecheck.specs.Drawing.{Draws}
 use Rattle.leasecheck.proofs.printing.drawn.Goals as goal
 
@@ -14,6 +13,5 @@ pub returns-in-Ok-draw_text-clause-printed : goal.returns-in-Ok-draw_text-clause
 returns-in-Ok-draw_text-clause-printed g c = (
   refl,
   drawn_of_known (g.I.Read.remaining c.args.input.now) c.as_slice.result.now _ _ _ c.as_slice.ensures.value
-      c.new-bytes.ensures.items
-      c.in-Ok.ensures.bytes c.in-Ok-draw_text.ensures.drawn,
+      c.new-bytes.ensures.items c.in-Ok.ensures.bytes c.in-Ok-draw_text.ensures.drawn,
 )

@@ -1,5 +1,5 @@
-use Rattle.std.proofs.Common.{◌≡◌, ◌⊎◌, List, ℕ, [], ◌++◌, Option, Some, None, Result, Ok, Err, inl, inr, ◌∙◌, subst, sym, ap}
-use Rattle.std.specs.Prelude.{IfSome}
+use Rattle.lease_laws.proofs.Words.{◌++◌, ◌∙◌, ◌≡◌, ◌⊎◌, Err, IfSome, List, None, Ok, Option, Result, Some, ℕ, [], ap, inl, inr}
+use Rattle.lease_laws.proofs.Words.{subst, sym}
 use Rattle.lease_texts.specs.Records.{record_in}
 use Rattle.leasecheck.proofs.Puts.{says_more}
 use Rattle.leasecheck.specs.Refusals.{MayEndJudging, line_refusal}
@@ -24,21 +24,17 @@ of_known (Some bytes) text items start failure is none same (inr refused) =
     inr (inr (inr (subst (λ t. line_refusal (record_in t) ≡ Some failure) (is ∙ (same ∙ ap (λ s. s ++ bytes) none)) refused)))
 
 said_of_known : (known : Option (List ℕ)) (text items start : List ℕ) (failure : Failure) (line : List ℕ) → text ≡ items
-    → start ≡ []
-    → IfSome known (λ bytes. items ≡ start ++ bytes)
+    → start ≡ [] → IfSome known (λ bytes. items ≡ start ++ bytes)
     → record_remark text failure ≡ Some line → IsFileRemark record_remark known failure line
 said_of_known None text items start failure line is none same said = (text, said)
 said_of_known (Some bytes) text items start failure line is none same said =
     subst (λ t. record_remark t failure ≡ Some line) (is ∙ (same ∙ ap (λ s. s ++ bytes) none)) said
 
 pub returns-clause-said : goal.returns-clause-said
-returns-clause-said g c =
-    says_more c.in-Err.refusal (λ failure line. record_remark c.as_slice.result.now failure ≡ Some line)
+returns-clause-said g c = says_more c.in-Err.refusal (λ failure line. record_remark c.as_slice.result.now failure ≡ Some line)
     (IsFileRemark record_remark (g.I.Read.remaining c.args.input.now))
     (λ line. said_of_known _ c.as_slice.result.now _ _ c.in-Err.refusal.failure line c.as_slice.ensures.value
-    c.new-bytes.ensures.items
-    c.in-Ok.ensures.bytes)
-    c.in-Err.ensures.said
+    c.new-bytes.ensures.items c.in-Ok.ensures.bytes) c.in-Err.ensures.said
 
 pub returns-clause-refused : goal.returns-clause-refused
 returns-clause-refused g c =

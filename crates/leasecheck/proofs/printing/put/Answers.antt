@@ -1,4 +1,4 @@
-use Rattle.std.proofs.Common.{refl}
+use Rattle.lease_laws.proofs.Words.{refl}
 use Rattle.leasecheck.proofs.Puts.{puts_more}
 use Rattle.leasecheck.proofs.printing.put.Goals as goal
 

@@ -1,5 +1,4 @@
-use Rattle.std.proofs.Common.{◌≡◌, ◌++◌, List, ℕ}
-use Rattle.std.specs.Io.KnownBytes.{Appends}
+use Rattle.lease_laws.proofs.Words.{◌++◌, ◌≡◌, Appends, List, ℕ}
 use Rattle.leasecheck.proofs.printing.put.Given as goal
 
 -- what was written and what is left are the text

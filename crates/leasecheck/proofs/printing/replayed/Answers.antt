@@ -1,5 +1,4 @@
-use Rattle.std.proofs.Common.{◌≡◌, ◌⊎◌, List, ℕ, [], ◌++◌, Option, Some, None, inl, inr, ◌∙◌, subst, ap}
-use Rattle.std.specs.Prelude.{IfSome}
+use Rattle.lease_laws.proofs.Words.{◌++◌, ◌∙◌, ◌≡◌, ◌⊎◌, IfSome, List, None, Option, Some, ℕ, [], ap, inl, inr, subst}
 use Rattle.leasecheck.specs.Replayed.{replay_refusal}
 use Rattle.leasecheck.specs.Refusals.{MayEndReplay}
 use Rattle.leasecheck.specs.Remarks.{IsFileRemark, schedule_remark}
@@ -18,20 +17,17 @@ of_known (Some bytes) text items start failure is none same (inr refused) =
     inr (inr (subst (λ t. replay_refusal t ≡ Some failure) (is ∙ (same ∙ ap (λ s. s ++ bytes) none)) refused))
 
 said_of_known : (known : Option (List ℕ)) (text items start : List ℕ) (failure : Failure) (line : List ℕ) → text ≡ items
-    → start ≡ []
-    → IfSome known (λ bytes. items ≡ start ++ bytes)
+    → start ≡ [] → IfSome known (λ bytes. items ≡ start ++ bytes)
     → schedule_remark text failure ≡ Some line → IsFileRemark schedule_remark known failure line
 said_of_known None text items start failure line is none same said = (text, said)
 said_of_known (Some bytes) text items start failure line is none same said =
     subst (λ t. schedule_remark t failure ≡ Some line) (is ∙ (same ∙ ap (λ s. s ++ bytes) none)) said
 
 pub returns-clause-said : goal.returns-clause-said
-returns-clause-said g c =
-    says_more c.in-Err.refusal (λ failure line. schedule_remark c.as_slice.result.now failure ≡ Some line)
+returns-clause-said g c = says_more c.in-Err.refusal (λ failure line. schedule_remark c.as_slice.result.now failure ≡ Some line)
     (IsFileRemark schedule_remark (g.I.Read.remaining c.args.input.now))
     (λ line. said_of_known _ c.as_slice.result.now _ _ c.in-Err.refusal.failure line c.as_slice.ensures.value
-    c.new-bytes.ensures.items c.in-Ok.ensures.bytes)
-    c.in-Err.ensures.said
+    c.new-bytes.ensures.items c.in-Ok.ensures.bytes) c.in-Err.ensures.said
 
 pub returns-clause-refused : goal.returns-clause-refused
 returns-clause-refused g c =

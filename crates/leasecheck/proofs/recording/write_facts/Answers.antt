@@ -1,4 +1,5 @@
-use Rattle.std.proofs.Common.{◌≡◌, ◌∙◌, ◌<◌, ◌≤◌, ◌+◌, ◌++◌, List, ℕ, [], length, drop, get_or, refl, ap, subst, sym, append_assoc}
+use Rattle.lease_laws.proofs.Words.{◌++◌, ◌+◌, ◌<◌, ◌∙◌, ◌≡◌, ◌≤◌, List, ℕ, [], ap, append_assoc, drop, get_or, length, refl}
+use Rattle.lease_laws.proofs.Words.{subst, sym}
 use Rattle.lease_facts.specs.declared.fact.Fact.{Fact}
 use Rattle.lease_state.specs.declared.reply.Reply.{Reply}
 use Rattle.lease_texts.specs.Records.{fact_line}
@@ -28,8 +29,7 @@ loop-fact-preserved g c =
     let lines : List ℕ = message_before fact left ++ fact_line fact in
     let more : HasGathered first (g.O.Write.contents c.loop-fact.out) c.push.new.self (told ++ lines) =
     gathered_more first (g.O.Write.contents c.loop-fact.out) c.loop-fact.gathered c.push.new.self told lines has
-    c.in-Ok.ensures.lines
-    c.push.ensures.begun in
+    c.in-Ok.ensures.lines c.push.ensures.begun in
     let inside : n < length facts = subst (λ (fs : List Fact). n < length fs) c.as_slice-fact-items.ensures.value
     c.loop-fact-test.true in
     let this : fact ≡ get_or facts n fact =
@@ -67,8 +67,7 @@ returns-in-Err-write_block g c = λ rest.
     let lines : List ℕ = message_before fact left ++ fact_line fact in
     let more : HasGathered first (g.O.Write.contents c.loop-fact.out) c.push.new.self (told ++ lines) =
     gathered_more first (g.O.Write.contents c.loop-fact.out) c.loop-fact.gathered c.push.new.self told lines has
-    c.in-Ok.ensures.lines
-    c.push.ensures.begun in
+    c.in-Ok.ensures.lines c.push.ensures.begun in
     let inside : n < length facts = subst (λ (fs : List Fact). n < length fs) c.as_slice-fact-items.ensures.value
     c.loop-fact-test.true in
     let this : fact ≡ get_or facts n fact =
@@ -94,5 +93,4 @@ returns g c =
     subst (λ (t : List ℕ). HasGathered (g.O.Write.contents c.args.out.now) (g.O.Write.contents c.loop-fact.out)
     c.loop-fact.gathered t)
     (told_whole so_far.0 (record_with_messages facts c.args.recorded.now.messages.items) facts c.loop-fact.fact-index
-    c.loop-fact.left.now past so_far.2)
-    so_far.1
+    c.loop-fact.left.now past so_far.2) so_far.1

@@ -1,4 +1,4 @@
-use Rattle.std.proofs.Common.{◌≡◌, ◌++◌, List, ℕ, codes, refl, subst}
+use Rattle.lease_laws.proofs.Words.{◌++◌, ◌≡◌, List, ℕ, codes, refl, subst}
 use Rattle.std.specs.Prelude.{IfErr}
 use Rattle.leasecheck.specs.Messages.{record_with_messages}
 use Rattle.leasecheck.specs.Recording.{HasGathered}
@@ -18,15 +18,12 @@ returns-in-Ok-clause-failed g c =
     gathered_more first current c.write_facts.new.gathered c.push_end.new.self facts line c.in_default.ensures
     c.in-Ok.ensures.line c.push_end.ensures.begun in
     unwritten_whole first current (g.O.Write.contents c.print_text.new.out) c.push_end.new.self (facts ++ line)
-    c.print_text.result has
-    (subst (λ (t : List ℕ). IfErr c.print_text.result (λ why. (why ≡ failure.Output)
-    × Begins current (g.O.Write.contents c.print_text.new.out) t))
-    c.as_str.ensures.value c.print_text.ensures.refused)
+    c.print_text.result has (subst (λ (t : List ℕ). IfErr c.print_text.result (λ why. (why ≡ failure.Output)
+    × Begins current (g.O.Write.contents c.print_text.new.out) t)) c.as_str.ensures.value c.print_text.ensures.refused)
 
 pub returns-clause-failed : goal.returns-clause-failed
 returns-clause-failed g c =
     let facts : List ℕ = record_with_messages c.args.recorded.now.facts.items c.args.recorded.now.messages.items in
     let line : List ℕ = codes "# " ++ verdict_line c.args.recorded.now.verdict in
     unmade (g.O.Write.contents c.args.out.now) (g.O.Write.contents c.write_facts.new.out) c.write_facts.new.gathered facts line
-    (facts ++ line)
-    c.in-Err-push_end.failure c.in_default.ensures c.in-Err-push_end.ensures.failed refl
+    (facts ++ line) c.in-Err-push_end.failure c.in_default.ensures c.in-Err-push_end.ensures.failed refl

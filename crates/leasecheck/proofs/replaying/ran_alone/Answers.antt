@@ -1,4 +1,4 @@
-use Rattle.std.proofs.Common.{◌∙◌, List, ap, rules}
+use Rattle.lease_laws.proofs.Words.{◌∙◌, List, ap, rules}
 use Rattle.lease_state.specs.declared.reply.Reply.{Reply}
 use Rattle.leasecheck.specs.Messages.{record_with_messages}
 use Rattle.leasecheck.proofs.Recorded.{told_alone}

@@ -1,5 +1,5 @@
-use Rattle.std.proofs.Common.{◌≡◌, ◌≢◌, ◌≤◌, ℕ, zero, suc, List, Bor, map, ap, subst, inl, inr, refl, ◌∙◌, arith}
-use Rattle.std.specs.String.{string_bytes}
+use Rattle.lease_laws.proofs.Words.{◌∙◌, ◌≡◌, ◌≢◌, ◌≤◌, List, ℕ, ap, arith, inl, inr, map, refl, string_bytes, subst, suc, zero}
+use Rattle.std.proofs.Common.{Bor}
 use Rattle.clap.specs.Words.{Text}
 use Rattle.lease_lines.specs.Tables.{machines_of}
 use Rattle.leasecheck.specs.CommandLine.{AsksFor, IsUsageOf, Request, all_words, request_of}

@@ -1,5 +1,4 @@
-use Rattle.std.proofs.Common.{◌≡◌, map, take}
-use Rattle.std.specs.String.{string_bytes}
+use Rattle.lease_laws.proofs.Words.{◌≡◌, map, string_bytes, take}
 use Rattle.leasecheck.proofs.run.views.Given as goal
 
 abbrev pub invariant-loop-word : goal.invariant-loop-word

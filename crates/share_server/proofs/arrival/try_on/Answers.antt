@@ -1,4 +1,4 @@
-use Rattle.std.proofs.Common.{sym, ◌∙◌}
+use Rattle.lease_laws.proofs.Words.{◌∙◌, sym}
 use Rattle.share_server.specs.Findings.{outcome_of}
 use Rattle.share_server.specs.Outs.{progress_of}
 use Rattle.share_server.specs.Requests.{file_request_of}
@@ -7,10 +7,8 @@ use Rattle.share_server.proofs.Homing.{ready_at_home}
 use Rattle.share_server.proofs.arrival.try_on.Goals as goal
 
 pub returns-then-is_behind : goal.returns-then-is_behind
-returns-then-is_behind c =
-    behind_held c.args.tables.now c.hold.new.self c.args.outs.now c.args.client.0 c.args.file.0
-    (file_request_of c.args.request)
-    (rw c.held.ensures at (sym c.is_behind.ensures ∙ c.if-is_behind.true)) c.in_ok-hold.ensures
+returns-then-is_behind c = behind_held c.args.tables.now c.hold.new.self c.args.outs.now c.args.client.0 c.args.file.0
+    (file_request_of c.args.request) (rw c.held.ensures at (sym c.is_behind.ensures ∙ c.if-is_behind.true)) c.in_ok-hold.ensures
 
 pub returns-then-waits : goal.returns-then-waits
 returns-then-waits c =

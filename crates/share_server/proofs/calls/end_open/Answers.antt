@@ -1,4 +1,4 @@
-use Rattle.std.proofs.Common.{[]}
+use Rattle.lease_laws.proofs.Words.{[]}
 use Rattle.share_server.proofs.Breaking.{dropped}
 use Rattle.share_server.proofs.calls.end_open.Goals as goal
 

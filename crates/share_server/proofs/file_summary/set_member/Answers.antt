@@ -1,4 +1,4 @@
-use Rattle.std.proofs.Common.{arith}
+use Rattle.lease_laws.proofs.Words.{arith}
 use Rattle.share_server.proofs.Ordering.{order_eq-back}
 use Rattle.share_server.proofs.file_summary.set_member.Goals as goal
 

@@ -1,5 +1,4 @@
-use Rattle.std.proofs.Common.{arith, length, ◌≡◌}
-use Rattle.std.proofs.lemmas.Bool.Decides.{nat_tests}
+use Rattle.lease_laws.proofs.Words.{◌≡◌, arith, length, nat_tests}
 use Rattle.share_server.proofs.KeyOrder.{before_from, before_none}
 use Rattle.share_server.proofs.key.come_before.Goals as goal
 

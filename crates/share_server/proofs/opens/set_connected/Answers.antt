@@ -1,5 +1,4 @@
-use Rattle.std.proofs.Common.{refl, sym}
-use Rattle.lease_model.specs.server.State.{Open}
+use Rattle.lease_laws.proofs.Words.{Open, refl, sym}
 use Rattle.share_server.proofs.Filing.{filed_written, values_written, values_unset}
 use Rattle.share_server.proofs.opens.set_connected.Goals as goal
 
@@ -24,7 +23,6 @@ returns-in-Some-clause-opens c =
     c.set_connected.ensures (c.get_mut.follows.holds c.set_connected.new.self).0
 
 pub returns-in-None-clause-opens : goal.returns-in-None-clause-opens
-returns-in-None-clause-opens c =
-    rw c.get_mut.follows.holds-at-none
+returns-in-None-clause-opens c = rw c.get_mut.follows.holds-at-none
     (values_unset c.args.fid.0 (λ (o : Open). record o { connected = c.args.connected }) c.args.by_id.now.entries
     c.requires.filed (sym c.in-None.ensures.value))

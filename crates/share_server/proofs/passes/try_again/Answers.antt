@@ -1,6 +1,4 @@
-use Rattle.std.proofs.Common.{◌+◌, ◌∙◌, ap, sym, arith, subst, take, inr, refl}
-use Rattle.lease_model.specs.server.Attempt.{Outcome}
-use Rattle.lease_model.specs.server.State.{Server}
+use Rattle.lease_laws.proofs.Words.{◌+◌, ◌∙◌, Outcome, Server, ap, arith, inr, refl, subst, sym, take}
 use Rattle.share_server.specs.Findings.{outcome_of}
 use Rattle.share_server.specs.Outs.{progress_of}
 use Rattle.share_server.specs.Passing.{pass_at}
@@ -23,23 +21,20 @@ returns-then-waits-clause-step c = λ has.
     waits_here c.args.file.0 c.args.place has (progress_of c.args.tables.now c.args.outs.now)
     (progress_of c.attempt.new.tables c.attempt.new.outs) (the_view c.one.inside) (outcome_of c.in_ok-outcome.outcome)
     c.requires (rw (← c.one.view_is, c.held-held.ensures) at c.index-held-place.is)
-    (rw c.held-held.ensures at (sym c.is_behind.ensures ∙ c.if-is_behind.false))
-    (c.in_ok-outcome.ensures
+    (rw c.held-held.ensures at (sym c.is_behind.ensures ∙ c.if-is_behind.false)) (c.in_ok-outcome.ensures
     ∙ c.ask-ask.ensures.tried c.one.inside.client.0 (progress_of c.args.tables.now c.args.outs.now))
     (sym c.waits.ensures ∙ c.if-waits.true)
 
 pub returns-then-waits-clause-fewer : goal.returns-then-waits-clause-fewer
 returns-then-waits-clause-fewer c =
     let same = same_held c.args.file.0 c.one.inside.client.0 _ (progress_of c.args.tables.now c.args.outs.now)
-    (progress_of c.attempt.new.tables c.attempt.new.outs) (outcome_of c.in_ok-outcome.outcome)
-    c.in_ok-outcome.ensures in
+    (progress_of c.attempt.new.tables c.attempt.new.outs) (outcome_of c.in_ok-outcome.outcome) c.in_ok-outcome.ensures in
     rw same (omega arith)
 
 pub release-one-requires : goal.release-one-requires
 release-one-requires c =
     let same = same_held c.args.file.0 c.one.inside.client.0 _ (progress_of c.args.tables.now c.args.outs.now)
-    (progress_of c.attempt.new.tables c.attempt.new.outs) (outcome_of c.in_ok-outcome.outcome)
-    c.in_ok-outcome.ensures in
+    (progress_of c.attempt.new.tables c.attempt.new.outs) (outcome_of c.in_ok-outcome.outcome) c.in_ok-outcome.ensures in
     rw same c.requires
 
 pub returns-clause-step : goal.returns-clause-step
@@ -48,8 +43,7 @@ returns-clause-step c =
     (the_view c.one-2.inside) c.attempt.new.tables c.release-one.new.self c.attempt.new.outs
     (outcome_of c.in_ok-outcome.outcome) (progress_of c.conclude.new.tables c.conclude.new.outs)
     c.requires (rw (← c.one.view_is, c.held-held.ensures) at c.index-held-place.is)
-    (rw c.held-held.ensures at (sym c.is_behind.ensures ∙ c.if-is_behind.false))
-    (c.in_ok-outcome.ensures
+    (rw c.held-held.ensures at (sym c.is_behind.ensures ∙ c.if-is_behind.false)) (c.in_ok-outcome.ensures
     ∙ c.ask-ask.ensures.tried c.one.inside.client.0 (progress_of c.args.tables.now c.args.outs.now))
     (sym c.waits.ensures ∙ c.if-waits.false) c.release-one.ensures.left
     (rw (← c.one-2.view_is) at c.release-one.ensures.taken) c.in_ok-conclude.ensures).step
@@ -60,8 +54,7 @@ returns-clause-fewer c =
     (the_view c.one-2.inside) c.attempt.new.tables c.release-one.new.self c.attempt.new.outs
     (outcome_of c.in_ok-outcome.outcome) (progress_of c.conclude.new.tables c.conclude.new.outs)
     c.requires (rw (← c.one.view_is, c.held-held.ensures) at c.index-held-place.is)
-    (rw c.held-held.ensures at (sym c.is_behind.ensures ∙ c.if-is_behind.false))
-    (c.in_ok-outcome.ensures
+    (rw c.held-held.ensures at (sym c.is_behind.ensures ∙ c.if-is_behind.false)) (c.in_ok-outcome.ensures
     ∙ c.ask-ask.ensures.tried c.one.inside.client.0 (progress_of c.args.tables.now c.args.outs.now))
     (sym c.waits.ensures ∙ c.if-waits.false) c.release-one.ensures.left
     (rw (← c.one-2.view_is) at c.release-one.ensures.taken) c.in_ok-conclude.ensures).fewer
@@ -69,10 +62,8 @@ returns-clause-fewer c =
 pub conclude-requires : goal.conclude-requires
 conclude-requires c = λ ready.
     home_again c.args.file.0 c.args.place (progress_of c.args.tables.now c.args.outs.now) (the_view c.one.inside)
-    (the_view c.one-2.inside) c.attempt.new.tables c.release-one.new.self c.attempt.new.outs
-    (outcome_of c.in_ok-outcome.outcome)
-    (rw (← c.one.view_is, c.held-held.ensures) at c.index-held-place.is)
-    (c.in_ok-outcome.ensures
+    (the_view c.one-2.inside) c.attempt.new.tables c.release-one.new.self c.attempt.new.outs (outcome_of c.in_ok-outcome.outcome)
+    (rw (← c.one.view_is, c.held-held.ensures) at c.index-held-place.is) (c.in_ok-outcome.ensures
     ∙ c.ask-ask.ensures.tried c.one.inside.client.0 (progress_of c.args.tables.now c.args.outs.now))
     c.release-one.ensures.left (rw (← c.one-2.view_is) at c.release-one.ensures.taken) ready
 
@@ -86,8 +77,7 @@ count_still-requires-then-branch c = λ one is.
     let queue = (server_of c.args.tables.now).held c.args.file.0 in
     let there = (rw (← c.one.view_is, c.held-held.ensures) at c.index-held-place.is)
     ∙ got queue c.args.place one (the_view c.one.inside) is in
-    subst (Stays (server_of c.args.tables.now) c.args.file.0 (take c.args.place queue)) there
-    (inr (
+    subst (Stays (server_of c.args.tables.now) c.args.file.0 (take c.args.place queue)) there (inr (
       c.ask-ask.ensures.waits c.one.inside.client.0 c.args.file.0 (server_of c.args.tables.now)
           (c.in_ok-has_only_to_wait.ensures.waits c.if-branch.true),
       c.ask-ask.ensures.about c.one.inside.client.0 c.args.file.0 (server_of c.args.tables.now)
@@ -97,14 +87,12 @@ count_still-requires-then-branch c = λ one is.
 pub returns-then-branch-clause-step : goal.returns-then-branch-clause-step
 returns-then-branch-clause-step c = λ has.
     ap (λ (server : Server). pass_at c.args.file.0 (c.args.place + 1) has (at_call server c.args.outs.now))
-    c.in_ok-count_still-2.ensures
-    ∙ waits_here c.args.file.0 c.args.place has (progress_of c.args.tables.now c.args.outs.now)
+    c.in_ok-count_still-2.ensures ∙ waits_here c.args.file.0 c.args.place has (progress_of c.args.tables.now c.args.outs.now)
     (progress_of c.args.tables.now c.args.outs.now) (the_view c.one.inside) Outcome.Waits
     c.requires (rw (← c.one.view_is, c.held-held.ensures) at c.index-held-place.is)
     (rw c.held-held.ensures at (sym c.is_behind.ensures ∙ c.if-is_behind.false))
     (sym (c.in_ok-has_only_to_wait.ensures.vain c.if-branch.true c.args.outs.now)
-    ∙ c.ask-ask.ensures.tried c.one.inside.client.0 (progress_of c.args.tables.now c.args.outs.now))
-    refl
+    ∙ c.ask-ask.ensures.tried c.one.inside.client.0 (progress_of c.args.tables.now c.args.outs.now)) refl
 
 pub returns-then-branch-clause-fewer : goal.returns-then-branch-clause-fewer
 returns-then-branch-clause-fewer c =

@@ -1,4 +1,4 @@
-use Rattle.std.proofs.Common.{◌≡◌, ◌∷◌, map}
+use Rattle.lease_laws.proofs.Words.{◌∷◌, ◌≡◌, map}
 use Rattle.share_server.specs.Table.{no_file, fresh_file}
 use Rattle.share_server.proofs.tables.first_places.Given as goal
 

@@ -1,4 +1,4 @@
-use Rattle.std.proofs.Common.{rules}
+use Rattle.lease_laws.proofs.Words.{rules}
 use Rattle.std.proofs.lemmas.Fn.{filter_same}
 use Rattle.share_server.proofs.tables.forget_held.Goals as goal
 

@@ -10,7 +10,8 @@ pub loop-write-preserved : goal.loop-write-preserved
 loop-write-preserved c = λ n.
     let number-is : is_among c.write-item.result.number c.args.settled.now ≡ c.contains.result =
     ap (λ (w : Waiting). is_among w.number c.args.settled.now) (sym c.write.view_is) ∙ sym c.contains.ensures in
-    elim c.if-not-contains.branch [ | then-not-contains+in_ok-lay w ↦
+    elim c.if-not-contains.branch [
+      | then-not-contains+in_ok-lay w ↦
           lays_next (λ m. not (is_among m c.args.settled.now)) n c.loop-write.write-index c.args.fresh.now c.write-item.result
           (stack_in c.args.covers.now n) (stack_in c.loop-write.covers n) (stack_in c.if-not-contains.covers n)
           c.loop-write-test.true c.write-item.is (ap not (number-is ∙ w.if-not-contains.true))

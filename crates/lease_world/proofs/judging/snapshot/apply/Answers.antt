@@ -12,7 +12,8 @@ returns-then-added-held c =
 pub returns-in_ok-extend_from_slice : goal.returns-in_ok-extend_from_slice
 returns-in_ok-extend_from_slice c =
     let past : length c.args.bytes.now.items ≤ c.args.change.now.offset + length c.args.change.now.bytes =
-    elim c.else-offset-held.branch [ | else-offset-held-via-then-offset-held+else-added-held w ↦ search rules
+    elim c.else-offset-held.branch [
+      | else-offset-held-via-then-offset-held+else-added-held w ↦ search rules
       | else-offset-held-via-else-offset-held w ↦ search rules
     ] in
     behind c.args.bytes.now.items c.args.change.now.bytes c.resize.new.self.items c.extend_from_slice.new.self.items

@@ -1,5 +1,4 @@
-use Rattle.std.proofs.Common.{arith, refl, ◌++◌, ◌∙◌}
-use Rattle.std.proofs.lemmas.Bool.Decides.{nat_tests}
+use Rattle.lease_laws.proofs.Words.{◌++◌, ◌∙◌, arith, nat_tests, refl}
 use Rattle.lease_texts.specs.Pieces.{lines_of}
 use Rattle.leasecheck.proofs.JudgedLines.{first_ends, first_cut, block_behind, refuse_in, text_read}
 use Rattle.leasecheck.proofs.judging.Progress.take_block.Goals as goal

@@ -1,4 +1,4 @@
-use Rattle.std.proofs.Common.{inr, inl, refl}
+use Rattle.lease_laws.proofs.Words.{inl, inr, refl}
 use Rattle.leasecheck.proofs.JudgedLines.{read_line, refuse_line, run_out}
 use Rattle.leasecheck.proofs.judging.Progress.take_line.Goals as goal
 

@@ -1,4 +1,4 @@
-use Rattle.std.proofs.Common.{◌≡◌, ◌++◌, List, ℕ, length}
+use Rattle.lease_laws.proofs.Words.{◌++◌, ◌≡◌, List, ℕ, length}
 use Rattle.lease_texts.specs.Pieces.{lines_of}
 use Rattle.leasecheck.specs.Judging.{HasRead}
 use Rattle.leasecheck.proofs.judging.Progress.take_lines.Given as goal

@@ -1,5 +1,4 @@
-use Rattle.std.proofs.Common.{◌≡◌, arith, refl, sym}
-use Rattle.std.proofs.lemmas.Bool.Decides.{nat_tests}
+use Rattle.lease_laws.proofs.Words.{◌≡◌, arith, nat_tests, refl, sym}
 use Rattle.std.proofs.lemmas.List.{take-append-drop}
 use Rattle.lease_texts.specs.Pieces.{lines_of}
 use Rattle.leasecheck.proofs.Blocks.{ends_with_take}
@@ -18,5 +17,4 @@ returns-in-Err c = λ text has.
     let found = c.in-Some.ensures in
     let feed : _ ≡ 10 = grind (arith, nat_tests, found.1) in
     refuse_in c.in-Err.refusal text _ c.args.block.now _ has.whole (ends_with_take text c.args.block.now c.in-Some.place
-    found.0.high feed)
-    (sym (take-append-drop _ c.args.block.now)) (c.in-Err.ensures (lines_of text) has.read)
+    found.0.high feed) (sym (take-append-drop _ c.args.block.now)) (c.in-Err.ensures (lines_of text) has.read)

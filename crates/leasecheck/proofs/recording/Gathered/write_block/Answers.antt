@@ -1,5 +1,4 @@
-use Rattle.std.proofs.Common.{List, ℕ, refl, subst}
-use Rattle.std.specs.Io.KnownBytes.{Appends}
+use Rattle.lease_laws.proofs.Words.{Appends, List, ℕ, refl, subst}
 use Rattle.leasecheck.proofs.Recorded.{wrote_block}
 use Rattle.leasecheck.proofs.recording.Gathered.write_block.Goals as goal
 

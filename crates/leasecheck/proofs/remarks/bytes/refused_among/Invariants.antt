@@ -1,4 +1,4 @@
-use Rattle.std.proofs.Common.{◌≡◌}
+use Rattle.lease_laws.proofs.Words.{◌≡◌}
 use Rattle.lease_wire.specs.Contexts.{items_left}
 use Rattle.lease_wire.specs.Gathering.{no_values}
 use Rattle.lease_wire.specs.Views.{values_of}
@@ -7,6 +7,5 @@ use Rattle.leasecheck.proofs.remarks.bytes.refused_among.Given as goal
 
 -- what is left gives the whole
 abbrev pub invariant-loop-item : goal.invariant-loop-item
-invariant-loop-item l =
-    refused_among l.direction (values_of l.values) l.number (items_left l.item-iterator)
+invariant-loop-item l = refused_among l.direction (values_of l.values) l.number (items_left l.item-iterator)
     ≡ refused_among l.direction no_values 1 (items_left l.items)

@@ -1,4 +1,4 @@
-use Rattle.std.proofs.Common.{◌≡◌, length}
+use Rattle.lease_laws.proofs.Words.{◌≡◌, length}
 use Rattle.leasecheck.specs.HexRemarks.{from_other}
 use Rattle.leasecheck.proofs.remarks.digits.from_other.Given as goal
 

@@ -1,4 +1,4 @@
-use Rattle.std.proofs.Common.{sym, ◌∙◌}
+use Rattle.lease_laws.proofs.Words.{◌∙◌, sym}
 use Rattle.leasecheck.proofs.LinesAt.{none_at, first_at}
 use Rattle.leasecheck.proofs.remarks.lines.first_of.Goals as goal
 

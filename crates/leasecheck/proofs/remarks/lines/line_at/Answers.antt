@@ -1,4 +1,4 @@
-use Rattle.std.proofs.Common.{sym, ◌∙◌, ◌+◌, ◌-◌, arith}
+use Rattle.lease_laws.proofs.Words.{◌+◌, ◌-◌, ◌∙◌, arith, sym}
 use Rattle.leasecheck.proofs.LinesAt.{none_at, passed_at, same_at}
 use Rattle.leasecheck.proofs.remarks.lines.line_at.Goals as goal
 
@@ -17,7 +17,5 @@ returns-then-is_empty c =
     ∙ c.loop-passed.invariant
 
 pub returns : goal.returns
-returns c =
-    c.first_of.ensures ∙ (same_at c.loop-passed.rest.now 1 (c.args.number - c.loop-passed._passed + 1)
-    (omega (arith, c.loop-passed-test.false))
-    ∙ c.loop-passed.invariant)
+returns c = c.first_of.ensures ∙ (same_at c.loop-passed.rest.now 1 (c.args.number - c.loop-passed._passed + 1)
+    (omega (arith, c.loop-passed-test.false)) ∙ c.loop-passed.invariant)

@@ -1,4 +1,4 @@
-use Rattle.std.proofs.Common.{◌≡◌, ◌+◌, ◌-◌}
+use Rattle.lease_laws.proofs.Words.{◌+◌, ◌-◌, ◌≡◌}
 use Rattle.leasecheck.specs.LineRemarks.{line_at}
 use Rattle.leasecheck.proofs.remarks.lines.line_at.Given as goal
 

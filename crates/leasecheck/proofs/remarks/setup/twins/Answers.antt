@@ -1,4 +1,4 @@
-use Rattle.std.proofs.Common.{◌+◌, sym}
+use Rattle.lease_laws.proofs.Words.{◌+◌, sym}
 use Rattle.leasecheck.proofs.Twins.{to_the_end, found, passed, none_left}
 use Rattle.leasecheck.proofs.remarks.setup.twins.Goals as goal
 

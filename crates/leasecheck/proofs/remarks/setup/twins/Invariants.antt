@@ -1,4 +1,4 @@
-use Rattle.std.proofs.Common.{◌≡◌, ◌+◌, drop}
+use Rattle.lease_laws.proofs.Words.{◌+◌, ◌≡◌, drop}
 use Rattle.leasecheck.specs.SetupRemarks.{twins}
 use Rattle.leasecheck.proofs.remarks.setup.twins.Given as goal
 

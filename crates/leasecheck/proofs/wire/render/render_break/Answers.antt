@@ -1,4 +1,4 @@
-use Rattle.std.proofs.Common.{refl, length-drop}
+use Rattle.lease_laws.proofs.Words.{length-drop, refl}
 use Rattle.lease_wire.specs.Notification.{notice_of}
 use Rattle.leasecheck.proofs.wire.render.render_break.Goals as goal
 

@@ -1,5 +1,5 @@
-use Rattle.std.proofs.Common.{◌≡◌, ◌++◌, OnOk}
-use Rattle.std.specs.String.{string_bytes}
+use Rattle.lease_laws.proofs.Words.{◌++◌, ◌≡◌, string_bytes}
+use Rattle.std.proofs.Common.{OnOk}
 use Rattle.std.specs.List.{flat_map}
 use Rattle.lease_wire.specs.Contexts.{items_left}
 use Rattle.lease_wire.specs.Gathering.{gathered, no_values}

@@ -1,4 +1,4 @@
-use Rattle.std.proofs.Common.{refl, length-drop}
+use Rattle.lease_laws.proofs.Words.{length-drop, refl}
 use Rattle.lease_wire.specs.Acknowledgment.{responded_of}
 use Rattle.leasecheck.proofs.wire.render.render_response.Goals as goal
 

@@ -1,5 +1,4 @@
-use Rattle.std.proofs.Common.{◌∙◌, ap, sym, refl, arith}
-use Rattle.std.specs.Prelude.{is_some}
+use Rattle.lease_laws.proofs.Words.{◌∙◌, ap, arith, is_some, refl, sym}
 use Rattle.share_server.proofs.Ordering.{has_key_own, has_key_none, keyed}
 use Rattle.share_server.proofs.file_summary.FileSummary.gain.Goals as goal
 
@@ -11,8 +10,7 @@ returns-in_ok-gain_key-in-Some c =
       tally = c.in_ok-gain_key-in-Some.ensures.tally ∙ c.raised-self.ensures;
       keyless = rw has c.in_ok-gain_key-in-Some.ensures.keyless;
       keys = λ other. rw (has_key_own c.args.one.now c.in-Some.key other own) (c.in_ok-gain_key-in-Some.ensures.keys other);
-      writers = λ other.
-          rw (has_key_own c.args.one.now c.in-Some.key other own) (c.in_ok-gain_key-in-Some.ensures.writers other);
+      writers = λ other. rw (has_key_own c.args.one.now c.in-Some.key other own) (c.in_ok-gain_key-in-Some.ensures.writers other);
       harmless = λ other.
           rw (has_key_own c.args.one.now c.in-Some.key other own) (c.in_ok-gain_key-in-Some.ensures.harmless other);
     }

@@ -1,5 +1,4 @@
-use Rattle.std.proofs.Common.{◌∙◌, ap, sym}
-use Rattle.std.specs.Prelude.{is_some}
+use Rattle.lease_laws.proofs.Words.{◌∙◌, ap, is_some, sym}
 use Rattle.share_server.proofs.Ordering.{has_key_own, keyed}
 use Rattle.share_server.proofs.file_summary.FileSummary.lose.Goals as goal
 

@@ -1,6 +1,4 @@
-use Rattle.std.proofs.Common.{◌∙◌, sym, refl}
-use Rattle.std.specs.Prelude.{is_some, not}
-use Rattle.lease_model.specs.server.State.{has_key}
+use Rattle.lease_laws.proofs.Words.{◌∙◌, has_key, is_some, not, refl, sym}
 use Rattle.share_server.specs.Summaries.{is_on}
 use Rattle.share_server.proofs.Tallies.{none_tallied, none_both, none_counted}
 use Rattle.share_server.proofs.file_summary.FileSummary.new.Goals as goal

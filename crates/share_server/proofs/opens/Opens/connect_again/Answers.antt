@@ -1,7 +1,4 @@
-use Rattle.std.proofs.Common.{◌≡◌, ◌∙◌, sym}
-use Rattle.std.specs.Prelude.{true, Some, find}
-use Rattle.std.specs.Map.{values_of}
-use Rattle.lease_model.specs.server.State.{Open}
+use Rattle.lease_laws.proofs.Words.{◌∙◌, ◌≡◌, Open, Some, find, sym, true, values_of}
 use Rattle.share_server.specs.Filed.{has_id}
 use Rattle.share_server.proofs.Filing.{find_filed, values_unset}
 use Rattle.share_server.proofs.LeftOpens.{waiting_again}
@@ -17,12 +14,10 @@ invariant_of-self c =
       c.set_connected.ensures.still_in_order,
       rw c.set_connected.ensures.opens
           (waiting_again c.self.inside.left c.remove.new.self n c.owner-owner.result (values_of entries) c.in-Some.one.now
-          c.self.invariant.1 found c.owner-owner.ensures.client c.owner-owner.ensures.file c.self.invariant.2
-          c.remove.ensures),
+          c.self.invariant.1 found c.owner-owner.ensures.client c.owner-owner.ensures.file c.self.invariant.2 c.remove.ensures),
     )
 
 pub returns-in-None : goal.returns-in-None
-returns-in-None c =
-    rw (← c.self.view_is)
+returns-in-None c = rw (← c.self.view_is)
     (values_unset c.args.fid.0 (λ (o : Open). record o { connected = true }) c.self.inside.by_id.entries
     c.self.invariant.0 (sym c.in-None.ensures.value))

@@ -1,7 +1,4 @@
-use Rattle.std.proofs.Common.{◌≡◌, ◌∙◌, sym}
-use Rattle.std.specs.Prelude.{false, Some, find}
-use Rattle.std.specs.Map.{values_of}
-use Rattle.lease_model.specs.server.State.{Open}
+use Rattle.lease_laws.proofs.Words.{◌∙◌, ◌≡◌, Open, Some, false, find, sym, values_of}
 use Rattle.share_server.specs.Filed.{has_id}
 use Rattle.share_server.proofs.Filing.{find_filed, values_unset}
 use Rattle.share_server.proofs.LeftOpens.{waiting_left}
@@ -22,7 +19,6 @@ invariant_of-self-in-Some c =
     )
 
 pub returns-in-None : goal.returns-in-None
-returns-in-None c =
-    rw (← c.self.view_is)
+returns-in-None c = rw (← c.self.view_is)
     (values_unset c.args.fid.0 (λ (o : Open). record o { connected = false }) c.self.inside.by_id.entries
     c.self.invariant.0 (sym c.in-None.ensures.value))

@@ -1,5 +1,4 @@
-use Rattle.std.proofs.Common.{◌∙◌, ap, filter}
-use Rattle.std.specs.Map.{values_of}
+use Rattle.lease_laws.proofs.Words.{◌∙◌, ap, filter, values_of}
 use Rattle.lease_laws.proofs.server.Lists.{among_filter}
 use Rattle.share_server.specs.LeftOpens.{numbers}
 use Rattle.share_server.specs.Looks.{is_left_by}
@@ -14,7 +13,6 @@ returns-in_ok-ids-in-Some-clause-ids c =
     let key = the_view c.key.inside in
     let waits = is_left_by key.client c.args.file.0 in
     let owner : Owner = record { client = c.key.inside.client; file = c.args.file } in
-    rw (← c.self.view_is, ← c.key.view_is)
-    (ap numbers (rw (← c.self.view_is, ← c.key.view_is) at c.in_ok-ids-in-Some.ensures)
+    rw (← c.self.view_is, ← c.key.view_is) (ap numbers (rw (← c.self.view_is, ← c.key.view_is) at c.in_ok-ids-in-Some.ensures)
     ∙ picked_of_key key opens c.self.invariant.1 c.in-Some.left.now.keys (filter waits opens)
     (ap numbers c.in-Some.ensures ∙ c.self.invariant.2 owner) (λ one a. (among_filter waits one opens a).0))

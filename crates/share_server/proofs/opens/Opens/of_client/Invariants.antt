@@ -1,4 +1,4 @@
-use Rattle.std.proofs.Common.{◌≡◌, ◌++◌, map, filter}
+use Rattle.lease_laws.proofs.Words.{◌++◌, ◌≡◌, filter, map}
 use Rattle.share_server.specs.Filed.{is_of}
 use Rattle.share_server.proofs.opens.Opens.of_client.Given as goal
 

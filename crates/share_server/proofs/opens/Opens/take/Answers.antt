@@ -1,7 +1,4 @@
-use Rattle.std.proofs.Common.{◌≡◌, ◌∙◌, ap, sym}
-use Rattle.std.specs.Prelude.{Some, find}
-use Rattle.std.specs.Map.{values_of}
-use Rattle.lease_model.specs.values.Lists.{without}
+use Rattle.lease_laws.proofs.Words.{◌∙◌, ◌≡◌, Some, ap, find, sym, values_of, without}
 use Rattle.share_server.specs.Filed.{AreFiled, has_id}
 use Rattle.share_server.proofs.Filing.{find_filed, filed_removed, left_removed, one_removed, in_order}
 use Rattle.share_server.proofs.LeftOpens.{waiting_taken}
@@ -19,33 +16,25 @@ invariant_of-self c =
       filed,
       in_order c.remove.new.self.entries filed c.remove.ensures.ordered,
       rw now (waiting_taken c.self.inside.left c.remove-in-Some.new.self n c.owner.result (values_of entries) c.in-Some.one
-          c.self.invariant.1 found c.owner.ensures.client c.owner.ensures.file c.self.invariant.2
-          c.remove-in-Some.ensures),
+          c.self.invariant.1 found c.owner.ensures.client c.owner.ensures.file c.self.invariant.2 c.remove-in-Some.ensures),
     )
 
 pub returns-in-Some-clause-taken : goal.returns-in-Some-clause-taken
-returns-in-Some-clause-taken c =
-    rw (← c.self.view_is)
+returns-in-Some-clause-taken c = rw (← c.self.view_is)
     (c.in-Some.ensures.value ∙ find_filed c.args.fid.0 c.self.inside.by_id.entries c.self.invariant.0)
 
 pub returns-in-Some-clause-one_less : goal.returns-in-Some-clause-one_less
-returns-in-Some-clause-one_less c =
-    rw (← c.self.view_is, c.remove.ensures.entries)
+returns-in-Some-clause-one_less c = rw (← c.self.view_is, c.remove.ensures.entries)
     (one_removed c.args.fid.0 c.self.inside.by_id.entries c.in-Some.one c.self.invariant.0 (sym c.in-Some.ensures.value))
 
 pub returns-in-Some-clause-left : goal.returns-in-Some-clause-left
-returns-in-Some-clause-left c =
-    rw (← c.self.view_is)
-    (ap values_of c.remove.ensures.entries
+returns-in-Some-clause-left c = rw (← c.self.view_is) (ap values_of c.remove.ensures.entries
     ∙ left_removed c.args.fid.0 c.self.inside.by_id.entries c.self.invariant.0 c.self.invariant.1)
 
 pub returns-in-None-clause-taken : goal.returns-in-None-clause-taken
-returns-in-None-clause-taken c =
-    rw (← c.self.view_is)
+returns-in-None-clause-taken c = rw (← c.self.view_is)
     (c.in-None.ensures.value ∙ find_filed c.args.fid.0 c.self.inside.by_id.entries c.self.invariant.0)
 
 pub returns-in-None-clause-left : goal.returns-in-None-clause-left
-returns-in-None-clause-left c =
-    rw (← c.self.view_is)
-    (ap values_of c.remove.ensures.entries
+returns-in-None-clause-left c = rw (← c.self.view_is) (ap values_of c.remove.ensures.entries
     ∙ left_removed c.args.fid.0 c.self.inside.by_id.entries c.self.invariant.0 c.self.invariant.1)

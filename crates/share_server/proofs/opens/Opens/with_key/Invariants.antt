@@ -1,4 +1,4 @@
-use Rattle.std.proofs.Common.{◌≡◌, ◌++◌, filter}
+use Rattle.lease_laws.proofs.Words.{◌++◌, ◌≡◌, filter}
 use Rattle.share_server.specs.LeftOpens.{has_key_in}
 use Rattle.share_server.proofs.opens.Opens.with_key.Given as goal
 

@@ -1,4 +1,4 @@
-use Rattle.std.proofs.Common.{ap}
+use Rattle.lease_laws.proofs.Words.{ap}
 use Rattle.lease_state.specs.declared.reply.Reply.TheVariants.{Break}
 use Rattle.share_server.proofs.Sending.{notice_found, notice_back}
 use Rattle.share_server.proofs.outs.Outs.lease_broken.Goals as goal

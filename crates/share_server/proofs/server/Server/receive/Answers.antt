@@ -1,6 +1,4 @@
-use Rattle.lease_model.specs.messages.FromBytes.{request_of}
-use Rattle.std.proofs.Common.{arith}
-use Rattle.lease_model.specs.server.Calls.{Call}
+use Rattle.lease_laws.proofs.Words.{Call, arith, request_of}
 use Rattle.share_server.proofs.Standing.{stands, sound_after}
 use Rattle.share_server.proofs.server.Server.receive.Goals as goal
 

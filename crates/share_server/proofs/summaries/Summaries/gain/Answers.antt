@@ -1,4 +1,4 @@
-use Rattle.std.proofs.Common.{sym, ◌∙◌, refl, arith}
+use Rattle.lease_laws.proofs.Words.{◌∙◌, arith, refl, sym}
 use Rattle.share_server.specs.Summaries.{lease_in, record_at}
 use Rattle.share_server.proofs.Agreeing.{agrees_from, files_kept, leases_same, after_gain, after_keyless, at_home}
 use Rattle.share_server.proofs.Ordering.{has_key_own, has_key_none}
@@ -28,8 +28,7 @@ returns-in_ok-gain_on_file-in-Some-clause-leases c = λ other.
     let during = c.gain_record.new.self in
     let own = sym c.key.ensures ∙ c.in-Some.is in
     leases_same c.gain_on_file.new.self during other c.in_ok-gain_on_file-in-Some.ensures.leases
-    ∙ rw (has_key_own one key other own)
-    (lease_put key c.args.lease _ _ (record_at c.args.self.now) (record_at during)
+    ∙ rw (has_key_own one key other own) (lease_put key c.args.lease _ _ (record_at c.args.self.now) (record_at during)
     c.in_ok-gain_record-in-Some.ensures.changed other)
 
 pub returns-in_ok-gain_on_file-in-None-clause-agrees : goal.returns-in_ok-gain_on_file-in-None-clause-agrees

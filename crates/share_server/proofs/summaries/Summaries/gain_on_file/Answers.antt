@@ -1,4 +1,4 @@
-use Rattle.std.proofs.Common.{sym, rules}
+use Rattle.lease_laws.proofs.Words.{rules, sym}
 use Rattle.share_server.specs.contracts.open.Open.{the_view}
 use Rattle.share_server.proofs.Summing.{summaries_gain, changed_at, known_sums_up, none_is_open}
 use Rattle.share_server.proofs.summaries.Summaries.gain_on_file.Goals as goal
@@ -19,7 +19,6 @@ returns-in_ok-insert-in-None-clause-files c = λ less more leases later m short 
     summaries_gain one c.args.marks _ _ c.new-summary.result c.gain-in-None.new.self less more leases later
     (rw (← c.one.view_is) at m) short (rw (← c.one.view_is) at are)
     (c.new-summary.ensures one.file less leases (none_is_open one.file less leases _ (sym c.in-None.ensures.value)
-    (fits c.one.inside.file)))
-    (rw (← c.one.view_is) at c.in_ok-gain-in-None.ensures)
+    (fits c.one.inside.file))) (rw (← c.one.view_is) at c.in_ok-gain-in-None.ensures)
     (changed_at c.args.self.now.files c.insert.new.self one.file _
     (rw c.get_mut.follows.holds-at-none at c.in_ok-insert-in-None.ensures.updates)) fits

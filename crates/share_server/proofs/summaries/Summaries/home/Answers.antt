@@ -1,4 +1,4 @@
-use Rattle.std.proofs.Common.{sym}
+use Rattle.lease_laws.proofs.Words.{sym}
 use Rattle.share_server.proofs.Homing.{home_known, home_none}
 use Rattle.share_server.proofs.summaries.Summaries.home.Goals as goal
 
@@ -7,5 +7,4 @@ returns-in-Some c = λ opens agrees.
     home_known c.args.key opens _ c.in-Some.known.now (sym c.in-Some.ensures.value) (agrees.records c.args.key)
 
 pub returns-in-None : goal.returns-in-None
-returns-in-None c = λ opens agrees.
-    home_none c.args.key opens _ (sym c.in-None.ensures.value) (agrees.records c.args.key)
+returns-in-None c = λ opens agrees. home_none c.args.key opens _ (sym c.in-None.ensures.value) (agrees.records c.args.key)

@@ -1,4 +1,4 @@
-use Rattle.std.proofs.Common.{sym, ◌∙◌, refl}
+use Rattle.lease_laws.proofs.Words.{◌∙◌, refl, sym}
 use Rattle.share_server.specs.Summaries.{lease_in, record_at}
 use Rattle.share_server.proofs.Agreeing.{agrees_from, files_kept, leases_same, last_on, never_has}
 use Rattle.share_server.proofs.Recording.{own_has, home_of, lease_left, lease_kept_left, are_left, records_stay}

@@ -1,4 +1,4 @@
-use Rattle.std.proofs.Common.{sym, rules}
+use Rattle.lease_laws.proofs.Words.{rules, sym}
 use Rattle.share_server.proofs.Summing.{summaries_put, changed_at, never_on}
 use Rattle.share_server.proofs.summaries.Summaries.mark_on_file.Goals as goal
 

@@ -1,4 +1,4 @@
-use Rattle.std.proofs.Common.{◌≡◌, refl, ap, sym, ◌∙◌, rules}
+use Rattle.lease_laws.proofs.Words.{◌∙◌, ◌≡◌, ap, refl, rules, sym}
 use Rattle.share_server.specs.Hindering.{marks_of}
 use Rattle.share_server.specs.Leases.{lease_of}
 use Rattle.share_server.specs.Summaries.{lease_in, lease_or_none, record_at, summary_at}
@@ -49,8 +49,7 @@ returns-else-ne-clause-agrees c = λ opens there agrees.
     (records_put key known c.args.lease (record_at before) (record_at during) opens was changed agrees.records)
     (summaries_alike key (lease_of c.args.lease) opens (lease_in before) (lease_in during) (summary_at before)
     (lease_put key c.args.lease _ _ (record_at before) (record_at during) changed)
-    (sym c.of-marks.ensures ∙ (same ∙ (c.of-marked.ensures ∙ ap (λ r. marks_of (lease_or_none r)) (sym was))))
-    agrees.files)
+    (sym c.of-marks.ensures ∙ (same ∙ (c.of-marked.ensures ∙ ap (λ r. marks_of (lease_or_none r)) (sym was)))) agrees.files)
 
 pub returns-else-ne-clause-leases : goal.returns-else-ne-clause-leases
 returns-else-ne-clause-leases c = λ opens there agrees other.

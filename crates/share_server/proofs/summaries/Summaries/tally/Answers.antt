@@ -1,4 +1,4 @@
-use Rattle.std.proofs.Common.{ap, ◌∙◌, true}
+use Rattle.lease_laws.proofs.Words.{◌∙◌, ap, true}
 use Rattle.share_server.specs.Summaries.{tally_in}
 use Rattle.share_server.proofs.summaries.Summaries.tally.Goals as goal
 

@@ -1,4 +1,4 @@
-use Rattle.std.proofs.Common.{◌≡◌, ◌++◌, filter}
+use Rattle.lease_laws.proofs.Words.{◌++◌, ◌≡◌, filter}
 use Rattle.share_server.specs.Wanted.{is_wanted_key}
 use Rattle.share_server.proofs.summaries.Summaries.wanted_among.Given as goal
 

@@ -1,4 +1,4 @@
-use Rattle.std.proofs.Common.{◌<◌, length, arith}
+use Rattle.lease_laws.proofs.Words.{◌<◌, arith, length}
 use Rattle.lease_state.specs.Content.{patch as patched}
 use Rattle.share_server.specs.contracts.tables.Tables.{the_view}
 use Rattle.share_server.proofs.FilePlaces.{content_edit}

@@ -1,6 +1,5 @@
-use Rattle.std.proofs.Common.{◌≡◌, length, arith, [], map, refl, ap, sym, ◌∙◌}
+use Rattle.lease_laws.proofs.Words.{◌∙◌, ◌≡◌, FileId, [], ap, arith, length, map, refl, sym}
 use Rattle.std.specs.Vec.{vec_len}
-use Rattle.lease_state.specs.declared.number.FileId.{FileId}
 use Rattle.share_server.specs.contracts.tables.Tables.{the_view}
 use Rattle.share_server.proofs.Counted.{no_ids}
 use Rattle.share_server.proofs.Settled.{known_settled, settled_closed}

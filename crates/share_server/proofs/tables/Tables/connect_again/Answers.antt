@@ -1,5 +1,4 @@
-use Rattle.std.proofs.Common.{true}
-use Rattle.lease_model.specs.server.Grant.{connected_again}
+use Rattle.lease_laws.proofs.Words.{connected_again, true}
 use Rattle.share_server.specs.Filed.{has_id}
 use Rattle.share_server.proofs.StillWaiting.{none_counted}
 use Rattle.share_server.proofs.Mapping.{connection_kept}

@@ -1,6 +1,4 @@
-use Rattle.std.proofs.Common.{refl, ap, sym, ◌∙◌, arith}
-use Rattle.lease_model.specs.server.Findings.{finding}
-use Rattle.lease_model.specs.server.Ready.{is_ready}
+use Rattle.lease_laws.proofs.Words.{◌∙◌, ap, arith, finding, is_ready, refl, sym}
 use Rattle.share_server.specs.Findings.{look_of}
 use Rattle.share_server.specs.Requests.{request_like}
 use Rattle.share_server.specs.StillWaiting.{HasOnlyToWait}

@@ -1,4 +1,4 @@
-use Rattle.std.proofs.Common.{◌<◌, ◌++◌, [], ◌∷◌, length, arith}
+use Rattle.lease_laws.proofs.Words.{◌++◌, ◌<◌, ◌∷◌, [], arith, length}
 use Rattle.share_server.specs.contracts.tables.Tables.{the_view}
 use Rattle.share_server.proofs.Counted.{known_held}
 use Rattle.share_server.proofs.FilePlaces.{held_edit}
@@ -18,8 +18,7 @@ invariant_of-self-2 c =
     let inside : c.args.file.0 < length table.files = omega arith in (
       c.self.invariant.0,
       c.self.invariant.1,
-      rw c.from.ensures
-          (known_held _ c.self.inside.files.items c.args.file.0 c.index_mut.result.now c.hold.new.self c.args.one
+      rw c.from.ensures (known_held _ c.self.inside.files.items c.args.file.0 c.index_mut.result.now c.hold.new.self c.args.one
           c.self.inside.waiting inside (rw c.from.ensures at c.index_mut.ensures.value) c.in_ok-hold.ensures.held
           c.self.invariant.2),
     )

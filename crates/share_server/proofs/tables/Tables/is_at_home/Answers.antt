@@ -1,13 +1,11 @@
-use Rattle.std.proofs.Common.{not, ap, sym, ◌∙◌}
+use Rattle.lease_laws.proofs.Words.{◌∙◌, ap, not, sym}
 use Rattle.share_server.specs.Table.{server_of}
 use Rattle.share_server.specs.contracts.tables.Tables.{the_view}
 use Rattle.share_server.proofs.Counted.{home_by, not_at_home}
 use Rattle.share_server.proofs.tables.Tables.is_at_home.Goals as goal
 
 pub returns : goal.returns
-returns c =
-    rw (← c.self.view_is)
-    ((rw (← c.self.view_is) at (ap not c.is_leased_elsewhere.ensures))
+returns c = rw (← c.self.view_is) ((rw (← c.self.view_is) at (ap not c.is_leased_elsewhere.ensures))
     ∙ home_by (server_of (the_view c.self.inside)) c.args.file.0 c.args.key c.self.inside.summaries
     c.self.invariant.1.agree (rw (← c.self.view_is) at (sym c.has_lease.ensures ∙ c.if-not-has_lease.false)))
 

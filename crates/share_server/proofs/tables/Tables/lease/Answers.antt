@@ -1,4 +1,4 @@
-use Rattle.std.proofs.Common.{◌∙◌, sym}
+use Rattle.lease_laws.proofs.Words.{◌∙◌, sym}
 use Rattle.share_server.proofs.Tabling.{listed_lease}
 use Rattle.share_server.proofs.tables.Tables.lease.Goals as goal
 

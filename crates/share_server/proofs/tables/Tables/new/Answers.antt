@@ -1,5 +1,4 @@
-use Rattle.std.proofs.Common.{◌≡◌, length, take, arith}
-use Rattle.lease_model.specs.values.Limits.{last_file_number}
+use Rattle.lease_laws.proofs.Words.{◌≡◌, arith, last_file_number, length, take}
 use Rattle.share_server.proofs.Counted.{kept_empty}
 use Rattle.share_server.proofs.NewTables.{new_tables_are_new}
 use Rattle.share_server.proofs.StillWaiting.{none_counted}

@@ -1,5 +1,4 @@
-use Rattle.std.proofs.Common.{refl, sym, ap, subst}
-use Rattle.lease_model.specs.server.State.{Open}
+use Rattle.lease_laws.proofs.Words.{Open, ap, refl, subst, sym}
 use Rattle.share_server.specs.Kept.{AreKept}
 use Rattle.share_server.specs.Leases.{lease_of}
 use Rattle.share_server.specs.contracts.tables.Tables.{the_view}

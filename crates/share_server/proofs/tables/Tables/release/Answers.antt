@@ -1,4 +1,4 @@
-use Rattle.std.proofs.Common.{◌<◌, length, arith}
+use Rattle.lease_laws.proofs.Words.{◌<◌, arith, length}
 use Rattle.std.specs.List.{remove}
 use Rattle.share_server.specs.contracts.tables.Tables.{the_view}
 use Rattle.share_server.proofs.Counted.{known_released}
@@ -28,7 +28,6 @@ invariant_of-self c =
     let inside : c.args.file.0 < length table.files = omega arith in (
       c.self.invariant.0,
       c.self.invariant.1,
-      rw c.from.ensures
-          (known_released _ c.self.inside.files.items c.args.file.0 c.release.new.self c.self.inside.waiting
+      rw c.from.ensures (known_released _ c.self.inside.files.items c.args.file.0 c.release.new.self c.self.inside.waiting
           c.forget.new.self inside c.forget.ensures c.self.invariant.2),
     )

@@ -1,12 +1,11 @@
-use Rattle.std.proofs.Common.{refl}
+use Rattle.lease_laws.proofs.Words.{refl}
 use Rattle.share_server.specs.contracts.tables.Tables.{the_view}
 use Rattle.share_server.proofs.Counted.{wait_still}
 use Rattle.share_server.proofs.StillWaiting.{none_still}
 use Rattle.share_server.proofs.tables.Tables.still.Goals as goal
 
 pub returns : goal.returns
-returns c =
-    rw (c.count.ensures, ← c.self.view_is)
+returns c = rw (c.count.ensures, ← c.self.view_is)
     (wait_still (the_view c.self.inside) c.self.inside.summaries c.args.file.0 _ c.self.invariant.1 refl
     (c.self.invariant.2 c.args.file.0))
 

@@ -1,4 +1,4 @@
-use Rattle.std.proofs.Common.{◌∙◌, ap, map, refl}
+use Rattle.lease_laws.proofs.Words.{◌∙◌, ap, map, refl}
 use Rattle.share_server.specs.Table.{server_of}
 use Rattle.share_server.specs.Wishes.{want_of}
 use Rattle.share_server.specs.contracts.tables.Tables.{the_view}
@@ -9,8 +9,7 @@ use Rattle.share_server.proofs.tables.Tables.wants.Goals as goal
 pub returns : goal.returns
 returns c =
     let table = the_view c.self.inside in
-    rw (← c.self.view_is)
-    (rw (← c.self.view_is) at c.in_ok-wants.ensures
+    rw (← c.self.view_is) (rw (← c.self.view_is) at c.in_ok-wants.ensures
     ∙ (ap (map (want_of c.args.wish (server_of table))) (c.deref.ensures.value ∙ c.in_ok-keys.ensures (server_of table)
     (stands_now table c.self.inside.summaries c.self.invariant.1 refl))
     ∙ wants_are c.args.wish (server_of table) c.args.own c.args.file))

@@ -1,4 +1,4 @@
-use Rattle.std.proofs.Common.{◌≡◌, map, take}
+use Rattle.lease_laws.proofs.Words.{◌≡◌, map, take}
 use Rattle.share_server.specs.Table.{server_of}
 use Rattle.share_server.specs.Wishes.{want_of}
 use Rattle.share_server.proofs.tables.Tables.wants_of.Given as goal

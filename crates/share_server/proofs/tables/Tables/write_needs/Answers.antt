@@ -1,16 +1,13 @@
-use Rattle.std.proofs.Common.{sym, ap, ◌∙◌}
+use Rattle.lease_laws.proofs.Words.{◌∙◌, ap, sym}
 use Rattle.share_server.specs.Findings.{Look}
 use Rattle.share_server.specs.Table.{server_of}
 use Rattle.share_server.proofs.Hindering.{unhindered, hindered}
 use Rattle.share_server.proofs.tables.Tables.write_needs.Goals as goal
 
 pub returns-then-not-is_hindered : goal.returns-then-not-is_hindered
-returns-then-not-is_hindered c =
-    unhindered (server_of c.args.self.now) c.args.own c.args.file.0
+returns-then-not-is_hindered c = unhindered (server_of c.args.self.now) c.args.own c.args.file.0
     (sym c.is_hindered.ensures ∙ c.if-not-is_hindered.true)
 
 pub returns : goal.returns
-returns c =
-    ap Look.Needs c.in_ok-wants.ensures
-    ∙ hindered (server_of c.args.self.now) c.args.own c.args.file.0
+returns c = ap Look.Needs c.in_ok-wants.ensures ∙ hindered (server_of c.args.self.now) c.args.own c.args.file.0
     (sym c.is_hindered.ensures ∙ c.if-not-is_hindered.false)

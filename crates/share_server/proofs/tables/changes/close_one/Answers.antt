@@ -7,7 +7,6 @@ returns-in-None-clause-agrees c = λ agree.
     c.take.ensures.left agree
 
 pub returns-in-None-clause-leases : goal.returns-in-None-clause-leases
-returns-in-None-clause-leases c = λ agree key.
-    unused_now key c.take.new.self c.args.summaries.now
+returns-in-None-clause-leases c = λ agree key. unused_now key c.take.new.self c.args.summaries.now
     (untaken_agrees c.args.id.0 c.args.opens.now c.take.new.self c.args.summaries.now c.in-None.ensures.taken
     c.take.ensures.left agree)

@@ -1,5 +1,4 @@
-use Rattle.std.proofs.Common.{refl}
-use Rattle.lease_model.specs.server.State.{has_key}
+use Rattle.lease_laws.proofs.Words.{has_key, refl}
 use Rattle.share_server.proofs.Counted.{forgotten_home, forgotten_none}
 use Rattle.share_server.proofs.tables.still.forget_home.Goals as goal
 

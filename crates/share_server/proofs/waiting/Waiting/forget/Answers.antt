@@ -1,4 +1,4 @@
-use Rattle.std.specs.Prelude.{None}
+use Rattle.lease_laws.proofs.Words.{None}
 use Rattle.share_server.proofs.StillWaiting.{count_changed}
 use Rattle.share_server.proofs.waiting.Waiting.forget.Goals as goal
 
