@@ -113,7 +113,11 @@ pub stack_set : (covers : List Cover) (tops : List ℕ) (place top position : �
     ≡ (if position == place then layers_under covers top else stack_in (map (layers_under covers) tops) position)
 stack_set covers tops place top position inside = stack_found covers (slice_set tops place top) position
     ∙ (ap (found_under covers) (get-put tops place top position inside)
-    ∙ ((grind arith) ∙ rw (sym (stack_found covers tops position)) refl))
+    ∙ (by_case (position == place) ∙ rw (sym (stack_found covers tops position)) refl))
+  where
+    by_case : (b : Bool) → found_under covers (if b then Some top else slice_get tops position)
+        ≡ (if b then layers_under covers top else found_under covers (slice_get tops position))
+    by_case b = grind arith
 
 -- the same tops among more covers
 pub stack_later : (covers : List Cover) (one : Cover) (tops : List ℕ) (position : ℕ) → AreLinked covers → AreTops covers tops
