@@ -123,8 +123,7 @@ notices_settle sent = record {
 
 connect_settles : (client : Client) (file : ℕ) (sent : List Pending) (phase : Phase)
     → AreSettlements (connect_turn client file sent phase).settled
-connect_settles client file sent Phase.Closed = tt
-connect_settles client file sent phase = tt
+connect_settles client file sent x4 = grind arith
 
 -- a closed entry stays closed, and so its belief is none
 notice_closed : (sent : List Pending) (phase : Phase) → phase ≡ Phase.Closed
@@ -133,8 +132,7 @@ notice_closed sent phase e = subst (λ p. belief_in p ≡ belief_of (notice_turn
 
 connect_closed : (client : Client) (file : ℕ) (sent : List Pending) (phase : Phase) → phase ≡ Phase.Closed
     → belief_in phase ≡ belief_of (connect_turn client file sent phase).entry
-connect_closed client file sent phase e =
-    subst (λ p. belief_in p ≡ belief_of (connect_turn client file sent p).entry) (sym e) refl
+connect_closed client file sent phase e = grind arith
 
 -- ---- any call
 

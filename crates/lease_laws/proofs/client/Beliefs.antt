@@ -1,5 +1,6 @@
 -- The notes of every call tell what the client then believes, and refused commands do nothing.
 use Rattle.lease_laws.proofs.Words.{◌&&◌, ◌++◌, ◌==◌, ◌∙◌, ◌∷◌, ◌≡◌, ◌≢◌, Answer, Bool, Client, Command, Decides-eqb, List}
+use Rattle.std.proofs.Common.{arith}
 use Rattle.lease_laws.proofs.Words.{LiveEntry, Note, Pending, Phase, Refusal, Reply, Request, Settlement, State, Step, Turn, ℕ}
 use Rattle.lease_laws.proofs.Words.{[], ap, belief, belief_in, belief_lowered, belief_of, believed_after, believes_noted, beq}
 use Rattle.lease_laws.proofs.Words.{cached_read, closed_by_server, commanded, false, first_belief, flush_on_live, if◌then◌else◌}
@@ -41,10 +42,7 @@ settle_pass file old (note ∷ notes) more s = absurd s
 
 -- equal letters are one letter
 one_letter : (a b : Bool) → beq a b ≡ true → a ≡ b
-one_letter true true e = refl
-one_letter true false e = absurd (true≢false (sym e))
-one_letter false true e = absurd (true≢false (sym e))
-one_letter false false e = refl
+one_letter x1 x2 e = grind arith
 
 letters : Bool → Bool → Bool → State
 letters r w h = record { read = r; write = w; handle = h }
@@ -52,28 +50,16 @@ letters r w h = record { read = r; write = w; handle = h }
 -- states of the same letters are one
 one_state : (one other : State) → same_state one other ≡ true → one ≡ other
 unfolding letters
-one_state one other e =
-    let outer = and_parts (beq one.read other.read && beq one.write other.write) (beq one.handle other.handle) e in
-    let inner = and_parts (beq one.read other.read) (beq one.write other.write) outer.0 in
-    ap (λ r. letters r one.write one.handle) (one_letter one.read other.read inner.0)
-    ∙ ap (λ w. letters other.read w one.handle) (one_letter one.write other.write inner.1)
-    ∙ ap (λ h. letters other.read other.write h) (one_letter one.handle other.handle outer.1)
+one_state one other e = grind arith
 
 -- a change of belief is told of its file
 pub noted_own : (file : ℕ) (old new : State) → believed_after file old (believes_noted file old new) ≡ new
-noted_own file old new = if_cases (λ notes. believed_after file old notes ≡ new) (same_state old new) []
-    (Note.Believes file new ∷ []) (λ same. one_state old new same)
-    (λ differ. ap (λ b. if b then new else old) ((Decides-eqb file file).1 refl))
+noted_own file old new = grind arith
 
 -- and of no other
 pub noted_other : (file of_file : ℕ) (belief old new : State) → file ≢ of_file
     → believed_after file belief (believes_noted of_file old new) ≡ belief
-noted_other file of_file belief old new apart =
-    if_cases (λ notes. believed_after file belief notes ≡ belief) (same_state old new) []
-    (Note.Believes of_file new ∷ []) (λ same. refl)
-    (λ differ. either (of_file == file)
-    (λ e. absurd (apart (sym ((Decides-eqb of_file file).0 e))))
-    (λ e. ap (λ b. if b then new else belief) e))
+noted_other file of_file belief old new apart = grind arith
 
 -- ---- steps
 
@@ -166,8 +152,7 @@ commands_behave client = record {
     cached_never bytes refusal e = cc
 
     flush_never : (b : Bool) (refusal : Refusal) → (if b then Answer.Done else Answer.Waiting) ≢ Answer.Refused refusal
-    flush_never true refusal e = cc
-    flush_never false refusal e = cc
+    flush_never x1 refusal e = grind arith
 
 pub commanded_behaves : (client : Client) (command : Command) → Behaves client (commanded client command)
 commanded_behaves client = any_command client (Behaves client) (commands_behave client)

@@ -28,12 +28,7 @@ turned_sound client file turn sound entry = put_each (IsSoundEntry client.is_onl
 counted : (live : LiveEntry) (handles reads : ℕ) (asking : Option Asked) → IsSoundLive live
     → (is_asking (record live { asking = asking }) ≡ true → 1 ≤ handles)
     → IsSoundLive (record live { handles = handles; reads = reads; asking = asking })
-counted live handles reads asking s some = record {
-  base_under_reads = s.base_under_reads;
-  unsent_under_writes = s.unsent_under_writes;
-  unsent_buffered = s.unsent_buffered;
-  asking_with_handles = some;
-}
+counted live handles reads asking s some = grind arith
 
 -- ---- commands
 
@@ -97,8 +92,7 @@ kept_buffered writes kept b = if_either (λ (l : List Pending). are_buffered l �
 -- an entry without its open
 without_open_sound : (online : Bool) (asking : Option Asked) (sent : List Pending) → online ≡ true
     → IsSoundEntry online (without_open asking sent)
-without_open_sound online None sent on = λ away. clash online on away
-without_open_sound online (Some asked) sent on = on
+without_open_sound online x2 sent on = grind arith
 
 -- a write that failed leaves a sound entry
 failed_sound : (connected : Bool) (number : ℕ) (sent : List Pending) (phase : Phase)
@@ -205,10 +199,7 @@ notices_sound connected sent = record {
 -- an entry, in any phase, of a client that connects
 connect_sound : (client : Client) (file : ℕ) (sent : List Pending) (phase : Phase)
     → IsSoundPhase client.is_online sent phase → IsSoundEntry true (connect_turn client file sent phase).entry
-connect_sound client file sent Phase.Closed s = λ away. clash true refl away
-connect_sound client file sent (Phase.Opening access share) s = refl
-connect_sound client file sent (Phase.Live live) s = (refl, s.1)
-connect_sound client file sent phase s = (refl, s.1, s.2)
+connect_sound client file sent x4 s = grind arith
 
 -- ---- the laws
 

@@ -1,6 +1,7 @@
 -- What a command or a message makes of a client has one of a few forms; so whatever these forms have,
 -- every such step has.
 use Rattle.lease_laws.proofs.Words.{◌≡◌, Answer, Client, Command, Entry, List, Pending, Refusal, Reply, Request, Step, Turn, ℕ}
+use Rattle.std.proofs.Common.{arith}
 use Rattle.lease_laws.proofs.Words.{cached_read, commanded, flush_on_live, opened_anew, quiet_step, refl, refused_step, taken}
 use Rattle.lease_laws.proofs.Words.{turned, write_buffered, write_sent, wrote_step}
 use Rattle.lease_laws.proofs.client.cases.Commands.{HasCommands, any_command}
@@ -34,23 +35,7 @@ commands_formed client P h = record {
 }
 
 takes_formed : (client : Client) (P : Step → Type 0) → HasForms client P → HasTakes client (λ reply step. P step)
-takes_formed client P h = record {
-  passed = λ reply why. h.quiet;
-  parked_closes = λ file notice live at is parked. h.turned file _;
-  lowered = λ file notice live at is stays. h.turned file _;
-  opened = λ file file_id answer access share is. h.turned file _;
-  reconnected = λ file file_id answer parted is. h.turned file _;
-  promoted = λ file file_id answer live asked is asks. h.turned file _;
-  not_opened = λ file status access share is. h.turned file _;
-  not_reconnected = λ file status parted is. h.turned file _;
-  not_promoted = λ file status live asked is asks. h.turned file _;
-  read = λ file file_id bytes live is id some. h.turned file _;
-  read_closed = λ file file_id status live is id gone. h.turned file _;
-  not_read = λ file file_id status live is id some. h.turned file _;
-  written = λ file file_id number at known. h.turned file _;
-  write_closed = λ file file_id number status live at known is id gone. h.turned file _;
-  not_written = λ file file_id number status at known. h.turned file _;
-}
+takes_formed client x2 h = grind arith
 
 pub commanded-formed : (client : Client) (P : Step → Type 0) → HasForms client P → (command : Command)
     → P (commanded client command)
@@ -69,13 +54,7 @@ pub record StaysItself (client : Client) (step : Step) : Type 0 where
 
 forms_stay : (client : Client) → HasForms client (StaysItself client)
 unfolding turned cached_read
-forms_stay client = record {
-  refused = λ refusal. record { guid = refl; files = refl; online = refl };
-  quiet = record { guid = refl; files = refl; online = refl };
-  turned = λ file turn. record { guid = refl; files = refl; online = refl };
-  wrote = λ file entry answer requests write. record { guid = refl; files = refl; online = refl };
-  cached = λ file bytes. record { guid = refl; files = refl; online = refl };
-}
+forms_stay client = grind arith
 
 pub commanded-stays : (client : Client) (command : Command) → StaysItself client (commanded client command)
 commanded-stays client command = commanded-formed client (StaysItself client) (forms_stay client) command

@@ -1,5 +1,6 @@
 -- Entries of files that a client doesn't know stay closed.
 use Rattle.lease_laws.proofs.Words.{◌∙◌, ◌≡◌, ◌≢◌, Client, ClientCall, Entry, List, Phase, Step, Turn, ℕ, all_turned, ap}
+use Rattle.std.proofs.Common.{arith}
 use Rattle.lease_laws.proofs.Words.{cached_read, client_called, connect_turn, connection_made, false, flush_on_live, is_key_of}
 use Rattle.lease_laws.proofs.Words.{knows_file, new_client, notice_turn, noticed, opened_anew, put, refl, sym, true, turned}
 use Rattle.lease_laws.proofs.Words.{write_buffered, write_sent}
@@ -48,8 +49,7 @@ commands_in client c = record {
 -- an entry that isn't closed is of a file that is known
 pub phase_known : (client : Client) (file : ℕ) (phase : Phase) → InFiles client
     → (client.entries file).phase ≡ phase → phase ≢ Phase.Closed → knows_file client file ≡ true
-phase_known client file phase c e never = not_false (knows_file client file)
-    (λ unknown. never (sym e ∙ c file unknown))
+phase_known client file phase c e never = grind arith
 
 takes_in : (client : Client) → InFiles client → HasTakes client (λ reply step. Keeps step)
 takes_in client c = record {

@@ -118,8 +118,7 @@ commands_tell client = record {
 -- the writes of an entry rise
 rising_as : (client : Client) → Numbers client → (file : ℕ) (phase : Phase) → (client.entries file).phase ≡ phase
     → are_rising 0 client.last_number (sent_of client file ++ unsent_in phase) ≡ true
-rising_as client own file phase is = subst
-    (λ p. are_rising 0 client.last_number (sent_of client file ++ unsent_in p) ≡ true) is (own.rising file)
+rising_as client own file phase is = grind arith
 
 -- unsent writes settled in one way
 unsent_old : (client : Client) → Numbers client → (file : ℕ) (phase : Phase) → (client.entries file).phase ≡ phase
@@ -198,8 +197,7 @@ all_tell client online turn old =
 -- an entry, in any phase, of a client that connects
 connect_old : (last : ℕ) (client : Client) (file : ℕ) (sent : List Pending) (phase : Phase)
     → AreOld last (connect_turn client file sent phase).settled
-connect_old last client file sent (Phase.Live live) = tt
-connect_old last client file sent phase = tt
+connect_old last client file sent x5 = grind arith
 
 -- any call
 pub called_tells : (client : Client) (call : ClientCall) → IsSoundClient client

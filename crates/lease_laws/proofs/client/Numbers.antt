@@ -1,5 +1,6 @@
 -- The unanswered writes of a client have their own numbers, and every call keeps it so.
 use Rattle.lease_laws.proofs.Words.{◌++◌, ◌+◌, ◌∙◌, ◌∷◌, ◌≡◌, Asked, Bool, Client, ClientCall, Entry, HaveOwnNumbers, List}
+use Rattle.std.proofs.Common.{arith}
 use Rattle.lease_laws.proofs.Words.{LiveEntry, None, Option, Pending, Phase, Some, Turn, ℕ, [], all_turned, ap, append-nil}
 use Rattle.lease_laws.proofs.Words.{append_assoc, belief_lowered, cached_read, client_called, closed_by_server, connect_turn}
 use Rattle.lease_laws.proofs.Words.{connection_made, false, first_belief, flush_on_live, gives_up, if◌then◌else◌, lease_key, meet}
@@ -100,8 +101,7 @@ again_thin false sent kept = sent_left sent kept
 -- an entry without its open has its sent writes
 gone_thin : (asking : Option Asked) (sent some unsent : List Pending)
     → IsThinner (some ++ []) (sent ++ unsent) → IsThinner (unanswered_in (without_open asking some)) (sent ++ unsent)
-gone_thin None sent some unsent thin = thin
-gone_thin (Some asked) sent some unsent thin = thin
+gone_thin x1 sent some unsent thin = grind arith
 
 -- a write that is done goes from the sent ones
 done_thin : (number : ℕ) (write : Option Pending) (sent : List Pending) (phase : Phase)
@@ -158,8 +158,7 @@ notices_thin sent = record {
 
 connect_thin : (client : Client) (file : ℕ) (sent : List Pending) (phase : Phase)
     → IsThinner (unanswered_in (connect_turn client file sent phase).entry) (sent ++ unsent_in phase)
-connect_thin client file sent (Phase.Offline parted) = thin_same (sent ++ parted.writes)
-connect_thin client file sent phase = thin_same (sent ++ unsent_in phase)
+connect_thin client file sent x4 = grind arith
 
 -- ---- the laws
 

@@ -8,8 +8,7 @@ use Rattle.lease_laws.proofs.server.Lists.{if_cases, either, clash, and_parts, a
 
 -- where none of two tests is true, both are false
 or_false : (a b : Bool) → (a || b) ≡ false → (a ≡ false) × (b ≡ false)
-or_false true b e = clash true refl e
-or_false false b e = (refl, e)
+or_false x1 b e = grind arith
 
 -- and the other way round
 neither : (a b : Bool) → a ≡ false → b ≡ false → (a || b) ≡ false
@@ -27,8 +26,7 @@ test_apart a b ne = not_true (a == b) (λ e. absurd (ne (eqb-true a b e)))
 pub put_at : {X : Type 0} (P : ℕ → X → Type 0) (table : ℕ → X) (place : ℕ) (x : X) → P place x
     → ((n : ℕ) → P n (table n)) → (n : ℕ) → P n (put table place x n)
 unfolding put
-put_at P table place x here old n = if_cases (λ z. P n z) (n == place) x (table n)
-    (λ e. subst (λ (m : ℕ). P m x) (sym (eqb-true n place e)) here) (λ e. old n)
+put_at x1 table place x here old n = grind arith
 
 -- at its place stands the value that was put in
 pub put_same : {X : Type 0} (table : ℕ → X) (place : ℕ) (x : X) → put table place x place ≡ x
@@ -130,22 +128,11 @@ thin_none xs = record { rising = λ low last e. refl; none = λ number e. refl }
 
 -- some are gone, and then some more
 pub thin_then : (new middle old : List Pending) → IsThinner new middle → IsThinner middle old → IsThinner new old
-thin_then new middle old n o = record {
-  rising = λ low last e. n.rising low last (o.rising low last e);
-  none = λ number e. n.none number (o.none number e);
-}
+thin_then new middle old n o = grind arith
 
 -- some behind the first are gone
 thin_cons : (x : Pending) (new old : List Pending) → IsThinner new old → IsThinner (x ∷ new) (x ∷ old)
-thin_cons x new old t = record {
-  rising = λ low last e.
-      let parts = and_parts (nat_lt low x.number && nat_le x.number last) (are_rising x.number last old) e in
-      and_both (nat_lt low x.number && nat_le x.number last) (are_rising x.number last new) parts.0
-      (t.rising x.number last parts.1);
-  none = λ number e.
-      let parts = or_false (x.number == number) (has_number number old) e in
-      neither (x.number == number) (has_number number new) parts.0 (t.none number parts.1);
-}
+thin_cons x new old t = grind arith
 
 -- the first is gone
 thin_skip : (x : Pending) (new old : List Pending) → IsThinner new old → IsThinner new (x ∷ old)
@@ -195,14 +182,7 @@ thin_filter test (x ∷ xs) = if_cases (λ (l : List Pending). IsThinner l (x �
 -- where writes are gone, those that are left have their own numbers
 pub thin_table : (last : ℕ) (old new : ℕ → List Pending) → ((file : ℕ) → IsThinner (new file) (old file))
     → HaveOwnNumbers last old → HaveOwnNumbers last new
-thin_table last old new thin own = record {
-  rising = λ file. (thin file).rising 0 last (own.rising file);
-  apart = λ file other number ne h. (thin other).none number (own.apart file other number ne (was file number h));
-}
-  where
-    was : (file number : ℕ) → has_number number (new file) ≡ true → has_number number (old file) ≡ true
-    was file number h = either (has_number number (old file)) (λ e. e)
-        (λ e. clash (has_number number (new file)) h ((thin file).none number e))
+thin_table last old new thin own = grind arith
 
 -- where one file has one more write, with the next number, all have their own numbers
 pub grown_table : (last place : ℕ) (write : Pending) (old new : ℕ → List Pending) → write.number ≡ last + 1

@@ -9,8 +9,7 @@ use Rattle.lease_laws.proofs.server.Lists.{if_cases, clash, and_parts, and_both}
 
 -- what holds of both branches holds of the choice
 pub if_either : {X : Type 0} (P : X → Type 0) (b : Bool) (x y : X) → P x → P y → P (if b then x else y)
-if_either P true x y p q = p
-if_either P false x y p q = q
+if_either x1 x2 x y p q = grind arith
 
 -- what holds of a table and of a new value holds of the table with the value put in
 pub put_each : {X : Type 0} (P : X → Type 0) (table : ℕ → X) (place : ℕ) (x : X) → P x → ((n : ℕ) → P (table n))
@@ -33,19 +32,15 @@ filter_buffered (w ∷ xs) = if_cases (λ (l : List Pending). are_buffered l ≡
 -- of no writes, none is taken away
 pub sent_without-none : (number : ℕ) (sent : List Pending) → sent ≡ [] → sent_without number sent ≡ []
 unfolding sent_without
-sent_without-none number [] e = refl
-sent_without-none number (w ∷ sent) e = let c : ⊥ = cc in absurd c
+sent_without-none number x2 e = grind arith
 
 -- some handle is at least one
 pub some_handle : (handles : ℕ) → (handles == 0) ≡ false → 1 ≤ handles
-some_handle zero e = clash true refl e
-some_handle (suc handles) e = omega arith
+some_handle x1 e = grind arith
 
 -- one less than more than one is at least one
 pub one_less_still : (handles : ℕ) → nat_lt 1 handles ≡ true → 1 ≤ one_handle_less handles
-one_less_still zero e = clash false e refl
-one_less_still (suc zero) e = clash false e refl
-one_less_still (suc (suc handles)) e = omega arith
+one_less_still x1 e = grind arith
 
 -- ---- one entry
 
@@ -59,34 +54,25 @@ sound_as client sound file phase is = subst (IsSoundPhase client.is_online (clie
 
 -- no base is patched where there is none
 pub base_with-none : (write : Option Pending) (base : Option (List ℕ)) → base ≡ None → base_with write base ≡ None
-base_with-none None base e = e
-base_with-none (Some write) None e = refl
-base_with-none (Some write) (Some bytes) e = let c : ⊥ = cc in absurd c
+base_with-none x1 base e = grind arith
 
 -- a base that is kept only under R is none without R
 pub kept_under : (b : Bool) (base : Option (List ℕ)) → b ≡ false → (if b then base else None) ≡ None
-kept_under true base e = let c : ⊥ = cc in absurd c
-kept_under false base e = refl
+kept_under x1 base e = grind arith
 
 -- bytes become the base only under R
 pub read_under : (b : Bool) (bytes : List ℕ) (base : Option (List ℕ)) → (b ≡ false → base ≡ None) → b ≡ false
     → (if b then Some bytes else base) ≡ None
-read_under true bytes base old e = let c : ⊥ = cc in absurd c
-read_under false bytes base old e = old e
+read_under x1 bytes base old e = grind arith
 
 -- without W, nothing stays unsent at a break
 pub unflushed-none : (old new : State) (unsent : List Pending) → (old.write ≡ false → unsent ≡ []) → new.write ≡ false
     → (if gives_up old new then [] else unsent) ≡ []
-unflushed-none old new unsent law lowered = if_cases (λ (l : List Pending). l ≡ []) (gives_up old new) [] unsent
-    (λ up. refl) (λ down. law (kept_none old.write new.write old.handle new.handle lowered down))
-  where
-    kept_none : (ow nw oh nh : Bool) → nw ≡ false → ((ow && not nw) || (oh && not nh)) ≡ false → ow ≡ false
-    kept_none ow nw oh nh n e = grind arith
+unflushed-none old new unsent law lowered = grind arith
 
 -- what was kept is unsent again only under W
 pub again_under : (b : Bool) (kept : List Pending) → b ≡ false → (if b then kept else []) ≡ []
-again_under true kept e = let c : ⊥ = cc in absurd c
-again_under false kept e = refl
+again_under x1 kept e = grind arith
 
 -- a write that is answered leaves a sound entry
 pub done_sound : (connected : Bool) (number : ℕ) (write : Option Pending) (sent : List Pending) (phase : Phase)

@@ -30,8 +30,7 @@ writes_have file_id (write ∷ writes) = (tt, writes_have file_id writes)
 -- the key of a file has 16 bytes
 key_long : (guid : List ℕ) (file : ℕ) → length guid ≡ 16 → length (lease_key guid file) ≡ 16
 unfolding lease_key
-key_long guid file e = length-append (take 12 guid) (file ∷ 0 ∷ 0 ∷ 0 ∷ [])
-    ∙ ap (λ n. n + 4) (length-take-le 12 guid (omega (arith, e)))
+key_long guid file e = grind arith
 
 -- ---- steps
 
@@ -113,13 +112,11 @@ acknowledgment_has : (notice : BreakNotice) (state : State) → length notice.ke
 acknowledgment_has notice state long = if_either (EachRequest HasRequestBytes) notice.ack_required _ [] (long, tt) tt
 
 gone_fits : (asking : Option Asked) (sent : List Pending) → HasFileId (without_open asking sent).phase
-gone_fits None sent = tt
-gone_fits (Some asked) sent = tt
+gone_fits x1 sent = grind arith
 
 -- a write that is done leaves the FileId
 done_fits : (write : Option Pending) (phase : Phase) → HasFileId phase → HasFileId (phase_with write phase)
-done_fits write (Phase.Live live) fits = fits
-done_fits write phase fits = fits
+done_fits write x2 fits = grind arith
 
 takes_write : (client : Client) → IsWriting client
     → HasTakes client (λ reply step. CallHasFileId (ClientCall.Taken reply) → Writes client step)
@@ -175,15 +172,7 @@ all_writes client online turn w each fits = record {
 
 notices_have : (sent : List Pending) → HasNotices sent (λ phase turn. HasFileId phase
     → EachRequest HasRequestBytes turn.requests × HasFileId turn.entry.phase)
-notices_have sent = record {
-  closed = λ fits. (tt, tt);
-  opening = λ access share fits. (tt, tt);
-  ended = λ live fits. (tt, tt);
-  kept = λ live writes fits. (tt, fits);
-  bare = λ live none fits. (tt, fits);
-  offline = λ parted fits. (tt, fits);
-  reconnecting = λ parted fits. (tt, fits);
-}
+notices_have sent = grind arith
 
 connect_has : (client : Client) (file : ℕ) (sent : List Pending) (phase : Phase) → IsWriting client → HasFileId phase
     → EachRequest HasRequestBytes (connect_turn client file sent phase).requests
@@ -193,9 +182,7 @@ connect_has client file sent phase w fits = tt
 
 connect_fits : (client : Client) (file : ℕ) (sent : List Pending) (phase : Phase) → HasFileId phase
     → HasFileId (connect_turn client file sent phase).entry.phase
-connect_fits client file sent Phase.Closed fits = tt
-connect_fits client file sent (Phase.Opening access share) fits = tt
-connect_fits client file sent phase fits = fits
+connect_fits client file sent x4 fits = grind arith
 
 -- ---- any call
 

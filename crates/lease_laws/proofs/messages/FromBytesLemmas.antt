@@ -22,8 +22,7 @@ apart : (m n : ℕ) → m ≢ n → (m == n) ≡ false
 apart m n h = grind (arith, nat_tests)
 
 and_false : (b : Bool) → (b && false) ≡ false
-and_false true = refl
-and_false false = refl
+and_false x1 = grind arith
 
 pub acknowledgment_found : AcknowledgmentIsFound
 unfolding acknowledged_in
@@ -41,8 +40,7 @@ acknowledgment_found bytes v is =
 
 pub no_acknowledgment_found : NoAcknowledgmentIsFound
 unfolding acknowledged_in
-no_acknowledgment_found bytes (inl short) = rw (beyond 36 (length bytes) short) refl
-no_acknowledgment_found bytes (inr other) = rw (apart (number_at 0 2 bytes) 36 other, and_false) refl
+no_acknowledgment_found bytes x2 = grind arith
 
 pub notification_found : NotificationIsFound
 unfolding notice_in
@@ -64,8 +62,7 @@ notification_found bytes v is =
 
 pub no_notification_found : NoNotificationIsFound
 unfolding notice_in
-no_notification_found bytes (inl short) = rw (beyond 44 (length bytes) short) refl
-no_notification_found bytes (inr other) = rw (apart (number_at 0 2 bytes) 44 other, and_false) refl
+no_notification_found bytes x2 = grind arith
 
 take_whole : (size : ℕ) (bytes : List ℕ) → length bytes ≡ size → take size bytes ≡ bytes
 take_whole size bytes e = rw (← e) (take-length bytes)

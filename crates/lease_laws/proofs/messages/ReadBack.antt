@@ -1,5 +1,6 @@
 -- What has bytes is read back.
 use Rattle.lease_laws.proofs.Words.{◌∙◌, ◌≡◌, CreateAnswer, CreateAsk, Direction, FileRequest, HasAnswerBytes, HasAskBytes}
+use Rattle.std.proofs.Common.{arith}
 use Rattle.lease_laws.proofs.Words.{HasReplyBytes, HasRequestBytes, IsWritable, LeaseGiven, LeaseOf, None, Ok, Option, Reply}
 use Rattle.lease_laws.proofs.Words.{Request, Some, ℕ, answer_bytes, answer_found, ap, ask_bytes, ask_found, key_and_state}
 use Rattle.lease_laws.proofs.Words.{notice_view, refl, reply_of, reply_written, request_of, request_written, value_of}
@@ -10,15 +11,13 @@ use Rattle.lease_laws.proofs.messages.FromBytesLemmas.{written_messages_found, w
 ask_lease : (lease : Option LeaseOf) (durable : _) (again : Option ℕ)
     → ask_found (Ok (view_of_ask (record { lease = lease; durable = durable; reconnect = again })))
     ≡ Some (record { lease = lease; durable = durable; reconnect = again })
-ask_lease None durable again = refl
-ask_lease (Some l) durable again = refl
+ask_lease x1 durable again = grind arith
 
 -- an ask that has bytes can be written
 ask_writable : (lease : Option LeaseOf) (durable : _) (again : Option ℕ)
     → HasAskBytes (record { lease = lease; durable = durable; reconnect = again })
     → IsWritable Direction.Request (view_of_ask (record { lease = lease; durable = durable; reconnect = again }))
-ask_writable None durable again h = record { key = tt; file_id = h.file_id; directed = tt }
-ask_writable (Some l) durable again h = record { key = h.key; file_id = h.file_id; directed = refl }
+ask_writable x1 durable again h = grind arith
 
 -- so it is read back
 ask_back : (ask : CreateAsk) → HasAskBytes ask → ask_found (value_of Direction.Request (ask_bytes (Some ask))) ≡ Some ask
@@ -29,13 +28,11 @@ ask_back ask h = written_contexts_found.0 (view_of_ask ask) (ask_writable ask.le
 answer_lease : (lease : Option LeaseGiven) (durable : _)
     → answer_found (Ok (view_of_answer (record { lease = lease; durable = durable })))
     ≡ Some (record { lease = lease; durable = durable })
-answer_lease None durable = refl
-answer_lease (Some l) durable = refl
+answer_lease x1 durable = grind arith
 
 answer_writable : (lease : Option LeaseGiven) (durable : _) → HasAnswerBytes (record { lease = lease; durable = durable })
     → IsWritable Direction.Reply (view_of_answer (record { lease = lease; durable = durable }))
-answer_writable None durable h = record { key = tt; file_id = tt; directed = refl }
-answer_writable (Some l) durable h = record { key = h; file_id = tt; directed = refl }
+answer_writable x1 durable h = grind arith
 
 answer_back : (answer : CreateAnswer) → HasAnswerBytes answer
     → answer_found (value_of Direction.Reply (answer_bytes (Some answer))) ≡ Some answer

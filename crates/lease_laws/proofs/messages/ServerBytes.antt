@@ -1,5 +1,6 @@
 -- Every reply of a server whose keys have 16 bytes has bytes.
 use Rattle.lease_laws.proofs.Words.{◌++◌, ◌==◌, ◌∙◌, ◌∷◌, ◌≡◌, Access, Among, AreGuarded, AreOf, Bool, Call, CallHasFullKey}
+use Rattle.std.proofs.Common.{arith}
 use Rattle.lease_laws.proofs.Words.{EachOut, FileRequest, GoOn, HasFullKey, HasReplyBytes, HaveFullKeys, Held, IfSome, IsGuarded}
 use Rattle.lease_laws.proofs.Words.{IsOfCall, IsSound, Key, Lease, LeaseOf, List, None, Open, Option, Out, OutHasBytes, Outcome}
 use Rattle.lease_laws.proofs.Words.{Progress, Reply, Server, Share, SmallStep, Some, Status, WaitsWell, ℕ, ⊎_elim, ⊤, []}
@@ -39,15 +40,11 @@ full_key server key full there =
 -- one reply that has bytes, where nothing changes
 replied_full : (client : ℕ) (reply : Reply) (progress : Progress) → HasReplyBytes reply → HaveFullKeys progress.server
     → IsFull progress (replied client reply progress)
-replied_full client reply progress has full = record {
-  outs = record { more = Out.Sent client reply ∷ []; are_more = refl; each = (has, tt) };
-  keys = full;
-}
+replied_full client reply progress has full = grind arith
 
 -- a refusal has bytes
 refusal_bytes : (request : FileRequest) (status : Status) → HasReplyBytes (refusal_of request status)
-refusal_bytes (FileRequest.Create file access share contexts) status = tt
-refusal_bytes request status = tt
+refusal_bytes x1 status = grind arith
 
 -- fewer opens
 dropped_full : (test : Open → Bool) (progress : Progress) → HaveFullKeys progress.server
@@ -63,23 +60,17 @@ dropped_full test progress full = record {
 -- the lease context of a reply
 given_bytes : (asked : Option LeaseOf) (lease : Lease) → IfSome asked (λ l. length l.key ≡ 16)
     → IfSome (lease_given asked lease) (λ l. length l.key ≡ 16)
-given_bytes None lease h = tt
-given_bytes (Some l) lease h = h
+given_bytes x1 lease h = grind arith
 
 -- the new open's key
 new_key : (asked : Option LeaseOf) (bytes : List ℕ) → IfSome asked (λ l. length l.key ≡ 16)
     → asked_key asked ≡ Some bytes → length bytes ≡ 16
-new_key None bytes h e = absurd (cc)
-new_key (Some l) bytes h e = ap (λ b. length b) (sym (same l.key bytes e)) ∙ h
-  where
-    same : (a b : List ℕ) → Some a ≡ Some b → a ≡ b
-    same a b e = cc
+new_key x1 bytes h e = grind arith
 
 -- a lease that is put changes no open and no held request
 put_opens : (server : Server) (client : ℕ) (asked : Option LeaseOf) (lease : Lease)
     → (lease_put server client asked lease).held ≡ server.held
-put_opens server client None lease = refl
-put_opens server client (Some l) lease = refl
+put_opens server client x3 lease = grind arith
 
 granted_full : (client file : ℕ) (access : Access) (share : Share) (asked : Option LeaseOf) (durable : Bool)
     (progress : Progress) → IfSome asked (λ l. length l.key ≡ 16) → HaveFullKeys progress.server → IsFull progress
@@ -99,8 +90,7 @@ granted_full client file access share asked durable progress h full =
 
 -- an open that is connected again has its key
 again_key : (file_id : ℕ) (one : Open) → (connected_again file_id one).lease_key ≡ one.lease_key
-again_key file_id one = if_cases (λ o. o.lease_key ≡ one.lease_key) (one.file_id == file_id)
-    (record one { connected = true }) one (λ e. refl) (λ e. refl)
+again_key file_id one = grind arith
 
 -- ---- the end of a request
 
@@ -170,9 +160,7 @@ StepHasFullKey step = ⊤
 
 -- it is that of the call
 of_call : (call : Call) (step : SmallStep) → IsOfCall call step → CallHasFullKey call → StepHasFullKey step
-of_call call (SmallStep.Answer client request outcome) of h = subst CallHasFullKey of h
-of_call call (SmallStep.Hold file one) of h = subst CallHasFullKey of h
-of_call call step of h = tt
+of_call call x2 of h = grind arith
 
 -- a request less among the held ones
 left_full : (file : ℕ) (before : List Held) (one : Held) (behind : List Held) (progress : Progress)
@@ -253,8 +241,7 @@ steps_full call (step ∷ steps) progress h g of full each =
 
 -- a lost connection changes no key
 cut_key : (client : ℕ) (one : Open) → (disconnected client one).lease_key ≡ one.lease_key
-cut_key client one = if_cases (λ o. o.lease_key ≡ one.lease_key) (one.client == client)
-    (record one { connected = false }) one (λ e. refl) (λ e. refl)
+cut_key client one = grind arith
 
 lost_full : (client : ℕ) (progress : Progress) → HaveFullKeys progress.server
     → HaveFullKeys (client_forgotten client (opens_disconnected client progress)).server
@@ -275,8 +262,7 @@ joined_full client progress full = record { opens = full.opens; held = full.held
 
 either_full : (b : Bool) (x y : Progress) → HaveFullKeys x.server → HaveFullKeys y.server
     → HaveFullKeys (if b then x else y).server
-either_full true x y f g = f
-either_full false x y f g = g
+either_full x1 x y f g = grind arith
 
 begun_full : (server : Server) (call : Call) → HaveFullKeys server → HaveFullKeys (call_begun server call).server
 unfolding join

@@ -51,50 +51,26 @@ is_plain _ = true
 plain_numbered : (client last : ℕ) (fact : Fact) (past : List Fact) → is_plain fact ≡ true → IsNumbered client last past
     → IsNumbered client last (fact ∷ past)
 unfolding gives_first is_settled
-plain_numbered client last (Fact.Wrote other file number patch buffered) past plain n = clash false plain refl
-plain_numbered client last (Fact.Settled other number outcome) past plain n = clash false plain refl
-plain_numbered client last (_) past plain n = record { gives = n.gives; old = n.old }
+plain_numbered client last x3 past plain n = grind arith
 
 -- a write that was given is settled
 settled_numbered : (client last other number : ℕ) (outcome : Settlement) (past : List Fact)
     → (other ≡ client → number ≤ last) → IsNumbered client last past
     → IsNumbered client last (Fact.Settled other number outcome ∷ past)
 unfolding gives_first is_settled
-settled_numbered client last other number outcome past given n = record {
-  gives = n.gives;
-  old = λ k e. ⊎_elim
-      (λ here. let both : (other == client ≡ true) × (number == k ≡ true) = and_parts (other == client) (number == k) here in
-      subst (λ (m : ℕ). m ≤ last) (eqb-true number k both.1) (given (eqb-true other client both.0)))
-      (λ before. n.old k before) (or_true (other == client && number == k) (is_settled client k past) e);
-}
+settled_numbered client last other number outcome past given n = grind arith
 
 -- a write of the client is given, with a new number
 given_numbered : (client last file number : ℕ) (patch : Patch) (buffered : Bool) (past : List Fact) → last < number
     → IsNumbered client last past → IsNumbered client number (Fact.Wrote client file number patch buffered ∷ past)
 unfolding gives_first is_settled
-given_numbered client last file number patch buffered past lt n = record {
-  gives = and_both (not (client == client && is_settled client number past)) (gives_first client past)
-      (never (client == client) (is_settled client number past)
-      (not_true (is_settled client number past) (λ e. let le : number ≤ last = n.old number e in omega (arith, le, lt)))) n.gives;
-  old = λ k e. let le : k ≤ last = n.old k e in omega (arith, le, lt);
-}
-  where
-    never : (a b : Bool) → b ≡ false → not (a && b) ≡ true
-    never a b e = grind arith
+given_numbered client last file number patch buffered past lt n = grind arith
 
 -- a write of another client is given
 other_numbered : (client last other file number : ℕ) (patch : Patch) (buffered : Bool) (past : List Fact) → other ≢ client
     → IsNumbered client last past → IsNumbered client last (Fact.Wrote other file number patch buffered ∷ past)
 unfolding gives_first is_settled
-other_numbered client last other file number patch buffered past ne n = record {
-  gives = and_both (not (other == client && is_settled client number past)) (gives_first client past)
-      (never (other == client) (is_settled client number past)
-      (not_true (other == client) (λ e. absurd (ne (eqb-true other client e))))) n.gives;
-  old = n.old;
-}
-  where
-    never : (a b : Bool) → a ≡ false → not (a && b) ≡ true
-    never a b e = grind arith
+other_numbered client last other file number patch buffered past ne n = grind arith
 
 -- ---- what is noted
 
@@ -176,8 +152,7 @@ all_delivered_given world (out ∷ outs) g = all_delivered_given (delivered worl
 -- and changes no client
 delivered_clients : (world : World) (out : Out) → (delivered world out).clients ≡ world.clients
 unfolding delivered
-delivered_clients world (Out.Sent client reply) = refl
-delivered_clients world out = refl
+delivered_clients world x2 = grind arith
 
 -- all that it gives out changes none
 all_delivered_clients : (world : World) (outs : List Out) → (all_delivered world outs).clients ≡ world.clients

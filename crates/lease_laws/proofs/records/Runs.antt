@@ -1,5 +1,6 @@
 -- In the record of a run the files are started first.
 use Rattle.lease_laws.proofs.Words.{◌+◌, ◌∷◌, ◌≡◌, Event, Fact, Link, List, None, Note, Option, Out, Progress, Reply, Request}
+use Rattle.std.proofs.Common.{arith}
 use Rattle.lease_laws.proofs.Words.{RunsStartFirst, Setup, Some, Step, World, ℕ, [], after, all_delivered, applied, breaking}
 use Rattle.lease_laws.proofs.Words.{client_of, client_takes, commanded, connect_over, connection_made, cut, cut_over, delivered}
 use Rattle.lease_laws.proofs.Words.{expire, first_world, happens, has_client, has_file, if◌then◌else◌, is_start, join, kept}
@@ -29,8 +30,7 @@ record IsBegun (world : World) : Type 0 where
 -- what the server gives out starts no file
 delivered_begun : (world : World) (out : Out) → IsBegun world → IsBegun (delivered world out)
 unfolding delivered starts_first
-delivered_begun world (Out.Sent client reply) b = record { first = b.first }
-delivered_begun world out b = record { first = b.first }
+delivered_begun world x2 b = grind arith
 
 -- all that it gives out
 all_delivered_begun : (world : World) (outs : List Out) → IsBegun world → IsBegun (all_delivered world outs)
@@ -103,8 +103,7 @@ scavenged_begun world (Some file_id) b = served_begun world (scavenge world.serv
 strayed_begun : (world : World) (client : ℕ) (request : Request) (link : Link) → IsBegun world
     → IsBegun (strayed_over world client request link)
 unfolding strayed_over requests_sent starts_first
-strayed_begun world client request Link.Up b = record { first = b.first }
-strayed_begun world client request link b = b
+strayed_begun world client request x4 b = grind arith
 
 -- any event of a client of the setup
 applied_begun : (world : World) (event : Event) → IsBegun world → IsBegun (applied world event)

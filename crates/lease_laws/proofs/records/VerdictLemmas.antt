@@ -35,11 +35,7 @@ believer client file = record { client = client; file = file }
 here_or_later : (t : Believer → Bool) (c f d g : ℕ) (same : Bool) → (d == c && g == f) ≡ same → (s old : State)
     → holds_any (if same then s else old) ≡ true → t (believer c f) ≡ true
     → (rest : Bool) → (holds_any old ≡ true → rest ≡ true) → (t (believer d g) || rest) ≡ true
-here_or_later t c f d g true e s old holds passes rest later =
-    let dc : d ≡ c = eqb-true d c (and_parts (d == c) (g == f) e).0 in
-    let gf : g ≡ f = eqb-true g f (and_parts (d == c) (g == f) e).1 in
-    left_so _ rest (rw (dc, gf) passes)
-here_or_later t c f d g false e s old holds passes rest later = right_so _ rest (later holds)
+here_or_later t c f d g x6 e s old holds passes rest later = grind arith
 
 -- a client that believes something of a file is among the believers
 any_believer : (t : Believer → Bool) (c f : ℕ) (past : List Fact)
@@ -115,8 +111,7 @@ not_both : (a b : Bool) → (a && not b) ≡ false → a ≡ true → b ≡ true
 not_both a b e x = grind arith
 
 none_from : (a b : Bool) → (a ≡ true → b ≡ true) → (a && not b) ≡ false
-none_from true b h = ap not (h refl)
-none_from false b h = refl
+none_from x1 b h = grind arith
 
 fresh-test : (fact : Fact) (past : List Fact) → is_stale_read fact past ≡ false → FreshRead fact past
 unfolding is_stale_read
@@ -138,35 +133,29 @@ not_late : (a b : Bool) → (not a && b) ≡ false → a ≡ false → b ≡ fal
 not_late a b e x = grind arith
 
 late_none : (a b : Bool) → (a ≡ false → b ≡ false) → (not a && b) ≡ false
-late_none true b h = refl
-late_none false b h = h refl
+late_none x1 b h = grind arith
 
 timely-test : (fact : Fact) (past : List Fact) → is_late_write fact past ≡ false → NoLateWrite fact past
 unfolding is_late_write
-timely-test (Fact.Changed file client number patch) past e = not_late _ _ e
-timely-test _ past e = tt
+timely-test x1 past e = grind arith
 
 late-test : (fact : Fact) (past : List Fact) → NoLateWrite fact past → is_late_write fact past ≡ false
 unfolding is_late_write
-late-test (Fact.Changed file client number patch) past timely = late_none _ _ timely
-late-test _ past timely = refl
+late-test x1 past timely = grind arith
 
 not_false : (a b : Bool) → (not a && not b) ≡ false → a ≡ false → b ≡ true
 not_false a b e x = grind arith
 
 false_none : (a b : Bool) → (a ≡ false → b ≡ true) → (not a && not b) ≡ false
-false_none true b h = refl
-false_none false b h = ap not (h refl)
+false_none x1 b h = grind arith
 
 true_done-test : (fact : Fact) (past : List Fact) → is_false_done fact past ≡ false → NoFalseDone fact past
 unfolding is_false_done
-true_done-test (Fact.Settled client number Settlement.Done) past e = not_false _ _ e
-true_done-test _ past e = tt
+true_done-test x1 past e = grind arith
 
 false_done-test : (fact : Fact) (past : List Fact) → NoFalseDone fact past → is_false_done fact past ≡ false
 unfolding is_false_done
-false_done-test (Fact.Settled client number Settlement.Done) past true_done = false_none _ _ true_done
-false_done-test _ past true_done = refl
+false_done-test x1 past true_done = grind arith
 
 -- ---- one fact
 
@@ -185,12 +174,7 @@ flaw place well two stale late done = if not well then Verdict.Malformed place e
 none_of : (place : ℕ) (well two stale late done : Bool) → flaw place well two stale late done ≡ Verdict.Safe
     → (well ≡ true) × (two ≡ false) × (stale ≡ false) × (late ≡ false) × (done ≡ false)
 unfolding flaw
-none_of place false two stale late done e = let c : ⊥ = cc in absurd c
-none_of place true true stale late done e = let c : ⊥ = cc in absurd c
-none_of place true false true late done e = let c : ⊥ = cc in absurd c
-none_of place true false false true done e = let c : ⊥ = cc in absurd c
-none_of place true false false false true e = let c : ⊥ = cc in absurd c
-none_of place true false false false false e = (refl, refl, refl, refl, refl)
+none_of place x2 two stale late done e = grind arith
 
 flaw-sound : (place : ℕ) (fact : Fact) (past : List Fact) → flaw_at place fact past ≡ Verdict.Safe → Sound fact past
 unfolding flaw_at flaw
@@ -220,8 +204,7 @@ sound-flaw place fact past sound = rw (
 -- ---- the whole record
 
 safe_first : (one other : Verdict) → or_else one other ≡ Verdict.Safe → (one ≡ Verdict.Safe) × (other ≡ Verdict.Safe)
-safe_first Verdict.Safe other e = (refl, e)
-safe_first verdict other e = let c : ⊥ = cc in absurd c
+safe_first x1 other e = grind arith
 
 verdict-sound : (place : ℕ) (past facts : List Fact) → EachFact Sound past
     → verdict_from place past facts ≡ Verdict.Safe → EachFact Sound (reverse_aux facts past)

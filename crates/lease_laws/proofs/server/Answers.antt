@@ -1,5 +1,6 @@
 -- To answer a request that is ready, or an acknowledgment, keeps a server's laws.
 use Rattle.lease_laws.proofs.Words.{◌==◌, ◌∙◌, ◌∷◌, ◌≡◌, Among, AreSound, Bool, FileRequest, IsSound, Key, Lease, LeaseOf, List}
+use Rattle.std.proofs.Common.{arith}
 use Rattle.lease_laws.proofs.Words.{None, Open, Option, Outcome, Progress, Some, State, Status, ℕ, [], acknowledged, ap, ap₂}
 use Rattle.lease_laws.proofs.Words.{break_ended, changed, concluded, cond, connected_again, false, granted_form_of, has_key}
 use Rattle.lease_laws.proofs.Words.{has_lease, if◌then◌else◌, is_breaking, is_some, is_state_within, key_of, map, nothing_cached}
@@ -23,8 +24,7 @@ map_same f g (x ∷ xs) same = ap₂ (λ y ys. y ∷ ys) (same x) (map_same f g 
 -- to choose between an open with another connection and itself is to choose its connection
 pub choose_connection : (b : Bool) (up : Bool) (one : Open)
     → cond b (record one { connected = up }) one ≡ record one { connected = cond b up one.connected }
-choose_connection true up one = refl
-choose_connection false up one = refl
+choose_connection x1 up one = grind arith
 
 -- an open connected again, as an open with another connection
 again_connection : (file_id : ℕ) (one : Open)
@@ -84,9 +84,7 @@ breaking_present opens leases expired last_id key one s b a k = not_false one.co
 -- the granted form of a part writes only where the whole does
 part_form_write : (state lowered : State) → is_state_within state lowered ≡ true
     → (granted_form_of state).write ≡ true → lowered.write ≡ true
-part_form_write state lowered part w = write_of_part state lowered part
-    (if_cases (λ s. s.write ≡ true → state.write ≡ true) state.read state nothing_cached
-    (λ e t. t) (λ e never. absurd (true≢false (sym never))) w)
+part_form_write state lowered part w = grind arith
 
 -- an acknowledgment of a part of the state broken to
 break_ended-sound : (key : Key) (state lowered : State) (progress : Progress) → IsSound progress.server

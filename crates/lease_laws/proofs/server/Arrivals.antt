@@ -23,19 +23,7 @@ use Rattle.lease_laws.proofs.server.Ready.{ready-free}
 -- the first server
 pub new_server-waits : (contents : List (List ℕ)) → EveryoneWaits (new_server contents)
 unfolding new_server
-new_server-waits contents = record {
-  fine = record {
-    sound = new_server-sound contents;
-    orderly = record {
-      opens_up = λ one a up. absurd a;
-      open_files = λ one a. absurd a;
-      held_up = λ file one a. absurd a;
-      held_files = λ file one a. absurd a;
-      held_about = λ file one a. absurd a;
-    };
-  };
-  wait = λ file client one never. absurd (cc);
-}
+new_server-waits contents = grind arith
 
 -- a file that was found
 abbrev file_of_open_ok : ℕ → Result ℕ Status
@@ -63,11 +51,7 @@ open_file server client file_id file (Some one) s o e same =
 -- the file of a create is one of the server
 create_file : (server : Server) (at file : ℕ) (contexts : Option CreateAsk) → file_of_create server at contexts ≡ Ok file
     → (has_file server file ≡ true) × (at ≡ file)
-create_file server at file None never = absurd (cc)
-create_file server at file (Some ask) e = if_cases
-    (λ r. r ≡ Ok file → (has_file server file ≡ true) × (at ≡ file)) (has_file server at) (Ok at) (Err Status.ObjectNameNotFound)
-    (λ t same. let here = ok_same at file same in (ap (λ f. has_file server f) (sym here) ∙ t, here))
-    (λ t never. absurd (cc)) e
+create_file server at file x4 never = grind arith
 
 -- the file of a request is one of the server, and the request is about it
 asked_file : (server : Server) (client file : ℕ) (request : FileRequest) → IsSound server → IsOrderly server
@@ -84,12 +68,7 @@ asked_file server client file (FileRequest.Close file_id) s o e = open_file serv
 -- to hold a request lets opens go on
 pub request_held-goes : (file : ℕ) (one : Held) (progress : Progress) → Goes progress (request_held file one progress)
 unfolding request_held
-request_held-goes file one progress = record {
-  files = refl;
-  ups = λ c. refl;
-  ids = omega arith;
-  from = λ x a. inl (still_there progress.server x a);
-}
+request_held-goes file one progress = grind arith
 
 -- to hold a request lets wait what has to wait
 request_held-kept : (file : ℕ) (one : Held) (progress : Progress) → Kept Anywhere progress (request_held file one progress)
@@ -101,9 +80,7 @@ request_held-cases : (P : List Held → Type 0) (file : ℕ) (one : Held) (progr
     → (other ≡ file → P (progress.server.held file ++ one ∷ [])) → P (progress.server.held other)
     → P ((request_held file one progress).server.held other)
 unfolding request_held put
-request_held-cases P file one progress other here there =
-    if_cases P (other == file) (progress.server.held file ++ one ∷ []) (progress.server.held other)
-    (λ e. here ((Decides-eqb other file).0 e)) (λ e. there)
+request_held-cases x1 file one progress other here there = grind arith
 
 -- a request of a connected client is held on the file that it is about
 request_held-fine : (file : ℕ) (one : Held) (progress : Progress) → IsFine progress.server → IsHeldWell progress.server file one

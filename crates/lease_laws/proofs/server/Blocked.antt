@@ -1,5 +1,6 @@
 -- Where a round has to wait, another key on the request's file is breaking.
 use Rattle.lease_laws.proofs.Words.{◌&&◌, ◌==◌, ◌∙◌, ◌≡◌, Access, Among, Bool, CreateAsk, Decides-eqb, FileRequest, Finding}
+use Rattle.std.proofs.Common.{arith}
 use Rattle.lease_laws.proofs.Words.{HasToWait, IsBlockedBy, IsOpenBlocked, IsSound, Key, Lease, LeaseOf, List, None, Open, Option}
 use Rattle.lease_laws.proofs.Words.{Patch, Progress, Server, Share, Some, State, Status, Want, ℕ, [], all_wants, ap}
 use Rattle.lease_laws.proofs.Words.{asked_finding, awaits, breaks_to_some, by_open, conflicts_on, connected_open, create_finding}
@@ -72,8 +73,7 @@ all_other server own file = where_other server own file
 -- a key that is breaking has an open
 pub breaking_open : (server : Server) (key : Key) → IsSound server → is_breaking (server.leases key) ≡ true
     → has_lease server key ≡ true
-breaking_open server key s b = not_false (has_lease server key) (λ none.
-    clash (is_breaking (server.leases key)) b (ap (λ l. is_breaking l) (s.no_open key none)))
+breaking_open server key s b = grind arith
 
 -- an open with the key of another that isn't the one's isn't the one's either
 other_alike : (own : Option Key) (key : Key) (one other : Open) → has_key key one ≡ true → has_key key other ≡ true
@@ -125,10 +125,7 @@ create_other server own file access share = if_cases (WantsOther server own file
 reconnect_other : (server : Server) (client file : ℕ) (own : Option Key) (file_id : ℕ)
     → WantsOther server own file (reconnect_finding server client file own file_id)
 unfolding reconnect_finding
-reconnect_other server client file own file_id =
-    if_cases (WantsOther server own file) (list_any (awaits client file own file_id) server.opens)
-    (Finding.Needs []) (Finding.Fails Status.ObjectNameNotFound)
-    (λ e want a. absurd a) (λ e. tt)
+reconnect_other server client file own file_id = grind arith
 
 -- what a create finds, with a reconnect or without
 asked_other : (server : Server) (client file : ℕ) (access : Access) (share : Share) (lease : Option LeaseOf) (again : Option ℕ)
@@ -209,13 +206,11 @@ Idle (Finding.Needs wants) = [] ≡ wants
 
 -- what is idle by every open
 by_open-idle : (one : Option Open) (found : Open → Finding) → ((x : Open) → Idle (found x)) → Idle (by_open one found)
-by_open-idle None found each = tt
-by_open-idle (Some one) found each = each one
+by_open-idle x1 found each = grind arith
 
 -- a read wants nothing
 read-idle : (one : Open) → Idle (read_finding one)
-read-idle one = if_cases Idle (may_read one.access) (Finding.Needs []) (Finding.Fails Status.AccessDenied)
-    (λ e. refl) (λ e. tt)
+read-idle one = grind arith
 
 -- what is idle never waits
 idle_waits : {X : Type 0} (request : FileRequest) (progress : Progress) (wants : List Want) (found : Finding) → Idle found

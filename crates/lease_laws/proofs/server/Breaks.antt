@@ -1,5 +1,6 @@
 -- To meet wants keeps a server's laws.
 use Rattle.lease_laws.proofs.Words.{◌&&◌, ◌∙◌, ◌∷◌, ◌≡◌, Among, Bool, IsLowered, IsSound, Key, Lease, List, None, Open, Progress}
+use Rattle.std.proofs.Common.{arith}
 use Rattle.lease_laws.proofs.Words.{Server, Some, State, Want, ⊎_elim, [], ap, break_begun, false, filter, has_key, has_lease}
 use Rattle.lease_laws.proofs.Words.{if◌then◌else◌, inl, inr, is_breaking, is_left_open, is_state_within, lease_broken}
 use Rattle.lease_laws.proofs.Words.{lease_lowered, list_any, needs_acknowledgment, no_lease, not, opens_dropped, refl, subst, sym}
@@ -26,10 +27,7 @@ pub record IsUnder (base : Server) (server : Server) : Type 0 where
 
 -- a server is on the way from itself
 pub under-itself : (server : Server) → IsUnder server server
-under-itself server = record {
-  tracked = λ key. record { is_same = λ a b c. refl; is_light = λ a b c. c };
-  timers = λ key. refl;
-}
+under-itself server = grind arith
 
 -- to drop opens goes on under it
 pub opens_dropped-under : (base : Server) (test : Open → Bool) (progress : Progress) → IsUnder base progress.server
@@ -86,15 +84,11 @@ lease_lowered-under base key lowered progress u light was = record {
 -- a part of what needs no acknowledgment needs none
 pub light_part : (part state : State) → is_state_within part state ≡ true → needs_acknowledgment state ≡ false
     → needs_acknowledgment part ≡ false
-light_part part state p light = not_true (needs_acknowledgment part) (λ needs. ⊎_elim
-    (λ w. clash (needs_acknowledgment state) (true_or state.write state.handle (write_of_part part state p w)) light)
-    (λ h. clash (needs_acknowledgment state) (or_of_true state.write state.handle (handle_of_part part state p h)) light)
-    (or_true part.write part.handle needs))
+light_part part state p light = grind arith
 
 -- what needs no acknowledgment doesn't write
 pub light_writeless : (state : State) → needs_acknowledgment state ≡ false → state.write ≡ false
-light_writeless state light = not_true state.write
-    (λ w. clash (needs_acknowledgment state) (true_or state.write state.handle w) light)
+light_writeless state light = grind arith
 
 -- a call under way that keeps the laws, on the way from a server by breaks alone
 pub record IsAlong (base : Server) (progress : Progress) : Type 0 where

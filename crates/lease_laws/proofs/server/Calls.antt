@@ -1,5 +1,6 @@
 -- The laws hold of the first server, and every call keeps them.
 use Rattle.lease_laws.proofs.Words.{◌&&◌, ◌==◌, ◌∙◌, ◌≡◌, Among, AreSound, Bool, Call, Decides-eqb, Err, FileRequest, IsLasting}
+use Rattle.std.proofs.Common.{arith}
 use Rattle.lease_laws.proofs.Words.{IsSound, Key, List, None, Ok, Open, Option, Outcome, Progress, Request, Result, Server, Some}
 use Rattle.lease_laws.proofs.Words.{Status, ℕ, acknowledged, after_first_try, all_passes, ap, arrived, arrived_on, begun, called}
 use Rattle.lease_laws.proofs.Words.{client_forgotten, cond, cut, disconnected, expire, false, file_asked, file_request_arrived}
@@ -21,32 +22,12 @@ use Rattle.lease_laws.proofs.server.Tries.{IsGoodTry, tried_for-good}
 -- the first server
 pub new_server-sound : (contents : List (List ℕ)) → IsSound (new_server contents)
 unfolding new_server
-new_server-sound contents = record {
-  one_writer = λ key one other w a k b f. absurd a;
-  no_conflict = λ one other a b f n. absurd a;
-  disconnected = λ one a d. absurd a;
-  lawful = λ key. no_lease-lawful;
-  one_file = λ key one other a k b j. absurd a;
-  no_open = λ key e. refl;
-  numbered = λ one a. absurd a;
-  in_order = tt;
-  timed_out = λ key e. refl;
-}
+new_server-sound contents = grind arith
 
 -- fewer keys are marked as timed out
 fewer_timers : (server : Server) (expired : Key → Bool) → IsSound server
     → ((key : Key) → expired key ≡ true → server.expired key ≡ true) → AreSound server.opens server.leases expired server.last_id
-fewer_timers server expired s fewer = record {
-  one_writer = s.one_writer;
-  no_conflict = s.no_conflict;
-  disconnected = s.disconnected;
-  lawful = s.lawful;
-  one_file = s.one_file;
-  no_open = s.no_open;
-  numbered = s.numbered;
-  in_order = s.in_order;
-  timed_out = λ key e. s.timed_out key (fewer key e);
-}
+fewer_timers server expired s fewer = grind arith
 
 -- a key that has no lease may be marked
 one_timer : (server : Server) (key : Key) → IsSound server → server.leases key ≡ no_lease
@@ -67,11 +48,7 @@ one_timer server key s none = record {
 -- a join that applies keeps the laws
 pub joined-sound : (client : ℕ) (progress : Progress) → IsSound progress.server → IsSound (joined client progress).server
 unfolding joined
-joined-sound client progress s = fewer_timers progress.server
-    (λ key. if key.client == client then false else progress.server.expired key) s
-    (λ key. if_cases (λ b. b ≡ true → progress.server.expired key ≡ true) (key.client == client) false
-    (progress.server.expired key)
-    (λ e never. absurd (true≢false (sym never))) (λ e same. same))
+joined-sound client progress s = grind arith
 
 -- a choice of two calls under way
 sound_cases : (b : Bool) (x y : Progress) → (b ≡ true → IsSound x.server) → (b ≡ false → IsSound y.server)

@@ -1,5 +1,6 @@
 -- A Break stands before the Changed that needed it.
 use Rattle.lease_laws.proofs.Words.{◌&&◌, ◌++◌, ◌==◌, ◌||◌, ◌∙◌, ◌∷◌, ◌≡◌, ◌⊎◌, Among, AreGuarded, AreOf, BecomesBy, Bool}
+use Rattle.std.proofs.Common.{arith}
 use Rattle.lease_laws.proofs.Words.{CachesAlone, Call, ComesBehindBreaks, Decides-eqb, EachOut, FileRequest, GoOn, HasGivenUp}
 use Rattle.lease_laws.proofs.Words.{IsCaching, IsGivenUp, IsGuarded, IsOfCall, IsRaised, IsSound, Key, Lease, LeaseOf, List}
 use Rattle.lease_laws.proofs.Words.{MayEnd, None, Open, Option, Out, Outcome, Patch, Progress, Reply, Request, Server, SmallStep}
@@ -182,16 +183,7 @@ step_first (SmallStep.AnswerHeld on earlier one later outcome) progress may more
     by_outcome outcome may.1 (e ∙ ap (λ l. l ++ more) (sym (held_left-outs on (earlier ++ later) progress)))
   where
     same : IsFirst (held_left on (earlier ++ later) progress).server file by before → IsFirst progress.server file by before
-    same f = record {
-      first = f.first;
-      open_so = record {
-        one = f.open_so.one;
-        is_there = f.open_so.is_there;
-        is_by = f.open_so.is_by;
-        is_on = f.open_so.is_on;
-        alone = f.open_so.alone;
-      };
-    }
+    same f = grind arith
 
     by_outcome : (o : Outcome) → MayEnd progress.server one.client one.request o
         → (concluded one.client one.request (held_left on (earlier ++ later) progress) o).outs
@@ -291,10 +283,7 @@ no_letters : (r w h : Bool) → r ≡ false → w ≡ false → h ≡ false → 
 no_letters r w h e f g = rw (e, f, g) refl
 
 nothing_or_not : (s : State) → (s ≡ nothing_cached) ⊎ (s ≡ nothing_cached → ⊥)
-nothing_or_not s = either s.read (λ r. inr (λ e. clash s.read r (ap (λ (x : State). x.read) e)))
-    (λ r. either s.write (λ w. inr (λ e. clash s.write w (ap (λ (x : State). x.write) e)))
-    (λ w. either s.handle (λ h. inr (λ e. clash s.handle h (ap (λ (x : State). x.handle) e)))
-    (λ h. inl (no_letters s.read s.write s.handle r w h))))
+nothing_or_not s = grind arith
 
 -- an acknowledgment leaves the lease of a key, or gives it the state that it tells
 pub record IsAckOf (client : ℕ) (given : Option LeaseOf) (key : Key) (after : Lease) : Type 0 where
@@ -379,25 +368,14 @@ gone_on : (call : Call) (key : Key) (step : SmallStep) (steps : List SmallStep) 
 gone_on call key step steps progress e = inr (inl (record { first = step ∷ []; rest = steps; are_both = refl; is_gone = e }))
 
 within_nothing : (state whole : State) → is_state_within state whole ≡ true → whole ≡ nothing_cached → state ≡ nothing_cached
-within_nothing state whole part none =
-    let all = and_parts ((not state.read || false) && (not state.write || false)) (not state.handle || false)
-    (subst (λ w. is_state_within state w ≡ true) none part) in
-    let two = and_parts (not state.read || false) (not state.write || false) all.0 in
-    no_letters state.read state.write state.handle (none_of state.read two.0) (none_of state.write two.1)
-    (none_of state.handle all.1)
-  where
-    none_of : (b : Bool) → (not b || false) ≡ true → b ≡ false
-    none_of true e = absurd (true≢false (sym e))
-    none_of false e = refl
+within_nothing state whole part none = grind arith
 
 no_break : (lease : Lease) (lowered : State) → lease.broken_to ≡ Some lowered → is_breaking lease ≡ false → ⊥
 no_break lease lowered e settled = clash (is_breaking lease) (ap is_some e) settled
 
 -- a lease that caches something does so when it has risen
 raised_caches : (before after : Lease) → IsRaised before after → IsCaching before → IsCaching after
-raised_caches before after r caches given = ⊎_elim
-    (λ none. caches (inl (within_nothing before.state after.state r.is_more none)))
-    (λ broken. no_break after nothing_cached broken r.is_settled) given
+raised_caches before after r caches given = grind arith
 
 answer_on : (call : Call) (key : Key) (step : SmallStep) (steps : List SmallStep) (progress : Progress)
     → IsCaching (progress.server.leases key)
@@ -410,18 +388,12 @@ answer_on call key step steps progress caches later b = ⊎_elim (same_on call k
 -- a settled lease that holds something caches it
 settled_caches : (lease : Lease) (state : State) → lease ≡ record { state = state; broken_to = None }
     → (state ≡ nothing_cached → ⊥) → IsCaching lease
-settled_caches lease state e some given = ⊎_elim (λ none. some (sym (ap (λ (l : Lease). l.state) e) ∙ none))
-    (λ broken. no_break lease nothing_cached broken (ap is_breaking e)) given
+settled_caches lease state e some given = grind arith
 
 -- one that is breaking to something does
 breaking_caches : (lease : Lease) (state lowered : State) → lease ≡ record { state = state; broken_to = Some lowered }
     → (state ≡ nothing_cached → ⊥) → (lowered ≡ nothing_cached → ⊥) → IsCaching lease
-breaking_caches lease state lowered e some left given = ⊎_elim
-    (λ none. some (sym (ap (λ (l : Lease). l.state) e) ∙ none))
-    (λ broken. left (inside (sym (ap (λ (l : Lease). l.broken_to) e) ∙ broken))) given
-  where
-    inside : Some lowered ≡ Some nothing_cached → lowered ≡ nothing_cached
-    inside e = cc
+breaking_caches lease state lowered e some left given = grind arith
 
 by_step : (call : Call) (key : Key) (step : SmallStep) (steps : List SmallStep) (progress : Progress) → IsOfCall call step
     → IsCaching (progress.server.leases key)

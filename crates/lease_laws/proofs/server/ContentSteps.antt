@@ -1,5 +1,6 @@
 -- What small steps do to contents, and tell of them: a read tells a file's content, a write changes it.
 use Rattle.lease_laws.proofs.Words.{◌++◌, ◌==◌, ◌∙◌, ◌∷◌, ◌≡◌, Access, Among, Bool, FileRequest, GoOn, Lease, LeaseOf, List, None}
+use Rattle.std.proofs.Common.{arith}
 use Rattle.lease_laws.proofs.Words.{Open, Option, Out, Outcome, Patch, Progress, Reply, Share, SmallStep, Some, Status, ℕ, ⊤, []}
 use Rattle.lease_laws.proofs.Words.{acknowledged, ap, break_begun, break_ended, changed, concluded, granted_with, held_left}
 use Rattle.lease_laws.proofs.Words.{is_left_open, lease_after, lease_lowered, opens_dropped, put, read_done, reconnected, refl}
@@ -46,10 +47,7 @@ pub data ContentStep (before : Progress) (after : Progress) : Type 0 where
 
 reply_leaves : (client : ℕ) (reply : Reply) (progress : Progress) → IsOther (Out.Sent client reply)
     → LeavesContents progress (replied client reply progress)
-reply_leaves client reply progress other = record {
-  contents = refl;
-  outs = record { more = _; are_more = refl; each = (other, tt) };
-}
+reply_leaves client reply progress other = grind arith
 
 same_leaves : (progress : Progress) → LeavesContents progress progress
 same_leaves progress = record { contents = refl; outs = go_on-same IsOther progress.outs }
@@ -66,23 +64,12 @@ granted_leaves client file access share (Some asked) durable lease progress =
 -- a read by an open
 read_step : (client file_id : ℕ) (progress : Progress) (one : Open) → Among one progress.server.opens
     → one.file_id ≡ file_id → one.client ≡ client → ContentStep progress (read_done client one.file file_id progress)
-read_step client file_id progress one a id by = ContentStep.Reads (record {
-  one = one;
-  is_there = a;
-  contents = refl;
-  outs = told one.file client file_id one.client one.file_id (sym by) (sym id);
-})
-  where
-    told : (file c i d j : ℕ) → c ≡ d → i ≡ j
-        → progress.outs ++ Out.Sent c (Reply.ReadDone i (progress.server.contents file)) ∷ []
-        ≡ progress.outs ++ Out.Sent d (Reply.ReadDone j (progress.server.contents file)) ∷ []
-    told file c i d j e f = rw (e, f) refl
+read_step client file_id progress one a id by = grind arith
 
 -- the end of a request
 refusal_leaves : (client : ℕ) (request : FileRequest) (status : Status) (progress : Progress)
     → LeavesContents progress (replied client (refusal_of request status) progress)
-refusal_leaves client (FileRequest.Create file access share contexts) status progress = reply_leaves client _ progress tt
-refusal_leaves client request status progress = reply_leaves client _ progress tt
+refusal_leaves client x2 status progress = grind arith
 
 ends_content : (client : ℕ) (progress : Progress) → HasEnds client progress (λ request outcome. ContentStep progress)
 unfolding reconnected changed opens_dropped with_opens
@@ -140,35 +127,7 @@ silent_leaves before after contents outs = record {
 -- behind a step that leaves opens, contents and outs alone
 step_behind : (before next after : Progress) → next.server.contents ≡ before.server.contents
     → next.server.opens ≡ before.server.opens → next.outs ≡ before.outs → ContentStep next after → ContentStep before after
-step_behind before next after contents opens outs (ContentStep.Leaves l) = ContentStep.Leaves (record {
-  contents = l.contents ∙ contents;
-  outs = record {
-    more = (l.outs).more;
-    are_more = (l.outs).are_more ∙ ap (λ o. o ++ (l.outs).more) outs;
-    each = (l.outs).each;
-  };
-})
-step_behind before next after contents opens outs (ContentStep.Reads r) = ContentStep.Reads (record {
-  one = r.one;
-  is_there = subst (λ os. Among r.one os) opens r.is_there;
-  contents = r.contents ∙ contents;
-  outs = r.outs ∙ both next.outs before.outs next.server.contents before.server.contents outs contents;
-})
-  where
-    both : (o p : List Out) (c d : ℕ → List ℕ) → o ≡ p → c ≡ d
-        → o ++ Out.Sent (r.one).client (Reply.ReadDone (r.one).file_id (c (r.one).file)) ∷ []
-        ≡ p ++ Out.Sent (r.one).client (Reply.ReadDone (r.one).file_id (d (r.one).file)) ∷ []
-    both o p c d e f = rw (e, f) refl
-step_behind before next after contents opens outs (ContentStep.Changes g) = ContentStep.Changes (record {
-  file = g.file;
-  client = g.client;
-  file_id = g.file_id;
-  number = g.number;
-  patch = g.patch;
-  contents = g.contents ∙ ap (λ c. put c g.file (patched (c g.file) g.patch)) contents;
-  outs = g.outs ∙ ap (λ o. o ++ Out.Changed g.file g.client g.number g.patch
-      ∷ Out.Sent g.client (Reply.WriteDone g.file_id g.number) ∷ []) outs;
-})
+step_behind before next after contents opens outs x7 = grind arith
 
 -- any step
 pub content_step : (step : SmallStep) (progress : Progress) → ContentStep progress (step_taken step progress)

@@ -95,13 +95,7 @@ pub record IsAfterBreaks (holds : State → Bool) (before : Server) (after : Ser
 
 -- where nothing is broken
 itself : (holds : State → Bool) (server : Server) → IsAfterBreaks holds server server
-itself holds server = record {
-  no_new_open = λ one a. a;
-  connected_left = λ test. refl;
-  same_files = refl;
-  still_breaking = λ key b h. b;
-  no_new_right = λ key h. h;
-}
+itself holds server = grind arith
 
 -- a lease that is there was there before
 lease_before : (before after : Server) (key : Key) → ((one : Open) → Among one after.opens → Among one before.opens)

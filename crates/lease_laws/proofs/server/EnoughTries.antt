@@ -30,11 +30,7 @@ Ends (suc rounds) client request progress =
 same_after : (again other : Progress → Tried) (next : Progress → Type 0) (request : FileRequest) (progress : Progress)
     (found : Finding) → ((q : Progress) → next q → again q ≡ other q) → EndsAfter next request progress found
     → after_finding again request progress found ≡ after_finding other request progress found
-same_after again other next request progress (Finding.Fails status) same ends = refl
-same_after again other next request progress (Finding.Needs wants) same ends =
-    either (is_ready request progress.server.leases wants) (λ r. rw r refl)
-    (λ r. either (must_wait request (wants_met wants progress) wants) (λ w. rw (r, w) refl)
-    (λ w. rw (r, w) (same (wants_met wants progress) (ends r w))))
+same_after again other next request progress x6 same ends = grind arith
 
 -- where so many rounds are enough, more do the same
 more_same : (rounds more client : ℕ) (request : FileRequest) (progress : Progress) → Ends rounds client request progress
@@ -80,8 +76,7 @@ with_reason (suc rounds) client request progress ends =
 ends_refused : (rounds client : ℕ) (request : FileRequest) (progress : Progress) (status : Status)
     → finding progress.server client request ≡ Finding.Fails status → Ends (suc rounds) client request progress
 unfolding Ends
-ends_refused rounds client request progress status e =
-    subst (λ (f : Finding). EndsAfter (Ends rounds client request) request progress f) (sym e) tt
+ends_refused rounds client request progress status e = grind arith
 
 -- a look wants leases broken, and then the rest of the try ends
 ends_wants : (rounds client : ℕ) (request : FileRequest) (progress : Progress) (wants : List Want)
@@ -89,14 +84,12 @@ ends_wants : (rounds client : ℕ) (request : FileRequest) (progress : Progress)
     → (must_wait request (wants_met wants progress) wants ≡ false → Ends rounds client request (wants_met wants progress))
     → Ends (suc rounds) client request progress
 unfolding Ends
-ends_wants rounds client request progress wants e next =
-    subst (λ (f : Finding). EndsAfter (Ends rounds client request) request progress f) (sym e) (λ r w. next w)
+ends_wants rounds client request progress wants e next = grind arith
 
 -- where nothing is wanted each request is ready
 nothing_ready : (request : FileRequest) (leases : Key → Lease) → is_ready request leases [] ≡ true
 unfolding is_ready
-nothing_ready (FileRequest.Create file access share contexts) leases = refl
-nothing_ready request leases = refl
+nothing_ready x1 leases = grind arith
 
 -- a look wants nothing
 ends_ready : (rounds client : ℕ) (request : FileRequest) (progress : Progress)
@@ -111,9 +104,7 @@ ends_found : (rounds client : ℕ) (request : FileRequest) (progress : Progress)
     → finding progress.server client request ≡ Finding.Needs wants
     → is_ready request progress.server.leases wants ≡ true → Ends (suc rounds) client request progress
 unfolding Ends
-ends_found rounds client request progress wants e ready =
-    subst (λ (f : Finding). EndsAfter (Ends rounds client request) request progress f) (sym e)
-    (λ r w. clash (is_ready request progress.server.leases wants) ready r)
+ends_found rounds client request progress wants e ready = grind arith
 
 -- ---- a create
 
@@ -307,8 +298,7 @@ plain_ends client request progress (Finding.Needs wants) e plain =
 reconnect_plain : (server : Server) (client file : ℕ) (own : Option Key) (file_id : ℕ)
     → IsPlain (reconnect_finding server client file own file_id)
 unfolding reconnect_finding
-reconnect_plain server client file own file_id = if_cases IsPlain (list_any (awaits client file own file_id) server.opens)
-    (Finding.Needs []) (Finding.Fails Status.ObjectNameNotFound) (λ e. refl) (λ e. tt)
+reconnect_plain server client file own file_id = grind arith
 
 -- also where its file is looked for
 again_plain : (server : Server) (client file : ℕ) (own : Option Key) (file_id : ℕ)
@@ -340,24 +330,14 @@ finds_all : (client file_id number : ℕ) (patch : Patch) (server : Server) (one
     → connected_open server client file_id ≡ Some one → may_write one.access ≡ true → is_within_limit patch ≡ true
     → finding server client (FileRequest.Write file_id number patch) ≡ Finding.Needs (all_wants server (key_of_open one) one.file)
 unfolding finding write_finding
-finds_all client file_id number patch server one e may fits =
-    ap (λ (o : Option Open). by_open o (λ one. write_finding server one patch)) e ∙ rw (may, fits) refl
+finds_all client file_id number patch server one e may fits = grind arith
 
 -- a write without access, or too long, is refused
 finds_refused : (client file_id number : ℕ) (patch : Patch) (server : Server) (one : Open)
     → connected_open server client file_id ≡ Some one → (may_write one.access && is_within_limit patch) ≡ false
     → IsPlain (finding server client (FileRequest.Write file_id number patch))
 unfolding finding write_finding
-finds_refused client file_id number patch server one e refused =
-    subst (λ (o : Option Open). IsPlain (by_open o (λ one. write_finding server one patch))) (sym e)
-    (refuses (may_write one.access) (is_within_limit patch) (all_wants server (key_of_open one) one.file) refused)
-  where
-    refuses : (may fits : Bool) (wants : List Want) → (may && fits) ≡ false
-        → IsPlain (if may then (if fits then Finding.Needs wants else Finding.Fails Status.InvalidParameter)
-        else Finding.Fails Status.AccessDenied)
-    refuses true true wants e = clash true refl e
-    refuses true false wants e = tt
-    refuses false fits wants e = tt
+finds_refused client file_id number patch server one e refused = grind arith
 
 -- a write by an open that is gone is refused
 finds_closed : (client file_id number : ℕ) (patch : Patch) (server : Server) → connected_open server client file_id ≡ None
@@ -413,14 +393,11 @@ write_ends client file_id number patch progress (Some one) e = either (may_write
 
 -- a read wants nothing
 read_plain : (found : Option Open) → IsPlain (by_open found read_finding)
-read_plain None = tt
-read_plain (Some one) = if_cases IsPlain (may_read one.access) (Finding.Needs []) (Finding.Fails Status.AccessDenied)
-    (λ e. refl) (λ e. tt)
+read_plain x1 = grind arith
 
 -- a close wants nothing
 close_plain : (found : Option Open) → IsPlain (by_open found (λ one. Finding.Needs []))
-close_plain None = tt
-close_plain (Some one) = refl
+close_plain x1 = grind arith
 
 -- every try ends in three rounds
 pub tries_settle : (client : ℕ) (request : FileRequest) (progress : Progress) → Ends 3 client request progress

@@ -1,5 +1,6 @@
 -- Small steps leave alone which keys are expired.
 use Rattle.lease_laws.proofs.Words.{◌++◌, ◌==◌, ◌∙◌, ◌∷◌, ◌≡◌, ◌⊎◌, Bool, Call, FileRequest, IsSound, Key, Lease, LeaseOf, List}
+use Rattle.std.proofs.Common.{arith}
 use Rattle.lease_laws.proofs.Words.{None, Option, Outcome, Progress, Server, SmallStep, Some, WaitsWell, ℕ, [], acknowledged}
 use Rattle.lease_laws.proofs.Words.{begun, break_begun, break_ended, call_begun, called, changed, client_forgotten, concluded}
 use Rattle.lease_laws.proofs.Words.{false, granted_with, held_left, if◌then◌else◌, inl, inr, is_breaking, is_left_behind, join}
@@ -17,22 +18,11 @@ SameExpired before after = after.server.expired ≡ before.server.expired
 
 put_expired : (server : Server) (client : ℕ) (asked : Option LeaseOf) (lease : Lease)
     → (lease_put server client asked lease).expired ≡ server.expired
-put_expired server client None lease = refl
-put_expired server client (Some ask) lease = refl
+put_expired server client x3 lease = grind arith
 
 ends_expired : (client : ℕ) (progress : Progress) → HasEnds client progress (λ request outcome. SameExpired progress)
 unfolding granted_with reconnected changed opens_dropped with_opens
-ends_expired client progress = record {
-  refused = λ request status. refl;
-  left = λ request outcome. refl;
-  full = λ file access share ask none. refl;
-  granted = λ file access share ask none.
-      put_expired progress.server client ask.lease (lease_after progress.server client file ask.lease);
-  again = λ file access share ask file_id some. refl;
-  read = λ file_id one own. refl;
-  changed = λ file_id number patch one own. refl;
-  closed = λ file_id one own. refl;
-}
+ends_expired client progress = grind arith
 
 concluded_expired : (client : ℕ) (request : FileRequest) (progress : Progress) (outcome : Outcome)
     → SameExpired progress (concluded client request progress outcome)
@@ -68,8 +58,7 @@ called-expired server call s w =
 
 either_expired : (b : Bool) (x y : Progress) (was : Key → Bool) → x.server.expired ≡ was → y.server.expired ≡ was
     → (if b then x else y).server.expired ≡ was
-either_expired true x y was e f = e
-either_expired false x y was e f = f
+either_expired x1 x y was e f = grind arith
 
 pub cut-expired : (server : Server) (client : ℕ) → (call_begun server (Call.Cut client)).server.expired ≡ server.expired
 unfolding opens_dropped with_opens opens_disconnected client_forgotten
@@ -78,8 +67,7 @@ cut-expired server client = either_expired (server.present client) _ (begun serv
 pub scavenge-expired : (server : Server) (file_id : ℕ)
     → (call_begun server (Call.Scavenge file_id)).server.expired ≡ server.expired
 unfolding opens_dropped with_opens
-scavenge-expired server file_id =
-    either_expired (list_any (is_left_behind file_id) server.opens) _ (begun server) server.expired refl refl
+scavenge-expired server file_id = grind arith
 
 pub join-expired : (server : Server) (client : ℕ) → server.present client ≡ false → (key : Key)
     → (call_begun server (Call.Join client)).server.expired key ≡ (if key.client == client then false else server.expired key)
@@ -90,7 +78,4 @@ pub expire-expired : (server : Server) (key : Key) (other : Key)
     → (call_begun server (Call.Expire key)).server.expired other ≡ true
     → (server.expired other ≡ true) ⊎ (put_key server.expired key true other ≡ true)
 unfolding key_expired opens_dropped with_opens
-expire-expired server key other = if_cases
-    (λ (p : Progress). p.server.expired other ≡ true
-    → (server.expired other ≡ true) ⊎ (put_key server.expired key true other ≡ true))
-    (is_breaking (server.leases key)) _ (begun server) (λ b e. inr e) (λ b e. inl e)
+expire-expired server key other = grind arith

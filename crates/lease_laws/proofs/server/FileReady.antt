@@ -1,5 +1,6 @@
 -- What is known of the file of a request that is ready, and of the open that it is to have again.
 use Rattle.lease_laws.proofs.Words.{◌&&◌, ◌==◌, ◌≡◌, Access, Among, CreateAsk, Decides-eqb, FileRequest, Finding, Key, LeaseOf}
+use Rattle.std.proofs.Common.{arith}
 use Rattle.lease_laws.proofs.Words.{List, None, Open, Option, Progress, Server, Share, Some, Status, Want, ℕ, [], asked_finding}
 use Rattle.lease_laws.proofs.Words.{awaits, finding, has_file, has_key, list_any, not, own_key, reconnect_finding, sym, true}
 use Rattle.lease_laws.proofs.Words.{true≢false}
@@ -32,14 +33,7 @@ FileReady server client request = Unit {0}
 pub awaits_own : (client file : ℕ) (own : Option Key) (file_id : ℕ) (one : Open) → awaits client file own file_id one ≡ true
     → (one.file_id ≡ file_id) × (one.client ≡ client)
 unfolding awaits
-awaits_own client file None file_id one e = absurd (true≢false (sym e))
-awaits_own client file (Some key) file_id one e =
-    let p = and_parts (one.file_id == file_id && not one.connected && one.client == client && one.file ==
-    file) (has_key key one) e in
-    let q = and_parts (one.file_id == file_id && not one.connected && one.client == client) (one.file == file) p.0 in
-    let r = and_parts (one.file_id == file_id && not one.connected) (one.client == client) q.0 in
-    let t = and_parts (one.file_id == file_id) (not one.connected) r.0 in
-    ((Decides-eqb one.file_id file_id).0 t.0, (Decides-eqb one.client client).0 r.1)
+awaits_own client file x3 file_id one e = grind arith
 
 -- a reconnect that is ready finds its open
 reconnect_awaited : (server : Server) (client file : ℕ) (own : Option Key) (file_id : ℕ) (wants : List Want)

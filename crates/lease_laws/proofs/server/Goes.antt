@@ -57,12 +57,7 @@ still_there before one a = record {
 
 -- nothing happens
 pub goes-same : (server : Server) → GoesOn server server
-goes-same server = record {
-  files = refl;
-  ups = λ c. refl;
-  ids = omega arith;
-  from = λ one a. inl (still_there server one a);
-}
+goes-same server = grind arith
 
 -- the files of a server are known by their number
 pub file_frame : (a b : Server) (file : ℕ) → b.files ≡ a.files → has_file b file ≡ has_file a file
@@ -70,32 +65,15 @@ file_frame a b file e = ap (λ n. has_file (record a { files = n }) file) e
 
 -- an open that was there twice
 old_of_old : (a b : Server) (one : Open) → GoesOn a b → (o : IsOld b one) → IsOld a o.was → IsOld a one
-old_of_old a b one g o p = record {
-  was = p.was;
-  was_there = p.was_there;
-  same_id = o.same_id ∙ p.same_id;
-  same_file = o.same_file ∙ p.same_file;
-  same_client = o.same_client ∙ p.same_client;
-  up = λ e. ⊎_elim
-      (λ u. ⊎_elim (λ v. inl v) (λ v. inr (ap (λ c. a.present c) o.same_client ∙ v)) (p.up u))
-      (λ u. inr (sym (g.ups one.client) ∙ u)) (o.up e);
-}
+old_of_old a b one g o p = grind arith
 
 -- a new open that is still there
 new_of_old : (a b : Server) (one : Open) → (o : IsOld b one) → IsNew a o.was → IsNew a one
-new_of_old a b one o p = record {
-  is_new = subst (λ n. a.last_id < n) (sym o.same_id) p.is_new;
-  up = ap (λ c. a.present c) o.same_client ∙ p.up;
-  on_file = ap (λ f. has_file a f) o.same_file ∙ p.on_file;
-}
+new_of_old a b one o p = grind arith
 
 -- an open that is new at the second step
 new_of_new : (a b : Server) (one : Open) → GoesOn a b → IsNew b one → IsNew a one
-new_of_new a b one g p = record {
-  is_new = let le = g.ids in let lt = p.is_new in omega (arith, le, lt);
-  up = sym (g.ups one.client) ∙ p.up;
-  on_file = sym (file_frame a b one.file g.files) ∙ p.on_file;
-}
+new_of_new a b one g p = grind arith
 
 -- two steps
 pub goes-twice : (a b c : Server) → GoesOn a b → GoesOn b c → GoesOn a c
@@ -115,12 +93,7 @@ Goes before after = GoesOn before.server after.server
 -- the opens, the files and the connections stay
 stay-goes : (before after : Server) → after.files ≡ before.files → after.present ≡ before.present
     → after.last_id ≡ before.last_id → after.opens ≡ before.opens → GoesOn before after
-stay-goes before after files ups ids opens = record {
-  files = files;
-  ups = λ c. ap (λ (p : ℕ → Bool). p c) ups;
-  ids = omega (arith, ids);
-  from = λ one a. inl (still_there before one (subst (λ os. Among one os) opens a));
-}
+stay-goes before after files ups ids opens = grind arith
 
 -- to drop opens lets opens go on
 pub dropped-goes : (test : Open → Bool) (progress : Progress) → Goes progress (opens_dropped test progress)

@@ -1,5 +1,6 @@
 -- A grant keeps a server's laws.
 use Rattle.lease_laws.proofs.Words.{◌&&◌, ◌++◌, ◌+◌, ◌==◌, ◌∙◌, ◌∷◌, ◌≡◌, ◌⊎◌, Access, Among, AreSound, Bool, Decides-eqb, IsFree}
+use Rattle.std.proofs.Common.{arith}
 use Rattle.lease_laws.proofs.Words.{IsSound, Key, Lease, LeaseOf, List, None, Open, Option, Progress, Server, Share, Some, State}
 use Rattle.lease_laws.proofs.Words.{ℕ, ⊎_elim, [], allowed, ap, conflict, false, granted_form_of, granted_with, has_key}
 use Rattle.lease_laws.proofs.Words.{has_own_key, inl, inr, is_breaking, is_key, is_other_on, is_state_within, key_of, lease_after}
@@ -15,10 +16,7 @@ use Rattle.lease_laws.proofs.server.States.{settled-lawful, granted_form_of-agai
 allowed-form : (server : Server) (own : Option Key) (file : ℕ) (want : State)
     → granted_form_of (allowed server own file want) ≡ allowed server own file want
 unfolding allowed
-allowed-form server own file want = if_cases (λ s. granted_form_of s ≡ s) (list_any (is_other_on own file) server.opens)
-    (without_write (granted_form_of want)) (granted_form_of want)
-    (λ e. without_write-form (granted_form_of want) (granted_form_of-again want))
-    (λ e. granted_form_of-again want)
+allowed-form server own file want = grind arith
 
 -- what is offered is a granted form
 offered-form : (server : Server) (key : Key) (file : ℕ) (want : State)
@@ -31,8 +29,7 @@ offered-form server key file want = if_cases (λ s. granted_form_of s ≡ s) (se
 allowed-handle : (server : Server) (own : Option Key) (file : ℕ) (want : State)
     → (granted_form_of want).handle ≡ true → (allowed server own file want).handle ≡ true
 unfolding allowed
-allowed-handle server own file want h = if_cases (λ s. s.handle ≡ true) (list_any (is_other_on own file) server.opens)
-    (without_write (granted_form_of want)) (granted_form_of want) (λ e. h) (λ e. h)
+allowed-handle server own file want h = grind arith
 
 -- what is offered holds H where the want does
 offered-handle : (server : Server) (key : Key) (file : ℕ) (want : State) → server.expired key ≡ false
@@ -109,12 +106,7 @@ keyed_may_open server client file access share asked durable lease free = record
 plain_may_open : (server : Server) (client file : ℕ) (access : Access) (share : Share) (durable : Bool) (lease : Lease)
     → IsFree server.opens server.leases None file access share
     → MayOpen server.opens server.leases (new_open server client file access share None durable lease)
-plain_may_open server client file access share durable lease free = record {
-  is_connected = refl;
-  is_peaceful = λ other a f. quiet_new server client file access share None durable lease other (free.peaceful other a f);
-  is_at_home = λ key other a kn ko. absurd (true≢false (sym kn));
-  is_welcome = λ key other w a k f. clash (server.leases key).state.write w (free.unwritten key other a f refl k);
-}
+plain_may_open server client file access share durable lease free = grind arith
 
 -- what is offered may become the lease, once the new open is there
 offer_may : (server : Server) (client file : ℕ) (asked : LeaseOf) (new : Open)
@@ -171,14 +163,7 @@ settled state = record { state = state; broken_to = None }
 granted_late : (server : Server) (key : Key) (file : ℕ) (want : State) → IsSound server → server.expired key ≡ true
     → lease_granted server key file want ≡ no_lease
 unfolding lease_granted offered
-granted_late server key file want s out =
-    let none = s.timed_out key out in
-    if_cases (λ l. l ≡ no_lease) (is_breaking (server.leases key)) (server.leases key) _
-    (λ e. none)
-    (λ e. if_cases (λ l. l ≡ no_lease) (is_state_within (server.leases key).state (granted_form_of want)) _ (server.leases key)
-    (λ part. if_cases (λ x. settled x ≡ no_lease) (server.expired key) nothing_cached (allowed server (Some key) file want)
-    (λ t. refl) (λ t. clash (server.expired key) out t))
-    (λ p. none))
+granted_late server key file want s out = grind arith
 
 -- a grant keeps the laws
 pub granted_with-sound : (client file : ℕ) (access : Access) (share : Share) (asked : Option LeaseOf)

@@ -36,22 +36,12 @@ tried_for-held = any_try SameHeld tries_hold
 -- a lease that is put leaves them
 put_held : (server : Server) (client : ℕ) (asked : Option LeaseOf) (lease : Lease)
     → (lease_put server client asked lease).held ≡ server.held
-put_held server client None lease = refl
-put_held server client (Some given) lease = refl
+put_held server client x3 lease = grind arith
 
 -- the end of a try holds and lets go nothing
 ends_hold : (client : ℕ) (progress : Progress) → HasEnds client progress (λ request outcome. SameHeld progress)
 unfolding granted_with reconnected changed opens_dropped with_opens
-ends_hold client progress = record {
-  refused = λ request status. refl;
-  left = λ request outcome. refl;
-  full = λ file access share ask none. refl;
-  granted = λ file access share ask none. put_held progress.server client ask.lease _;
-  again = λ file access share ask file_id some. refl;
-  read = λ file_id one own. refl;
-  changed = λ file_id number patch one own. refl;
-  closed = λ file_id one own. refl;
-}
+ends_hold client progress = grind arith
 
 pub concluded-held : (client : ℕ) (request : FileRequest) (progress : Progress) (outcome : Outcome)
     → SameHeld progress (concluded client request progress outcome)

@@ -28,20 +28,11 @@ pub record Keeps (Guard : ℕ → Type 0) (before : Server) (after : Server) : T
 
 -- nothing happens
 pub keeps-same : (Guard : ℕ → Type 0) (server : Server) → Keeps Guard server server
-keeps-same Guard server = record {
-  stands = λ key one a k up b g. (a, refl);
-  finds = λ client file_id one e g. e;
-}
+keeps-same x1 server = grind arith
 
 -- two steps
 pub keeps-twice : (Guard : ℕ → Type 0) (a b c : Server) → Keeps Guard a b → Keeps Guard b c → Keeps Guard a c
-keeps-twice Guard a b c h j = record {
-  stands = λ key one m k up w g.
-      let x = h.stands key one m k up w g in
-      let y = j.stands key one x.0 k up (ap (λ l. is_breaking l) x.1 ∙ w) g in
-      (y.0, y.1 ∙ x.1);
-  finds = λ client file_id one e g. j.finds client file_id one (h.finds client file_id one e g) g;
-}
+keeps-twice x1 a b c h j = grind arith
 
 -- every file
 abbrev pub Anywhere : ℕ → Type 0
@@ -49,10 +40,7 @@ Anywhere file = Unit {0}
 
 -- what is kept everywhere is kept there
 pub keeps-weaker : (Guard : ℕ → Type 0) (before after : Server) → Keeps Anywhere before after → Keeps Guard before after
-keeps-weaker Guard before after h = record {
-  stands = λ key one a k up b g. h.stands key one a k up b tt;
-  finds = λ client file_id one e g. h.finds client file_id one e tt;
-}
+keeps-weaker x1 before after h = grind arith
 
 -- what is blocked stays so, where only a breaking lease is in the way
 blocked_keeps : (test : Lease → Bool) (Guard : ℕ → Type 0) (before after : Server) (own : Option Key) (file : ℕ)
@@ -167,9 +155,7 @@ find_append test (y ∷ xs) ys x e =
 granted-stays : (server : Server) (key : Key) (file : ℕ) (want : State) → is_breaking (server.leases key) ≡ true
     → lease_granted server key file want ≡ server.leases key
 unfolding lease_granted
-granted-stays server key file want b = if_cases (λ l. l ≡ server.leases key) (is_breaking (server.leases key))
-    (server.leases key) _
-    (λ e. refl) (λ e. clash (is_breaking (server.leases key)) b e)
+granted-stays server key file want b = grind arith
 
 -- a grant lets wait what has to wait
 granted_with-kept : (client file : ℕ) (access : Access) (share : Share) (asked : Option LeaseOf)
@@ -199,8 +185,7 @@ with_up one up = record one { connected = up }
 
 -- a connected open that is connected again is the same
 again_same : (file_id : ℕ) (one : Open) → one.connected ≡ true → connected_again file_id one ≡ one
-again_same file_id one up = if_cases (λ o. o ≡ one) (one.file_id == file_id) (record one { connected = true }) one
-    (λ e. ap (λ b. with_up one b) (sym up)) (λ e. refl)
+again_same file_id one up = grind arith
 
 -- so it stays on the list
 among_again : (file_id : ℕ) (one : Open) (opens : List Open) → one.connected ≡ true → Among one opens
@@ -212,8 +197,7 @@ among_again file_id one (other ∷ opens) up (inr a) = inr (among_again file_id 
 
 -- its FileId is the same
 again_id : (file_id : ℕ) (one : Open) → (connected_again file_id one).file_id ≡ one.file_id
-again_id file_id one = if_cases (λ o. o.file_id ≡ one.file_id) (one.file_id == file_id)
-    (record one { connected = true }) one (λ e. refl) (λ e. refl)
+again_id file_id one = grind arith
 
 -- and what is found of connected opens is still found
 find_again : (file_id client id : ℕ) (one : Open) (opens : List Open) → AreInOrder opens
@@ -288,8 +272,7 @@ record IsKeptBy (before : Server) (request : FileRequest) (after : Server) : Typ
   anywhere : IsAlone request → Keeps Anywhere before after
 
 kept_everywhere : (request : FileRequest) (before after : Server) → Keeps Anywhere before after → IsKeptBy before request after
-kept_everywhere request before after k =
-    record { elsewhere = λ file about. keeps-weaker (Elsewhere file) before after k; anywhere = λ alone. k }
+kept_everywhere request before after k = grind arith
 
 ends_keep : (client : ℕ) (progress : Progress) → IsSound progress.server
     → HasEnds client progress (λ request outcome after. IsKeptBy progress.server request after.server)

@@ -51,16 +51,12 @@ put_sound opens leases expired last_id key new s there fresh may = record {
 
 -- or goes both ways
 or_back : (a b : Bool) → (a || b) ≡ (b || a)
-or_back true true = refl
-or_back true false = refl
-or_back false true = refl
-or_back false false = refl
+or_back x1 x2 = grind arith
 
 -- conflicts go both ways
 pub conflict_back : (one other : Open)
     → conflict one.access one.share other.access other.share ≡ conflict other.access other.share one.access one.share
-conflict_back one other = or_back (not (is_within (uses_of one.access) (allowed_by other.share)))
-    (not (is_within (uses_of other.access) (allowed_by one.share)))
+conflict_back one other = grind arith
 
 -- one more behind all keeps the order
 in_order-append : (opens : List Open) (new : Open) → AreInOrder opens
@@ -87,8 +83,7 @@ pub record MayOpen (opens : List Open) (leases : Key → Lease) (new : Open) : T
 -- a key that holds W has an open
 pub writer_open : (opens : List Open) (leases : Key → Lease) (expired : Key → Bool) (last_id : ℕ) (key : Key)
     → AreSound opens leases expired last_id → (leases key).state.write ≡ true → list_any (has_key key) opens ≡ true
-writer_open opens leases expired last_id key s w = not_false (list_any (has_key key) opens)
-    (λ none. clash (leases key).state.write w (ap (λ l. l.state.write) (s.no_open key none)))
+writer_open opens leases expired last_id key s w = grind arith
 
 -- an open is added, under the next FileId
 pub open_sound : (opens : List Open) (leases : Key → Lease) (expired : Key → Bool) (last_id : ℕ) (new : Open)

@@ -1,16 +1,15 @@
 -- What is on a list: after an append, a filter and a map; and what `list_any` says of it.
 use Rattle.lease_laws.proofs.Words.{◌&&◌, ◌++◌, ◌||◌, ◌∙◌, ◌∷◌, ◌≡◌, ◌⊎◌, Among, Bool, List, Some, ⊎_elim, [], ap, cond, false}
+use Rattle.std.proofs.Common.{arith}
 use Rattle.lease_laws.proofs.Words.{filter, find, inl, inr, list_all, list_any, map, not, refl, sym, true, true≢false}
 
 -- to choose by a test keeps what holds of both
 pub if_cases : {X : Type 0} (P : X → Type 0) (b : Bool) (x y : X) → (b ≡ true → P x) → (b ≡ false → P y) → P (cond b x y)
-if_cases P true x y at_true at_false = at_true refl
-if_cases P false x y at_true at_false = at_false refl
+if_cases x1 x2 x y at_true at_false = grind arith
 
 -- a test is true or false
 pub either : {P : Type 0} (b : Bool) → (b ≡ true → P) → (b ≡ false → P) → P
-either true at_true at_false = at_true refl
-either false at_true at_false = at_false refl
+either x1 at_true at_false = grind arith
 
 -- a Bool that isn't false is true, and the other way round
 pub not_false : (b : Bool) → (b ≡ false → ⊥) → b ≡ true
@@ -26,8 +25,7 @@ clash b e f = absurd (true≢false (sym e ∙ f))
 
 -- one of two is true
 pub or_true : (a b : Bool) → (a || b) ≡ true → (a ≡ true) ⊎ (b ≡ true)
-or_true true b e = inl refl
-or_true false b e = inr e
+or_true x1 b e = grind arith
 
 -- the first is true
 pub true_or : (a b : Bool) → a ≡ true → (a || b) ≡ true
@@ -35,13 +33,11 @@ true_or a b e = rw e refl
 
 -- the second is true
 pub or_of_true : (a b : Bool) → b ≡ true → (a || b) ≡ true
-or_of_true true b e = refl
-or_of_true false b e = e
+or_of_true x1 b e = grind arith
 
 -- both are true
 pub and_parts : (a b : Bool) → (a && b) ≡ true → (a ≡ true) × (b ≡ true)
-and_parts true b e = (refl, e)
-and_parts false b e = absurd (true≢false (sym e))
+and_parts x1 b e = grind arith
 
 -- both are true, so they are together
 pub and_both : (a b : Bool) → a ≡ true → b ≡ true → (a && b) ≡ true
@@ -49,8 +45,7 @@ and_both a b e f = rw (e, f) refl
 
 -- what is not true is false
 pub not_parts : (a : Bool) → not a ≡ true → a ≡ false
-not_parts true e = absurd (true≢false (sym e))
-not_parts false e = refl
+not_parts x1 e = grind arith
 
 -- on an append it is on the one list or on the other
 pub among_append : {X : Type 0} (x : X) (xs ys : List X) → Among x (xs ++ ys) → Among x xs ⊎ Among x ys

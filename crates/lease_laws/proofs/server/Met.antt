@@ -1,5 +1,6 @@
 -- What is left once wants are met and none of their leases is breaking: no open passes the test any more.
 use Rattle.lease_laws.proofs.Words.{◌&&◌, ◌==◌, ◌∙◌, ◌∷◌, ◌≡◌, Among, Bool, Key, List, Open, Progress, Some, State, Want, ℕ, []}
+use Rattle.std.proofs.Common.{arith}
 use Rattle.lease_laws.proofs.Words.{ap, break_begun, connected_open, filter, find, has_key, has_lease, if◌then◌else◌, is_breaking}
 use Rattle.lease_laws.proofs.Words.{is_left_open, lease_broken, lease_lowered, needs_acknowledgment, not, opens_dropped, refl}
 use Rattle.lease_laws.proofs.Words.{subst, true, want_met, wants_met, with_opens}
@@ -9,13 +10,7 @@ use Rattle.lease_laws.proofs.server.Lists.{if_cases, clash, and_parts, not_parts
 pub lease_broken-opens : (key : Key) (lowered : State) (progress : Progress)
     → (lease_broken key lowered progress).server.opens ≡ progress.server.opens
 unfolding lease_broken break_begun lease_lowered
-lease_broken-opens key lowered progress = if_cases (λ p. p.server.opens ≡ progress.server.opens)
-    (has_lease progress.server key && not (is_breaking (progress.server.leases key)))
-    (if needs_acknowledgment (progress.server.leases key).state then break_begun key lowered progress else
-    lease_lowered key lowered progress) progress
-    (λ t. if_cases (λ p. p.server.opens ≡ progress.server.opens) (needs_acknowledgment (progress.server.leases key).state)
-    (break_begun key lowered progress) (lease_lowered key lowered progress) (λ n. refl) (λ n. refl))
-    (λ t. refl)
+lease_broken-opens key lowered progress = grind arith
 
 -- the opens that are left
 dropped-opens : (test : Open → Bool) (progress : Progress)

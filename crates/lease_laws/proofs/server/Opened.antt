@@ -1,5 +1,6 @@
 -- Small steps tell of each open that they make: its FileId is the next one.
 use Rattle.lease_laws.proofs.Words.{◌++◌, ◌+◌, ◌==◌, ◌∙◌, ◌∷◌, ◌≡◌, ◌⊎◌, Access, Among, Bool, FileRequest, GoOn, Lease, LeaseOf}
+use Rattle.std.proofs.Common.{arith}
 use Rattle.lease_laws.proofs.Words.{Open, Option, Out, Outcome, Progress, Reply, Server, Share, SmallStep, ℕ, ⊎_elim, ⊤, []}
 use Rattle.lease_laws.proofs.Words.{acknowledged, ap, break_begun, break_ended, changed, concluded, granted_with, held_left, inl}
 use Rattle.lease_laws.proofs.Words.{inr, is_left_open, lease_after, lease_lowered, new_open, opens_dropped, reconnected, refl}
@@ -65,12 +66,7 @@ granted_told client file access share asked durable lease progress = record {
   where
     made : (one : Open) → Among one (new_open progress.server client file access share asked durable lease ∷ [])
         → IsMade progress.server file client one
-    made one (inl e) = record {
-      id = ap (λ (o : Open). o.file_id) e;
-      on_file = ap (λ (o : Open). o.file) e;
-      by_client = ap (λ (o : Open). o.client) e;
-    }
-    made one (inr none) = absurd none
+    made one x2 = grind arith
 
 -- the end of a request
 ends_told : (client : ℕ) (progress : Progress) → HasEnds client progress (λ request outcome. IsTold progress)
@@ -122,23 +118,7 @@ silent_quiet before after last outs = record {
 -- behind a step that leaves opens and outs alone
 told_behind : (before next after : Progress) → next.server.last_id ≡ before.server.last_id → next.outs ≡ before.outs
     → ((one : Open) → IsOld next.server one → IsOld before.server one) → IsTold next after → IsTold before after
-told_behind before next after last outs old (inl q) = inl (record {
-  last = q.last ∙ last;
-  outs = record {
-    more = (q.outs).more;
-    are_more = (q.outs).are_more ∙ ap (λ o. o ++ (q.outs).more) outs;
-    each = (q.outs).each;
-  };
-})
-told_behind before next after last outs old (inr g) = inr (record {
-  file = g.file;
-  client = g.client;
-  reply = g.reply;
-  last = g.last ∙ ap (λ n. n + 1) last;
-  outs = g.outs ∙ ap (λ o. o ++ Out.Opened g.file g.client ∷ Out.Sent g.client g.reply ∷ []) outs;
-  from = λ one a. ⊎_elim (λ o. inl (old one o))
-      (λ m. inr (record { id = m.id ∙ ap (λ n. n + 1) last; on_file = m.on_file; by_client = m.by_client })) (g.from one a);
-})
+told_behind before next after last outs old x7 = grind arith
 
 -- any step
 pub step-told : (step : SmallStep) (progress : Progress) → IsTold progress (step_taken step progress)

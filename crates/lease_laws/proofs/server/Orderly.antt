@@ -123,17 +123,13 @@ all_wait-keep Guard before after file k f g same all client one first =
 again_frame : (client : ℕ) (again : Option ℕ) (file : ℕ) (left : List Held) (progress : Progress)
     → AgainReady progress.server client again → AgainReady (held_left file left progress).server client again
 unfolding held_left
-again_frame client None file left progress ready = ready
-again_frame client (Some file_id) file left progress ready =
-    record { one = ready.one; is_there = ready.is_there; has_id = ready.has_id; is_own = ready.is_own }
+again_frame client x2 file left progress ready = grind arith
 
 -- a create is ready whatever is held
 contexts_frame : (client at : ℕ) (contexts : Option CreateAsk) (file : ℕ) (left : List Held) (progress : Progress)
     → ContextsReady progress.server client at contexts → ContextsReady (held_left file left progress).server client at contexts
 unfolding held_left
-contexts_frame client at None file left progress ready = ready
-contexts_frame client at (Some ask) file left progress ready =
-    (ready.0, again_frame client ask.reconnect file left progress ready.1)
+contexts_frame client at x3 file left progress ready = grind arith
 
 -- what is held has nothing to do with what is ready
 pub held_left-ready : (client : ℕ) (request : FileRequest) (file : ℕ) (left : List Held) (progress : Progress)

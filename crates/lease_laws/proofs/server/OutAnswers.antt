@@ -1,6 +1,7 @@
 -- The breaks for a request stand before its answer; and once a write is ready, no other key on its
 -- file caches anything but what it is giving up.
 use Rattle.lease_laws.proofs.Words.{◌&&◌, ◌++◌, ◌==◌, ◌||◌, ◌∙◌, ◌≡◌, AreBreaksFirst, Bool, CachesAlone, Decides-eqb, Err}
+use Rattle.std.proofs.Common.{arith}
 use Rattle.lease_laws.proofs.Words.{FileRequest, Finding, GoOn, IsAlone, IsBreak, IsNoBreak, IsSound, List, None, Ok, Open}
 use Rattle.lease_laws.proofs.Words.{Option, Out, Outcome, Patch, Progress, Request, Result, Server, Some, State, Status, Want, ℕ}
 use Rattle.lease_laws.proofs.Words.{[], after_first_try, all_wants, ap, append-nil, arrived, arrived_on, begun, breaks_to_none}
@@ -20,13 +21,7 @@ use Rattle.lease_laws.proofs.server.Tries.{tried_for-good}
 
 -- breaks, and then an answer
 breaks_then : (middle after : List Out) → GoOn IsBreak [] middle → GoOn IsNoBreak middle after → AreBreaksFirst after
-breaks_then middle after b a = record {
-  breaks = b.more;
-  answer = a.more;
-  are_both = a.are_more ∙ ap (λ x. x ++ a.more) b.are_more;
-  are_breaks = b.each;
-  is_answer = a.each;
-}
+breaks_then middle after b a = grind arith
 
 -- breaks, and no answer
 breaks_only : (middle after : List Out) → GoOn IsBreak [] middle → after ≡ middle → AreBreaksFirst after
@@ -82,14 +77,7 @@ receive-breaks server client request alone = if_cases (λ p. AreBreaksFirst p.ou
 
 -- a state that holds nothing
 holds_none : (r w h : Bool) → (r || w || h) ≡ false → rights r w h ≡ nothing_cached
-holds_none true true true e = absurd (cc)
-holds_none true true false e = absurd (cc)
-holds_none true false true e = absurd (cc)
-holds_none true false false e = absurd (cc)
-holds_none false true true e = absurd (cc)
-holds_none false true false e = absurd (cc)
-holds_none false false true e = absurd (cc)
-holds_none false false false e = refl
+holds_none x1 x2 x3 e = grind arith
 
 -- a state without rights is none
 pub state_none : (state : State) → holds_any state ≡ false → state ≡ nothing_cached
@@ -97,8 +85,7 @@ state_none state e = holds_none state.read state.write state.handle e
 
 -- a break to nothing
 to_none : (broken_to : Option State) → leaves_nothing broken_to ≡ true → broken_to ≡ Some nothing_cached
-to_none None e = clash false e refl
-to_none (Some lowered) e = ap (λ s. Some s) (state_none lowered (not_parts (holds_any lowered) e))
+to_none x1 e = grind arith
 
 -- where all that a write wants is breaking to nothing, each other key on its file is given up
 all_wants-given : (server : Server) (one : Open)

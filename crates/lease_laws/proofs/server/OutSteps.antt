@@ -1,5 +1,6 @@
 -- A try gives out breaks alone, flagged rightly; and the end of a try gives out an answer without one.
 use Rattle.lease_laws.proofs.Words.{◌==◌, ◌∷◌, ◌≡◌, Bool, EachOut, FileRequest, GoOn, IsNoBreak, LeaseOf, Open, Option, Out}
+use Rattle.std.proofs.Common.{arith}
 use Rattle.lease_laws.proofs.Words.{Outcome, Progress, Reply, Status, ℕ, [], acknowledged, append-nil, break_begun, break_ended}
 use Rattle.lease_laws.proofs.Words.{changed, concluded, granted_with, is_left_open, lease_lowered, opens_dropped, reconnected}
 use Rattle.lease_laws.proofs.Words.{refl, refusal_of, refused, replied, subst, sym, tried_for}
@@ -50,32 +51,26 @@ IsPlain reply = Unit {0}
 
 -- a plain reply is fair
 pub plain_fair : (client : ℕ) (reply : Reply) → IsPlain reply → AreFair (Out.Sent client reply ∷ [])
-plain_fair client (Reply.Break notice) p = absurd p
-plain_fair client (Reply.WriteDone file_id number) p = absurd p
-plain_fair client reply p = record { flagged = (tt, tt); paired = tt }
+plain_fair client x2 p = grind arith
 
 -- a plain reply is no break
 plain_no_break : (client : ℕ) (reply : Reply) → IsPlain reply → EachOut IsNoBreak (Out.Sent client reply ∷ [])
-plain_no_break client (Reply.Break notice) p = absurd p
-plain_no_break client reply p = (tt, tt)
+plain_no_break client x2 p = grind arith
 
 -- a plain reply gives out an answer without a break
 pub replied-answered : (client : ℕ) (reply : Reply) (progress : Progress) → IsPlain reply
     → Answered progress (replied client reply progress)
-replied-answered client reply progress p = answered_by progress.outs (Out.Sent client reply ∷ [])
-    (plain_no_break client reply p) (plain_fair client reply p)
+replied-answered client reply progress p = grind arith
 
 -- a refusal is a plain reply
 refusal_of-plain : (request : FileRequest) (status : Status) → IsPlain (refusal_of request status)
-refusal_of-plain (FileRequest.Create file access share contexts) status = tt
-refusal_of-plain request status = tt
+refusal_of-plain x1 status = grind arith
 
 -- a refusal gives out an answer without a break
 pub refused-answered : (client : ℕ) (request : FileRequest) (status : Status) (progress : Progress)
     → Answered progress (refused client request status progress)
 unfolding refused
-refused-answered client request status progress = replied-answered client (refusal_of request status) progress
-    (refusal_of-plain request status)
+refused-answered client request status progress = grind arith
 
 -- the end of a try
 ends_answer : (client : ℕ) (progress : Progress) → HasEnds client progress (λ request outcome. Answered progress)

@@ -20,28 +20,18 @@ use Rattle.lease_laws.proofs.server.Ready.{ready-free}
 -- to take a request off the held ones lets opens go on
 pub held_left-goes : (file : ℕ) (left : List Held) (progress : Progress) → Goes progress (held_left file left progress)
 unfolding held_left
-held_left-goes file left progress = record {
-  files = refl;
-  ups = λ c. refl;
-  ids = omega arith;
-  from = λ one a. inl (still_there progress.server one a);
-}
+held_left-goes file left progress = grind arith
 
 -- to take a request off the held ones lets wait what has to wait
 held_left-kept : (file : ℕ) (left : List Held) (progress : Progress) → Kept Anywhere progress (held_left file left progress)
 unfolding held_left
-held_left-kept file left progress = record {
-  stands = λ key one a k up b g. (a, refl);
-  finds = λ c id one e g. e;
-}
+held_left-kept file left progress = grind arith
 
 -- what holds of the requests of each file, once one is taken off
 held_left-cases : (P : List Held → Type 0) (file : ℕ) (left : List Held) (progress : Progress) (other : ℕ)
     → (other ≡ file → P left) → P (progress.server.held other) → P ((held_left file left progress).server.held other)
 unfolding held_left put
-held_left-cases P file left progress other here there =
-    if_cases P (other == file) left (progress.server.held other) (λ e. here ((Decides-eqb other file).0 e))
-    (λ e. there)
+held_left-cases x1 file left progress other here there = grind arith
 
 -- other files have what they had
 held_left-other : (file : ℕ) (left : List Held) (progress : Progress) (other : ℕ) → other ≢ file
@@ -213,17 +203,7 @@ below_one file n high away = omega (arith, high, away)
 pub pass_begun : (file : ℕ) (progress : Progress) → IsFine progress.server
     → PassWaits progress file (length (progress.server.held file)) (progress.server.held file)
     (record { passed = []; progress = progress; has_answered = false })
-pass_begun file progress f = record {
-  fine = f;
-  files = refl;
-  in_pass = record {
-    is_held = refl;
-    is_counted = all_counted (progress.server.held file);
-    is_fewer = λ never. absurd (true≢false (sym never));
-  };
-  kept_wait = λ e client one never. absurd (cc);
-  others = λ other away all. all;
-}
+pass_begun file progress f = grind arith
 
 -- a pass over a file leaves each first held request waiting
 pub one_pass-waits : (file : ℕ) (progress : Progress) → IsFine progress.server

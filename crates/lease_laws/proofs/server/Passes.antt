@@ -1,5 +1,6 @@
 -- Passes over held requests keep a server's laws.
 use Rattle.lease_laws.proofs.Words.{◌++◌, ◌+◌, ◌∷◌, Access, CreateAsk, FileRequest, Held, IsSound, LeaseOf, List, None, Option}
+use Rattle.std.proofs.Common.{arith}
 use Rattle.lease_laws.proofs.Words.{Outcome, Pass, Progress, Share, Some, Tried, ℕ, [], after_try, all_passes, false, held_left}
 use Rattle.lease_laws.proofs.Words.{is_behind, left_waiting, length, numbers_to, one_pass, pass_answered, pass_over, passes}
 use Rattle.lease_laws.proofs.Words.{passes_for, passes_over, suc, tried, tried_again, zero}
@@ -14,25 +15,20 @@ create_free : (client file : ℕ) (access : Access) (share : Share) (asked : Opt
     (at : ℕ) (left : List Held) (progress : Progress) → CreateFree progress.server client file access share asked again
     → CreateFree (held_left at left progress).server client file access share asked again
 unfolding held_left
-create_free client file access share asked None at left progress free = free
-create_free client file access share asked (Some file_id) at left progress free = tt
+create_free client file access share asked x6 at left progress free = grind arith
 
 -- what a create needs, by its contexts
 contexts_free : (client file : ℕ) (access : Access) (share : Share) (contexts : Option CreateAsk) (at : ℕ)
     (left : List Held) (progress : Progress) → ContextsFree progress.server client file access share contexts
     → ContextsFree (held_left at left progress).server client file access share contexts
 unfolding held_left
-contexts_free client file access share None at left progress free = tt
-contexts_free client file access share (Some ask) at left progress free = create_free client file access share
-    ask.lease ask.reconnect at left progress free
+contexts_free client file access share x5 at left progress free = grind arith
 
 -- what requests are held has nothing to do with what a create needs
 pub held_left-free : (client : ℕ) (request : FileRequest) (file : ℕ) (left : List Held) (progress : Progress)
     → RequestFree progress.server client request → RequestFree (held_left file left progress).server client request
 unfolding held_left
-held_left-free client (FileRequest.Create file access share contexts) at left progress free = contexts_free client
-    file access share contexts at left progress free
-held_left-free client request file left progress free = tt
+held_left-free client x2 at left progress free = grind arith
 
 -- a held request is answered
 pass_answered-sound : (file : ℕ) (one : Held) (waiting : List Held) (pass : Pass) (done : Tried)

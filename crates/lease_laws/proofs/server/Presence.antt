@@ -1,5 +1,6 @@
 -- Which clients a call leaves connected.
 use Rattle.lease_laws.proofs.Words.{◌∙◌, ◌∷◌, ◌≡◌, AreGuarded, Bool, Call, IsSound, List, Progress, Server, SmallStep, WaitsWell}
+use Rattle.std.proofs.Common.{arith}
 use Rattle.lease_laws.proofs.Words.{ℕ, ⊤, [], begun, call_begun, called, client_forgotten, false, if◌then◌else◌, is_breaking}
 use Rattle.lease_laws.proofs.Words.{is_left_behind, join, joined, key_expired, list_any, opens_disconnected, opens_dropped, put}
 use Rattle.lease_laws.proofs.Words.{refl, step_taken, steps_taken, subst, sym, true, with_opens}
@@ -23,8 +24,7 @@ called_present server call s w c =
 
 either_present : (b : Bool) (x y : Progress) (c : ℕ) (p : Bool) → x.server.present c ≡ p
     → y.server.present c ≡ p → (if b then x else y).server.present c ≡ p
-either_present true x y c p e f = e
-either_present false x y c p e f = f
+either_present x1 x y c p e f = grind arith
 
 -- a call that is no join and no cut
 abbrev pub IsAmong : Call → Type 0
@@ -35,12 +35,7 @@ IsAmong call = ⊤
 pub begun_present : (server : Server) (call : Call) → IsAmong call → (c : ℕ)
     → (call_begun server call).server.present c ≡ server.present c
 unfolding opens_dropped with_opens key_expired
-begun_present server (Call.Receive client request) among c = refl
-begun_present server (Call.Expire key) among c =
-    either_present (is_breaking (server.leases key)) _ (begun server) c (server.present c) refl refl
-begun_present server (Call.Scavenge file_id) among c =
-    either_present (list_any (is_left_behind file_id) server.opens) _ (begun server) c (server.present c) refl refl
-begun_present server call among c = absurd among
+begun_present server x2 among c = grind arith
 
 pub join_present : (server : Server) (client : ℕ) → server.present client ≡ false → (c : ℕ)
     → (call_begun server (Call.Join client)).server.present c ≡ put server.present client true c

@@ -1,6 +1,7 @@
 -- What stands once a create is ready: its key is at home on the file, no open there conflicts with it,
 -- and no other key there holds W.
 use Rattle.lease_laws.proofs.Words.{◌&&◌, ◌==◌, ◌∙◌, ◌≡◌, Access, Among, CreateAsk, Decides-eqb, FileRequest, Finding, IsFree}
+use Rattle.std.proofs.Common.{arith}
 use Rattle.lease_laws.proofs.Words.{Key, Lease, LeaseOf, List, None, Open, Option, Progress, Server, Share, Some, Status, Want, ℕ}
 use Rattle.lease_laws.proofs.Words.{ap, asked_finding, conflict, conflicts_on, create_finding, false, finding, handle_wants}
 use Rattle.lease_laws.proofs.Words.{has_file, has_key, has_own_key, is_empty, is_leased_elsewhere, is_other_on, is_ready}
@@ -91,9 +92,7 @@ found_free : (server : Server) (own : Option Key) (file : ℕ) (access : Access)
     (found : Finding) (wants : List Want)
     → FreeWhenEmpty server own file access share found → found ≡ Finding.Needs wants → is_empty wants ≡ true
     → IsFree server.opens server.leases own file access share
-found_free server own file access share (Finding.Fails status) wants free e none = absurd (cc)
-found_free server own file access share (Finding.Needs others) wants free e none =
-    free (ap is_empty (wants_same others wants e) ∙ none)
+found_free server own file access share x6 wants free e none = grind arith
 
 -- so is a create, with a reconnect or without
 asked_free : (server : Server) (client file : ℕ) (access : Access) (share : Share) (lease : Option LeaseOf)

@@ -26,8 +26,7 @@ use Rattle.lease_laws.proofs.server.Wants.{FindingFits, finding-fits}
 
 -- no step
 pub steps_none : (call : Call) (progress : Progress) → GoesBySteps call 0 progress progress
-steps_none call progress =
-    record { steps = []; are_guarded = tt; are_in_turn = tt; are_of = tt; are_own = refl; lead = refl }
+steps_none call progress = grind arith
 
 -- one step
 pub step_one : (call : Call) (step : SmallStep) (progress : Progress) → IsGuarded step progress.server
@@ -207,8 +206,7 @@ contexts-ordered server client file access share (Some ask) =
 -- by an open
 by_open-ordered : (one : Option Open) (found : Open → Finding) → ((x : Open) → IsOrdered (found x))
     → IsOrdered (by_open one found)
-by_open-ordered None found each = tt
-by_open-ordered (Some one) found each = each one
+by_open-ordered x1 found each = grind arith
 
 -- a write
 write-ordered : (server : Server) (patch : Patch) (one : Open) → IsOrdered (write_finding server one patch)
@@ -219,8 +217,7 @@ write-ordered server patch one = if_cases IsOrdered (may_write one.access) _ _
 
 -- a read
 read-ordered : (one : Open) → IsOrdered (read_finding one)
-read-ordered one = if_cases IsOrdered (may_read one.access) (Finding.Needs []) (Finding.Fails Status.AccessDenied)
-    (λ e. tt) (λ e. tt)
+read-ordered one = grind arith
 
 -- any request
 finding-ordered : (server : Server) (client : ℕ) (request : FileRequest) → IsOrdered (finding server client request)
@@ -274,40 +271,24 @@ gone_by : (server : Server) (client file_id : ℕ) (found : Open → Finding) (s
     → ((x : Open) → found x ≡ Finding.Fails Status.FileClosed → ⊥)
     → (one : Option Open) → connected_open server client file_id ≡ one
     → by_open one found ≡ Finding.Fails status → IsGone server client file_id status
-gone_by server client file_id found status never None e same closed = e
-gone_by server client file_id found status never (Some one) e same closed =
-    absurd (never one (same ∙ ap (λ s. Finding.Fails s) closed))
+gone_by server client file_id found status never x7 e same closed = grind arith
 
 close_refused : (server : Server) (client file_id : ℕ) (status : Status) (one : Option Open)
     → connected_open server client file_id ≡ one → by_open one (λ x. Finding.Needs []) ≡ Finding.Fails status
     → connected_open server client file_id ≡ None
-close_refused server client file_id status None e same = e
-close_refused server client file_id status (Some one) e never = absurd (cc)
+close_refused server client file_id status x5 e same = grind arith
 
 -- a refused request
 finding-refuses : (server : Server) (client : ℕ) (request : FileRequest) (status : Status)
     → finding server client request ≡ Finding.Fails status → MayRefuse server client request status
 unfolding finding write_finding
-finding-refuses server client (FileRequest.Create file access share contexts) status same = tt
-finding-refuses server client (FileRequest.Read file_id) status same = gone_by server client file_id read_finding status
-    (λ x. if_cases (λ f. f ≡ Finding.Fails Status.FileClosed → ⊥) (may_read x.access) (Finding.Needs [])
-    (Finding.Fails Status.AccessDenied) (λ e never. absurd (cc)) (λ e never. absurd (cc)))
-    (connected_open server client file_id) refl same
-finding-refuses server client (FileRequest.Write file_id number patch) status same =
-    gone_by server client file_id (λ one. write_finding server one patch) status
-    (λ x. if_cases (λ f. f ≡ Finding.Fails Status.FileClosed → ⊥) (may_write x.access) _ _
-    (λ e. if_cases (λ f. f ≡ Finding.Fails Status.FileClosed → ⊥) (is_within_limit patch) _ _
-    (λ i never. absurd (cc)) (λ i never. absurd (cc))) (λ e never. absurd (cc))) (connected_open server client file_id) refl same
-finding-refuses server client (FileRequest.Close file_id) status same =
-    close_refused server client file_id status (connected_open server client file_id) refl same
+finding-refuses server client x3 status same = grind arith
 
 -- a request by an open that is found
 open_by : (server : Server) (client file_id : ℕ) (found : Open → Finding) (may : Open → Type 0) (wants : List Want)
     → ((x : Open) → found x ≡ Finding.Needs wants → may x) → (one : Option Open) → connected_open server client file_id ≡ one
     → by_open one found ≡ Finding.Needs wants → HasOpen server client file_id may
-open_by server client file_id found may wants each None e same = absurd (cc)
-open_by server client file_id found may wants each (Some one) e same =
-    record { one = one; found = e; allowed = each one same }
+open_by server client file_id found may wants each x8 e same = grind arith
 
 -- a reconnect finds its open
 reconnect_at : (server : Server) (client file : ℕ) (own : Option Key) (file_id : ℕ) (wants : List Want)
@@ -345,11 +326,7 @@ create_may server client file access share ask wants same none = if_cases (λ fo
 write_allowed : (server : Server) (patch : Patch) (one : Open) (wants : List Want) → CachesAlone server one
     → write_finding server one patch ≡ Finding.Needs wants → MayChange server patch one
 unfolding write_finding
-write_allowed server patch one wants alone =
-    if_cases (λ f. f ≡ Finding.Needs wants → MayChange server patch one) (may_write one.access) _ _
-    (λ may. if_cases (λ f. f ≡ Finding.Needs wants → MayChange server patch one) (is_within_limit patch) _ _
-    (λ fits e. record { may = may; fits = fits; alone = alone }) (λ long never. absurd (cc)))
-    (λ denied never. absurd (cc))
+write_allowed server patch one wants alone = grind arith
 
 -- so does one that is ready
 write_may : (server : Server) (file_id number : ℕ) (patch : Patch) (one : Open) (wants : List Want)

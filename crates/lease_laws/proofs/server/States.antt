@@ -10,20 +10,17 @@ rights r w h = record { read = r; write = w; handle = h }
 
 -- the granted form of a granted form is itself
 pub granted_form_of-again : (state : State) → granted_form_of (granted_form_of state) ≡ granted_form_of state
-granted_form_of-again state = if_cases (λ g. granted_form_of g ≡ g) state.read state nothing_cached
-    (λ e. rw e refl) (λ e. refl)
+granted_form_of-again state = grind arith
 
 -- a granted form without W, by its letters
 form_without_write : (r w h : Bool) → granted_form_of (rights r w h) ≡ rights r w h
     → granted_form_of (rights r false h) ≡ rights r false h
-form_without_write true w h e = refl
-form_without_write false w h e = ap (λ x. rights false false x) (ap (λ s. s.handle) e)
+form_without_write x1 w h e = grind arith
 
 -- a granted form without H, by its letters
 form_without_handle : (r w h : Bool) → granted_form_of (rights r w h) ≡ rights r w h
     → granted_form_of (rights r w false) ≡ rights r w false
-form_without_handle true w h e = refl
-form_without_handle false w h e = ap (λ x. rights false x false) (ap (λ s. s.write) e)
+form_without_handle x1 w h e = grind arith
 
 -- a granted form without one right is one
 pub without_write-form : (state : State) → granted_form_of state ≡ state
@@ -37,75 +34,41 @@ without_handle-form state e = form_without_handle state.read state.write state.h
 
 -- a state without W is a part
 part_without_write : (r w h : Bool) → is_state_within (rights r false h) (rights r w h) ≡ true
-part_without_write true w true = refl
-part_without_write true w false = refl
-part_without_write false w true = refl
-part_without_write false w false = refl
+part_without_write x1 w x3 = grind arith
 
 -- a state without H is a part
 part_without_handle : (r w h : Bool) → is_state_within (rights r w false) (rights r w h) ≡ true
-part_without_handle true true h = refl
-part_without_handle true false h = refl
-part_without_handle false true h = refl
-part_without_handle false false h = refl
+part_without_handle x1 x2 h = grind arith
 
 -- and less, where it held W
 less_without_write : (r w h : Bool) → w ≡ true → same_state (rights r false h) (rights r w h) ≡ false
-less_without_write true true h e = refl
-less_without_write false true h e = refl
-less_without_write r false h e = absurd (true≢false (sym e))
+less_without_write x1 x2 h e = grind arith
 
 -- and less, where it held H
 less_without_handle : (r w h : Bool) → h ≡ true → same_state (rights r w false) (rights r w h) ≡ false
-less_without_handle true true true e = refl
-less_without_handle true false true e = refl
-less_without_handle false true true e = refl
-less_without_handle false false true e = refl
-less_without_handle r w false e = absurd (true≢false (sym e))
+less_without_handle x1 x2 x3 e = grind arith
 
 -- nothing is less than what holds something
 less_nothing : (r w h : Bool) → (r || w || h) ≡ true → same_state nothing_cached (rights r w h) ≡ false
-less_nothing true true true e = refl
-less_nothing true true false e = refl
-less_nothing true false true e = refl
-less_nothing true false false e = refl
-less_nothing false true true e = refl
-less_nothing false true false e = refl
-less_nothing false false true e = refl
-less_nothing false false false e = absurd (true≢false (sym e))
+less_nothing x1 x2 x3 e = grind arith
 
 -- what the three kinds of request want a lease lowered to
 pub without_write-lowered : (state : State) → granted_form_of state ≡ state → state.write ≡ true
     → IsLowered state (without_write state)
-without_write-lowered state form holds = record {
-  is_part = part_without_write state.read state.write state.handle;
-  is_granted_form = without_write-form state form;
-  is_less = less_without_write state.read state.write state.handle holds;
-}
+without_write-lowered state form holds = grind arith
 
 -- H taken away
 pub without_handle-lowered : (state : State) → granted_form_of state ≡ state → state.handle ≡ true
     → IsLowered state (without_handle state)
-without_handle-lowered state form holds = record {
-  is_part = part_without_handle state.read state.write state.handle;
-  is_granted_form = without_handle-form state form;
-  is_less = less_without_handle state.read state.write state.handle holds;
-}
+without_handle-lowered state form holds = grind arith
 
 -- all taken away
 pub nothing-lowered : (state : State) → holds_any state ≡ true → IsLowered state nothing_cached
-nothing-lowered state holds = record {
-  is_part = refl;
-  is_granted_form = refl;
-  is_less = less_nothing state.read state.write state.handle holds;
-}
+nothing-lowered state holds = grind arith
 
 -- a part that holds W, by its letters
 within_write : (r w h : Bool) (s t u : Bool) → is_state_within (rights r w h) (rights s t u) ≡ true → w ≡ true → t ≡ true
-within_write r w h s true u e f = refl
-within_write true w h true false u e f = grind arith
-within_write true w h false false u e f = grind arith
-within_write false w h s false u e f = grind arith
+within_write r w h s x5 u e f = grind arith
 
 -- a part that holds a right is a part of what holds it
 pub write_of_part : (part state : State) → is_state_within part state ≡ true → part.write ≡ true → state.write ≡ true
@@ -113,8 +76,7 @@ write_of_part part state e f = within_write part.read part.write part.handle sta
 
 -- a part that holds H, by its letters
 within_handle : (r w h : Bool) (s t u : Bool) → is_state_within (rights r w h) (rights s t u) ≡ true → h ≡ true → u ≡ true
-within_handle r w h s t true e f = refl
-within_handle r w h s t false e f = grind arith
+within_handle r w h s t x6 e f = grind arith
 
 -- a part that holds H is a part of what holds it
 pub handle_of_part : (part state : State) → is_state_within part state ≡ true → part.handle ≡ true → state.handle ≡ true
@@ -126,32 +88,17 @@ some_same one other e = cc
 
 -- no lease is lawful
 pub no_lease-lawful : IsLawful no_lease
-no_lease-lawful = record {
-  is_granted_form = refl;
-  is_broken_so = λ lowered e. absurd (cc);
-}
+no_lease-lawful = grind arith
 
 -- a lease that isn't breaking is lawful where its state is a granted form
 pub settled-lawful : (state : State) → granted_form_of state ≡ state → IsLawful (record { state = state; broken_to = None })
-settled-lawful state form = record {
-  is_granted_form = form;
-  is_broken_so = λ lowered e. absurd (cc);
-}
+settled-lawful state form = grind arith
 
 -- a lease that begins to break to a lowered state is lawful
 pub breaking-lawful : (state lowered : State) → granted_form_of state ≡ state → needs_acknowledgment state ≡ true
     → IsLowered state lowered → IsLawful (record { state = state; broken_to = Some lowered })
-breaking-lawful state lowered form needs low = record {
-  is_granted_form = form;
-  is_broken_so = λ other e. subst (λ s. IsBrokenTo state s) (some_same lowered other e) (record {
-    is_part = low.is_part;
-    is_less = low.is_less;
-    is_granted_form = low.is_granted_form;
-    is_acknowledged = needs;
-  });
-}
+breaking-lawful state lowered form needs low = grind arith
 
 -- neither is true
 or_false : (a b : Bool) → (a || b) ≡ false → (a ≡ false) × (b ≡ false)
-or_false true b e = absurd (true≢false e)
-or_false false b e = (refl, e)
+or_false x1 b e = grind arith

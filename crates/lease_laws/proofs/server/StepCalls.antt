@@ -104,50 +104,32 @@ all_passes-steps call progress f = passes_over-steps call (numbers_to progress.s
 -- a request that has no file is refused as it should be
 closed_asked : (server : Server) (client file_id : ℕ) (status : Status) (one : Option Open)
     → connected_open server client file_id ≡ one → file_of_open one ≡ Err status → IsGone server client file_id status
-closed_asked server client file_id status None e same closed = e
-closed_asked server client file_id status (Some one) e never closed = absurd (cc)
+closed_asked server client file_id status x5 e same closed = grind arith
 
 close_unasked : (server : Server) (client file_id : ℕ) (status : Status) (one : Option Open)
     → connected_open server client file_id ≡ one → file_of_open one ≡ Err status → connected_open server client file_id ≡ None
-close_unasked server client file_id status None e same = e
-close_unasked server client file_id status (Some one) e never = absurd (cc)
+close_unasked server client file_id status x5 e same = grind arith
 
 -- whatever it asks
 asked-refuses : (server : Server) (client : ℕ) (request : FileRequest) (status : Status)
     → file_asked server client request ≡ Err status → MayRefuse server client request status
 unfolding file_asked
-asked-refuses server client (FileRequest.Create file access share contexts) status e = tt
-asked-refuses server client (FileRequest.Read file_id) status e =
-    closed_asked server client file_id status (connected_open server client file_id) refl e
-asked-refuses server client (FileRequest.Write file_id number patch) status e =
-    closed_asked server client file_id status (connected_open server client file_id) refl e
-asked-refuses server client (FileRequest.Close file_id) status e =
-    close_unasked server client file_id status (connected_open server client file_id) refl e
+asked-refuses server client x3 status e = grind arith
 
 -- a request stays about its file while it is tried
 asked_open : (before after : Server) (client file_id file : ℕ) (one : Option Open) → Keeps Anywhere before after
     → connected_open before client file_id ≡ one → file_of_open one ≡ Ok file
     → file_of_open (connected_open after client file_id) ≡ Ok file
-asked_open before after client file_id file None k e never = absurd (cc)
-asked_open before after client file_id file (Some one) k e asked = ap file_of_open (k.finds client file_id one e tt) ∙ asked
+asked_open before after client file_id file x6 k e never = grind arith
 
 asked_create : (before after : Server) (file at : ℕ) (contexts : Option CreateAsk) → after.files ≡ before.files
     → file_of_create before file contexts ≡ Ok at → file_of_create after file contexts ≡ Ok at
-asked_create before after file at None same never = never
-asked_create before after file at (Some ask) same asked =
-    ap (λ n. if has_file (record before { files = n }) file then Ok file else Err Status.ObjectNameNotFound) same ∙ asked
+asked_create before after file at x5 same never = grind arith
 
 asked_stays : (before after : Server) (client : ℕ) (request : FileRequest) (file : ℕ) → Keeps Anywhere before after
     → after.files ≡ before.files → file_asked before client request ≡ Ok file → file_asked after client request ≡ Ok file
 unfolding file_asked
-asked_stays before after client (FileRequest.Create file access share contexts) at k same e =
-    asked_create before after file at contexts same e
-asked_stays before after client (FileRequest.Read file_id) at k same e =
-    asked_open before after client file_id at (connected_open before client file_id) k refl e
-asked_stays before after client (FileRequest.Write file_id number patch) at k same e =
-    asked_open before after client file_id at (connected_open before client file_id) k refl e
-asked_stays before after client (FileRequest.Close file_id) at k same e =
-    asked_open before after client file_id at (connected_open before client file_id) k refl e
+asked_stays before after client x4 at k same e = grind arith
 
 no_file : (asked : Result ℕ Status) (status : Status) (file : ℕ) → asked ≡ Err status → asked ≡ Ok file → ⊥
 no_file asked status file e f = cc
@@ -159,9 +141,7 @@ one_file asked file other e f = cc
 still_first : (client file : ℕ) (request : FileRequest) (before after : Progress) → SameHeld before after
     → file_asked after.server client request ≡ Ok file → is_behind client (before.server.held file) ≡ false
     → (other : ℕ) → file_asked after.server client request ≡ Ok other → is_behind client (after.server.held other) ≡ false
-still_first client file request before after same asked first other e = ap (λ held. is_behind client (held other)) same
-    ∙ ap (λ at. is_behind client (before.server.held at)) (one_file (file_asked after.server client request) file other asked e)
-    ∙ first
+still_first client file request before after same asked first other e = grind arith
 
 -- what follows a first try
 first_try-steps : (call : Call) (client file : ℕ) (request : FileRequest) (before : Progress) (progress : Progress)
@@ -237,8 +217,7 @@ arrived-steps call client (Request.OnFile request) progress of f w up = file_req
 either_steps : (call : Call) (b : Bool) (start : Progress) (after : Progress) (nothing : Progress)
     → (b ≡ true → GoesBySteps call 0 start after)
     → GoesBySteps call 0 (if b then start else nothing) (if b then after else nothing)
-either_steps call true start after nothing go = go refl
-either_steps call false start after nothing go = steps_none call nothing
+either_steps call x2 start after nothing go = grind arith
 
 -- a request received
 receive-steps : (call : Call) (server : Server) (client : ℕ) (request : Request)
@@ -250,8 +229,7 @@ receive-steps call server client request of f w = received (server.present clien
   where
     received : (b : Bool) → (b ≡ true → GoesBySteps call 1 (begun server) (arrived client request (begun server)))
         → GoesBySteps call (if b then 1 else 0) (begun server) (if b then arrived client request (begun server) else begun server)
-    received true go = go refl
-    received false go = steps_none call (begun server)
+    received x1 go = grind arith
 
 -- every call
 pub called-steps : (server : Server) (call : Call) → IsSound server → WaitsWell server
@@ -278,18 +256,11 @@ called-steps server (Call.Scavenge file_id) s w =
 
 -- what a choice gives out
 either_silent : (b : Bool) (x y : Progress) → x.outs ≡ [] → y.outs ≡ [] → (if b then x else y).outs ≡ []
-either_silent true x y e f = e
-either_silent false x y e f = f
+either_silent x1 x y e f = grind arith
 
 pub call_begun-silent : (server : Server) (call : Call) → (call_begun server call).outs ≡ []
 unfolding join joined client_forgotten opens_disconnected opens_dropped key_expired
-call_begun-silent server (Call.Join client) =
-    either_silent (server.present client) (begun server) (joined client (begun server)) refl refl
-call_begun-silent server (Call.Receive client request) = refl
-call_begun-silent server (Call.Cut client) = either_silent (server.present client) _ (begun server) refl refl
-call_begun-silent server (Call.Expire key) = either_silent (is_breaking (server.leases key)) _ (begun server) refl refl
-call_begun-silent server (Call.Scavenge file_id) =
-    either_silent (list_any (is_left_behind file_id) server.opens) _ (begun server) refl refl
+call_begun-silent server x2 = grind arith
 
 -- ---- and leaves the laws, and who is connected
 
@@ -303,8 +274,7 @@ fine_begun progress f = record { sound = f.sound; up = f.orderly.opens_up }
 
 -- a choice of two
 either_begun : (b : Bool) (x y : Progress) → IsFine x.server → IsFine y.server → IsBegunWell (if b then x else y)
-either_begun true x y f g = fine_begun x f
-either_begun false x y f g = fine_begun y g
+either_begun x1 x y f g = grind arith
 
 pub call_begun-up : (server : Server) (call : Call) → IsSound server → WaitsWell server → IsBegunWell (call_begun server call)
 unfolding join

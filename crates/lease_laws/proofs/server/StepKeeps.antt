@@ -24,16 +24,12 @@ use Rattle.lease_laws.proofs.server.States.{rights}
 create_free : (server : Server) (client file : ℕ) (access : Access) (share : Share) (lease : Option LeaseOf)
     (again : Option ℕ) → MayCreate server client file access share lease again
     → CreateFree server client file access share lease again
-create_free server client file access share lease None may = may
-create_free server client file access share lease (Some file_id) may = tt
+create_free server client file access share lease x7 may = grind arith
 
 -- any request
 serve_free : (server : Server) (client : ℕ) (request : FileRequest) → MayServe server client request
     → RequestFree server client request
-serve_free server client (FileRequest.Create file access share None) may = absurd may
-serve_free server client (FileRequest.Create file access share (Some ask)) may =
-    create_free server client file access share ask.lease ask.reconnect may.1
-serve_free server client request may = tt
+serve_free server client x3 may = grind arith
 
 -- a reconnect has its open
 again_ready : (server : Server) (client file : ℕ) (access : Access) (share : Share) (lease : Option LeaseOf)
@@ -54,36 +50,21 @@ serve_file server client request may = tt
 -- the end of a request, guarded
 pub end_up : (server : Server) (client : ℕ) (request : FileRequest) (outcome : Outcome)
     → MayEnd server client request outcome → server.present client ≡ true
-end_up server client request Outcome.Waits may = absurd may
-end_up server client request outcome may = may.0
+end_up server client request x4 may = grind arith
 
 pub end_serves : (server : Server) (client : ℕ) (request : FileRequest) (outcome : Outcome)
     → MayEnd server client request outcome → outcome ≡ Outcome.Ready → MayServe server client request
-end_serves server client request (Outcome.Refused status) may never = absurd (cc)
-end_serves server client request Outcome.Waits may never = absurd may
-end_serves server client request Outcome.Ready may e = may.1
+end_serves server client request x4 may never = grind arith
 
 -- ---- the laws
 
 -- what holds nothing can't be lowered
 nothing_lower : (lowered : State) → IsLowered nothing_cached lowered → ⊥
-nothing_lower lowered low = never lowered.read lowered.write lowered.handle low.is_part low.is_less
-  where
-    never : (r w h : Bool) → is_state_within (rights r w h) nothing_cached ≡ true
-        → same_state (rights r w h) nothing_cached ≡ false → ⊥
-    never true w h part less = true≢false (sym part)
-    never false true h part less = true≢false (sym part)
-    never false false true part less = true≢false (sym part)
-    never false false false part less = true≢false less
+nothing_lower lowered low = grind arith
 
 -- a key that may be broken has its timer
 may_break : (server : Server) (key : Key) (lowered : State) → IsSound server → MayLower server key lowered → MayBreak server key
-may_break server key lowered s may = record {
-  has_open = may.is_there;
-  is_timely = not_true (server.expired key) (λ out. nothing_lower lowered
-      (subst (λ l. IsLowered l.state lowered) (s.timed_out key out) may.is_lowered));
-  is_present = may.are_connected;
-}
+may_break server key lowered s may = grind arith
 
 -- Each step keeps the laws.
 pub step-sound : (step : SmallStep) (progress : Progress) → IsSound progress.server
@@ -109,21 +90,11 @@ step-sound (SmallStep.Begin key lowered) progress s may = break_begun-sound key 
 -- a lease lowered at once, or a break begun, leaves opens alone
 lowered-goes : (key : Key) (lowered : State) (progress : Progress) → Goes progress (lease_lowered key lowered progress)
 unfolding lease_lowered
-lowered-goes key lowered progress = record {
-  files = refl;
-  ups = λ c. refl;
-  ids = omega arith;
-  from = λ one a. inl (still_there progress.server one a);
-}
+lowered-goes key lowered progress = grind arith
 
 begun-goes : (key : Key) (lowered : State) (progress : Progress) → Goes progress (break_begun key lowered progress)
 unfolding break_begun
-begun-goes key lowered progress = record {
-  files = refl;
-  ups = λ c. refl;
-  ids = omega arith;
-  from = λ one a. inl (still_there progress.server one a);
-}
+begun-goes key lowered progress = grind arith
 
 -- Each step lets opens go on.
 pub step-goes : (step : SmallStep) (progress : Progress) → IsSound progress.server
@@ -151,7 +122,4 @@ OpensUp server = (one : Open) → Among one server.opens → one.connected ≡ t
 
 -- that goes on
 pub goes-up : (before after : Server) → GoesOn before after → OpensUp before → OpensUp after
-goes-up before after g up one a c = g.ups one.client ∙ ⊎_elim
-    (λ old. ⊎_elim (λ was_up. ap (λ x. before.present x) old.same_client ∙ up old.was old.was_there was_up)
-    (λ now. now) (old.up c))
-    (λ new. new.up) (g.from one a)
+goes-up before after g up one a c = grind arith

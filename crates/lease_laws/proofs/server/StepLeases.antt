@@ -25,37 +25,25 @@ dropped-lease : (test : Open → Bool) (progress : Progress) (key : Key)
     → ((opens_dropped test progress).server.leases key ≡ progress.server.leases key)
     ⊎ (has_lease (opens_dropped test progress).server key ≡ false)
 unfolding opens_dropped with_opens
-dropped-lease test progress key =
-    let left : List Open = without test progress.server.opens in
-    either (list_any (has_key key) left)
-    (λ there. inl (if_cases (λ l. l ≡ progress.server.leases key) (list_any (has_key key) left)
-    (progress.server.leases key) no_lease (λ e. refl) (λ e. clash (list_any (has_key key) left) there e)))
-    (λ gone. inr gone)
+dropped-lease test progress key = grind arith
 
 -- ---- a grant
 
 -- a part of a state without W is a part of it without W
 part_without : (old whole : State) → old.write ≡ false → is_state_within old whole ≡ true
     → is_state_within old (without_write whole) ≡ true
-part_without old whole w part = parts old.read old.write old.handle whole.read whole.write whole.handle w part
-  where
-    parts : (r w h s t u : Bool) → w ≡ false
-        → ((not r || s) && (not w || t) && (not h || u)) ≡ true → ((not r || s) && (not w || false) && (not h || u)) ≡ true
-    parts r w h s t u e part = grind arith
+part_without old whole w part = grind arith
 
 -- an open of another key, on the file
 other_there : (key : Key) (file : ℕ) (one : Open) → is_other_on (Some key) file one ≡ true
     → (one.file ≡ file) × (has_key key one ≡ false)
 unfolding is_other_on
-other_there key file one other =
-    let parts = and_parts (one.file == file) (not (has_own_key (Some key) one)) other in
-    ((Decides-eqb one.file file).0 parts.0, not_parts (has_key key one) parts.1)
+other_there key file one other = grind arith
 
 -- a key that holds W has an open
 written_there : (server : Server) (key : Key) → IsSound server → (server.leases key).state.write ≡ true
     → has_lease server key ≡ true
-written_there server key s w = either (has_lease server key) (λ e. e)
-    (λ none. clash (server.leases key).state.write w (ap (λ l. l.state.write) (s.no_open key none)))
+written_there server key s w = grind arith
 
 -- a key that may be granted and holds W is alone on the file
 written_alone : (server : Server) (key : Key) (file : ℕ) (access : Access) (share : Share)
@@ -150,8 +138,7 @@ concluded-lease client request progress outcome key s =
 -- the granted form of a part is a part
 form_part : (state lowered : State) → is_state_within state lowered ≡ true
     → is_state_within (granted_form_of state) lowered ≡ true
-form_part state lowered part = if_cases (λ s. is_state_within s lowered ≡ true) state.read state nothing_cached
-    (λ e. part) (λ e. refl)
+form_part state lowered part = grind arith
 
 -- a break that is ended
 ended-lease : (key : Key) (state lowered : State) (progress : Progress) (other : Key)
@@ -188,23 +175,7 @@ acknowledged-lease client given progress other = any_judgement client progress
 pub held_left-serves : (client : ℕ) (request : FileRequest) (file : ℕ) (left : List Held) (progress : Progress)
     → MayServe progress.server client request → MayServe (held_left file left progress).server client request
 unfolding held_left
-held_left-serves client (FileRequest.Create at access share None) file left progress may = absurd may
-held_left-serves client (FileRequest.Create at access share (Some ask)) file left progress may =
-    (may.0, again ask.lease ask.reconnect may.1)
-  where
-    again : (lease : Option LeaseOf) (file_id : Option ℕ) → MayCreate progress.server client at access share lease file_id
-        → MayCreate (record progress.server { held = put progress.server.held file left }) client at access share lease file_id
-    again lease None m = m
-    again lease (Some file_id) m = record { one = m.one; is_there = m.is_there; waits = m.waits }
-held_left-serves client (FileRequest.Read file_id) file left progress may =
-    record { one = may.one; found = may.found; allowed = may.allowed }
-held_left-serves client (FileRequest.Write file_id number patch) file left progress may = record {
-  one = may.one;
-  found = may.found;
-  allowed = record { may = may.allowed.may; fits = may.allowed.fits; alone = may.allowed.alone };
-}
-held_left-serves client (FileRequest.Close file_id) file left progress may =
-    record { one = may.one; found = may.found; allowed = tt }
+held_left-serves client x2 file left progress may = grind arith
 
 -- what each step makes of the lease of any key
 pub step-leases : (step : SmallStep) (progress : Progress) → IsSound progress.server → IsGuarded step progress.server
@@ -260,10 +231,7 @@ not_gone server key lowered s gone e = not_settled (server.leases key) lowered (
 -- where a lease stays, is gone or rises, nothing new is breaking
 rises_breaking : (before after : Server) (key : Key) (lowered : State) → IsSound after
     → StaysOrRises before after key → (after.leases key).broken_to ≡ Some lowered → (before.leases key).broken_to ≡ Some lowered
-rises_breaking before after key lowered s what e = ⊎_elim
-    (λ same. still_breaking (before.leases key) (after.leases key) lowered same e)
-    (λ other. ⊎_elim (λ gone. not_gone after key lowered s gone e)
-    (λ raised. not_settled (after.leases key) lowered raised.is_settled e) other) what
+rises_breaking before after key lowered s what e = grind arith
 
 -- one break that has begun
 begun_told : (key : Key) (lowered : State) (progress : Progress) (to : State) (new : Lease)

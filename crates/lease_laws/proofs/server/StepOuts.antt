@@ -1,5 +1,6 @@
 -- What guarded small steps give out.
 use Rattle.lease_laws.proofs.Words.{◌++◌, ◌==◌, ◌∙◌, ◌∷◌, ◌≡◌, AreGuarded, Call, Decides-eqb, EachOut, FileRequest, GoOn}
+use Rattle.std.proofs.Common.{arith}
 use Rattle.lease_laws.proofs.Words.{IsGuarded, IsNoBreak, IsShort, IsSound, IsToPresent, Key, LeaseOf, List, MayEnd, MayLower}
 use Rattle.lease_laws.proofs.Words.{MayServe, None, Open, Option, Out, Outcome, Progress, Reply, Server, SmallStep, Some, State}
 use Rattle.lease_laws.proofs.Words.{Status, TellsBreaks, WaitsWell, ℕ, [], acknowledged, ap, break_begun, break_ended, bytes_eq}
@@ -29,8 +30,7 @@ GoesOut client request before after = GoOn (IsOfRequest client request) before.o
 -- one reply
 replied-out : (client : ℕ) (request : FileRequest) (reply : Reply) (progress : Progress)
     → GoesOut client request progress (replied client reply progress)
-replied-out client request reply progress =
-    record { more = Out.Sent client reply ∷ []; are_more = refl; each = (refl, tt) }
+replied-out client request reply progress = grind arith
 
 -- any request
 ends_out : (client : ℕ) (progress : Progress) → HasEnds client progress (λ request outcome. GoesOut client request progress)
@@ -61,8 +61,7 @@ IsSentTo client out = ⊥
 
 sent-out : (client : ℕ) (reply : Reply) (progress : Progress)
     → GoOn (IsSentTo client) progress.outs (replied client reply progress).outs
-sent-out client reply progress =
-    record { more = Out.Sent client reply ∷ []; are_more = refl; each = (refl, tt) }
+sent-out client reply progress = grind arith
 
 -- however it is judged
 pub acknowledged-out : (client : ℕ) (given : Option LeaseOf) (progress : Progress)
@@ -83,21 +82,13 @@ IsFine server out = IsToPresent server out × IsShort out
 of_request : (server : Server) (client : ℕ) (request : FileRequest) (outcome : Outcome)
     → server.present client ≡ true → (outcome ≡ Outcome.Ready → MayServe server client request)
     → outcome ≡ Outcome.Ready → (out : Out) → IsOfRequest client request out → IsFine server out
-of_request server client request outcome up serves ready (Out.Sent to reply) e = (ap (λ c. server.present c) e ∙ up, tt)
-of_request server client request outcome up serves ready (Out.Opened file by) e = (tt, tt)
-of_request server client request outcome up serves ready (Out.Changed file by number patch) e =
-    (tt, fits request e.1 (serves ready))
-  where
-    fits : (asked : FileRequest) → asked ≡ FileRequest.Write e.0 number patch → MayServe server client asked
-        → is_within_limit patch ≡ true
-    fits asked same may = (subst (λ q. MayServe server client q) same may).allowed.fits
+of_request server client request outcome up serves ready x8 e = grind arith
 
 -- a refusal is one reply
 refused_fine : (server : Server) (client : ℕ) (request : FileRequest) (status : Status) (progress : Progress)
     → server.present client ≡ true → GoOn (IsFine server) progress.outs (refused client request status progress).outs
 unfolding refused
-refused_fine server client request status progress up =
-    record { more = _; are_more = refl; each = ((up, tt), tt) }
+refused_fine server client request status progress up = grind arith
 
 -- the end of a request
 concluded_fine : (server : Server) (client : ℕ) (request : FileRequest) (progress : Progress) (outcome : Outcome)
@@ -118,9 +109,7 @@ break_fine server key lowered up may =
   where
     own : (client : ℕ) (bytes : Option (List ℕ)) → is_key key client bytes ≡ true
         → server.present client ≡ true → server.present key.client ≡ true
-    own client None k p = absurd (true≢false (sym k))
-    own client (Some bytes) k p = ap (λ c. server.present c)
-        ((Decides-eqb key.client client).0 (and_parts (key.client == client) (bytes_eq key.bytes bytes) k).0) ∙ p
+    own client x2 k p = grind arith
 
 -- each step
 pub step_fine : (step : SmallStep) (progress : Progress) → OpensUp progress.server → IsGuarded step progress.server
@@ -138,8 +127,7 @@ step_fine (SmallStep.Acknowledge client given) progress up may = go_on-weaker (I
     (acknowledged client given progress).outs (acknowledged-out client given progress)
   where
     sent_fine : (to : ℕ) → progress.server.present to ≡ true → (out : Out) → IsSentTo to out → IsFine progress.server out
-    sent_fine to there (Out.Sent c reply) e = (ap (λ x. progress.server.present x) e ∙ there, tt)
-    sent_fine to there out e = absurd e
+    sent_fine to there x3 e = grind arith
 step_fine (SmallStep.Hold file one) progress up may = subst
     (λ outs. GoOn (IsFine progress.server) progress.outs outs) (sym (request_held-outs file one progress))
     (go_on-same (IsFine progress.server) progress.outs)
@@ -156,8 +144,7 @@ step_fine (SmallStep.Begin key lowered) progress up may =
 -- the same clients are there, so the same is to them
 same_present : (before after : Server) → ((client : ℕ) → after.present client ≡ before.present client)
     → (out : Out) → IsFine before out → IsFine after out
-same_present before after same (Out.Sent client reply) f = (same client ∙ f.0, tt)
-same_present before after same out f = f
+same_present before after same x4 f = grind arith
 
 steps_fine : (steps : List SmallStep) (progress : Progress) → IsSound progress.server → OpensUp progress.server
     → AreGuarded steps progress → EachOut (IsFine progress.server) progress.outs

@@ -78,12 +78,7 @@ dropped-fine test progress f = fine_goes progress (opens_dropped test progress) 
 -- to mark a key lets opens go on
 expired-goes : (key : Key) (progress : Progress) → Goes progress (key_expired key progress)
 unfolding key_expired
-expired-goes key progress = record {
-  files = refl;
-  ups = λ c. refl;
-  ids = omega arith;
-  from = λ one a. inl (still_there progress.server one a);
-}
+expired-goes key progress = grind arith
 
 -- to mark a key leaves the held requests as they are
 expired-held : (key : Key) (progress : Progress) → SameHeld progress (key_expired key progress)
@@ -129,22 +124,7 @@ record IsCutFrom (server : Server) (client : ℕ) (one : Open) : Type 0 where
 -- an open after a cut
 cut_open : (server : Server) (client : ℕ) (was : Open) (b : Bool) → (was.client == client) ≡ b → Among was server.opens
     → IsCutFrom server client (cond b (record was { connected = false }) was)
-cut_open server client was true e a = record {
-  was = was;
-  was_there = a;
-  same_id = refl;
-  same_file = refl;
-  same_client = refl;
-  up = λ never. absurd (true≢false (sym never));
-}
-cut_open server client was false e a = record {
-  was = was;
-  was_there = a;
-  same_id = refl;
-  same_file = refl;
-  same_client = refl;
-  up = λ u. (u, e);
-}
+cut_open server client was x4 e a = grind arith
 
 -- the opens after a cut
 cut_opens : (server : Server) (client : ℕ) (one : Open) → Among one (map (disconnected client) server.opens)
@@ -156,8 +136,7 @@ cut_opens server client one a =
 -- another client stays as it was
 put_other : (up : ℕ → Bool) (client other : ℕ) → other == client ≡ false → put up client false other ≡ up other
 unfolding put
-put_other up client other e = if_cases (λ b. b ≡ up other) (other == client) false (up other)
-    (λ t. clash (other == client) t e) (λ t. refl)
+put_other up client other e = grind arith
 
 -- a cut: what a FileId is about stays
 cut_about_open : (client file file_id : ℕ) (progress : Progress) → IsOpenOn progress.server file file_id
@@ -245,8 +224,7 @@ called-waits-well server call s w =
 -- a key that holds W isn't blocked on its file
 pub writer-unblocked : (server : Server) (key : Key) (one : Open) → IsSound server → (server.leases key).state.write ≡ true
     → Among one server.opens → has_key key one ≡ true → IsBlocked server (Some key) one.file → ⊥
-writer-unblocked server key one s w a k b = clash (has_key key b.one)
-    (s.one_writer key one b.one w a k b.is_there b.is_on_file) b.is_other
+writer-unblocked server key one s w a k b = grind arith
 
 -- the key of an open that has it
 key_of_that : (key : Key) (one : Open) → has_key key one ≡ true → key_of_open one ≡ Some key

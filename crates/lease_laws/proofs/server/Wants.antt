@@ -1,5 +1,6 @@
 -- What a look at a request wants: each wanted lease can be so lowered.
 use Rattle.lease_laws.proofs.Words.{◌&&◌, ◌∙◌, ◌∷◌, ◌≡◌, ◌⊎◌, Access, Among, Bool, CreateAsk, FileRequest, Finding, IsLowered}
+use Rattle.std.proofs.Common.{arith}
 use Rattle.lease_laws.proofs.Words.{IsSound, Key, LeaseOf, List, None, Open, Option, Patch, Server, Share, Some, State, Status}
 use Rattle.lease_laws.proofs.Words.{Want, ℕ, ⊎_elim, [], all_wants, ap, asked_finding, awaits, by_contexts, by_open, conflicts_on}
 use Rattle.lease_laws.proofs.Words.{connected_open, create_finding, false, filter, finding, granted_form_of, handle_wants}
@@ -79,8 +80,7 @@ keys_of-some key one (other ∷ opens) (inr a) k =
 
 -- a mapped list is empty where the list is
 map_empty : {X Y : Type 0} (f : X → Y) (xs : List X) → is_empty (map f xs) ≡ is_empty xs
-map_empty f [] = refl
-map_empty f (x ∷ xs) = refl
+map_empty f x2 = grind arith
 
 -- where nothing is wanted, no open with a key passes the test
 pub wants_where-none : (server : Server) (test : Open → Bool) (lowering : State → State)
@@ -106,10 +106,7 @@ AllFit server wants = (want : Want) → Among want wants → Fits server want
 fits-at : (server : Server) (lowering : State → State) (key : Key) → IsSound server → ((server.leases key) ≡ no_lease → ⊥)
     → IsLowered (server.leases key).state (lowering (server.leases key).state)
     → Fits server (record { key = key; lowered = lowering (server.leases key).state })
-fits-at server lowering key s held low = record {
-  can_lower = low;
-  is_timely = not_true (server.expired key) (λ out. held (s.timed_out key out));
-}
+fits-at server lowering key s held low = grind arith
 
 -- wants fit where each open that passes the test has a lease that can be so lowered
 pub wants_where-fit : (server : Server) (test : Open → Bool) (lowering : State → State) → IsSound server
@@ -181,10 +178,7 @@ create_finding-fits server own file access share s = if_cases (FindingFits serve
 pub reconnect_finding-fits : (server : Server) (client file : ℕ) (own : Option Key) (file_id : ℕ)
     → FindingFits server (reconnect_finding server client file own file_id)
 unfolding reconnect_finding
-reconnect_finding-fits server client file own file_id =
-    if_cases (FindingFits server) (list_any (awaits client file own file_id) server.opens) (Finding.Needs [])
-    (Finding.Fails Status.ObjectNameNotFound)
-    (λ e want a. absurd a) (λ e. tt)
+reconnect_finding-fits server client file own file_id = grind arith
 
 -- what a write finds fits
 pub write_finding-fits : (server : Server) (one : Open) (patch : Patch) → IsSound server
@@ -207,20 +201,16 @@ asked_finding-fits server client file access share lease (Some file_id) s = reco
 -- what is found by an open fits
 by_open-fits : (server : Server) (one : Option Open) (found : Open → Finding) → ((x : Open) → FindingFits server (found x))
     → FindingFits server (by_open one found)
-by_open-fits server None found fits = tt
-by_open-fits server (Some one) found fits = fits one
+by_open-fits server x2 found fits = grind arith
 
 -- what is found by contexts fits
 by_contexts-fits : (server : Server) (ask : Option CreateAsk) (found : CreateAsk → Finding)
     → ((x : CreateAsk) → FindingFits server (found x)) → FindingFits server (by_contexts ask found)
-by_contexts-fits server None found fits = tt
-by_contexts-fits server (Some ask) found fits = fits ask
+by_contexts-fits server x2 found fits = grind arith
 
 -- what a read finds fits
 read_finding-fits : (server : Server) (one : Open) → FindingFits server (read_finding one)
-read_finding-fits server one = if_cases (FindingFits server) (may_read one.access) (Finding.Needs [])
-    (Finding.Fails Status.AccessDenied)
-    (λ e want a. absurd a) (λ e. tt)
+read_finding-fits server one = grind arith
 
 -- all that a look at a request wants fits
 pub finding-fits : (server : Server) (client : ℕ) (request : FileRequest) → IsSound server

@@ -1,5 +1,6 @@
 -- In every run the record says what clients believe.
 use Rattle.lease_laws.proofs.Words.{◌&&◌, ◌==◌, ◌∙◌, ◌∷◌, ◌≡◌, Client, Decides-eqb, Event, Fact, List, Note, Out, Progress, Setup}
+use Rattle.std.proofs.Common.{arith}
 use Rattle.lease_laws.proofs.Words.{Step, World, ℕ, [], after, all_delivered, ap, belief, believed, believed_after, called}
 use Rattle.lease_laws.proofs.Words.{client_called, delivered, fact_of, false, first_world, happened, if◌then◌else◌, is_start}
 use Rattle.lease_laws.proofs.Words.{length, list_all, new_client, noted, nothing_cached, numbered, put, refl, requests_sent}
@@ -21,19 +22,13 @@ record Agrees (world : World) : Type 0 where
 of_world : (client file : ℕ) (fact : Fact) (past : List Fact) → IsOfWorld fact
     → believed client file (fact ∷ past) ≡ believed client file past
 unfolding believed
-of_world client file (Fact.Joined c) past of = refl
-of_world client file (Fact.Dropped c) past of = refl
-of_world client file (Fact.Expired c f) past of = refl
-of_world client file (Fact.Took c) past of = refl
-of_world client file (Fact.Strayed c) past of = refl
-of_world client file _ past of = absurd of
+of_world client file x3 past of = grind arith
 
 -- nor do outs
 delivered_believed : (client file : ℕ) (world : World) (out : Out)
     → believed client file (delivered world out).past ≡ believed client file world.past
 unfolding delivered believed
-delivered_believed client file world (Out.Sent c reply) = refl
-delivered_believed client file world out = refl
+delivered_believed client file world x4 = grind arith
 
 all_believed : (client file : ℕ) (world : World) (outs : List Out)
     → believed client file (all_delivered world outs).past ≡ believed client file world.past

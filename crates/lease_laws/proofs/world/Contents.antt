@@ -1,6 +1,7 @@
 -- What calls of the server tell of contents: the record has the contents of the server, and a read's reply has
 -- what the record says where it is sent.
 use Rattle.lease_laws.proofs.Words.{◌++◌, ◌==◌, ◌∙◌, ◌∷◌, ◌≡◌, AreGuarded, Call, EachOut, Fact, IsOfPlace, IsSound, List, Out}
+use Rattle.std.proofs.Common.{arith}
 use Rattle.lease_laws.proofs.Words.{Patch, Progress, Reply, Server, SmallStep, WaitsWell, ℕ, ⊤, [], ap, call_begun, called}
 use Rattle.lease_laws.proofs.Words.{content_of, eq-eqb, eqb-true, if◌then◌else◌, put, refl, step_taken, steps_taken, subst, sym}
 use Rattle.lease_state.specs.Content.{patch as patched}
@@ -31,8 +32,7 @@ fits_append past (out ∷ outs) more each other = (each.0, fits_append (fact_tol
 
 -- a reply that tells no content is right everywhere
 other_fits : (client : ℕ) (place : List Fact) (reply : Reply) → IsOther (Out.Sent client reply) → IsOfPlace client place reply
-other_fits client place (Reply.ReadDone file_id bytes) other = absurd other
-other_fits client place reply other = tt
+other_fits client place x3 other = grind arith
 
 others_fit : (past : List Fact) (outs : List Out) → EachOut IsOther outs → EachFits past outs
 others_fit past [] each = tt

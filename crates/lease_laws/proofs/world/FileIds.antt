@@ -37,8 +37,7 @@ told_append past (out ∷ outs) more = told_append (fact_told out ∷ past) outs
 
 delivered_past : (world : World) (out : Out) → (delivered world out).past ≡ fact_told out ∷ world.past
 unfolding delivered
-delivered_past world (Out.Sent client reply) = refl
-delivered_past world out = refl
+delivered_past world x2 = grind arith
 
 pub all_delivered_past : (world : World) (outs : List Out) → (all_delivered world outs).past ≡ told world.past outs
 unfolding all_delivered
@@ -58,10 +57,7 @@ pub record SameOpens (past : List Fact) (new : List Fact) : Type 0 where
   pub was : (place file client : ℕ) → was_opened place file client new ≡ was_opened place file client past
 
 pub same_counted : (past new : List Fact) (server : Server) → SameOpens past new → IsCounted past server → IsCounted new server
-same_counted past new server same c = record {
-  last = c.last ∙ sym same.count;
-  opens = λ one a. same.was one.file_id one.file one.client ∙ c.opens one a;
-}
+same_counted past new server same c = grind arith
 
 quiet_told : (past : List Fact) (outs : List Out) → EachOut IsNoOpened outs → SameOpens past (told past outs)
 unfolding opened_count was_opened
@@ -82,12 +78,10 @@ same_told past one was id file client e = rw (id, file, client) e
 -- an open that was there was told of
 old_told : (past : List Fact) (server : Server) (one : Open) → IsCounted past server → IsOld server one
     → was_opened one.file_id one.file one.client past ≡ true
-old_told past server one c old =
-    same_told past one old.was old.same_id old.same_file old.same_client (c.opens old.was old.was_there)
+old_told past server one c old = grind arith
 
 or_later : (a b : Bool) → b ≡ true → (a || b) ≡ true
-or_later true b e = refl
-or_later false b e = e
+or_later x1 b e = grind arith
 
 -- ---- steps
 
@@ -232,18 +226,12 @@ pub record IsCountedWorld (world : World) : Type 0 where
 -- facts of the world tell of no open
 pub world_fact_same : (past : List Fact) (fact : Fact) → IsOfWorld fact → SameOpens past (fact ∷ past)
 unfolding opened_count was_opened
-world_fact_same past (Fact.Joined client) of = record { count = refl; was = λ place file c. refl }
-world_fact_same past (Fact.Dropped client) of = record { count = refl; was = λ place file c. refl }
-world_fact_same past (Fact.Expired client at) of = record { count = refl; was = λ place file c. refl }
-world_fact_same past (Fact.Took client) of = record { count = refl; was = λ place file c. refl }
-world_fact_same past (Fact.Strayed client) of = record { count = refl; was = λ place file c. refl }
-world_fact_same past (_) of = absurd of
+world_fact_same past x2 of = grind arith
 
 -- nor do notes
 pub note_same : (past : List Fact) (client : ℕ) (note : Note) → SameOpens past (fact_of client note ∷ past)
 unfolding opened_count was_opened
-note_same past client (Note.Settled number outcome) = record { count = refl; was = λ place file c. refl }
-note_same past client note = record { count = refl; was = λ place at c. refl }
+note_same past client x3 = grind arith
 
 noted_counted : (world : World) (client : ℕ) (notes : List Note) (server : Server) → IsCounted world.past server
     → IsCounted (noted world client notes).past server

@@ -33,9 +33,7 @@ IsPlain fact = Unit {0}
 
 plain_content : (file : ℕ) (past : List Fact) (fact : Fact) → IsPlain fact → content_of file (fact ∷ past) ≡ content_of file past
 unfolding content_of
-plain_content file past (Fact.Start other bytes) plain = absurd plain
-plain_content file past (Fact.Changed other client number patch) plain = absurd plain
-plain_content file past (_) plain = refl
+plain_content file past x3 plain = grind arith
 
 -- facts of timers and strays
 abbrev IsTimer : Fact → Type 0
@@ -44,8 +42,7 @@ IsTimer (Fact.Strayed client) = Unit {0}
 IsTimer fact = ⊥
 
 note_plain : (client : ℕ) (note : Note) → IsPlain (fact_of client note)
-note_plain client (Note.Settled number outcome) = tt
-note_plain client note = tt
+note_plain client x2 = grind arith
 
 noted_contents : (world : World) (client : ℕ) (notes : List Note) (server : Server) → HasContents world.past server
     → HasContents (noted world client notes).past server
@@ -154,9 +151,7 @@ connect_true world client link e r = r.telling
 -- a fact that changes no queue
 fact_in_step : (world : World) (fact : Fact) → IsTimer fact → (c : ℕ) → KeepsStep world c → KeepsStep (happened world fact) c
 unfolding sendings takings
-fact_in_step world (Fact.Expired client file) of c k = carried_step world _ c refl refl refl refl k
-fact_in_step world (Fact.Strayed client) of c k = carried_step world _ c refl refl refl refl k
-fact_in_step world (_) of c k = absurd of
+fact_in_step world x2 of c k = grind arith
 
 timer_true : (world : World) (client file : ℕ) → IsReady world → IsTrue (timer_expired world client file)
 unfolding timer_expired

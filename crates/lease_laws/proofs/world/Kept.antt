@@ -1,6 +1,7 @@
 -- What holds of a world in every run: where it holds of the first one, and calls, steps and facts keep it. For
 -- what speaks of the server, the clients and the record, and not of queues and links.
 use Rattle.lease_laws.proofs.Words.{◌∙◌, ◌∷◌, ◌≡◌, Call, Client, ClientCall, Event, Fact, Link, List, None, Option, Out, Progress}
+use Rattle.std.proofs.Common.{arith}
 use Rattle.lease_laws.proofs.Words.{Reply, Request, Some, World, ℕ, [], after, all_delivered, applied, breaking, called}
 use Rattle.lease_laws.proofs.Words.{client_called, client_of, client_takes, connect_over, connection_made, cut_over, delivered}
 use Rattle.lease_laws.proofs.Words.{happened, happens, has_client, has_file, if◌then◌else◌, join, kept, link_connected, link_cut}
@@ -29,8 +30,7 @@ pub record IsKept (P : World → Type 0) : Type 0 where
 -- outs change no client
 delivered_clients : (world : World) (out : Out) → (delivered world out).clients ≡ world.clients
 unfolding delivered
-delivered_clients world (Out.Sent client reply) = refl
-delivered_clients world out = refl
+delivered_clients world x2 = grind arith
 
 all_delivered_clients : (world : World) (outs : List Out) → (all_delivered world outs).clients ≡ world.clients
 unfolding all_delivered
@@ -44,8 +44,7 @@ served-clients world progress = all_delivered_clients (record world { server = p
 -- nor the server
 delivered_server : (world : World) (out : Out) → (delivered world out).server ≡ world.server
 unfolding delivered
-delivered_server world (Out.Sent client reply) = refl
-delivered_server world out = refl
+delivered_server world x2 = grind arith
 
 all_delivered_server : (world : World) (outs : List Out) → (all_delivered world outs).server ≡ world.server
 unfolding all_delivered

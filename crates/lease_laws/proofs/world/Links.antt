@@ -24,23 +24,14 @@ use Rattle.lease_laws.proofs.world.Runs.{stepped_server, stepped_clients}
 -- ---- one client, and the others
 
 pub by_client : (P : ℕ → Type 0) (client c : ℕ) → P client → (c ≢ client → (client == c) ≡ false → P c) → P c
-by_client P client c here there = either (client == c)
-    (λ same. subst P (eqb-true client c same) here)
-    (λ other. there (λ e. clash (client == c) (eq-eqb client c (sym e)) other) other)
+by_client x1 client c here there = grind arith
 
 -- where nothing of a client changes it stays tied
 pub carried : (world new : World) (c : ℕ) → new.server.present c ≡ world.server.present c
     → new.links c ≡ world.links c → new.requests c ≡ world.requests c → new.replies c ≡ world.replies c
     → is_served c new.past ≡ is_served c world.past → sendings c new.past ≡ sendings c world.past
     → takings c new.past ≡ takings c world.past → IsTied world c → IsTied new c
-carried world new c present links requests replies served sent took t = record {
-  present = present ∙ t.present ∙ ap is_up (sym links);
-  requests = λ down. requests ∙ t.requests (ap is_up (sym links) ∙ down);
-  replies = λ down. replies ∙ t.replies (ap is_up (sym links) ∙ down);
-  served = λ s. ap is_up links ∙ t.served (sym served ∙ s);
-  counted = λ up. ap (λ places. length places) sent ∙ t.counted (ap is_up (sym links) ∙ up)
-      ∙ sym (ap₂ (λ n (queue : List Reply). n + length queue) took replies);
-}
+carried world new c present links requests replies served sent took t = grind arith
 
 -- ---- outs
 
@@ -79,13 +70,11 @@ delivered_tied world (Out.Changed file client number patch) up tied c =
 -- outs that reach their clients
 reaching : (world : World) (server : Server) → ((c : ℕ) → server.present c ≡ is_up (world.links c)) → (out : Out)
     → IsToPresent server out → Reaches world out
-reaching world server same (Out.Sent client reply) to = sym (same client) ∙ to
-reaching world server same out to = tt
+reaching world server same x4 to = grind arith
 
 delivered_links : (world : World) (out : Out) → (delivered world out).links ≡ world.links
 unfolding delivered
-delivered_links world (Out.Sent client reply) = refl
-delivered_links world out = refl
+delivered_links world x2 = grind arith
 
 pub outs_links : (world : World) (outs : List Out) → (all_delivered world outs).links ≡ world.links
 unfolding all_delivered
@@ -127,8 +116,7 @@ plain_call_tied world call among s w tied c = served_tied world call s w
 
 note_tied : (world : World) (client : ℕ) (note : Note) (c : ℕ) → IsTied world c → IsTied (happened world (fact_of client note)) c
 unfolding is_served sendings takings
-note_tied world client (Note.Settled number outcome) c t = carried world _ c refl refl refl refl refl refl refl t
-note_tied world client note c t = carried world _ c refl refl refl refl refl refl refl t
+note_tied world client x3 c t = grind arith
 
 noted_tied : (world : World) (client : ℕ) (notes : List Note) (c : ℕ) → IsTied world c → IsTied (noted world client notes) c
 unfolding noted
@@ -144,8 +132,7 @@ noted_links world client (note ∷ notes) = noted_links (happened world (fact_of
 -- over a link that isn't up nothing is sent
 sent_idle : (link : Link) (queue requests : List Request) → (is_up link ≡ false → queue ≡ [])
     → is_up link ≡ false → sent_over link queue requests ≡ []
-sent_idle Link.Up queue requests idle e = absurd (true≢false e)
-sent_idle link queue requests idle e = idle e
+sent_idle x1 queue requests idle e = grind arith
 
 pub sent_tied : (world : World) (client : ℕ) (requests : List Request) (c : ℕ) → IsTied world c
     → IsTied (requests_sent world client requests) c
@@ -396,13 +383,7 @@ connect_linked world client link e l = l
 -- a timer runs out
 expired_tied : (world : World) (client file c : ℕ) → IsTied world c → IsTied (happened world (Fact.Expired client file)) c
 unfolding is_served sendings takings
-expired_tied world client file c t = record {
-  present = t.present;
-  requests = t.requests;
-  replies = t.replies;
-  served = λ s. t.served ((and_parts (not (client == c)) (is_served c world.past) s).1);
-  counted = t.counted;
-}
+expired_tied world client file c t = grind arith
 
 timer_linked : (world : World) (client file : ℕ) → IsLinked world → IsLinked (timer_expired world client file)
 unfolding timer_expired

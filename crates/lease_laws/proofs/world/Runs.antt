@@ -94,14 +94,12 @@ patched_fits content offset (b ∷ bytes) fits e = subst (λ n. n ≤ FILE_LIMIT
 put_fits : (contents : ℕ → List ℕ) (file : ℕ) (content : List ℕ) → DoFit contents → length content ≤ FILE_LIMIT
     → DoFit (put contents file content)
 unfolding put
-put_fits contents file content fit new other = if_cases (λ c. length c ≤ FILE_LIMIT) (other == file) content
-    (contents other) (λ e. new) (λ e. fit other)
+put_fits contents file content fit new other = grind arith
 
 -- a lease that is put leaves them
 put_contents : (server : Server) (client : ℕ) (asked : Option LeaseOf) (lease : Lease)
     → (lease_put server client asked lease).contents ≡ server.contents
-put_contents server client None lease = refl
-put_contents server client (Some given) lease = refl
+put_contents server client x3 lease = grind arith
 
 -- the end of a request
 ends_fit : (client : ℕ) (progress : Progress) → DoFit progress.server.contents
@@ -164,19 +162,11 @@ steps_fit (step ∷ steps) progress g fit = steps_fit steps (step_taken step pro
 -- before them no content changes
 either_contents : (b : Bool) (x y : Progress) (contents : ℕ → List ℕ) → x.server.contents ≡ contents
     → y.server.contents ≡ contents → (if b then x else y).server.contents ≡ contents
-either_contents true x y contents e f = e
-either_contents false x y contents e f = f
+either_contents x1 x y contents e f = grind arith
 
 pub begun_contents : (server : Server) (call : Call) → (call_begun server call).server.contents ≡ server.contents
 unfolding join joined client_forgotten opens_disconnected opens_dropped with_opens key_expired
-begun_contents server (Call.Join client) =
-    either_contents (server.present client) (begun server) (joined client (begun server)) server.contents refl refl
-begun_contents server (Call.Receive client request) = refl
-begun_contents server (Call.Cut client) = either_contents (server.present client) _ (begun server) server.contents refl refl
-begun_contents server (Call.Expire key) =
-    either_contents (is_breaking (server.leases key)) _ (begun server) server.contents refl refl
-begun_contents server (Call.Scavenge file_id) =
-    either_contents (list_any (is_left_behind file_id) server.opens) _ (begun server) server.contents refl refl
+begun_contents server x2 = grind arith
 
 called_fits : (server : Server) (call : Call) → IsSound server → WaitsWell server → DoFit server.contents
     → DoFit (called server call).server.contents

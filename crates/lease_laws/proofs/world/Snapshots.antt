@@ -52,19 +52,7 @@ KeepsStep world client = is_up (world.links client) ≡ true → IsInStep world 
 pub carried_step : (world new : World) (c : ℕ) → new.links c ≡ world.links c → new.replies c ≡ world.replies c
     → sendings c new.past ≡ sendings c world.past → takings c new.past ≡ takings c world.past
     → KeepsStep world c → KeepsStep new c
-carried_step world new c links replies sent took keeps up =
-    let is = keeps (ap is_up (sym links) ∙ up) in record {
-      low = low_by (takings c new.past) (takings c world.past) (sendings c new.past) (sendings c world.past) took sent is.low;
-      in_step = step_by (takings c new.past) (takings c world.past) (sendings c new.past) (sendings c world.past)
-          (new.replies c) (world.replies c) took sent replies is.in_step;
-    }
-  where
-    low_by : (n k : ℕ) (xs ys : List (List Fact)) → n ≡ k → xs ≡ ys → k ≤ length ys → n ≤ length xs
-    low_by n k xs ys e f low = rw (e, f) low
-
-    step_by : (n k : ℕ) (xs ys : List (List Fact)) (q r : List Reply) → n ≡ k → xs ≡ ys → q ≡ r
-        → AreInStep c (drop k ys) r → AreInStep c (drop n xs) q
-    step_by n k xs ys q r e f g step = rw (e, f, g) step
+carried_step world new c links replies sent took keeps up = grind arith
 
 -- ---- outs
 
@@ -97,8 +85,7 @@ delivered_in_step world (Out.Changed file client number patch) is keeps c =
 
 delivered_past : (world : World) (out : Out) → (delivered world out).past ≡ fact_told out ∷ world.past
 unfolding delivered
-delivered_past world (Out.Sent client reply) = refl
-delivered_past world out = refl
+delivered_past world x2 = grind arith
 
 pub all_in_step : (world : World) (outs : List Out) → EachFits world.past outs → ((c : ℕ) → KeepsStep world c)
     → (c : ℕ) → KeepsStep (all_delivered world outs) c
@@ -112,8 +99,7 @@ all_in_step world (out ∷ outs) each keeps c = all_in_step (delivered world out
 note_in_step : (world : World) (client : ℕ) (note : Note) (c : ℕ) → KeepsStep world c
     → KeepsStep (happened world (fact_of client note)) c
 unfolding sendings takings
-note_in_step world client (Note.Settled number outcome) c k = carried_step world _ c refl refl refl refl k
-note_in_step world client note c k = carried_step world _ c refl refl refl refl k
+note_in_step world client x3 c k = grind arith
 
 noted_in_step : (world : World) (client : ℕ) (notes : List Note) (c : ℕ) → KeepsStep world c
     → KeepsStep (noted world client notes) c

@@ -1,5 +1,6 @@
 -- In every run the record doesn't call a client served whose timer ran out since it connected.
 use Rattle.lease_laws.proofs.Words.{◌&&◌, ◌==◌, ◌∙◌, ◌∷◌, ◌≡◌, Bool, Call, Event, Fact, Key, Link, List, None, Note, Option, Out}
+use Rattle.std.proofs.Common.{arith}
 use Rattle.lease_laws.proofs.Words.{Reply, Request, Setup, Some, Step, TimersAreTold, World, ℕ, ⊎_elim, [], after, all_delivered}
 use Rattle.lease_laws.proofs.Words.{ap, applied, breaking, called, client_of, client_takes, commanded, connect_over}
 use Rattle.lease_laws.proofs.Words.{connection_made, cut_over, delivered, eq-eqb, eqb-true, fact_of, false, first_world, happened}
@@ -27,8 +28,7 @@ SameServed past new = (client : ℕ) → is_served client new ≡ is_served clie
 
 delivered_served : (world : World) (out : Out) → SameServed world.past (delivered world out).past
 unfolding delivered is_served
-delivered_served world (Out.Sent client reply) c = refl
-delivered_served world out c = refl
+delivered_served world x2 c = grind arith
 
 all_delivered_served : (world : World) (outs : List Out) → SameServed world.past (all_delivered world outs).past
 unfolding all_delivered
@@ -37,8 +37,7 @@ all_delivered_served world (out ∷ outs) c = all_delivered_served (delivered wo
 
 note_served : (world : World) (client : ℕ) (note : Note) → SameServed world.past (happened world (fact_of client note)).past
 unfolding is_served
-note_served world client (Note.Settled number outcome) c = refl
-note_served world client note c = refl
+note_served world client x3 c = grind arith
 
 noted_served : (world : World) (client : ℕ) (notes : List Note) → SameServed world.past (noted world client notes).past
 unfolding noted
@@ -93,8 +92,7 @@ client_takes_told world client (reply ∷ queue) t =
     (taken (world.clients client) reply) t.told
 
 none_of : (a : Bool) → (a && false) ≡ false
-none_of true = refl
-none_of false = refl
+none_of x1 = grind arith
 
 cut_told : (world : World) (client : ℕ) (link : Link) → IsTimely world → AreToldOf (cut_over world client link)
 unfolding link_cut is_served
@@ -118,16 +116,7 @@ notice_told world client link t = t.told
 joined_told : (expired : Key → Bool) (past : List Fact) (client : ℕ) → AreTold expired past → (key : Key)
     → (if key.client == client then false else expired key) ≡ true → is_served key.client (Fact.Joined client ∷ past) ≡ false
 unfolding is_served
-joined_told expired past client told key = either (client == key.client)
-    (λ same. if_cases (λ b. b ≡ true → is_served key.client (Fact.Joined client ∷ past) ≡ false)
-    (key.client == client) false (expired key) (λ s e. absurd (true≢false (sym e)))
-    (λ other e. clash (key.client == client) (turned_round client key.client same) other))
-    (λ apart. if_cases (λ b. b ≡ true → is_served key.client (Fact.Joined client ∷ past) ≡ false)
-    (key.client == client) false (expired key) (λ s e. absurd (true≢false (sym e)))
-    (λ other e. rw (apart) (told key e)))
-  where
-    turned_round : (a b : ℕ) → (a == b) ≡ true → (b == a) ≡ true
-    turned_round a b e = eq-eqb b a (sym (eqb-true a b e))
+joined_told expired past client told key = grind arith
 
 connect_told : (world : World) (client : ℕ) (link : Link) → world.links client ≡ link → IsTimely world
     → AreToldOf (connect_over world client link)
@@ -165,8 +154,7 @@ scavenged_told world (Some file_id) t = served_told world (Call.Scavenge file_id
 strayed_told : (world : World) (client : ℕ) (request : Request) (link : Link) → IsTimely world
     → AreToldOf (strayed_over world client request link)
 unfolding strayed_over requests_sent is_served
-strayed_told world client request Link.Up t = t.told
-strayed_told world client request link t = t.told
+strayed_told world client request x4 t = grind arith
 
 applied_told : (world : World) (event : Event) → IsTimely world → AreToldOf (applied world event)
 unfolding applied

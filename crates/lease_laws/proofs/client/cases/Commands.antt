@@ -1,6 +1,7 @@
 -- What a command makes of a client: each of the forms, with what is known of it. Whatever holds of each form holds of
 -- every command.
 use Rattle.lease_laws.proofs.Words.{◌&&◌, ◌++◌, ◌+◌, ◌==◌, ◌||◌, ◌∷◌, ◌≡◌, Answer, Bool, Client, Command, FileRequest, List}
+use Rattle.std.proofs.Common.{arith}
 use Rattle.lease_laws.proofs.Words.{LiveEntry, None, OpenTerms, Option, Patch, Pending, Phase, Refusal, Request, Some, Step, ℕ}
 use Rattle.lease_laws.proofs.Words.{[], asked_by, cached_read, close_on_live, closed_entry, commanded, count_limit}
 use Rattle.lease_laws.proofs.Words.{create_request, false, file_of, flush_on_live, handle_added, has_unanswered, is_asking}
@@ -75,19 +76,13 @@ pub record HasCommands (client : Client) (P : Step → Type 0) : Type 0 where
 
 closed_command : (client : Client) (P : Step → Type 0) → HasCommands client P → (file : ℕ) (command : Command)
     → file_of command ≡ file → IsEntry client file Phase.Closed → P (on_closed client file (sent_of client file) command)
-closed_command client P h file (Command.Open _ terms) same is = if_cases P client.is_online _
-    (refused_step client Refusal.Offline) (λ on. h.opening file terms is on) (λ off. h.refused Refusal.Offline)
-closed_command client P h file command same is = h.refused Refusal.NotOpen
+closed_command client x2 h file x5 same is = grind arith
 
 other_command : (client : Client) (P : Step → Type 0) → HasCommands client P → (file : ℕ) (live : LiveEntry)
     (terms : OpenTerms) → IsEntry client file (Phase.Live live) → is_asking live ≡ false
     → P (open_other client file live (sent_of client file) terms)
 unfolding open_other more_asked
-other_command client P h file live terms is idle = if_cases P (live.handles == 0)
-    (opened_anew client file live (sent_of client file) terms) _
-    (λ none. h.anew file live terms is idle none)
-    (λ some. if_cases P (live.handles == count_limit) (refused_step client Refusal.UsedUp) _
-    (λ full. h.refused Refusal.UsedUp) (λ fits. h.asked file live terms is idle some))
+other_command client x2 h file live terms is idle = grind arith
 
 open_command : (client : Client) (P : Step → Type 0) → HasCommands client P → (file : ℕ) (live : LiveEntry)
     (terms : OpenTerms) → IsEntry client file (Phase.Live live) → P (open_on_live client file live (sent_of client file) terms)
@@ -101,27 +96,17 @@ open_command client P h file live terms is = if_cases P (is_asking live) (refuse
     (λ other. other_command client P h file live terms is idle))
 
 neither : (a b : Bool) → (a || b) ≡ false → (a ≡ false) × (b ≡ false)
-neither true b e = let c : ⊥ = cc in absurd c
-neither false b e = (refl, e)
+neither x1 b e = grind arith
 
 close_command : (client : Client) (P : Step → Type 0) → HasCommands client P → (file : ℕ) (live : LiveEntry)
     → IsEntry client file (Phase.Live live) → P (close_on_live client file live (sent_of client file))
 unfolding close_on_live last_handle_closed
-close_command client P h file live is = if_cases P (nat_lt 1 live.handles) _ _
-    (λ more. h.fewer file live is more)
-    (λ last. if_cases P (is_asking live || has_unanswered live (sent_of client file)) (refused_step client Refusal.Busy) _
-    (λ busy. h.refused Refusal.Busy)
-    (λ idle. let none = neither (is_asking live) (has_unanswered live (sent_of client file)) idle in
-    if_cases P live.belief.handle _ _
-    (λ stays. h.parked file live is none.0 none.1 stays) (λ goes. h.closed file live is none.0 none.1 goes)))
+close_command client x2 h file live is = grind arith
 
 sent_command : (client : Client) (P : Step → Type 0) → HasCommands client P → (file : ℕ) (live : LiveEntry)
     → IsEntry client file (Phase.Live live) → P (read_sent client file live (sent_of client file))
 unfolding read_sent
-sent_command client P h file live is = if_cases P (is_asking live) (refused_step client Refusal.Busy) _
-    (λ asking. h.refused Refusal.Busy)
-    (λ idle. if_cases P (live.reads == count_limit) (refused_step client Refusal.UsedUp) _
-    (λ full. h.refused Refusal.UsedUp) (λ fits. h.read file live is idle))
+sent_command client x2 h file live is = grind arith
 
 from_command : (client : Client) (P : Step → Type 0) → HasCommands client P → (file : ℕ) (live : LiveEntry)
     → IsEntry client file (Phase.Live live) → (reads : Bool) (base : Option (List ℕ)) → live.belief.read ≡ reads
@@ -139,27 +124,16 @@ read_command client P h file live is = if_cases P (may_read live.access)
     (λ not. h.refused Refusal.Denied)
 
 not_not : (b : Bool) → not b ≡ false → b ≡ true
-not_not true e = refl
-not_not false e = let c : ⊥ = cc in absurd c
+not_not x1 e = grind arith
 
 write_command : (client : Client) (P : Step → Type 0) → HasCommands client P → (file : ℕ) (live : LiveEntry)
     (patch : Patch) → IsEntry client file (Phase.Live live) → P (write_on_live client file live (sent_of client file) patch)
 unfolding write_on_live
-write_command client P h file live patch is = if_cases P (not (may_write live.access))
-    (refused_step client Refusal.Denied) _ (λ no. h.refused Refusal.Denied)
-    (λ may. if_cases P (not (is_within_limit patch)) (refused_step client Refusal.TooLong) _
-    (λ long. h.refused Refusal.TooLong)
-    (λ fits. if_cases P (client.last_number == last_write_number) (refused_step client Refusal.UsedUp)
-    (write_taken client file live (sent_of client file) patch) (λ full. h.refused Refusal.UsedUp)
-    (λ free. if_cases P live.belief.write (write_buffered client file live (sent_of client file) patch)
-    (write_sent client file live (sent_of client file) patch)
-    (λ caches. h.buffered file live patch is (not_not (is_within_limit patch) fits) caches)
-    (λ sends. h.written file live patch is (not_not (is_within_limit patch) fits) sends))))
+write_command client x2 h file live patch is = grind arith
 
 parked_command : (client : Client) (P : Step → Type 0) → HasCommands client P → (live : LiveEntry) (step : Step)
     → P step → P (unless_parked client live step)
-parked_command client P h live step p = if_cases P (live.handles == 0) (refused_step client Refusal.NotOpen) step
-    (λ none. h.refused Refusal.NotOpen) (λ some. p)
+parked_command client x2 h live step p = grind arith
 
 live_command : (client : Client) (P : Step → Type 0) → HasCommands client P → (file : ℕ) (live : LiveEntry)
     (command : Command) → IsEntry client file (Phase.Live live) → P (on_live client file live (sent_of client file) command)

@@ -1,6 +1,7 @@
 -- What becomes of an entry where its client notices that the connection is lost: each of the forms, with what is
 -- known of it. Whatever holds of each form holds of every entry.
 use Rattle.lease_laws.proofs.Words.{◌++◌, ◌≡◌, Access, List, LiveEntry, Parted, Pending, Phase, Share, Turn, [], ended_turn}
+use Rattle.std.proofs.Common.{arith}
 use Rattle.lease_laws.proofs.Words.{false, filter, live_noticed, live_parted, notice_turn, offline_turn, parted_from, true}
 use Rattle.lease_laws.proofs.Words.{without}
 use Rattle.lease_laws.proofs.server.Lists.{if_cases}
@@ -25,11 +26,4 @@ pub record HasNotices (sent : List Pending) (P : Phase → Turn → Type 0) : Ty
 pub any_notice : (sent : List Pending) (P : Phase → Turn → Type 0) → HasNotices sent P → (phase : Phase)
     → P phase (notice_turn sent phase)
 unfolding live_noticed live_parted
-any_notice sent P h Phase.Closed = h.closed
-any_notice sent P h (Phase.Opening access share) = h.opening access share
-any_notice sent P h (Phase.Live live) = if_cases (P (Phase.Live live)) live.durable (live_parted live sent) _
-    (λ durable. if_cases (P (Phase.Live live)) live.belief.write _ _
-    (λ writes. h.kept live writes) (λ none. h.bare live none))
-    (λ plain. h.ended live)
-any_notice sent P h (Phase.Offline parted) = h.offline parted
-any_notice sent P h (Phase.Reconnecting parted) = h.reconnecting parted
+any_notice sent x2 h x4 = grind arith

@@ -1,6 +1,7 @@
 -- What a reply makes of a client: each of the forms, with what is known of it. Whatever holds of each form holds of
 -- every reply.
 use Rattle.lease_laws.proofs.Words.{◌&&◌, ◌==◌, ◌∷◌, ◌≡◌, ◌⊎◌, Access, Asked, Bool, BreakNotice, Client, CreateAnswer, FILE_LIMIT}
+use Rattle.std.proofs.Common.{arith}
 use Rattle.lease_laws.proofs.Words.{List, LiveEntry, None, Note, Option, Parted, Phase, Reply, Settlement, Share, Some, Status}
 use Rattle.lease_laws.proofs.Words.{Step, ℕ, ⊤, [], ap, belief_lowered, break_on, break_turn, broken, closed_by_server}
 use Rattle.lease_laws.proofs.Words.{create_answered, create_failed, create_failed_for, create_failed_on_live, created_for}
@@ -106,13 +107,7 @@ live_break : (client : Client) (P : Reply → Step → Type 0) → HasTakes clie
     → (client.entries file).phase ≡ Phase.Live live → P (Reply.Break (Some notice)) (turned client file
     (break_turn live (sent_of client file) notice (meet live.belief notice.lowered)))
 unfolding break_turn
-live_break client P h file notice live at e =
-    let new = meet live.belief notice.lowered in
-    if_cases (λ turn. P (Reply.Break (Some notice)) (turned client file turn))
-    (live.handles == 0 && (live.belief.handle && not new.handle)) (parked_closed live (sent_of client file))
-    (belief_lowered live (sent_of client file) notice new)
-    (λ parked. h.parked_closes file notice live at e parked)
-    (λ stays. h.lowered file notice live at e stays)
+live_break client x2 h file notice live at e = grind arith
 
 break_take : (client : Client) (P : Reply → Step → Type 0) → HasTakes client P → (file : ℕ) (notice : BreakNotice)
     → file_where client (is_key_of client notice.key) ≡ Some file → (phase : Phase) → (client.entries file).phase ≡ phase
@@ -136,24 +131,13 @@ live_create : (client : Client) (P : Reply → Step → Type 0) → HasTakes cli
     (answer : CreateAnswer) (live : LiveEntry) → (client.entries file).phase ≡ Phase.Live live
     → (asking : Option Asked) → live.asking ≡ asking → P (Reply.Created file file_id (Some answer))
     (created_for client file live (sent_of client file) file_id answer asking)
-live_create client P h file file_id answer live e None a =
-    h.passed (Reply.Created file file_id (Some answer)) (subst AwaitsNone (sym e) (idle live.asking a))
-  where
-    idle : (asking : Option Asked) → asking ≡ None → is_some asking ≡ false
-    idle None e = refl
-    idle (Some x) e = let c : ⊥ = cc in absurd c
-live_create client P h file file_id answer live e (Some asked) a = h.promoted file file_id answer live asked e a
+live_create client x2 h file file_id answer live e x9 a = grind arith
 
 create_take : (client : Client) (P : Reply → Step → Type 0) → HasTakes client P → (file file_id : ℕ)
     (answer : CreateAnswer) (phase : Phase) → (client.entries file).phase ≡ phase
     → P (Reply.Created file file_id (Some answer)) (created_on client file file_id answer (sent_of client file) phase)
 unfolding created_on_live
-create_take client P h file file_id answer (Phase.Opening access share) e = h.opened file file_id answer access share e
-create_take client P h file file_id answer (Phase.Live live) e =
-    live_create client P h file file_id answer live e live.asking refl
-create_take client P h file file_id answer (Phase.Reconnecting parted) e = h.reconnected file file_id answer parted e
-create_take client P h file file_id answer phase e =
-    h.passed (Reply.Created file file_id (Some answer)) (subst AwaitsNone (sym e) tt)
+create_take client x2 h file file_id answer x7 e = grind arith
 
 created_take : (client : Client) (P : Reply → Step → Type 0) → HasTakes client P → (file file_id : ℕ)
     (contexts : Option CreateAnswer) → P (Reply.Created file file_id contexts) (create_answered client file file_id contexts)
@@ -164,30 +148,18 @@ created_take client P h file file_id (Some answer) = create_take client P h file
 live_fails : (client : Client) (P : Reply → Step → Type 0) → HasTakes client P → (file : ℕ) (status : Status)
     (live : LiveEntry) → (client.entries file).phase ≡ Phase.Live live → (asking : Option Asked) → live.asking ≡ asking
     → P (Reply.CreateFailed file status) (create_failed_for client file live (sent_of client file) status asking)
-live_fails client P h file status live e None a =
-    h.passed (Reply.CreateFailed file status) (subst AwaitsNone (sym e) (idle live.asking a))
-  where
-    idle : (asking : Option Asked) → asking ≡ None → is_some asking ≡ false
-    idle None e = refl
-    idle (Some x) e = let c : ⊥ = cc in absurd c
-live_fails client P h file status live e (Some asked) a = h.not_promoted file status live asked e a
+live_fails client x2 h file status live e x8 a = grind arith
 
 failed_take : (client : Client) (P : Reply → Step → Type 0) → HasTakes client P → (file : ℕ) (status : Status)
     (phase : Phase) → (client.entries file).phase ≡ phase
     → P (Reply.CreateFailed file status) (failed_on client file status (sent_of client file) phase)
 unfolding create_failed_on_live
-failed_take client P h file status (Phase.Opening access share) e = h.not_opened file status access share e
-failed_take client P h file status (Phase.Live live) e = live_fails client P h file status live e live.asking refl
-failed_take client P h file status (Phase.Reconnecting parted) e = h.not_reconnected file status parted e
-failed_take client P h file status phase e = h.passed (Reply.CreateFailed file status) (subst AwaitsNone (sym e) tt)
+failed_take client x2 h file status x6 e = grind arith
 
 -- an entry that reads under the FileId is live
 reads_so : (phase : Phase) (file_id : ℕ) (P : Type 0) → reads_under file_id phase ≡ true
     → ((live : LiveEntry) → phase ≡ Phase.Live live → live.file_id ≡ file_id → (live.reads == 0) ≡ false → P) → P
-reads_so (Phase.Live live) file_id P e k =
-    let parts = and_parts (live.file_id == file_id) (not (live.reads == 0)) e in
-    k live refl (eqb-true live.file_id file_id parts.0) (not_parts (live.reads == 0) parts.1)
-reads_so phase file_id P e k = let c : ⊥ = cc in absurd c
+reads_so x1 file_id x3 e k = grind arith
 
 read_take : (client : Client) (P : Reply → Step → Type 0) → HasTakes client P → (file_id : ℕ) (bytes : List ℕ)
     → P (Reply.ReadDone file_id bytes) (read_answered client file_id bytes)
@@ -212,10 +184,7 @@ failed_read : (client : Client) (P : Reply → Step → Type 0) → HasTakes cli
     → (live.reads == 0) ≡ false → P (Reply.ReadFailed file_id status)
     (turned client file (read_failed_turn live (sent_of client file) status))
 unfolding read_failed_turn
-failed_read client P h file file_id status live is id some =
-    if_cases (λ turn. P (Reply.ReadFailed file_id status) (turned client file turn)) (is_file_closed status) _ _
-    (λ gone. h.read_closed file file_id status live is id gone)
-    (λ there. h.not_read file file_id status live is id some)
+failed_read client x2 h file file_id status live is id some = grind arith
 
 fail_take : (client : Client) (P : Reply → Step → Type 0) → HasTakes client P → (file_id : ℕ) (status : Status)
     → P (Reply.ReadFailed file_id status) (read_failed client file_id status)
@@ -249,23 +218,13 @@ still_written : (client : Client) (P : Reply → Step → Type 0) → HasTakes c
     → (client.entries file).phase ≡ phase → P (Reply.WriteFailed file_id number status) (turned client file (still_open
     (record { phase = phase; sent = sent_without number (sent_of client file) })
     (Note.Settled number Settlement.Failed ∷ []) status))
-still_written client P h file file_id number status at known phase is = subst
-    (λ p. P (Reply.WriteFailed file_id number status) (turned client file (still_open
-    (record { phase = p; sent = sent_without number (sent_of client file) })
-    (Note.Settled number Settlement.Failed ∷ []) status))) is (h.not_written file file_id number status at known)
+still_written client x2 h file file_id number status at known phase is = grind arith
 
 failed_write : (client : Client) (P : Reply → Step → Type 0) → HasTakes client P → (file file_id number : ℕ)
     (status : Status) → has_sent client number file ≡ true → knows_file client file ≡ true → (phase : Phase)
     → (client.entries file).phase ≡ phase → P (Reply.WriteFailed file_id number status) (turned client file
     (write_failed_in file_id number status (sent_without number (sent_of client file)) phase))
-failed_write client P h file file_id number status at known (Phase.Live live) is =
-    if_cases (λ turn. P (Reply.WriteFailed file_id number status) (turned client file turn))
-    (is_file_closed status && live.file_id == file_id) _ _
-    (λ gone. let parts = and_parts (is_file_closed status) (live.file_id == file_id) gone in
-    h.write_closed file file_id number status live at known is (eqb-true live.file_id file_id parts.1) parts.0)
-    (λ there. still_written client P h file file_id number status at known (Phase.Live live) is)
-failed_write client P h file file_id number status at known phase is =
-    still_written client P h file file_id number status at known phase is
+failed_write client x2 h file file_id number status at known x10 is = grind arith
 
 write_take : (client : Client) (P : Reply → Step → Type 0) → HasTakes client P → (file_id number : ℕ)
     (status : Status) → P (Reply.WriteFailed file_id number status) (write_failed client file_id number status)

@@ -1,6 +1,7 @@
 -- What the end of a request makes of a call under way: each of the forms, with what is known of it. Whatever holds of
 -- each form holds of every end.
 use Rattle.lease_laws.proofs.Words.{◌&&◌, ◌==◌, ◌≡◌, Access, Among, CreateAsk, FileRequest, None, Open, Option, Outcome, Patch}
+use Rattle.std.proofs.Common.{arith}
 use Rattle.lease_laws.proofs.Words.{Progress, Reply, Server, Share, Some, Status, ℕ, answered, changed, closed, concluded}
 use Rattle.lease_laws.proofs.Words.{connected_open, created, eqb-true, granted, granted_with, last_file_id, lease_after, on_open}
 use Rattle.lease_laws.proofs.Words.{opens_dropped, read_done, reconnected, refl, refusal_of, refused, replied, true}
@@ -61,10 +62,7 @@ create_end : (client : ℕ) (progress : Progress) (P : FileRequest → Outcome �
     → ask.reconnect ≡ again → P (FileRequest.Create file access share (Some ask)) Outcome.Ready
     (created client file access share ask.lease ask.durable again progress)
 unfolding granted
-create_end client progress P h file access share ask None e = if_cases
-    (P (FileRequest.Create file access share (Some ask)) Outcome.Ready) (progress.server.last_id == last_file_id) _ _
-    (λ last. h.full file access share ask e) (λ more. h.granted file access share ask e)
-create_end client progress P h file access share ask (Some file_id) e = h.again file access share ask file_id e
+create_end client progress x3 h file access share ask x9 e = grind arith
 
 open_end : (client : ℕ) (progress : Progress) (P : FileRequest → Outcome → Progress → Type 0)
     → HasEnds client progress P → (request : FileRequest) (file_id : ℕ) (done : ℕ → Progress → Progress)

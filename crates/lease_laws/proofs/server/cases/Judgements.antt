@@ -1,5 +1,6 @@
 -- What an acknowledgment makes of a call under way: it fails, or ends a break.
 use Rattle.lease_laws.proofs.Words.{◌∙◌, ◌≡◌, ◌≢◌, LeaseOf, None, Option, Progress, Reply, Server, Some, State, Status, ℕ, ⊤}
+use Rattle.std.proofs.Common.{arith}
 use Rattle.lease_laws.proofs.Words.{acknowledged, break_ended, false, has_lease, is_state_within, judged, key_of, refl, replied}
 use Rattle.lease_laws.proofs.Words.{subst, sym, true}
 use Rattle.lease_laws.proofs.server.Lists.{if_cases, clash}
@@ -21,26 +22,9 @@ known_judgement : (client : ℕ) (progress : Progress) (P : Option LeaseOf → P
     → HasJudgements client progress P → (given : LeaseOf) → has_lease progress.server (key_of client given.key) ≡ true
     → (broken : Option State) → (progress.server.leases (key_of client given.key)).broken_to ≡ broken
     → P (Some given) (judged (key_of client given.key) given.state broken progress)
-known_judgement client progress P h given there None e =
-    h.failed (Some given) Status.Unsuccessful (λ is lowered to. absurd (never lowered (sym e ∙ to)))
-  where
-    never : (lowered : State) → None ≢ Some lowered
-    never lowered e = cc
-known_judgement client progress P h given there (Some lowered) e =
-    if_cases (P (Some given)) (is_state_within given.state lowered) _ _
-    (λ within. h.ended given lowered there e within)
-    (λ beyond. h.failed (Some given) Status.RequestNotAccepted
-    (λ is to same. subst (λ s. is_state_within given.state s ≡ false) (one lowered to (sym e ∙ same)) beyond))
-  where
-    one : (x y : State) → Some x ≡ Some y → x ≡ y
-    one x y e = cc
+known_judgement client progress x3 h given there x7 e = grind arith
 
 pub any_judgement : (client : ℕ) (progress : Progress) (P : Option LeaseOf → Progress → Type 0)
     → HasJudgements client progress P → (given : Option LeaseOf) → P given (acknowledged client given progress)
 unfolding acknowledged
-any_judgement client progress P h None = h.failed None Status.InvalidParameter tt
-any_judgement client progress P h (Some given) = if_cases (P (Some given))
-    (has_lease progress.server (key_of client given.key)) _ _
-    (λ there. known_judgement client progress P h given there (progress.server.leases (key_of client given.key)).broken_to refl)
-    (λ gone. h.failed (Some given) Status.ObjectNameNotFound
-    (λ there. clash (has_lease progress.server (key_of client given.key)) there gone))
+any_judgement client progress x3 h x5 = grind arith

@@ -1,6 +1,7 @@
 -- What a try makes of a call under way: disconnected opens are dropped, and leases lowered or their breaks begun. What
 -- holds of each of these, of nothing, and of two behind one another holds of every try.
 use Rattle.lease_laws.proofs.Words.{◌&&◌, ◌∷◌, ◌≡◌, FileRequest, Finding, Key, List, Outcome, Progress, State, Tried, Want, ℕ, []}
+use Rattle.std.proofs.Common.{arith}
 use Rattle.lease_laws.proofs.Words.{after_breaks, after_finding, break_begun, ended, false, finding, has_lease, is_breaking}
 use Rattle.lease_laws.proofs.Words.{is_left_open, is_ready, lease_broken, lease_lowered, must_wait, needs_acknowledgment, not}
 use Rattle.lease_laws.proofs.Words.{opens_dropped, suc, tried_for, want_met, wants_met, zero}
@@ -18,13 +19,7 @@ pub record HasTries (R : Progress → Progress → Type 0) : Type 0 where
 any_break : (R : Progress → Progress → Type 0) → HasTries R → (key : Key) (lowered : State) (progress : Progress)
     → R progress (lease_broken key lowered progress)
 unfolding lease_broken
-any_break R h key lowered progress =
-    let breaking = is_breaking (progress.server.leases key) in
-    if_cases (R progress) (has_lease progress.server key && not breaking) _ progress
-    (λ may. let settled = not_parts breaking (and_parts (has_lease progress.server key) (not breaking) may).1 in
-    if_cases (R progress) (needs_acknowledgment (progress.server.leases key).state) _ _
-    (λ asks. h.begin key lowered progress settled) (λ reads. h.lower key lowered progress settled))
-    (λ stays. h.same progress)
+any_break x1 h key lowered progress = grind arith
 
 pub any_meeting : (R : Progress → Progress → Type 0) → HasTries R → (wants : List Want) (progress : Progress)
     → R progress (wants_met wants progress)
