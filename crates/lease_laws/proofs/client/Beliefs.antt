@@ -1,18 +1,18 @@
 -- The notes of every call tell what the client then believes, and refused commands do nothing.
-use Rattle.lease_laws.proofs.Words.{◌&&◌, ◌++◌, ◌==◌, ◌∙◌, ◌∷◌, ◌≡◌, ◌≢◌, Answer, Bool, Client, Command, Decides-eqb, List}
+use Rattle.lease_laws.proofs.Words.{◌++◌, ◌==◌, ◌∙◌, ◌∷◌, ◌≡◌, ◌≢◌, Answer, Bool, Client, Command, Decides-eqb, List}
 use Rattle.std.proofs.Common.{arith}
 use Rattle.lease_laws.proofs.Words.{LiveEntry, Note, Pending, Phase, Refusal, Reply, Request, Settlement, State, Step, Turn, ℕ}
-use Rattle.lease_laws.proofs.Words.{[], ap, belief, belief_in, belief_lowered, belief_of, believed_after, believes_noted, beq}
+use Rattle.lease_laws.proofs.Words.{[], ap, belief, belief_in, belief_lowered, belief_of, believed_after, believes_noted}
 use Rattle.lease_laws.proofs.Words.{cached_read, closed_by_server, commanded, false, first_belief, flush_on_live, if◌then◌else◌}
 use Rattle.lease_laws.proofs.Words.{is_empty, lease_key, next_write, opened_anew, opened_turn, parked_closed, promoted_belief}
-use Rattle.lease_laws.proofs.Words.{promoted_turn, put, read_turn, reconnected_turn, refl, refused_step, same_state, settled_as}
-use Rattle.lease_laws.proofs.Words.{subst, sym, taken, true, true≢false, turned, write_buffered, write_done_turn, write_sent}
+use Rattle.lease_laws.proofs.Words.{promoted_turn, put, read_turn, reconnected_turn, refl, refused_step, settled_as}
+use Rattle.lease_laws.proofs.Words.{subst, sym, taken, true, turned, write_buffered, write_done_turn, write_sent}
 use Rattle.lease_laws.proofs.Words.{wrote_step}
 use Rattle.lease_laws.proofs.client.Thin.{put_same, put_other}
 use Rattle.lease_laws.proofs.client.Words.{if_either}
 use Rattle.lease_laws.proofs.client.cases.Commands.{HasCommands, any_command}
 use Rattle.lease_laws.proofs.client.cases.Replies.{HasTakes, any_reply}
-use Rattle.lease_laws.proofs.server.Lists.{if_cases, either, clash, and_parts}
+use Rattle.lease_laws.proofs.server.Lists.{either, clash}
 
 -- ---- notes that settle writes
 
@@ -40,17 +40,8 @@ settle_pass file old (note ∷ notes) more s = absurd s
 
 -- ---- one belief
 
--- equal letters are one letter
-one_letter : (a b : Bool) → beq a b ≡ true → a ≡ b
-one_letter x1 x2 e = grind arith
-
 letters : Bool → Bool → Bool → State
 letters r w h = record { read = r; write = w; handle = h }
-
--- states of the same letters are one
-one_state : (one other : State) → same_state one other ≡ true → one ≡ other
-unfolding letters
-one_state one other e = grind arith
 
 -- a change of belief is told of its file
 pub noted_own : (file : ℕ) (old new : State) → believed_after file old (believes_noted file old new) ≡ new

@@ -2,7 +2,7 @@
 -- every such step has.
 use Rattle.lease_laws.proofs.Words.{◌≡◌, Answer, Client, Command, Entry, List, Pending, Refusal, Reply, Request, Step, Turn, ℕ}
 use Rattle.std.proofs.Common.{arith}
-use Rattle.lease_laws.proofs.Words.{cached_read, commanded, flush_on_live, opened_anew, quiet_step, refl, refused_step, taken}
+use Rattle.lease_laws.proofs.Words.{cached_read, commanded, flush_on_live, opened_anew, quiet_step, refused_step, taken}
 use Rattle.lease_laws.proofs.Words.{turned, write_buffered, write_sent, wrote_step}
 use Rattle.lease_laws.proofs.client.cases.Commands.{HasCommands, any_command}
 use Rattle.lease_laws.proofs.client.cases.Replies.{HasTakes, any_reply}

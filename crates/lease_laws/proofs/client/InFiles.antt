@@ -1,14 +1,14 @@
 -- Entries of files that a client doesn't know stay closed.
-use Rattle.lease_laws.proofs.Words.{◌∙◌, ◌≡◌, ◌≢◌, Client, ClientCall, Entry, List, Phase, Step, Turn, ℕ, all_turned, ap}
+use Rattle.lease_laws.proofs.Words.{◌≡◌, ◌≢◌, Client, ClientCall, Entry, List, Phase, Step, Turn, ℕ, all_turned, ap}
 use Rattle.std.proofs.Common.{arith}
 use Rattle.lease_laws.proofs.Words.{cached_read, client_called, connect_turn, connection_made, false, flush_on_live, is_key_of}
-use Rattle.lease_laws.proofs.Words.{knows_file, new_client, notice_turn, noticed, opened_anew, put, refl, sym, true, turned}
+use Rattle.lease_laws.proofs.Words.{knows_file, new_client, notice_turn, noticed, opened_anew, put, refl, true, turned}
 use Rattle.lease_laws.proofs.Words.{write_buffered, write_sent}
 use Rattle.lease_laws.proofs.client.Beliefs.{by_place}
 use Rattle.lease_laws.proofs.client.cases.Commands.{HasCommands, any_command}
 use Rattle.lease_laws.proofs.client.cases.Files.{found_known}
 use Rattle.lease_laws.proofs.client.cases.Replies.{HasTakes, any_reply}
-use Rattle.lease_laws.proofs.server.Lists.{clash, not_false}
+use Rattle.lease_laws.proofs.server.Lists.{clash}
 
 abbrev pub InFiles : Client → Type 0
 InFiles client = (file : ℕ) → knows_file client file ≡ false → (client.entries file).phase ≡ Phase.Closed

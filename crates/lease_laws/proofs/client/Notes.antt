@@ -5,7 +5,7 @@ use Rattle.lease_laws.proofs.Words.{are_rising, arith, belief_lowered, belief_of
 use Rattle.lease_laws.proofs.Words.{closed_by_server, connect_turn, connection_made, false, first_belief, flat_map, flush_on_live}
 use Rattle.lease_laws.proofs.Words.{has_number, has_sent, if◌then◌else◌, lease_key, nat_le, nat_lt, next_write, not, noticed}
 use Rattle.lease_laws.proofs.Words.{numbers_to, opened_anew, opened_turn, parked_closed, promoted_belief, promoted_turn}
-use Rattle.lease_laws.proofs.Words.{read_turn, reconnected_turn, refl, same_state, settled_as, subst, true, turned, unsent_in}
+use Rattle.lease_laws.proofs.Words.{read_turn, reconnected_turn, refl, same_state, settled_as, true, turned, unsent_in}
 use Rattle.lease_laws.proofs.Words.{without, write_buffered, write_done_turn, write_sent}
 use Rattle.lease_laws.proofs.client.Numbers.{Numbers}
 use Rattle.lease_laws.proofs.client.Thin.{IsThinner, thin_front, thin_behind, thin_filter, beyond}

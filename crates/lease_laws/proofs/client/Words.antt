@@ -1,9 +1,9 @@
 -- Words on tests, tables and writes, and what becomes of one entry of a client.
-use Rattle.lease_laws.proofs.Words.{◌&&◌, ◌++◌, ◌==◌, ◌||◌, ◌∷◌, ◌≡◌, ◌≤◌, Bool, Client, IsSoundEntry, IsSoundPhase, List, None}
+use Rattle.lease_laws.proofs.Words.{◌++◌, ◌==◌, ◌∷◌, ◌≡◌, ◌≤◌, Bool, Client, IsSoundEntry, IsSoundPhase, List, None}
 use Rattle.lease_laws.proofs.Words.{Option, Pending, Phase, Some, State, ℕ, [], are_buffered, arith, base_with, false, filter}
-use Rattle.lease_laws.proofs.Words.{gives_up, if◌then◌else◌, nat_lt, not, one_handle_less, phase_with, put, refl, sent_without}
-use Rattle.lease_laws.proofs.Words.{subst, suc, true, zero}
-use Rattle.lease_laws.proofs.server.Lists.{if_cases, clash, and_parts, and_both}
+use Rattle.lease_laws.proofs.Words.{gives_up, if◌then◌else◌, nat_lt, one_handle_less, phase_with, put, refl, sent_without}
+use Rattle.lease_laws.proofs.Words.{subst, true}
+use Rattle.lease_laws.proofs.server.Lists.{if_cases, and_parts, and_both}
 
 -- ---- words on tables, tests and lists
 

@@ -1,12 +1,12 @@
 -- Every request of a client machine has bytes.
-use Rattle.lease_laws.proofs.Words.{◌++◌, ◌+◌, ◌∙◌, ◌∷◌, ◌≡◌, Asked, Bool, BreakNotice, CallHasFileId, Client, ClientCall}
-use Rattle.lease_laws.proofs.Words.{EachRequest, Entry, FileRequest, HasFileId, HasRequestBytes, IsWriting, List, None, OpenTerms}
-use Rattle.lease_laws.proofs.Words.{Option, Pending, Phase, Request, Some, State, Step, Turn, ℕ, [], acknowledgment, all_turned}
+use Rattle.lease_laws.proofs.Words.{◌++◌, ◌∙◌, ◌∷◌, ◌≡◌, Asked, Bool, BreakNotice, CallHasFileId, Client, ClientCall}
+use Rattle.lease_laws.proofs.Words.{EachRequest, Entry, FileRequest, HasFileId, HasRequestBytes, IsWriting, List, OpenTerms}
+use Rattle.lease_laws.proofs.Words.{Option, Pending, Phase, Request, State, Step, Turn, ℕ, [], acknowledgment, all_turned}
 use Rattle.lease_laws.proofs.Words.{ap, arith, belief_lowered, bytes_eq-Decides, cached_read, client_called, closed_by_server}
 use Rattle.lease_laws.proofs.Words.{connect_turn, connection_made, create_request, false, flat_map, flush_on_live, flushed}
-use Rattle.lease_laws.proofs.Words.{is_key_of, joint_terms, lease_key, length, length-append, length-take-le, meet, notice_turn}
+use Rattle.lease_laws.proofs.Words.{is_key_of, joint_terms, lease_key, length, meet, notice_turn}
 use Rattle.lease_laws.proofs.Words.{noticed, numbers_to, opened_anew, opened_turn, parked_closed, phase_with, promoted_turn, put}
-use Rattle.lease_laws.proofs.Words.{read_turn, reconnected_turn, subst, sym, take, true, turned, without_open, write_buffered}
+use Rattle.lease_laws.proofs.Words.{read_turn, reconnected_turn, subst, sym, true, turned, without_open, write_buffered}
 use Rattle.lease_laws.proofs.Words.{write_done_turn, write_requests, write_sent}
 use Rattle.lease_laws.proofs.client.Words.{if_either, put_each}
 use Rattle.lease_laws.proofs.client.cases.Commands.{HasCommands, any_command}

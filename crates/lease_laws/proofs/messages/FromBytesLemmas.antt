@@ -3,7 +3,7 @@ use Rattle.lease_laws.proofs.Words.{◌&&◌, ◌<◌, ◌==◌, ◌∙◌, ◌�
 use Rattle.lease_laws.proofs.Words.{FaultyContextsAreNotFound, IsAcknowledgment, IsNotification, KeyAndState, List}
 use Rattle.lease_laws.proofs.Words.{NoAcknowledgmentIsFound, NoNotificationIsFound, Notice, NotificationIsFound}
 use Rattle.lease_laws.proofs.Words.{WrittenContextsAreFound, WrittenMessagesAreFound, ℕ, acknowledged_in, acknowledgment_bytes}
-use Rattle.lease_laws.proofs.Words.{acknowledgment_layout, answer_found, ap, arith, ask_found, bytes_at-taken, false, inl, inr}
+use Rattle.lease_laws.proofs.Words.{acknowledgment_layout, answer_found, ap, arith, ask_found, bytes_at-taken, false}
 use Rattle.lease_laws.proofs.Words.{length, length-take, nat_le, nat_tests, notice_in, notification_bytes, notification_layout}
 use Rattle.lease_laws.proofs.Words.{number_at, number_at-taken, refl, subst, sym, take, take-length, true, value_is_read}
 use Rattle.lease_laws.proofs.Words.{written_reads_back}

@@ -1,12 +1,12 @@
 -- In the record of a run every client is sound, and no write is settled before it is given.
-use Rattle.lease_laws.proofs.Words.{◌&&◌, ◌<◌, ◌==◌, ◌∙◌, ◌∷◌, ◌≡◌, ◌≢◌, ◌≤◌, Bool, Client, ClientCall, ClientsOfRunsAreSound}
+use Rattle.lease_laws.proofs.Words.{◌<◌, ◌==◌, ◌∙◌, ◌∷◌, ◌≡◌, ◌≢◌, ◌≤◌, Bool, Client, ClientCall, ClientsOfRunsAreSound}
 use Rattle.lease_laws.proofs.Words.{Event, Fact, IsSoundClient, Link, List, None, Note, Option, Out, Patch, Progress, Reply}
-use Rattle.lease_laws.proofs.Words.{Request, RunsGiveFirst, Settlement, Setup, Some, Step, TellNumbers, World, ℕ, ⊎_elim, []}
+use Rattle.lease_laws.proofs.Words.{Request, RunsGiveFirst, Settlement, Setup, Some, Step, TellNumbers, World, ℕ, []}
 use Rattle.lease_laws.proofs.Words.{after, all_delivered, applied, arith, breaking, client_called, client_of, client_takes}
 use Rattle.lease_laws.proofs.Words.{connect_over, connection_made, cut, cut_over, delivered, eq-eqb, eqb-true, expire, fact_of}
 use Rattle.lease_laws.proofs.Words.{false, first_world, gives_first, happened, happens, has_client, has_file, if◌then◌else◌}
 use Rattle.lease_laws.proofs.Words.{is_settled, is_start, join, kept, length, link_connected, link_cut, link_noticed, list_all}
-use Rattle.lease_laws.proofs.Words.{machine_key, new_client, not, noted, notice_over, put, receive, refl, requests_sent, reverse}
+use Rattle.lease_laws.proofs.Words.{machine_key, new_client, noted, notice_over, put, receive, refl, requests_sent, reverse}
 use Rattle.lease_laws.proofs.Words.{scavenge, scavenged, served, server_takes, starts_from, stepped_in, strayed_over, subst, sym}
 use Rattle.lease_laws.proofs.Words.{timer_expired, true}
 use Rattle.lease_laws.proofs.client.Words.{if_either, put_each}
@@ -16,7 +16,7 @@ use Rattle.lease_laws.proofs.client.InFiles.{first_in_files, called_in_files}
 use Rattle.lease_laws.proofs.client.Notes.{called_tells}
 use Rattle.lease_laws.proofs.client.Numbers.{first_numbers, called_numbers}
 use Rattle.lease_laws.proofs.client.Thin.{put_same, put_other}
-use Rattle.lease_laws.proofs.server.Lists.{either, clash, and_parts, and_both, or_true, not_true}
+use Rattle.lease_laws.proofs.server.Lists.{either, clash}
 
 -- a new client is sound
 new_sound : (guid : List ℕ) (files : ℕ) → IsSoundClient (new_client guid files)

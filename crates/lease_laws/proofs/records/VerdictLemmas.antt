@@ -1,7 +1,7 @@
 -- The verdict, which computes, against what is promised.
 use Rattle.lease_laws.proofs.Words.{◌&&◌, ◌+◌, ◌==◌, ◌||◌, ◌∙◌, ◌∷◌, ◌≡◌, ◌≢◌, Believer, Bool, EachBeginning, EachFact, Fact}
 use Rattle.lease_laws.proofs.Words.{FreshRead, IsFalseDone, IsFirstBad, IsLateWrite, IsMalformed, IsStaleRead, List}
-use Rattle.lease_laws.proofs.Words.{MakesTwoCaches, NoFalseDone, NoLateWrite, None, OneWriteCache, Option, Safe, Says, Settlement}
+use Rattle.lease_laws.proofs.Words.{MakesTwoCaches, NoFalseDone, NoLateWrite, None, OneWriteCache, Option, Safe, Says}
 use Rattle.lease_laws.proofs.Words.{Some, State, Verdict, WellFormed, ℕ, [], and_from, and_parts, ap, arith, believed, believers}
 use Rattle.lease_laws.proofs.Words.{both_ways, bytes_decides, caches, caches_writes, cases_Bool, content_at, eq-eqb, eqb-true}
 use Rattle.lease_laws.proofs.Words.{false, flaw_at, has_two_caches, holds_any, if◌then◌else◌, inl, inr, is_false_done, is_fresh}
@@ -11,12 +11,6 @@ use Rattle.lease_laws.proofs.Words.{reverse, reverse-reverse, reverse_aux, rever
 use Rattle.lease_laws.proofs.Words.{verdict_from}
 
 -- ---- tests
-
-left_so : (a b : Bool) → a ≡ true → (a || b) ≡ true
-left_so a b x = grind arith
-
-right_so : (a b : Bool) → b ≡ true → (a || b) ≡ true
-right_so a b x = grind arith
 
 holds_any-write : (s : State) → s.write ≡ true → holds_any s ≡ true
 holds_any-write s w = grind arith
@@ -129,12 +123,6 @@ stale-test _ past fresh = refl
 
 -- ---- late writes, false done
 
-not_late : (a b : Bool) → (not a && b) ≡ false → a ≡ false → b ≡ false
-not_late a b e x = grind arith
-
-late_none : (a b : Bool) → (a ≡ false → b ≡ false) → (not a && b) ≡ false
-late_none x1 b h = grind arith
-
 timely-test : (fact : Fact) (past : List Fact) → is_late_write fact past ≡ false → NoLateWrite fact past
 unfolding is_late_write
 timely-test x1 past e = grind arith
@@ -145,9 +133,6 @@ late-test x1 past timely = grind arith
 
 not_false : (a b : Bool) → (not a && not b) ≡ false → a ≡ false → b ≡ true
 not_false a b e x = grind arith
-
-false_none : (a b : Bool) → (a ≡ false → b ≡ true) → (not a && not b) ≡ false
-false_none x1 b h = grind arith
 
 true_done-test : (fact : Fact) (past : List Fact) → is_false_done fact past ≡ false → NoFalseDone fact past
 unfolding is_false_done

@@ -3,7 +3,7 @@ use Rattle.lease_laws.proofs.Words.{◌==◌, ◌∙◌, ◌∷◌, ◌≡◌, A
 use Rattle.std.proofs.Common.{arith}
 use Rattle.lease_laws.proofs.Words.{None, Open, Option, Outcome, Progress, Some, State, Status, ℕ, [], acknowledged, ap, ap₂}
 use Rattle.lease_laws.proofs.Words.{break_ended, changed, concluded, cond, connected_again, false, granted_form_of, has_key}
-use Rattle.lease_laws.proofs.Words.{has_lease, if◌then◌else◌, is_breaking, is_some, is_state_within, key_of, map, nothing_cached}
+use Rattle.lease_laws.proofs.Words.{has_lease, if◌then◌else◌, is_breaking, is_some, is_state_within, key_of, map}
 use Rattle.lease_laws.proofs.Words.{reconnected, refl, refused, subst, sym, true, true≢false}
 use Rattle.lease_laws.proofs.server.Grants.{granted_with-sound}
 use Rattle.lease_laws.proofs.server.Keys.{is_key-one}

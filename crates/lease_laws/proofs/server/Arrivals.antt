@@ -4,13 +4,12 @@ use Rattle.lease_laws.proofs.Words.{HasToWait, Held, IsAbout, IsAlone, IsOpenOn,
 use Rattle.lease_laws.proofs.Words.{Open, Option, Outcome, Progress, Reply, Request, Result, Server, Some, State, Status, Tried}
 use Rattle.lease_laws.proofs.Words.{ℕ, ⊎_elim, [], acknowledged, after_first_try, ap, arith, arrived, arrived_on, begun}
 use Rattle.lease_laws.proofs.Words.{break_ended, concluded, cond, connected_open, false, file_asked, file_of_create, file_of_open}
-use Rattle.lease_laws.proofs.Words.{file_request_arrived, find, has_file, has_lease, held_of, inl, is_behind, is_state_within}
+use Rattle.lease_laws.proofs.Words.{file_request_arrived, find, has_file, has_lease, held_of, is_behind, is_state_within}
 use Rattle.lease_laws.proofs.Words.{judged, key_of, list_any, new_server, put, receive, refl, refused, replied, request_held}
 use Rattle.lease_laws.proofs.Words.{subst, sym, tried, true}
 use Rattle.lease_laws.proofs.server.Answers.{acknowledged-sound}
-use Rattle.lease_laws.proofs.server.Calls.{new_server-sound}
 use Rattle.lease_laws.proofs.server.FileReady.{ready-file}
-use Rattle.lease_laws.proofs.server.Goes.{file_frame, GoesOn, Goes, still_there, acknowledged-goes, one_id}
+use Rattle.lease_laws.proofs.server.Goes.{file_frame, GoesOn, Goes, acknowledged-goes, one_id}
 use Rattle.lease_laws.proofs.server.Held.{SameHeld, concluded-held}
 use Rattle.lease_laws.proofs.server.Keeps.{Kept, Anywhere, connected_has, waits_keep, concluded-open}
 use Rattle.lease_laws.proofs.server.Lists.{if_cases, clash, among_append, find_has}

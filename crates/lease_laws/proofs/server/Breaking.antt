@@ -1,8 +1,7 @@
 -- Leases that are breaking to something, and to nothing.
-use Rattle.lease_laws.proofs.Words.{◌≡◌, None, Option, Some, State, ap, false, is_some, leaves_nothing, leaves_something, not}
+use Rattle.lease_laws.proofs.Words.{◌≡◌, Option, State, false, is_some, leaves_nothing, leaves_something}
 use Rattle.std.proofs.Common.{arith}
-use Rattle.lease_laws.proofs.Words.{refl, true}
-use Rattle.lease_laws.proofs.server.Lists.{clash}
+use Rattle.lease_laws.proofs.Words.{true}
 
 -- what is breaking to something is breaking
 pub some_breaks : (broken_to : Option State) → leaves_something broken_to ≡ true → is_some broken_to ≡ true

@@ -15,7 +15,6 @@ use Rattle.lease_laws.proofs.server.Lists.{any_has}
 use Rattle.lease_laws.proofs.server.Passes.{all_passes-sound}
 use Rattle.lease_laws.proofs.server.Progress.{opens_dropped-sound, request_held-sound}
 use Rattle.lease_laws.proofs.server.Ready.{ready-free}
-use Rattle.lease_laws.proofs.server.States.{no_lease-lawful}
 use Rattle.lease_laws.proofs.server.Steps.{connection_sound, with_connection, left_here}
 use Rattle.lease_laws.proofs.server.Tries.{IsGoodTry, tried_for-good}
 
@@ -23,11 +22,6 @@ use Rattle.lease_laws.proofs.server.Tries.{IsGoodTry, tried_for-good}
 pub new_server-sound : (contents : List (List ℕ)) → IsSound (new_server contents)
 unfolding new_server
 new_server-sound contents = grind arith
-
--- fewer keys are marked as timed out
-fewer_timers : (server : Server) (expired : Key → Bool) → IsSound server
-    → ((key : Key) → expired key ≡ true → server.expired key ≡ true) → AreSound server.opens server.leases expired server.last_id
-fewer_timers server expired s fewer = grind arith
 
 -- a key that has no lease may be marked
 one_timer : (server : Server) (key : Key) → IsSound server → server.leases key ≡ no_lease

@@ -1,5 +1,5 @@
 -- A Break stands before the Changed that needed it.
-use Rattle.lease_laws.proofs.Words.{◌&&◌, ◌++◌, ◌==◌, ◌||◌, ◌∙◌, ◌∷◌, ◌≡◌, ◌⊎◌, Among, AreGuarded, AreOf, BecomesBy, Bool}
+use Rattle.lease_laws.proofs.Words.{◌&&◌, ◌++◌, ◌==◌, ◌∙◌, ◌∷◌, ◌≡◌, ◌⊎◌, Among, AreGuarded, AreOf, BecomesBy, Bool}
 use Rattle.std.proofs.Common.{arith}
 use Rattle.lease_laws.proofs.Words.{CachesAlone, Call, ComesBehindBreaks, Decides-eqb, EachOut, FileRequest, GoOn, HasGivenUp}
 use Rattle.lease_laws.proofs.Words.{IsCaching, IsGivenUp, IsGuarded, IsOfCall, IsRaised, IsSound, Key, Lease, LeaseOf, List}
@@ -7,10 +7,10 @@ use Rattle.lease_laws.proofs.Words.{MayEnd, None, Open, Option, Out, Outcome, Pa
 use Rattle.lease_laws.proofs.Words.{Some, State, Status, StaysOrRises, WaitsWell, ℕ, ⊎_elim, ⊤, [], acknowledged, answered, ap}
 use Rattle.lease_laws.proofs.Words.{append-nil, append_assoc, break_ended, break_notice, call_begun, called, changed, concluded}
 use Rattle.lease_laws.proofs.Words.{connected_open, false, granted_form_of, has_lease, held_left, inl, inr, is_breaking}
-use Rattle.lease_laws.proofs.Words.{is_left_open, is_some, is_state_within, judged, key_of, not, nothing_cached, on_open, refl}
-use Rattle.lease_laws.proofs.Words.{refusal_of, refused, replied, step_taken, steps_taken, subst, sym, true, true≢false}
+use Rattle.lease_laws.proofs.Words.{is_left_open, is_some, is_state_within, judged, key_of, nothing_cached, on_open, refl}
+use Rattle.lease_laws.proofs.Words.{refusal_of, refused, replied, step_taken, steps_taken, subst, sym}
 use Rattle.lease_laws.proofs.server.Keys.{put_key-cases}
-use Rattle.lease_laws.proofs.server.Lists.{if_cases, either, clash, and_parts, among_behind, find_has}
+use Rattle.lease_laws.proofs.server.Lists.{if_cases, clash, and_parts, among_behind, find_has}
 use Rattle.lease_laws.proofs.server.OutCalls.{request_held-outs, held_left-outs}
 use Rattle.lease_laws.proofs.server.OutLists.{go_on-same, go_on-weaker}
 use Rattle.lease_laws.proofs.server.OutSteps.{opens_dropped-outs}
@@ -279,9 +279,6 @@ reached (step ∷ steps) progress guarded before behind file by n p e =
 abbrev made : Bool → Bool → Bool → State
 made r w h = record { read = r; write = w; handle = h }
 
-no_letters : (r w h : Bool) → r ≡ false → w ≡ false → h ≡ false → made r w h ≡ nothing_cached
-no_letters r w h e f g = rw (e, f, g) refl
-
 nothing_or_not : (s : State) → (s ≡ nothing_cached) ⊎ (s ≡ nothing_cached → ⊥)
 nothing_or_not s = grind arith
 
@@ -366,9 +363,6 @@ same_on call key step steps progress caches later e = later (subst IsCaching (sy
 gone_on : (call : Call) (key : Key) (step : SmallStep) (steps : List SmallStep) (progress : Progress)
     → has_lease (step_taken step progress).server key ≡ false → HasGivenUp call key (step ∷ steps) progress
 gone_on call key step steps progress e = inr (inl (record { first = step ∷ []; rest = steps; are_both = refl; is_gone = e }))
-
-within_nothing : (state whole : State) → is_state_within state whole ≡ true → whole ≡ nothing_cached → state ≡ nothing_cached
-within_nothing state whole part none = grind arith
 
 no_break : (lease : Lease) (lowered : State) → lease.broken_to ≡ Some lowered → is_breaking lease ≡ false → ⊥
 no_break lease lowered e settled = clash (is_breaking lease) (ap is_some e) settled

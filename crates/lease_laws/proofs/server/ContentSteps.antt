@@ -1,5 +1,5 @@
 -- What small steps do to contents, and tell of them: a read tells a file's content, a write changes it.
-use Rattle.lease_laws.proofs.Words.{◌++◌, ◌==◌, ◌∙◌, ◌∷◌, ◌≡◌, Access, Among, Bool, FileRequest, GoOn, Lease, LeaseOf, List, None}
+use Rattle.lease_laws.proofs.Words.{◌++◌, ◌==◌, ◌∷◌, ◌≡◌, Access, Among, Bool, FileRequest, GoOn, Lease, LeaseOf, None}
 use Rattle.std.proofs.Common.{arith}
 use Rattle.lease_laws.proofs.Words.{Open, Option, Out, Outcome, Patch, Progress, Reply, Share, SmallStep, Some, Status, ℕ, ⊤, []}
 use Rattle.lease_laws.proofs.Words.{acknowledged, ap, break_begun, break_ended, changed, concluded, granted_with, held_left}

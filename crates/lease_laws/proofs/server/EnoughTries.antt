@@ -2,10 +2,10 @@
 use Rattle.lease_laws.proofs.Words.{◌&&◌, ◌==◌, ◌∙◌, ◌≡◌, ◌≤◌, Access, Among, Bool, CreateAsk, EndsFor, FileRequest, Finding, Key}
 use Rattle.lease_laws.proofs.Words.{Lease, LeaseOf, List, None, Open, Option, Outcome, Patch, Progress, Server, Share, Some}
 use Rattle.lease_laws.proofs.Words.{State, Status, ThreeRoundsAreEnough, Tried, TriesEnd, Want, ℕ, [], after_breaks}
-use Rattle.lease_laws.proofs.Words.{after_finding, all_wants, ap, arith, awaits, breaks_to_some, by_open, conflicts_on}
+use Rattle.lease_laws.proofs.Words.{after_finding, all_wants, ap, arith, breaks_to_some, by_open, conflicts_on}
 use Rattle.lease_laws.proofs.Words.{connected_open, create_finding, ended, false, finding, handle_wants, has_file, holds_any}
 use Rattle.lease_laws.proofs.Words.{if◌then◌else◌, is_breaking, is_empty, is_leased_elsewhere, is_other_on, is_ready}
-use Rattle.lease_laws.proofs.Words.{is_within_limit, key_of_open, list_any, may_read, may_write, must_wait, nat_le}
+use Rattle.lease_laws.proofs.Words.{is_within_limit, key_of_open, list_any, may_write, must_wait, nat_le}
 use Rattle.lease_laws.proofs.Words.{nothing_cached, own_key, read_finding, reconnect_finding, refl, subst, suc, sym, tried_for}
 use Rattle.lease_laws.proofs.Words.{true, waits_for, wants_met, without_handle, without_write, write_finding, write_wants, zero}
 use Rattle.lease_laws.proofs.server.EnoughRounds.{IsAfterBreaks, IsRoundDone, NoneIs, IsRoundBroken, AllBreakToNone, is_wanted}

@@ -1,13 +1,12 @@
 -- Small steps leave alone which keys are expired.
-use Rattle.lease_laws.proofs.Words.{◌++◌, ◌==◌, ◌∙◌, ◌∷◌, ◌≡◌, ◌⊎◌, Bool, Call, FileRequest, IsSound, Key, Lease, LeaseOf, List}
+use Rattle.lease_laws.proofs.Words.{◌++◌, ◌==◌, ◌∙◌, ◌∷◌, ◌≡◌, ◌⊎◌, Bool, Call, FileRequest, IsSound, Key, LeaseOf, List}
 use Rattle.std.proofs.Common.{arith}
-use Rattle.lease_laws.proofs.Words.{None, Option, Outcome, Progress, Server, SmallStep, Some, WaitsWell, ℕ, [], acknowledged}
+use Rattle.lease_laws.proofs.Words.{Option, Outcome, Progress, Server, SmallStep, WaitsWell, ℕ, [], acknowledged}
 use Rattle.lease_laws.proofs.Words.{begun, break_begun, break_ended, call_begun, called, changed, client_forgotten, concluded}
-use Rattle.lease_laws.proofs.Words.{false, granted_with, held_left, if◌then◌else◌, inl, inr, is_breaking, is_left_behind, join}
-use Rattle.lease_laws.proofs.Words.{joined, key_expired, lease_after, lease_lowered, lease_put, list_any, opens_disconnected}
+use Rattle.lease_laws.proofs.Words.{false, granted_with, held_left, if◌then◌else◌, join}
+use Rattle.lease_laws.proofs.Words.{joined, key_expired, lease_lowered, opens_disconnected}
 use Rattle.lease_laws.proofs.Words.{opens_dropped, put_key, reconnected, refl, request_held, step_taken, steps_taken, subst, sym}
 use Rattle.lease_laws.proofs.Words.{true, with_opens}
-use Rattle.lease_laws.proofs.server.Lists.{if_cases}
 use Rattle.lease_laws.proofs.server.StepCalls.{called-steps}
 use Rattle.lease_laws.proofs.server.cases.Ends.{HasEnds, any_end}
 use Rattle.lease_laws.proofs.server.cases.Judgements.{any_judgement}
@@ -15,10 +14,6 @@ use Rattle.lease_laws.proofs.server.cases.Judgements.{any_judgement}
 -- the same keys are expired
 abbrev SameExpired : Progress → Progress → Type 0
 SameExpired before after = after.server.expired ≡ before.server.expired
-
-put_expired : (server : Server) (client : ℕ) (asked : Option LeaseOf) (lease : Lease)
-    → (lease_put server client asked lease).expired ≡ server.expired
-put_expired server client x3 lease = grind arith
 
 ends_expired : (client : ℕ) (progress : Progress) → HasEnds client progress (λ request outcome. SameExpired progress)
 unfolding granted_with reconnected changed opens_dropped with_opens

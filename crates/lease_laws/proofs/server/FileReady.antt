@@ -1,10 +1,9 @@
 -- What is known of the file of a request that is ready, and of the open that it is to have again.
-use Rattle.lease_laws.proofs.Words.{◌&&◌, ◌==◌, ◌≡◌, Access, Among, CreateAsk, Decides-eqb, FileRequest, Finding, Key, LeaseOf}
+use Rattle.lease_laws.proofs.Words.{◌≡◌, Access, Among, CreateAsk, FileRequest, Finding, Key, LeaseOf}
 use Rattle.std.proofs.Common.{arith}
 use Rattle.lease_laws.proofs.Words.{List, None, Open, Option, Progress, Server, Share, Some, Status, Want, ℕ, [], asked_finding}
-use Rattle.lease_laws.proofs.Words.{awaits, finding, has_file, has_key, list_any, not, own_key, reconnect_finding, sym, true}
-use Rattle.lease_laws.proofs.Words.{true≢false}
-use Rattle.lease_laws.proofs.server.Lists.{if_cases, and_parts, any_has}
+use Rattle.lease_laws.proofs.Words.{awaits, finding, has_file, list_any, own_key, reconnect_finding, true}
+use Rattle.lease_laws.proofs.server.Lists.{if_cases, any_has}
 use Rattle.lease_laws.proofs.server.Tries.{IsFoundReady}
 
 -- a create that is ready names a file of the server; and a reconnect, an open of its client

@@ -10,7 +10,7 @@ use Rattle.lease_laws.proofs.server.Keys.{is_key-refl, is_key-one}
 use Rattle.lease_laws.proofs.server.Leases.{MayBecome, MayOpen, put_sound, open_sound}
 use Rattle.lease_laws.proofs.server.Lists.{if_cases, either, clash, and_both, not_true, not_false, none_has, has_any}
 use Rattle.lease_laws.proofs.server.Lists.{among_append, among_behind}
-use Rattle.lease_laws.proofs.server.States.{settled-lawful, granted_form_of-again, without_write-form, handle_of_part}
+use Rattle.lease_laws.proofs.server.States.{settled-lawful, handle_of_part}
 
 -- what is allowed is a granted form
 allowed-form : (server : Server) (own : Option Key) (file : ℕ) (want : State)

@@ -1,8 +1,8 @@
 -- The passes end: each but the last answers a held request, so that one more than are held is enough.
-use Rattle.lease_laws.proofs.Words.{◌++◌, ◌+◌, ◌<◌, ◌∙◌, ◌∷◌, ◌≡◌, ◌≤◌, Bool, Decides-eqb, FileRequest, Held, Lease, LeaseOf}
-use Rattle.lease_laws.proofs.Words.{List, None, Open, Option, Outcome, Pass, Progress, Server, Some, Tried, ℕ, [], after_try, ap}
+use Rattle.lease_laws.proofs.Words.{◌++◌, ◌+◌, ◌<◌, ◌∙◌, ◌∷◌, ◌≡◌, ◌≤◌, Bool, Decides-eqb, FileRequest, Held}
+use Rattle.lease_laws.proofs.Words.{List, Open, Outcome, Pass, Progress, Tried, ℕ, [], after_try, ap}
 use Rattle.lease_laws.proofs.Words.{append-nil, append_assoc, arith, break_begun, changed, concluded, false, granted_with}
-use Rattle.lease_laws.proofs.Words.{held_left, is_behind, is_left_open, lease_lowered, lease_put, left_waiting, length}
+use Rattle.lease_laws.proofs.Words.{held_left, is_behind, is_left_open, lease_lowered, left_waiting, length}
 use Rattle.lease_laws.proofs.Words.{length-append, one_pass, opens_dropped, pass_answered, pass_over, put, reconnected, refl, sym}
 use Rattle.lease_laws.proofs.Words.{tried, tried_again, tried_for, true, true≢false, with_opens}
 use Rattle.lease_laws.proofs.server.Lists.{if_cases}
@@ -32,11 +32,6 @@ tries_hold = record {
 pub tried_for-held : (rounds client : ℕ) (request : FileRequest) (progress : Progress)
     → SameHeld progress (tried_for rounds client request progress).progress
 tried_for-held = any_try SameHeld tries_hold
-
--- a lease that is put leaves them
-put_held : (server : Server) (client : ℕ) (asked : Option LeaseOf) (lease : Lease)
-    → (lease_put server client asked lease).held ≡ server.held
-put_held server client x3 lease = grind arith
 
 -- the end of a try holds and lets go nothing
 ends_hold : (client : ℕ) (progress : Progress) → HasEnds client progress (λ request outcome. SameHeld progress)

@@ -38,10 +38,6 @@ keeps-twice x1 a b c h j = grind arith
 abbrev pub Anywhere : ℕ → Type 0
 Anywhere file = Unit {0}
 
--- what is kept everywhere is kept there
-pub keeps-weaker : (Guard : ℕ → Type 0) (before after : Server) → Keeps Anywhere before after → Keeps Guard before after
-keeps-weaker x1 before after h = grind arith
-
 -- what is blocked stays so, where only a breaking lease is in the way
 blocked_keeps : (test : Lease → Bool) (Guard : ℕ → Type 0) (before after : Server) (own : Option Key) (file : ℕ)
     → ((lease : Lease) → test lease ≡ true → is_breaking lease ≡ true) → Keeps Guard before after → IsSound before
@@ -178,10 +174,6 @@ granted_with-kept client file access share (Some asked) durable progress = recor
   finds = λ c file_id one e g. find_append (λ x. x.file_id == file_id && x.client == c && x.connected)
       progress.server.opens _ one e;
 }
-
--- an open with this connection
-abbrev with_up : Open → Bool → Open
-with_up one up = record one { connected = up }
 
 -- a connected open that is connected again is the same
 again_same : (file_id : ℕ) (one : Open) → one.connected ≡ true → connected_again file_id one ≡ one

@@ -1,9 +1,9 @@
 -- The small steps that change a lease or add an open keep a server's laws.
-use Rattle.lease_laws.proofs.Words.{◌++◌, ◌+◌, ◌<◌, ◌||◌, ◌∙◌, ◌∷◌, ◌≡◌, ◌⊎◌, Among, AreInOrder, AreSound, Bool, IsLawful, Key}
-use Rattle.lease_laws.proofs.Words.{Lease, List, Open, ℕ, ⊎_elim, [], allowed_by, ap, arith, conflict, false, has_key, inl, inr}
-use Rattle.lease_laws.proofs.Words.{is_breaking, is_within, list_any, no_lease, not, put_key, refl, subst, sym, true, uses_of}
+use Rattle.lease_laws.proofs.Words.{◌++◌, ◌+◌, ◌<◌, ◌∙◌, ◌∷◌, ◌≡◌, ◌⊎◌, Among, AreInOrder, AreSound, Bool, IsLawful, Key}
+use Rattle.lease_laws.proofs.Words.{Lease, List, Open, ℕ, ⊎_elim, [], ap, arith, conflict, false, has_key, inl, inr}
+use Rattle.lease_laws.proofs.Words.{is_breaking, list_any, no_lease, put_key, refl, subst, sym, true}
 use Rattle.lease_laws.proofs.server.Keys.{put_key-cases}
-use Rattle.lease_laws.proofs.server.Lists.{clash, among_append, among_before, any_has, none_has, has_none, not_false}
+use Rattle.lease_laws.proofs.server.Lists.{clash, among_append, among_before, any_has, none_has, has_none}
 
 -- What a new lease of a key has to be, so that the laws stay: lawful; with W only where the key is
 -- alone on its file; and such that the key's disconnected opens still outlive their connection.
@@ -48,10 +48,6 @@ put_sound opens leases expired last_id key new s there fresh may = record {
       (λ same. fresh (ap expired (sym same) ∙ out))
       (λ e. s.timed_out k out);
 }
-
--- or goes both ways
-or_back : (a b : Bool) → (a || b) ≡ (b || a)
-or_back x1 x2 = grind arith
 
 -- conflicts go both ways
 pub conflict_back : (one other : Open)

@@ -1,8 +1,8 @@
 -- What is left once wants are met and none of their leases is breaking: no open passes the test any more.
 use Rattle.lease_laws.proofs.Words.{◌&&◌, ◌==◌, ◌∙◌, ◌∷◌, ◌≡◌, Among, Bool, Key, List, Open, Progress, Some, State, Want, ℕ, []}
 use Rattle.std.proofs.Common.{arith}
-use Rattle.lease_laws.proofs.Words.{ap, break_begun, connected_open, filter, find, has_key, has_lease, if◌then◌else◌, is_breaking}
-use Rattle.lease_laws.proofs.Words.{is_left_open, lease_broken, lease_lowered, needs_acknowledgment, not, opens_dropped, refl}
+use Rattle.lease_laws.proofs.Words.{ap, break_begun, connected_open, filter, find, has_key, if◌then◌else◌}
+use Rattle.lease_laws.proofs.Words.{is_left_open, lease_broken, lease_lowered, not, opens_dropped, refl}
 use Rattle.lease_laws.proofs.Words.{subst, true, want_met, wants_met, with_opens}
 use Rattle.lease_laws.proofs.server.Lists.{if_cases, clash, and_parts, not_parts, not_true, among_filter}
 

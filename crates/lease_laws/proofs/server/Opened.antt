@@ -1,5 +1,5 @@
 -- Small steps tell of each open that they make: its FileId is the next one.
-use Rattle.lease_laws.proofs.Words.{◌++◌, ◌+◌, ◌==◌, ◌∙◌, ◌∷◌, ◌≡◌, ◌⊎◌, Access, Among, Bool, FileRequest, GoOn, Lease, LeaseOf}
+use Rattle.lease_laws.proofs.Words.{◌++◌, ◌+◌, ◌==◌, ◌∷◌, ◌≡◌, ◌⊎◌, Access, Among, Bool, FileRequest, GoOn, Lease, LeaseOf}
 use Rattle.std.proofs.Common.{arith}
 use Rattle.lease_laws.proofs.Words.{Open, Option, Out, Outcome, Progress, Reply, Server, Share, SmallStep, ℕ, ⊎_elim, ⊤, []}
 use Rattle.lease_laws.proofs.Words.{acknowledged, ap, break_begun, break_ended, changed, concluded, granted_with, held_left, inl}

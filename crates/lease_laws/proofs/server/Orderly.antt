@@ -1,9 +1,9 @@
 -- Tries and their ends keep opens and held requests where they belong.
 use Rattle.lease_laws.proofs.Words.{◌==◌, ◌∙◌, ◌≡◌, AllWait, Among, CreateAsk, FileRequest, HasToWait, Held, IsAbout, IsOpenOn}
-use Rattle.lease_laws.proofs.Words.{IsOrderly, IsSound, List, None, Option, Outcome, Progress, Server, Some, Tried, ℕ, ⊎_elim, ap}
+use Rattle.lease_laws.proofs.Words.{IsOrderly, IsSound, List, Option, Outcome, Progress, Server, Some, Tried, ℕ, ⊎_elim, ap}
 use Rattle.lease_laws.proofs.Words.{arith, concluded, find, has_file, held_left, subst, sym, tried, true}
 use Rattle.lease_laws.proofs.server.Answers.{concluded-sound}
-use Rattle.lease_laws.proofs.server.FileReady.{AgainReady, ContextsReady, FileReady}
+use Rattle.lease_laws.proofs.server.FileReady.{ContextsReady, FileReady}
 use Rattle.lease_laws.proofs.server.Goes.{GoesOn, Goes, file_frame, tried_for-goes, concluded-goes}
 use Rattle.lease_laws.proofs.server.Held.{SameHeld, tried_for-held, concluded-held}
 use Rattle.lease_laws.proofs.server.Keeps.{Keeps, Kept, Anywhere, waits_keep, tried_for-kept}
@@ -118,12 +118,6 @@ all_wait-keep Guard before after file k f g same all client one first =
     let was = subst (λ held. find (λ other. other.client == client) held ≡ Some one) same first in
     let there = find_has (λ other. other.client == client) one (before.held file) was in
     waits_keep Guard before after client file one.request k f.sound (f.orderly.held_about file one there.0) g (all client one was)
-
--- a reconnect is ready whatever is held
-again_frame : (client : ℕ) (again : Option ℕ) (file : ℕ) (left : List Held) (progress : Progress)
-    → AgainReady progress.server client again → AgainReady (held_left file left progress).server client again
-unfolding held_left
-again_frame client x2 file left progress ready = grind arith
 
 -- a create is ready whatever is held
 contexts_frame : (client at : ℕ) (contexts : Option CreateAsk) (file : ℕ) (left : List Held) (progress : Progress)

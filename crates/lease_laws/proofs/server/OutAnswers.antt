@@ -1,8 +1,8 @@
 -- The breaks for a request stand before its answer; and once a write is ready, no other key on its
 -- file caches anything but what it is giving up.
-use Rattle.lease_laws.proofs.Words.{◌&&◌, ◌++◌, ◌==◌, ◌||◌, ◌∙◌, ◌≡◌, AreBreaksFirst, Bool, CachesAlone, Decides-eqb, Err}
+use Rattle.lease_laws.proofs.Words.{◌&&◌, ◌==◌, ◌||◌, ◌∙◌, ◌≡◌, AreBreaksFirst, Bool, CachesAlone, Decides-eqb, Err}
 use Rattle.std.proofs.Common.{arith}
-use Rattle.lease_laws.proofs.Words.{FileRequest, Finding, GoOn, IsAlone, IsBreak, IsNoBreak, IsSound, List, None, Ok, Open}
+use Rattle.lease_laws.proofs.Words.{FileRequest, Finding, GoOn, IsAlone, IsBreak, IsNoBreak, IsSound, List, Ok, Open}
 use Rattle.lease_laws.proofs.Words.{Option, Out, Outcome, Patch, Progress, Request, Result, Server, Some, State, Status, Want, ℕ}
 use Rattle.lease_laws.proofs.Words.{[], after_first_try, all_wants, ap, append-nil, arrived, arrived_on, begun, breaks_to_none}
 use Rattle.lease_laws.proofs.Words.{by_open, connected_open, false, file_asked, file_request_arrived, finding, has_own_key}
@@ -12,7 +12,7 @@ use Rattle.lease_laws.proofs.Words.{request_held, subst, sym, tried, true, write
 use Rattle.lease_laws.proofs.server.Keys.{lease_by-key}
 use Rattle.lease_laws.proofs.server.EnoughRounds.{AllBreakToNone}
 use Rattle.lease_laws.proofs.server.KeyOrder.{wants_where-has}
-use Rattle.lease_laws.proofs.server.Lists.{if_cases, either, clash, and_both, not_parts, all_each}
+use Rattle.lease_laws.proofs.server.Lists.{if_cases, either, and_both, all_each}
 use Rattle.lease_laws.proofs.server.OutCalls.{tried-breaks, concluded-answers, request_held-outs}
 use Rattle.lease_laws.proofs.server.OutLists.{answers_go_on}
 use Rattle.lease_laws.proofs.server.OutSteps.{refused-answered}

@@ -1,10 +1,10 @@
 -- A try gives out breaks alone, flagged rightly; and the end of a try gives out an answer without one.
-use Rattle.lease_laws.proofs.Words.{◌==◌, ◌∷◌, ◌≡◌, Bool, EachOut, FileRequest, GoOn, IsNoBreak, LeaseOf, Open, Option, Out}
+use Rattle.lease_laws.proofs.Words.{◌==◌, ◌∷◌, ◌≡◌, Bool, FileRequest, GoOn, LeaseOf, Open, Option, Out}
 use Rattle.std.proofs.Common.{arith}
 use Rattle.lease_laws.proofs.Words.{Outcome, Progress, Reply, Status, ℕ, [], acknowledged, append-nil, break_begun, break_ended}
 use Rattle.lease_laws.proofs.Words.{changed, concluded, granted_with, is_left_open, lease_lowered, opens_dropped, reconnected}
 use Rattle.lease_laws.proofs.Words.{refl, refusal_of, refused, replied, subst, sym, tried_for}
-use Rattle.lease_laws.proofs.server.OutLists.{AreFair, IsGoodBreak, AreAnswered, answered_by, answered_nothing, go_on-same}
+use Rattle.lease_laws.proofs.server.OutLists.{IsGoodBreak, AreAnswered, answered_by, answered_nothing, go_on-same}
 use Rattle.lease_laws.proofs.server.OutLists.{go_on-twice}
 use Rattle.lease_laws.proofs.server.cases.Tries.{HasTries, any_try}
 use Rattle.lease_laws.proofs.server.cases.Ends.{HasEnds, any_end}
@@ -48,14 +48,6 @@ abbrev pub IsPlain : Reply → Type 0
 IsPlain (Reply.Break notice) = ⊥
 IsPlain (Reply.WriteDone file_id number) = ⊥
 IsPlain reply = Unit {0}
-
--- a plain reply is fair
-pub plain_fair : (client : ℕ) (reply : Reply) → IsPlain reply → AreFair (Out.Sent client reply ∷ [])
-plain_fair client x2 p = grind arith
-
--- a plain reply is no break
-plain_no_break : (client : ℕ) (reply : Reply) → IsPlain reply → EachOut IsNoBreak (Out.Sent client reply ∷ [])
-plain_no_break client x2 p = grind arith
 
 -- a plain reply gives out an answer without a break
 pub replied-answered : (client : ℕ) (reply : Reply) (progress : Progress) → IsPlain reply

@@ -1,7 +1,7 @@
 -- Passes over held requests keep a server's laws.
-use Rattle.lease_laws.proofs.Words.{◌++◌, ◌+◌, ◌∷◌, Access, CreateAsk, FileRequest, Held, IsSound, LeaseOf, List, None, Option}
+use Rattle.lease_laws.proofs.Words.{◌++◌, ◌+◌, ◌∷◌, Access, CreateAsk, FileRequest, Held, IsSound, LeaseOf, List, Option}
 use Rattle.std.proofs.Common.{arith}
-use Rattle.lease_laws.proofs.Words.{Outcome, Pass, Progress, Share, Some, Tried, ℕ, [], after_try, all_passes, false, held_left}
+use Rattle.lease_laws.proofs.Words.{Outcome, Pass, Progress, Share, Tried, ℕ, [], after_try, all_passes, false, held_left}
 use Rattle.lease_laws.proofs.Words.{is_behind, left_waiting, length, numbers_to, one_pass, pass_answered, pass_over, passes}
 use Rattle.lease_laws.proofs.Words.{passes_for, passes_over, suc, tried, tried_again, zero}
 use Rattle.lease_laws.proofs.server.Answers.{concluded-sound}

@@ -1,8 +1,8 @@
 -- Which clients a call leaves connected.
-use Rattle.lease_laws.proofs.Words.{◌∙◌, ◌∷◌, ◌≡◌, AreGuarded, Bool, Call, IsSound, List, Progress, Server, SmallStep, WaitsWell}
+use Rattle.lease_laws.proofs.Words.{◌∙◌, ◌∷◌, ◌≡◌, AreGuarded, Call, IsSound, List, Progress, Server, SmallStep, WaitsWell}
 use Rattle.std.proofs.Common.{arith}
-use Rattle.lease_laws.proofs.Words.{ℕ, ⊤, [], begun, call_begun, called, client_forgotten, false, if◌then◌else◌, is_breaking}
-use Rattle.lease_laws.proofs.Words.{is_left_behind, join, joined, key_expired, list_any, opens_disconnected, opens_dropped, put}
+use Rattle.lease_laws.proofs.Words.{ℕ, ⊤, [], call_begun, called, client_forgotten, false}
+use Rattle.lease_laws.proofs.Words.{join, joined, key_expired, opens_disconnected, opens_dropped, put}
 use Rattle.lease_laws.proofs.Words.{refl, step_taken, steps_taken, subst, sym, true, with_opens}
 use Rattle.lease_laws.proofs.server.StepCalls.{called-steps, call_begun-up}
 use Rattle.lease_laws.proofs.server.StepKeeps.{step-sound, step-goes}
@@ -21,10 +21,6 @@ called_present server call s w c =
     let go = called-steps server call s w in
     subst (λ p. p.server.present c ≡ (call_begun server call).server.present c) (sym go.lead)
     (steps_present go.steps (call_begun server call) (call_begun-up server call s w).sound go.are_guarded c)
-
-either_present : (b : Bool) (x y : Progress) (c : ℕ) (p : Bool) → x.server.present c ≡ p
-    → y.server.present c ≡ p → (if b then x else y).server.present c ≡ p
-either_present x1 x y c p e f = grind arith
 
 -- a call that is no join and no cut
 abbrev pub IsAmong : Call → Type 0

@@ -83,10 +83,6 @@ abbrev pub RequestFree : Server → ℕ → FileRequest → Type 0
 RequestFree server client (FileRequest.Create file access share contexts) = ContextsFree server client file access share contexts
 RequestFree server client request = Unit {0}
 
--- one list of wants found is one list
-pub wants_same : (one other : List Want) → Finding.Needs one ≡ Finding.Needs other → one ≡ other
-wants_same one other e = cc
-
 -- what is found with nothing wanted is free
 found_free : (server : Server) (own : Option Key) (file : ℕ) (access : Access) (share : Share)
     (found : Finding) (wants : List Want)

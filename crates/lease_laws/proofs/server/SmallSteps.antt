@@ -1,7 +1,7 @@
 -- Tries and their ends go by guarded small steps.
 use Rattle.lease_laws.proofs.Words.{◌&&◌, ◌++◌, ◌+◌, ◌∙◌, ◌∷◌, ◌≡◌, Access, Among, AreGuarded, AreInKeyOrder, AreInTurn, AreOf}
 use Rattle.lease_laws.proofs.Words.{Bool, CachesAlone, Call, CreateAsk, EndsFor, FileRequest, Finding, GoesBySteps, HasOpen}
-use Rattle.lease_laws.proofs.Words.{IsAwaitedAt, IsGone, IsGuarded, IsInTurn, IsLowered, IsOfCall, IsSound, Key, Lease, LeaseOf}
+use Rattle.lease_laws.proofs.Words.{IsAwaitedAt, IsGuarded, IsInTurn, IsLowered, IsOfCall, IsSound, Key, Lease, LeaseOf}
 use Rattle.lease_laws.proofs.Words.{List, MayChange, MayCreate, MayEnd, MayLower, MayRefuse, MayServe, None, Open, Option}
 use Rattle.lease_laws.proofs.Words.{Outcome, Patch, Progress, Server, Share, SmallStep, Some, State, Status, Tried, Want, ℕ, ⊤}
 use Rattle.lease_laws.proofs.Words.{[], after_breaks, after_finding, all_wants, ap, ap₂, arith, asked_finding, awaits}
@@ -265,18 +265,6 @@ pub tried-steps : (call : Call) (client : ℕ) (request : FileRequest) (progress
 tried-steps call client request progress s = tried_for-steps call 3 client request progress s
 
 -- ---- the end of a try is guarded
-
--- FILE_CLOSED is told only where there is no open
-gone_by : (server : Server) (client file_id : ℕ) (found : Open → Finding) (status : Status)
-    → ((x : Open) → found x ≡ Finding.Fails Status.FileClosed → ⊥)
-    → (one : Option Open) → connected_open server client file_id ≡ one
-    → by_open one found ≡ Finding.Fails status → IsGone server client file_id status
-gone_by server client file_id found status never x7 e same closed = grind arith
-
-close_refused : (server : Server) (client file_id : ℕ) (status : Status) (one : Option Open)
-    → connected_open server client file_id ≡ one → by_open one (λ x. Finding.Needs []) ≡ Finding.Fails status
-    → connected_open server client file_id ≡ None
-close_refused server client file_id status x5 e same = grind arith
 
 -- a refused request
 finding-refuses : (server : Server) (client : ℕ) (request : FileRequest) (status : Status)

@@ -1,8 +1,7 @@
 -- States by their three rights: parts, granted forms, and what may be broken to.
-use Rattle.lease_laws.proofs.Words.{◌||◌, ◌≡◌, Bool, IsBrokenTo, IsLawful, IsLowered, None, Some, State, ap, arith, false}
+use Rattle.lease_laws.proofs.Words.{◌||◌, ◌≡◌, Bool, IsLawful, IsLowered, None, Some, State, arith, false}
 use Rattle.lease_laws.proofs.Words.{granted_form_of, holds_any, is_state_within, needs_acknowledgment, no_lease, nothing_cached}
-use Rattle.lease_laws.proofs.Words.{refl, same_state, subst, sym, true, true≢false, without_handle, without_write}
-use Rattle.lease_laws.proofs.server.Lists.{if_cases}
+use Rattle.lease_laws.proofs.Words.{true, without_handle, without_write}
 
 -- a state by its letters
 abbrev pub rights : Bool → Bool → Bool → State
@@ -11,46 +10,6 @@ rights r w h = record { read = r; write = w; handle = h }
 -- the granted form of a granted form is itself
 pub granted_form_of-again : (state : State) → granted_form_of (granted_form_of state) ≡ granted_form_of state
 granted_form_of-again state = grind arith
-
--- a granted form without W, by its letters
-form_without_write : (r w h : Bool) → granted_form_of (rights r w h) ≡ rights r w h
-    → granted_form_of (rights r false h) ≡ rights r false h
-form_without_write x1 w h e = grind arith
-
--- a granted form without H, by its letters
-form_without_handle : (r w h : Bool) → granted_form_of (rights r w h) ≡ rights r w h
-    → granted_form_of (rights r w false) ≡ rights r w false
-form_without_handle x1 w h e = grind arith
-
--- a granted form without one right is one
-pub without_write-form : (state : State) → granted_form_of state ≡ state
-    → granted_form_of (without_write state) ≡ without_write state
-without_write-form state e = form_without_write state.read state.write state.handle e
-
--- a granted form without H is one
-pub without_handle-form : (state : State) → granted_form_of state ≡ state
-    → granted_form_of (without_handle state) ≡ without_handle state
-without_handle-form state e = form_without_handle state.read state.write state.handle e
-
--- a state without W is a part
-part_without_write : (r w h : Bool) → is_state_within (rights r false h) (rights r w h) ≡ true
-part_without_write x1 w x3 = grind arith
-
--- a state without H is a part
-part_without_handle : (r w h : Bool) → is_state_within (rights r w false) (rights r w h) ≡ true
-part_without_handle x1 x2 h = grind arith
-
--- and less, where it held W
-less_without_write : (r w h : Bool) → w ≡ true → same_state (rights r false h) (rights r w h) ≡ false
-less_without_write x1 x2 h e = grind arith
-
--- and less, where it held H
-less_without_handle : (r w h : Bool) → h ≡ true → same_state (rights r w false) (rights r w h) ≡ false
-less_without_handle x1 x2 x3 e = grind arith
-
--- nothing is less than what holds something
-less_nothing : (r w h : Bool) → (r || w || h) ≡ true → same_state nothing_cached (rights r w h) ≡ false
-less_nothing x1 x2 x3 e = grind arith
 
 -- what the three kinds of request want a lease lowered to
 pub without_write-lowered : (state : State) → granted_form_of state ≡ state → state.write ≡ true

@@ -1,10 +1,10 @@
 -- Passes and calls go by guarded small steps.
-use Rattle.lease_laws.proofs.Words.{◌+◌, ◌∙◌, ◌∷◌, ◌≡◌, Among, Bool, Call, CreateAsk, Err, FileRequest, GoesBySteps, Held, IsGone}
-use Rattle.lease_laws.proofs.Words.{IsSound, List, MayEnd, MayRefuse, None, Ok, Open, Option, Outcome, Pass, Progress, Request}
-use Rattle.lease_laws.proofs.Words.{Result, Server, SmallStep, Some, Status, WaitsWell, ℕ, [], acknowledged, after_first_try}
+use Rattle.lease_laws.proofs.Words.{◌+◌, ◌∙◌, ◌∷◌, ◌≡◌, Among, Bool, Call, Err, FileRequest, GoesBySteps, Held}
+use Rattle.lease_laws.proofs.Words.{IsSound, List, MayEnd, MayRefuse, Ok, Open, Outcome, Pass, Progress, Request}
+use Rattle.lease_laws.proofs.Words.{Result, Server, SmallStep, Status, WaitsWell, ℕ, [], acknowledged, after_first_try}
 use Rattle.lease_laws.proofs.Words.{after_try, all_passes, ap, arith, arrived, arrived_on, begun, call_begun, called}
-use Rattle.lease_laws.proofs.Words.{client_forgotten, concluded, connected_open, cut, expire, false, file_asked, file_of_create}
-use Rattle.lease_laws.proofs.Words.{file_of_open, file_request_arrived, has_file, has_key, held_of, if◌then◌else◌, inl, inr}
+use Rattle.lease_laws.proofs.Words.{client_forgotten, concluded, cut, expire, false, file_asked}
+use Rattle.lease_laws.proofs.Words.{file_request_arrived, has_key, held_of, if◌then◌else◌, inl, inr}
 use Rattle.lease_laws.proofs.Words.{is_behind, is_breaking, is_left_behind, is_lost, join, joined, key_expired, left_waiting}
 use Rattle.lease_laws.proofs.Words.{length, list_any, numbers_to, one_pass, opens_disconnected, opens_dropped, own_steps}
 use Rattle.lease_laws.proofs.Words.{pass_over, passes, passes_for, passes_over, receive, refl, request_held, scavenge, subst, suc}
@@ -101,30 +101,11 @@ all_passes-steps call progress f = passes_over-steps call (numbers_to progress.s
 
 -- ---- arrivals
 
--- a request that has no file is refused as it should be
-closed_asked : (server : Server) (client file_id : ℕ) (status : Status) (one : Option Open)
-    → connected_open server client file_id ≡ one → file_of_open one ≡ Err status → IsGone server client file_id status
-closed_asked server client file_id status x5 e same closed = grind arith
-
-close_unasked : (server : Server) (client file_id : ℕ) (status : Status) (one : Option Open)
-    → connected_open server client file_id ≡ one → file_of_open one ≡ Err status → connected_open server client file_id ≡ None
-close_unasked server client file_id status x5 e same = grind arith
-
 -- whatever it asks
 asked-refuses : (server : Server) (client : ℕ) (request : FileRequest) (status : Status)
     → file_asked server client request ≡ Err status → MayRefuse server client request status
 unfolding file_asked
 asked-refuses server client x3 status e = grind arith
-
--- a request stays about its file while it is tried
-asked_open : (before after : Server) (client file_id file : ℕ) (one : Option Open) → Keeps Anywhere before after
-    → connected_open before client file_id ≡ one → file_of_open one ≡ Ok file
-    → file_of_open (connected_open after client file_id) ≡ Ok file
-asked_open before after client file_id file x6 k e never = grind arith
-
-asked_create : (before after : Server) (file at : ℕ) (contexts : Option CreateAsk) → after.files ≡ before.files
-    → file_of_create before file contexts ≡ Ok at → file_of_create after file contexts ≡ Ok at
-asked_create before after file at x5 same never = grind arith
 
 asked_stays : (before after : Server) (client : ℕ) (request : FileRequest) (file : ℕ) → Keeps Anywhere before after
     → after.files ≡ before.files → file_asked before client request ≡ Ok file → file_asked after client request ≡ Ok file
@@ -254,10 +235,6 @@ called-steps server (Call.Scavenge file_id) s w =
 
 -- ---- the first part of a call gives nothing out
 
--- what a choice gives out
-either_silent : (b : Bool) (x y : Progress) → x.outs ≡ [] → y.outs ≡ [] → (if b then x else y).outs ≡ []
-either_silent x1 x y e f = grind arith
-
 pub call_begun-silent : (server : Server) (call : Call) → (call_begun server call).outs ≡ []
 unfolding join joined client_forgotten opens_disconnected opens_dropped key_expired
 call_begun-silent server x2 = grind arith
@@ -267,10 +244,6 @@ call_begun-silent server x2 = grind arith
 pub record IsBegunWell (progress : Progress) : Type 0 where
   pub sound : IsSound progress.server
   pub up : (one : Open) → Among one progress.server.opens → one.connected ≡ true → progress.server.present one.client ≡ true
-
--- a server that is fine has begun well
-fine_begun : (progress : Progress) → IsFine progress.server → IsBegunWell progress
-fine_begun progress f = record { sound = f.sound; up = f.orderly.opens_up }
 
 -- a choice of two
 either_begun : (b : Bool) (x y : Progress) → IsFine x.server → IsFine y.server → IsBegunWell (if b then x else y)

@@ -1,14 +1,13 @@
 -- Guarded small steps keep the laws of servers, and opens go on.
-use Rattle.lease_laws.proofs.Words.{◌++◌, ◌∙◌, ◌≡◌, Access, Among, Bool, FileRequest, IsGuarded, IsLowered, IsSound, Key, LeaseOf}
+use Rattle.lease_laws.proofs.Words.{◌++◌, ◌∙◌, ◌≡◌, Access, Among, FileRequest, IsGuarded, IsSound, Key, LeaseOf}
 use Rattle.lease_laws.proofs.Words.{MayCreate, MayEnd, MayLower, MayServe, None, Open, Option, Outcome, Progress, Server, Share}
-use Rattle.lease_laws.proofs.Words.{SmallStep, Some, State, ℕ, ⊎_elim, ap, arith, break_begun, concluded, false, held_left, inl}
-use Rattle.lease_laws.proofs.Words.{is_left_open, is_state_within, lease_lowered, nothing_cached, own_key, refl, same_state}
-use Rattle.lease_laws.proofs.Words.{step_taken, subst, sym, true, true≢false}
+use Rattle.lease_laws.proofs.Words.{SmallStep, Some, State, ℕ, arith, break_begun, concluded, held_left}
+use Rattle.lease_laws.proofs.Words.{is_left_open, lease_lowered, own_key}
+use Rattle.lease_laws.proofs.Words.{step_taken, true}
 use Rattle.lease_laws.proofs.server.Answers.{acknowledged-sound, concluded-sound}
 use Rattle.lease_laws.proofs.server.Arrivals.{request_held-goes}
 use Rattle.lease_laws.proofs.server.FileReady.{FileReady, AgainReady, awaits_own}
-use Rattle.lease_laws.proofs.server.Goes.{Goes, GoesOn, goes-twice, dropped-goes, concluded-goes, acknowledged-goes, still_there}
-use Rattle.lease_laws.proofs.server.Lists.{not_true}
+use Rattle.lease_laws.proofs.server.Goes.{Goes, GoesOn, goes-twice, dropped-goes, concluded-goes, acknowledged-goes}
 use Rattle.lease_laws.proofs.server.Orderly.{held_left-ready}
 use Rattle.lease_laws.proofs.server.Passes.{held_left-free}
 use Rattle.lease_laws.proofs.server.PassWaits.{held_left-goes}
@@ -16,7 +15,6 @@ use Rattle.lease_laws.proofs.server.Progress.{MayBreak, opens_dropped-sound, hel
 use Rattle.lease_laws.proofs.server.Progress.{lease_lowered-sound, break_begun-sound}
 use Rattle.lease_laws.proofs.server.Breaks.{light_part, light_writeless}
 use Rattle.lease_laws.proofs.server.Ready.{CreateFree, RequestFree}
-use Rattle.lease_laws.proofs.server.States.{rights}
 
 -- ---- what a guard says of a request that may be served
 
@@ -57,10 +55,6 @@ pub end_serves : (server : Server) (client : ℕ) (request : FileRequest) (outco
 end_serves server client request x4 may never = grind arith
 
 -- ---- the laws
-
--- what holds nothing can't be lowered
-nothing_lower : (lowered : State) → IsLowered nothing_cached lowered → ⊥
-nothing_lower lowered low = grind arith
 
 -- a key that may be broken has its timer
 may_break : (server : Server) (key : Key) (lowered : State) → IsSound server → MayLower server key lowered → MayBreak server key

@@ -1,16 +1,16 @@
 -- What guarded small steps make of leases.
-use Rattle.lease_laws.proofs.Words.{◌&&◌, ◌++◌, ◌==◌, ◌||◌, ◌∙◌, ◌∷◌, ◌≡◌, ◌⊎◌, Access, Among, AreGuarded, BecomesBy, Bool}
-use Rattle.lease_laws.proofs.Words.{Decides-eqb, FileRequest, Held, IsBreakTold, IsEnded, IsFree, IsGuarded, IsRaised, IsSound}
+use Rattle.lease_laws.proofs.Words.{◌++◌, ◌==◌, ◌∙◌, ◌∷◌, ◌≡◌, ◌⊎◌, Access, Among, AreGuarded, BecomesBy, Bool}
+use Rattle.lease_laws.proofs.Words.{FileRequest, Held, IsBreakTold, IsEnded, IsFree, IsGuarded, IsRaised, IsSound}
 use Rattle.lease_laws.proofs.Words.{Key, Lease, LeaseOf, List, MayCreate, MayServe, None, Open, Option, Out, Outcome, Progress}
 use Rattle.lease_laws.proofs.Words.{Server, Share, SmallStep, Some, State, StaysOrRises, ℕ, ⊎_elim, [], acknowledged, allowed, ap}
 use Rattle.lease_laws.proofs.Words.{append-nil, append_assoc, arith, break_begun, break_ended, break_notice, changed, concluded}
-use Rattle.lease_laws.proofs.Words.{false, granted_form_of, granted_with, has_key, has_lease, has_own_key, held_left, inl, inr}
+use Rattle.lease_laws.proofs.Words.{false, granted_form_of, granted_with, has_key, has_lease, held_left, inl, inr}
 use Rattle.lease_laws.proofs.Words.{is_breaking, is_left_open, is_other_on, is_some, is_state_within, key_of, lease_after}
-use Rattle.lease_laws.proofs.Words.{lease_granted, lease_lowered, list_any, no_lease, not, nothing_cached, offered, opens_dropped}
-use Rattle.lease_laws.proofs.Words.{own_key, put, reconnected, refl, request_held, step_taken, steps_taken, subst, sym, true}
-use Rattle.lease_laws.proofs.Words.{with_opens, without, without_write}
+use Rattle.lease_laws.proofs.Words.{lease_granted, lease_lowered, list_any, nothing_cached, offered, opens_dropped}
+use Rattle.lease_laws.proofs.Words.{own_key, reconnected, refl, request_held, step_taken, steps_taken, subst, sym, true}
+use Rattle.lease_laws.proofs.Words.{with_opens, without_write}
 use Rattle.lease_laws.proofs.server.Keys.{put_key-cases}
-use Rattle.lease_laws.proofs.server.Lists.{if_cases, either, clash, and_parts, not_true, not_parts, any_has, among_before}
+use Rattle.lease_laws.proofs.server.Lists.{if_cases, clash, not_true, any_has, among_before}
 use Rattle.lease_laws.proofs.server.Lists.{among_behind}
 use Rattle.lease_laws.proofs.server.StepKeeps.{step-sound, end_serves}
 use Rattle.lease_laws.proofs.server.Progress.{held_left-sound}

@@ -1,13 +1,13 @@
 -- What guarded small steps give out.
-use Rattle.lease_laws.proofs.Words.{◌++◌, ◌==◌, ◌∙◌, ◌∷◌, ◌≡◌, AreGuarded, Call, Decides-eqb, EachOut, FileRequest, GoOn}
+use Rattle.lease_laws.proofs.Words.{◌++◌, ◌==◌, ◌∷◌, ◌≡◌, AreGuarded, Call, EachOut, FileRequest, GoOn}
 use Rattle.std.proofs.Common.{arith}
 use Rattle.lease_laws.proofs.Words.{IsGuarded, IsNoBreak, IsShort, IsSound, IsToPresent, Key, LeaseOf, List, MayEnd, MayLower}
-use Rattle.lease_laws.proofs.Words.{MayServe, None, Open, Option, Out, Outcome, Progress, Reply, Server, SmallStep, Some, State}
-use Rattle.lease_laws.proofs.Words.{Status, TellsBreaks, WaitsWell, ℕ, [], acknowledged, ap, break_begun, break_ended, bytes_eq}
+use Rattle.lease_laws.proofs.Words.{MayServe, Open, Option, Out, Outcome, Progress, Reply, Server, SmallStep, State}
+use Rattle.lease_laws.proofs.Words.{Status, TellsBreaks, WaitsWell, ℕ, [], acknowledged, break_begun, break_ended}
 use Rattle.lease_laws.proofs.Words.{call_begun, called, changed, concluded, granted_with, has_key, held_left, is_key}
-use Rattle.lease_laws.proofs.Words.{is_left_open, is_within_limit, lease_lowered, opens_dropped, reconnected, refl, refusal_of}
-use Rattle.lease_laws.proofs.Words.{refused, replied, step_taken, steps_taken, subst, sym, true, true≢false}
-use Rattle.lease_laws.proofs.server.Lists.{and_parts, any_has}
+use Rattle.lease_laws.proofs.Words.{is_left_open, lease_lowered, opens_dropped, reconnected, refl, refusal_of}
+use Rattle.lease_laws.proofs.Words.{refused, replied, step_taken, steps_taken, subst, sym, true}
+use Rattle.lease_laws.proofs.server.Lists.{any_has}
 use Rattle.lease_laws.proofs.server.OutCalls.{concluded-answers, request_held-outs, held_left-outs}
 use Rattle.lease_laws.proofs.server.OutLists.{each_append, each_weaker, go_on-same, go_on-weaker, answers_go_on}
 use Rattle.lease_laws.proofs.server.OutSteps.{opens_dropped-outs, acknowledged-answered}

@@ -3,15 +3,15 @@
 use Rattle.lease_laws.proofs.Words.{◌==◌, ◌∙◌, ◌≡◌, Among, Bool, Call, FileRequest, HasToWait, Held, IsAbout, IsBlocked, IsOpenOn}
 use Rattle.lease_laws.proofs.Words.{IsOrderly, IsSound, IsUnder, Key, List, None, Open, Option, Progress, Server, Some, WaitsWell}
 use Rattle.lease_laws.proofs.Words.{ℕ, all_passes, ap, arith, begun, called, client_forgotten, cond, cut, disconnected, expire}
-use Rattle.lease_laws.proofs.Words.{false, find, has_file, has_key, has_own_key, inl, is_breaking, is_key, is_left_behind}
+use Rattle.lease_laws.proofs.Words.{false, find, has_file, has_key, has_own_key, is_breaking, is_key, is_left_behind}
 use Rattle.lease_laws.proofs.Words.{is_lost, join, joined, key_expired, key_of, key_of_open, key_under, list_any, map, new_server}
 use Rattle.lease_laws.proofs.Words.{not, opens_disconnected, opens_dropped, own_key, put, refl, scavenge, subst, sym, true}
-use Rattle.lease_laws.proofs.Words.{true≢false, without}
+use Rattle.lease_laws.proofs.Words.{without}
 use Rattle.lease_laws.proofs.server.Keys.{is_key-one, is_key-refl}
 use Rattle.lease_laws.proofs.server.Arrivals.{everyone_keeps, fine_goes, everyone_cases, receive-waits, new_server-waits}
 use Rattle.lease_laws.proofs.server.Calls.{joined-sound, opens_disconnected-sound, client_forgotten-sound, key_expired-sound}
 use Rattle.lease_laws.proofs.server.Calls.{dropped_lease, left_lasting, lasting_left}
-use Rattle.lease_laws.proofs.server.Goes.{Goes, still_there, dropped-goes}
+use Rattle.lease_laws.proofs.server.Goes.{Goes, dropped-goes}
 use Rattle.lease_laws.proofs.server.Held.{SameHeld, dropped_held}
 use Rattle.lease_laws.proofs.server.Keeps.{Kept, Anywhere, connected_has}
 use Rattle.lease_laws.proofs.server.Lists.{if_cases, clash, not_parts, among_filter, among_map, find_has}

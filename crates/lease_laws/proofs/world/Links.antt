@@ -2,8 +2,8 @@
 use Rattle.lease_laws.proofs.Words.{◌++◌, ◌+◌, ◌==◌, ◌∙◌, ◌∷◌, ◌≡◌, ◌≢◌, Call, Client, EachOut, Event, Fact, IsOnline, IsSound}
 use Rattle.lease_laws.proofs.Words.{IsTied, IsToPresent, Link, LinksOfRuns, List, None, Note, Option, Out, Progress, Reply}
 use Rattle.lease_laws.proofs.Words.{Request, Server, Setup, Some, Step, WaitsWell, World, ℕ, ⊤, [], after, all_delivered}
-use Rattle.lease_laws.proofs.Words.{all_turned, ap, applied, ap₂, arith, breaking, called, client_of, client_takes, commanded}
-use Rattle.lease_laws.proofs.Words.{connect_over, connection_made, cut, cut_over, delivered, eq-eqb, eqb-true, fact_of, false}
+use Rattle.lease_laws.proofs.Words.{all_turned, ap, applied, arith, breaking, called, client_of, client_takes, commanded}
+use Rattle.lease_laws.proofs.Words.{connect_over, connection_made, cut, cut_over, delivered, eq-eqb, fact_of, false}
 use Rattle.lease_laws.proofs.Words.{first_world, happened, happens, has_client, has_file, if◌then◌else◌, is_down, is_served}
 use Rattle.lease_laws.proofs.Words.{is_start, is_up, join, kept, length, length-append, link_connected, link_cut, link_noticed}
 use Rattle.lease_laws.proofs.Words.{list_all, machine_key, new_client, new_server, not, noted, notice_over, noticed, put, refl}
@@ -14,7 +14,7 @@ use Rattle.lease_laws.proofs.client.Thin.{put_same, put_other}
 use Rattle.lease_laws.proofs.client.Words.{if_either}
 use Rattle.lease_laws.proofs.records.Runs.{all_starts, all_reversed}
 use Rattle.lease_laws.proofs.server.Calls.{new_server-sound, called-sound}
-use Rattle.lease_laws.proofs.server.Lists.{either, clash, and_parts}
+use Rattle.lease_laws.proofs.server.Lists.{clash}
 use Rattle.lease_laws.proofs.server.Presence.{IsAmong, called_present, begun_present, join_present, cut_present}
 use Rattle.lease_laws.proofs.server.StepOuts.{replies-find}
 use Rattle.lease_laws.proofs.server.WaitCalls.{first-waits-well, called-waits-well}

@@ -1,17 +1,17 @@
 -- In every run the server is sound, contents fit, and the record says what clients believe.
-use Rattle.lease_laws.proofs.Words.{◌++◌, ◌+◌, ◌==◌, ◌∷◌, ◌≡◌, ◌≤◌, AreGuarded, Bool, Call, Event, FILE_LIMIT, FileRequest}
-use Rattle.lease_laws.proofs.Words.{IsGuarded, IsSound, Lease, LeaseOf, List, MayServe, None, Note, Option, Outcome, Patch}
-use Rattle.lease_laws.proofs.Words.{Progress, Server, Setup, SmallStep, Some, Step, WaitsWell, World, ℕ, [], acknowledged, after}
-use Rattle.lease_laws.proofs.Words.{arith, begun, break_begun, break_ended, call_begun, called, changed, client_called}
-use Rattle.lease_laws.proofs.Words.{client_forgotten, concluded, fact_of, false, first_world, granted_with, happened, held_left}
-use Rattle.lease_laws.proofs.Words.{if◌then◌else◌, is_allowed_setup, is_breaking, is_content, is_left_behind, is_within_limit}
+use Rattle.lease_laws.proofs.Words.{◌++◌, ◌+◌, ◌∷◌, ◌≡◌, ◌≤◌, AreGuarded, Call, Event, FILE_LIMIT, FileRequest}
+use Rattle.lease_laws.proofs.Words.{IsGuarded, IsSound, Lease, LeaseOf, List, MayServe, Note, Option, Outcome, Patch}
+use Rattle.lease_laws.proofs.Words.{Progress, Server, Setup, SmallStep, Step, WaitsWell, World, ℕ, [], acknowledged, after}
+use Rattle.lease_laws.proofs.Words.{arith, break_begun, break_ended, call_begun, called, changed, client_called}
+use Rattle.lease_laws.proofs.Words.{client_forgotten, concluded, fact_of, first_world, granted_with, happened, held_left}
+use Rattle.lease_laws.proofs.Words.{is_allowed_setup, is_content, is_within_limit}
 use Rattle.lease_laws.proofs.Words.{join, joined, key_expired, last_file_number, lease_lowered, lease_put, length, length-written}
-use Rattle.lease_laws.proofs.Words.{list_all, list_any, max, nat_le, new_server, noted, numbered, opens_disconnected}
+use Rattle.lease_laws.proofs.Words.{list_all, max, nat_le, new_server, noted, numbered, opens_disconnected}
 use Rattle.lease_laws.proofs.Words.{opens_dropped, patch, patch_at, put, reconnected, refl, request_held, requests_sent, served}
 use Rattle.lease_laws.proofs.Words.{slice_get, step_taken, stepped_in, steps_taken, subst, suc, sym, take, true, unwrap_or}
 use Rattle.lease_laws.proofs.Words.{with_number, with_opens, zero}
 use Rattle.lease_laws.proofs.server.Calls.{new_server-sound, called-sound}
-use Rattle.lease_laws.proofs.server.Lists.{if_cases, and_parts}
+use Rattle.lease_laws.proofs.server.Lists.{and_parts}
 use Rattle.lease_laws.proofs.server.StepCalls.{called-steps}
 use Rattle.lease_laws.proofs.server.StepKeeps.{end_serves}
 use Rattle.lease_laws.proofs.server.WaitCalls.{first-waits-well, called-waits-well}
@@ -158,11 +158,6 @@ steps_fit : (steps : List SmallStep) (progress : Progress) → AreGuarded steps 
     → DoFit progress.server.contents → DoFit (steps_taken steps progress).server.contents
 steps_fit [] progress g fit = fit
 steps_fit (step ∷ steps) progress g fit = steps_fit steps (step_taken step progress) g.1 (step_fits step progress g.0 fit)
-
--- before them no content changes
-either_contents : (b : Bool) (x y : Progress) (contents : ℕ → List ℕ) → x.server.contents ≡ contents
-    → y.server.contents ≡ contents → (if b then x else y).server.contents ≡ contents
-either_contents x1 x y contents e f = grind arith
 
 pub begun_contents : (server : Server) (call : Call) → (call_begun server call).server.contents ≡ server.contents
 unfolding join joined client_forgotten opens_disconnected opens_dropped with_opens key_expired

@@ -3,7 +3,7 @@ use Rattle.lease_laws.proofs.Words.{◌&&◌, ◌==◌, ◌∙◌, ◌∷◌, �
 use Rattle.std.proofs.Common.{arith}
 use Rattle.lease_laws.proofs.Words.{Reply, Request, Setup, Some, Step, TimersAreTold, World, ℕ, ⊎_elim, [], after, all_delivered}
 use Rattle.lease_laws.proofs.Words.{ap, applied, breaking, called, client_of, client_takes, commanded, connect_over}
-use Rattle.lease_laws.proofs.Words.{connection_made, cut_over, delivered, eq-eqb, eqb-true, fact_of, false, first_world, happened}
+use Rattle.lease_laws.proofs.Words.{connection_made, cut_over, delivered, eq-eqb, fact_of, false, first_world, happened}
 use Rattle.lease_laws.proofs.Words.{happens, has_client, has_file, if◌then◌else◌, is_served, is_up, join, kept, link_connected}
 use Rattle.lease_laws.proofs.Words.{link_cut, link_noticed, machine_key, new_server, not, noted, notice_over, noticed, put, refl}
 use Rattle.lease_laws.proofs.Words.{requests_sent, scavenged, served, server_takes, stepped_in, strayed_over, sym, taken}
@@ -11,7 +11,6 @@ use Rattle.lease_laws.proofs.Words.{timer_expired, true, true≢false}
 use Rattle.lease_laws.proofs.client.Words.{if_either}
 use Rattle.lease_laws.proofs.server.Expired.{called-expired, cut-expired, scavenge-expired, join-expired, expire-expired}
 use Rattle.lease_laws.proofs.server.Keys.{put_key-cases}
-use Rattle.lease_laws.proofs.server.Lists.{either, clash, if_cases}
 use Rattle.lease_laws.proofs.world.Kept.{served-server}
 use Rattle.lease_laws.proofs.world.Links.{IsLinked, first_linked, happens_linked}
 use Rattle.lease_laws.proofs.world.Runs.{stepped_server}

@@ -5,11 +5,11 @@ use Rattle.std.proofs.Common.{arith}
 use Rattle.lease_laws.proofs.Words.{LiveEntry, None, OpenTerms, Option, Patch, Pending, Phase, Refusal, Request, Some, Step, ℕ}
 use Rattle.lease_laws.proofs.Words.{[], asked_by, cached_read, close_on_live, closed_entry, commanded, count_limit}
 use Rattle.lease_laws.proofs.Words.{create_request, false, file_of, flush_on_live, handle_added, has_unanswered, is_asking}
-use Rattle.lease_laws.proofs.Words.{is_within_limit, joint_terms, knows_file, last_handle_closed, last_write_number, live_entry}
-use Rattle.lease_laws.proofs.Words.{may_read, may_write, more_asked, nat_lt, not, on_closed, on_entry, on_live, one_handle_less}
+use Rattle.lease_laws.proofs.Words.{is_within_limit, joint_terms, knows_file, last_handle_closed, live_entry}
+use Rattle.lease_laws.proofs.Words.{may_read, more_asked, nat_lt, on_closed, on_entry, on_live, one_handle_less}
 use Rattle.lease_laws.proofs.Words.{open_on_live, open_other, opened_anew, read_from, read_on_live, read_sent, refl, refused_step}
 use Rattle.lease_laws.proofs.Words.{same_access, same_share, true, turn_of, turned, unless_parked, view, write_buffered}
-use Rattle.lease_laws.proofs.Words.{write_on_live, write_requests, write_sent, write_taken}
+use Rattle.lease_laws.proofs.Words.{write_on_live, write_requests, write_sent}
 use Rattle.lease_laws.proofs.server.Lists.{if_cases}
 
 -- a known file whose entry is so
@@ -122,9 +122,6 @@ read_command client P h file live is = if_cases P (may_read live.access)
     (read_from client file live (sent_of client file) live.belief.read live.base) (refused_step client Refusal.Denied)
     (λ may. from_command client P h file live is live.belief.read live.base refl refl)
     (λ not. h.refused Refusal.Denied)
-
-not_not : (b : Bool) → not b ≡ false → b ≡ true
-not_not x1 e = grind arith
 
 write_command : (client : Client) (P : Step → Type 0) → HasCommands client P → (file : ℕ) (live : LiveEntry)
     (patch : Patch) → IsEntry client file (Phase.Live live) → P (write_on_live client file live (sent_of client file) patch)

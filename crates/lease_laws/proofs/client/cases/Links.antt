@@ -4,7 +4,6 @@ use Rattle.lease_laws.proofs.Words.{◌++◌, ◌≡◌, Access, List, LiveEntry
 use Rattle.std.proofs.Common.{arith}
 use Rattle.lease_laws.proofs.Words.{false, filter, live_noticed, live_parted, notice_turn, offline_turn, parted_from, true}
 use Rattle.lease_laws.proofs.Words.{without}
-use Rattle.lease_laws.proofs.server.Lists.{if_cases}
 
 --   closed, opening: nothing is kept, and of the sent writes nobody knows
 --   ended: a live entry that isn't durable goes, with all its writes

@@ -4,8 +4,8 @@ use Rattle.lease_laws.proofs.Words.{◌&&◌, ◌==◌, ◌∷◌, ◌≡◌, �
 use Rattle.std.proofs.Common.{arith}
 use Rattle.lease_laws.proofs.Words.{List, LiveEntry, None, Note, Option, Parted, Phase, Reply, Settlement, Share, Some, Status}
 use Rattle.lease_laws.proofs.Words.{Step, ℕ, ⊤, [], ap, belief_lowered, break_on, break_turn, broken, closed_by_server}
-use Rattle.lease_laws.proofs.Words.{create_answered, create_failed, create_failed_for, create_failed_on_live, created_for}
-use Rattle.lease_laws.proofs.Words.{created_on, created_on_live, eqb-true, failed_on, failed_turn, false, file_where}
+use Rattle.lease_laws.proofs.Words.{create_answered, create_failed, create_failed_on_live}
+use Rattle.lease_laws.proofs.Words.{created_on, created_on_live, failed_on, failed_turn, false, file_where}
 use Rattle.lease_laws.proofs.Words.{first_belief, has_sent, inl, inr, is_file_closed, is_key_of, is_some, knows_file, lease_key}
 use Rattle.lease_laws.proofs.Words.{length, live_entry, meet, nat_le, not, on_file, one_read_less, opened_turn, parked_closed}
 use Rattle.lease_laws.proofs.Words.{promoted_belief, promoted_turn, quiet_step, read_answered, read_failed, read_failed_on}
@@ -14,7 +14,7 @@ use Rattle.lease_laws.proofs.Words.{still_open, subst, sym, taken, true, turned,
 use Rattle.lease_laws.proofs.Words.{write_failed_in}
 use Rattle.lease_laws.proofs.client.cases.Commands.{sent_of}
 use Rattle.lease_laws.proofs.client.cases.Files.{found_known, found_so}
-use Rattle.lease_laws.proofs.server.Lists.{if_cases, and_parts, not_parts}
+use Rattle.lease_laws.proofs.server.Lists.{if_cases}
 
 abbrev pub is_live : Phase → Bool
 is_live (Phase.Live live) = true
@@ -127,12 +127,6 @@ broken_take client P h (Some notice) = on_found (file_where client (is_key_of cl
     on_found None e = h.passed (Reply.Break (Some notice)) (inl e)
     on_found (Some file) e = break_take client P h file notice e (client.entries file).phase refl
 
-live_create : (client : Client) (P : Reply → Step → Type 0) → HasTakes client P → (file file_id : ℕ)
-    (answer : CreateAnswer) (live : LiveEntry) → (client.entries file).phase ≡ Phase.Live live
-    → (asking : Option Asked) → live.asking ≡ asking → P (Reply.Created file file_id (Some answer))
-    (created_for client file live (sent_of client file) file_id answer asking)
-live_create client x2 h file file_id answer live e x9 a = grind arith
-
 create_take : (client : Client) (P : Reply → Step → Type 0) → HasTakes client P → (file file_id : ℕ)
     (answer : CreateAnswer) (phase : Phase) → (client.entries file).phase ≡ phase
     → P (Reply.Created file file_id (Some answer)) (created_on client file file_id answer (sent_of client file) phase)
@@ -144,11 +138,6 @@ created_take : (client : Client) (P : Reply → Step → Type 0) → HasTakes cl
 unfolding create_answered
 created_take client P h file file_id None = h.passed (Reply.Created file file_id None) tt
 created_take client P h file file_id (Some answer) = create_take client P h file file_id answer (client.entries file).phase refl
-
-live_fails : (client : Client) (P : Reply → Step → Type 0) → HasTakes client P → (file : ℕ) (status : Status)
-    (live : LiveEntry) → (client.entries file).phase ≡ Phase.Live live → (asking : Option Asked) → live.asking ≡ asking
-    → P (Reply.CreateFailed file status) (create_failed_for client file live (sent_of client file) status asking)
-live_fails client x2 h file status live e x8 a = grind arith
 
 failed_take : (client : Client) (P : Reply → Step → Type 0) → HasTakes client P → (file : ℕ) (status : Status)
     (phase : Phase) → (client.entries file).phase ≡ phase
@@ -212,13 +201,6 @@ done_take client P h file_id number = on_found (file_where client (has_sent clie
     on_found None e = h.passed (Reply.WriteDone file_id number) e
     on_found (Some file) e = h.written file file_id number (found_so client (has_sent client number) file e)
         (found_known client (has_sent client number) file e)
-
-still_written : (client : Client) (P : Reply → Step → Type 0) → HasTakes client P → (file file_id number : ℕ)
-    (status : Status) → has_sent client number file ≡ true → knows_file client file ≡ true → (phase : Phase)
-    → (client.entries file).phase ≡ phase → P (Reply.WriteFailed file_id number status) (turned client file (still_open
-    (record { phase = phase; sent = sent_without number (sent_of client file) })
-    (Note.Settled number Settlement.Failed ∷ []) status))
-still_written client x2 h file file_id number status at known phase is = grind arith
 
 failed_write : (client : Client) (P : Reply → Step → Type 0) → HasTakes client P → (file file_id number : ℕ)
     (status : Status) → has_sent client number file ≡ true → knows_file client file ≡ true → (phase : Phase)

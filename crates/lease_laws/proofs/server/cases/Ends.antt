@@ -3,9 +3,9 @@
 use Rattle.lease_laws.proofs.Words.{◌&&◌, ◌==◌, ◌≡◌, Access, Among, CreateAsk, FileRequest, None, Open, Option, Outcome, Patch}
 use Rattle.std.proofs.Common.{arith}
 use Rattle.lease_laws.proofs.Words.{Progress, Reply, Server, Share, Some, Status, ℕ, answered, changed, closed, concluded}
-use Rattle.lease_laws.proofs.Words.{connected_open, created, eqb-true, granted, granted_with, last_file_id, lease_after, on_open}
+use Rattle.lease_laws.proofs.Words.{connected_open, created, eqb-true, granted, granted_with, lease_after, on_open}
 use Rattle.lease_laws.proofs.Words.{opens_dropped, read_done, reconnected, refl, refusal_of, refused, replied, true}
-use Rattle.lease_laws.proofs.server.Lists.{if_cases, and_parts, find_has}
+use Rattle.lease_laws.proofs.server.Lists.{and_parts, find_has}
 
 -- an open of a client that is there and connected
 pub record IsFoundOpen (server : Server) (client : ℕ) (file_id : ℕ) (one : Open) : Type 0 where

@@ -1,9 +1,8 @@
 -- What an acknowledgment makes of a call under way: it fails, or ends a break.
-use Rattle.lease_laws.proofs.Words.{◌∙◌, ◌≡◌, ◌≢◌, LeaseOf, None, Option, Progress, Reply, Server, Some, State, Status, ℕ, ⊤}
+use Rattle.lease_laws.proofs.Words.{◌≡◌, LeaseOf, None, Option, Progress, Reply, Server, Some, State, Status, ℕ, ⊤}
 use Rattle.std.proofs.Common.{arith}
-use Rattle.lease_laws.proofs.Words.{acknowledged, break_ended, false, has_lease, is_state_within, judged, key_of, refl, replied}
-use Rattle.lease_laws.proofs.Words.{subst, sym, true}
-use Rattle.lease_laws.proofs.server.Lists.{if_cases, clash}
+use Rattle.lease_laws.proofs.Words.{acknowledged, break_ended, false, has_lease, is_state_within, key_of, replied}
+use Rattle.lease_laws.proofs.Words.{true}
 
 -- why an acknowledgment is refused: no lease of its key is breaking to a state that it lies within
 abbrev pub IsRefusedAck : Server → ℕ → Option LeaseOf → Type 0
@@ -17,12 +16,6 @@ pub record HasJudgements (client : ℕ) (progress : Progress) (P : Option LeaseO
   pub ended : (given : LeaseOf) (lowered : State) → has_lease progress.server (key_of client given.key) ≡ true
       → (progress.server.leases (key_of client given.key)).broken_to ≡ Some lowered → is_state_within given.state lowered ≡ true
       → P (Some given) (break_ended (key_of client given.key) given.state progress)
-
-known_judgement : (client : ℕ) (progress : Progress) (P : Option LeaseOf → Progress → Type 0)
-    → HasJudgements client progress P → (given : LeaseOf) → has_lease progress.server (key_of client given.key) ≡ true
-    → (broken : Option State) → (progress.server.leases (key_of client given.key)).broken_to ≡ broken
-    → P (Some given) (judged (key_of client given.key) given.state broken progress)
-known_judgement client progress x3 h given there x7 e = grind arith
 
 pub any_judgement : (client : ℕ) (progress : Progress) (P : Option LeaseOf → Progress → Type 0)
     → HasJudgements client progress P → (given : Option LeaseOf) → P given (acknowledged client given progress)

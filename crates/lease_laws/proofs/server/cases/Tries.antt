@@ -1,11 +1,11 @@
 -- What a try makes of a call under way: disconnected opens are dropped, and leases lowered or their breaks begun. What
 -- holds of each of these, of nothing, and of two behind one another holds of every try.
-use Rattle.lease_laws.proofs.Words.{◌&&◌, ◌∷◌, ◌≡◌, FileRequest, Finding, Key, List, Outcome, Progress, State, Tried, Want, ℕ, []}
+use Rattle.lease_laws.proofs.Words.{◌∷◌, ◌≡◌, FileRequest, Finding, Key, List, Outcome, Progress, State, Tried, Want, ℕ, []}
 use Rattle.std.proofs.Common.{arith}
-use Rattle.lease_laws.proofs.Words.{after_breaks, after_finding, break_begun, ended, false, finding, has_lease, is_breaking}
-use Rattle.lease_laws.proofs.Words.{is_left_open, is_ready, lease_broken, lease_lowered, must_wait, needs_acknowledgment, not}
+use Rattle.lease_laws.proofs.Words.{after_breaks, after_finding, break_begun, ended, false, finding, is_breaking}
+use Rattle.lease_laws.proofs.Words.{is_left_open, is_ready, lease_broken, lease_lowered, must_wait}
 use Rattle.lease_laws.proofs.Words.{opens_dropped, suc, tried_for, want_met, wants_met, zero}
-use Rattle.lease_laws.proofs.server.Lists.{if_cases, and_parts, not_parts}
+use Rattle.lease_laws.proofs.server.Lists.{if_cases}
 
 pub record HasTries (R : Progress → Progress → Type 0) : Type 0 where
   pub same : (progress : Progress) → R progress progress
