@@ -125,7 +125,8 @@ unfolding last_noted
 files-more (fact.Believes client other state) past files all c file some = go (client.0 == c && other.0 == file) refl
   where
     kept : (f : ℕ) → list_any (λ g. g.0 == f) files ≡ true → list_any (λ g. g.0 == f) (with_file (Some other) files) ≡ true
-    kept f there = elim (cases_Bool (list_any (λ g. g.0 == other.0) files)) [ | inl had ↦ rw had there
+    kept f there = elim (cases_Bool (list_any (λ g. g.0 == other.0) files)) [
+      | inl had ↦ rw had there
       | inr had ↦ rw had (any-append (λ g. g.0 == f) files (other ∷ []) ∙ left _ _ there)
     ]
       where
@@ -133,7 +134,8 @@ files-more (fact.Believes client other state) past files all c file some = go (c
         left a b e = grind arith
 
     put : list_any (λ g. g.0 == other.0) (with_file (Some other) files) ≡ true
-    put = elim (cases_Bool (list_any (λ g. g.0 == other.0) files)) [ | inl had ↦ rw had had
+    put = elim (cases_Bool (list_any (λ g. g.0 == other.0) files)) [
+      | inl had ↦ rw had had
       | inr had ↦ rw had (any-append (λ g. g.0 == other.0) files (other ∷ []) ∙ rw (eq-eqb other.0 other.0 refl) (right _))
     ]
       where
@@ -188,7 +190,8 @@ pub any-noted : (past : List Fact) (file c : ℕ) (t : Belief → Bool) (beliefs
     → list_any t (filter (may_clash past) beliefs) ≡ true
 any-noted past file c t [] each there holds good passes = absurd (both_ways _ refl there)
 any-noted past file c t (b ∷ beliefs) each there holds good passes =
-    elim (or_cases (is_of c b) (list_any (is_of c) beliefs) there) [ | inl here ↦ first here
+    elim (or_cases (is_of c b) (list_any (is_of c) beliefs) there) [
+      | inl here ↦ first here
       | inr later ↦ rest (may_clash past b) (any-noted past file c t beliefs each.1 later holds good passes)
     ]
   where

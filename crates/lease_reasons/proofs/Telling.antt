@@ -139,7 +139,8 @@ malformed-told (fact.Took client) past e =
         ap (λ (o : Option ℕ). taken_none client past o) (none-place _ (joined-place client past ∙ none)),
         refl,
         (refl, none),
-      ) | inr some ↦ taken some.0 some.1
+      )
+      | inr some ↦ taken some.0 some.1
     ]
   where
     not-less : (a b : ℕ) → nat_lt a b ≡ false → b ≤ a

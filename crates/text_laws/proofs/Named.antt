@@ -84,10 +84,10 @@ cut_named : (world : World) (client : ℕ) (link : Link) → nat_le 1 client ≡
     → IsNamed (cut_over world client link)
 unfolding link_cut is_named
 cut_named world client Link.Up some n = served_named (happened (record world {
-      links = put world.links client Link.Cut;
-      requests = put world.requests client [];
-      replies = put world.replies client [];
-    }) (Fact.Dropped client)) (cut world.server client) (and_both (nat_le 1 client) _ some n)
+  links = put world.links client Link.Cut;
+  requests = put world.requests client [];
+  replies = put world.replies client [];
+}) (Fact.Dropped client)) (cut world.server client) (and_both (nat_le 1 client) _ some n)
 cut_named world client Link.Down some n = n
 cut_named world client Link.Cut some n = n
 
