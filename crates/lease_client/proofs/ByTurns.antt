@@ -27,7 +27,7 @@ either x1 x2 one other first second a b = grind arith
 open_live : (client : Client) (file : ℕ) (live : LiveEntry) (sent : List Pending) (terms : OpenTerms)
     → client.entries file ≡ live_entry live sent → model.open_on_live client file live sent terms
     ≡ turned client file (rules.live_open_turn (lease_key client.guid file) file live sent terms)
-unfolding model.open_on_live model.handle_added model.open_other model.opened_anew model.more_asked rules.live_open_turn
+unfolding model.open_on_live model.handle_added model.open_other model.more_asked rules.live_open_turn
     rules.handle_turn rules.other_turn rules.anew_turn rules.more_turn
 open_live client file live sent terms e =
     let F : Turn → Step = turned client file in
@@ -82,7 +82,6 @@ noted_still client file entry answer notes e =
 read_cached : (client : Client) (file : ℕ) (live : LiveEntry) (sent : List Pending) (bytes : List ℕ)
     → client.entries file ≡ live_entry live sent
     → model.cached_read client file bytes ≡ turned client file (rules.cached_turn file (live_entry live sent) bytes)
-unfolding model.cached_read
 read_cached client file live sent bytes e =
     sym (noted_still client file (live_entry live sent) (Answer.Bytes bytes true) (Note.CachedRead file bytes ∷ []) e)
 
@@ -102,7 +101,7 @@ read_live client file live sent e =
 
 flush_live : (client : Client) (file : ℕ) (live : LiveEntry) (sent : List Pending)
     → model.flush_on_live client file live sent ≡ turned client file (rules.flush_turn live sent)
-unfolding model.flush_on_live rules.flush_turn
+unfolding rules.flush_turn
 flush_live client file live sent = refl
 
 -- ---- Write
@@ -125,7 +124,7 @@ wrote_on client file old new answer requests write taken e same = grind arith
 write_live : (client : Client) (file : ℕ) (live : LiveEntry) (sent : List Pending) (patch : Patch)
     → client.entries file ≡ live_entry live sent → model.write_on_live client file live sent patch
     ≡ wrote client file (rules.write_turn file live sent client.last_number patch)
-unfolding model.write_on_live model.write_buffered model.write_sent rules.write_turn rules.taken_turn rules.buffered_turn
+unfolding model.write_on_live rules.write_turn rules.taken_turn rules.buffered_turn
     rules.through_turn
 write_live client file live sent patch e =
     let F : Turn → Step = wrote client file in

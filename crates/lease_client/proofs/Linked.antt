@@ -114,7 +114,6 @@ notes_more turn entries k = rw (add-one k) (flat_map_more (noted turn entries) [
 
 pub linked_is : (client : Client) (link : Link)
     → linked client link ≡ all_turned client (is_made link) (link_turn link client.guid)
-unfolding model.noticed model.connection_made
 linked_is client x2 = grind arith
 
 pub leaves_closed : (link : Link) (guid : List ℕ) → LeavesClosed (link_turn link guid)

@@ -32,12 +32,10 @@ first_belief_none key x2 free = grind arith
 created_live : (key : List ℕ) (live : LiveEntry) (sent : List Pending) (file_id : ℕ) (answer : CreateAnswer)
     (asking : Option Asked) → is_free answer.lease ≡ false
     → Lowers (live_entry live sent) (created_for key live sent file_id answer asking)
-unfolding model.promoted_turn
 created_live key live sent file_id answer x6 free = grind arith
 
 created_lowers : (key : List ℕ) (file_id : ℕ) (answer : CreateAnswer) (sent : List Pending) (phase : Phase)
     → is_free answer.lease ≡ false → Lowers (record { phase = phase; sent = sent }) (created_in key file_id answer sent phase)
-unfolding model.opened_turn model.reconnected_turn
 created_lowers key file_id answer sent (Phase.Opening access share) free = rw (first_belief_none key answer.lease free) refl
 created_lowers key file_id answer sent (Phase.Live live) free = created_live key live sent file_id answer live.asking free
 created_lowers key file_id answer sent (Phase.Reconnecting parted) free = rw (first_belief_none key answer.lease free) refl
@@ -55,26 +53,23 @@ not_created_lowers status sent x3 = grind arith
 
 read_lowers : (bytes : List ℕ) (sent : List Pending) (phase : Phase)
     → Lowers (record { phase = phase; sent = sent }) (read_in bytes sent phase)
-unfolding model.read_turn
 read_lowers bytes sent x3 = grind arith
 
 not_read_lowers : (status : Status) (sent : List Pending) (phase : Phase)
     → Lowers (record { phase = phase; sent = sent }) (not_read_in status sent phase)
-unfolding model.read_failed_turn model.closed_by_server
+unfolding model.read_failed_turn
 not_read_lowers status sent x3 = grind arith
 
 broken_lowers : (notice : BreakNotice) (sent : List Pending) (phase : Phase)
     → Lowers (record { phase = phase; sent = sent }) (broken_in notice sent phase)
-unfolding model.break_turn model.parked_closed model.belief_lowered
+unfolding model.break_turn
 broken_lowers notice sent x3 = grind arith
 
 written_lowers : (number : ℕ) (entry : Entry) → Lowers entry (model.write_done_turn number entry)
-unfolding model.write_done_turn
 written_lowers number entry = grind arith
 
 not_written_lowers : (file_id number : ℕ) (status : Status) (sent more : List Pending) (phase : Phase)
     → Lowers (record { phase = phase; sent = sent }) (model.write_failed_in file_id number status more phase)
-unfolding model.closed_by_server
 not_written_lowers file_id number status sent more x6 = grind arith
 
 -- ---- steps
@@ -181,11 +176,11 @@ connect_lowers : (client : Client) (file : ℕ) (sent : List Pending) (phase : P
 connect_lowers client file sent x4 = grind arith
 
 pub notices_raise_none : (client : Client) → NoneRose client (connection.noticed client).client
-unfolding connection.noticed connection.all_turned
+unfolding connection.all_turned
 notices_raise_none client file = notice_lowers (client.entries file).sent (client.entries file).phase
 
 pub connects_raise_none : (client : Client) → NoneRose client (connection.connection_made client).client
-unfolding connection.connection_made connection.all_turned
+unfolding connection.all_turned
 connects_raise_none client file = connect_lowers client file (client.entries file).sent (client.entries file).phase
 
 -- ---- the client that a step leaves

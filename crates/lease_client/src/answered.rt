@@ -72,7 +72,7 @@ impl Entry {
     /// # Errors
     ///
     /// `Memory` where there is none left for the base or the note.
-    #[tactic(auto, unfolding(lease_model::specs::client::Taken::write_done_turn))]
+    #[tactic(auto)]
     pub fn written(&mut self, number: u64, given: &mut Given) -> Result<(), Memory>
         ensures { OnOk result (turned_to self.new given.new
             ≡ turn_written (rules.write_done_turn number self.old)) }
@@ -165,7 +165,7 @@ impl Live {
     }
 
     // The bytes become the base under R; the application sees its own unanswered writes in them.
-    #[tactic(auto, unfolding(lease_model::specs::client::Taken::read_turn))]
+    #[tactic(auto)]
     fn read_done(&mut self, sent: &[Pending], bytes: Bytes, given: &mut Given) -> Result<(), Memory>
         ensures { OnOk result (turned_to (live_entry self.new sent.now) given.new
             ≡ turn_written (rules.read_turn self.old sent.now bytes)) }
@@ -228,7 +228,7 @@ impl Live {
 
     // The server has the open no more, and the unsent writes have failed. An entry that asked for more
     // waits for that create.
-    #[tactic(auto, unfolding(lease_model::specs::client::Taken::closed_by_server))]
+    #[tactic(auto)]
     fn closed_by_server(
         self,
         sent: Vec<Pending>,

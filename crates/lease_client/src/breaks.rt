@@ -42,7 +42,7 @@ impl Entry {
 impl Live {
     // The new belief is what the old one and the notification have in common. A parked entry that
     // loses its handles closes its open, which is its answer.
-    #[tactic(auto, unfolding(lease_model::specs::client::Taken::break_turn, lease_model::specs::client::Taken::parked_closed))]
+    #[tactic(auto, unfolding(lease_model::specs::client::Taken::break_turn))]
     fn broken(self, sent: Vec<Pending>, notice: &Notification) -> Result<Turn, Memory>
         ensures { IfOk result (λ turn. turn ≡ turn_written (rules.break_turn self sent.items
             (notice_read notice.now) (states.meet self.belief (state_of notice.now.new)))) }
@@ -84,7 +84,7 @@ impl Live {
     }
 
     // Unsent writes go before the acknowledgment where writes or handles are given up.
-    #[tactic(auto, using(crate::proofs::Written::written_more), unfolding(lease_model::specs::client::Taken::belief_lowered))]
+    #[tactic(auto, using(crate::proofs::Written::written_more))]
     fn lowered(
         self,
         mut sent: Vec<Pending>,

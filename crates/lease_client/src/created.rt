@@ -121,7 +121,7 @@ fn promoted_belief(key: LeaseKey, belief: LeaseState, lease: Granted) -> LeaseSt
 }
 
 // A new open has one handle and no base.
-#[tactic(auto, unfolding(lease_model::specs::client::Taken::opened_turn))]
+#[tactic(auto)]
 fn opened(
     file_id: FileId,
     asked: Asked,
@@ -148,7 +148,7 @@ fn opened(
 impl Parted {
     // The open is connected again, without a base. The kept writes are unsent again under W, and else
     // given up.
-    #[tactic(auto, unfolding(lease_model::specs::client::Taken::reconnected_turn))]
+    #[tactic(auto)]
     fn connected(self, sent: Vec<Pending>, belief: LeaseState) -> Result<Turn, Memory>
         ensures { IfOk result (λ turn.
             turn ≡ turn_written (rules.reconnected_turn self sent.items (state_of belief))) }
@@ -220,7 +220,7 @@ impl Live {
 
     // The entry has its new open, and closes the old one. Without W its unsent writes have failed, and
     // without R the base is dropped.
-    #[tactic(auto, unfolding(lease_model::specs::client::Taken::promoted_turn))]
+    #[tactic(auto)]
     fn promoted(
         self,
         sent: Vec<Pending>,

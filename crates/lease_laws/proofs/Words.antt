@@ -40,32 +40,32 @@ pub use Rattle.lease_state.specs.declared.number.FileNo.{FileNo}
 pub use Rattle.lease_state.specs.declared.patch.Patch.{Patch}
 pub use Rattle.lease_state.specs.declared.status.Status.{Status}
 pub use Rattle.lease_model.specs.client.Calls.{ClientCall, client_called}
-pub use Rattle.lease_model.specs.client.Commanded.{asked_by, create_request, file_of, has_unanswered, is_asking, joint_terms}
-pub use Rattle.lease_model.specs.client.Commanded.{next_write, on_closed, on_entry, on_live, one_handle_less, read_from, turn_of}
-pub use Rattle.lease_model.specs.client.Commanded.{unless_parked, write_taken, wrote_step}
-unfoldable pub use Rattle.lease_model.specs.client.Commanded.{cached_read, close_on_live, commanded, flush_on_live, handle_added}
-unfoldable pub use Rattle.lease_model.specs.client.Commanded.{last_handle_closed, more_asked, open_on_live, open_other}
-unfoldable pub use Rattle.lease_model.specs.client.Commanded.{opened_anew, read_on_live, read_sent, write_buffered, write_on_live}
-unfoldable pub use Rattle.lease_model.specs.client.Commanded.{write_sent}
+pub use Rattle.lease_model.specs.client.Commanded.{asked_by, cached_read, create_request, file_of, flush_on_live}
+pub use Rattle.lease_model.specs.client.Commanded.{has_unanswered, is_asking, joint_terms, next_write, on_closed, on_entry}
+pub use Rattle.lease_model.specs.client.Commanded.{on_live, one_handle_less, opened_anew, read_from, turn_of, unless_parked}
+pub use Rattle.lease_model.specs.client.Commanded.{write_buffered, write_sent, write_taken, wrote_step}
+unfoldable pub use Rattle.lease_model.specs.client.Commanded.{close_on_live, commanded, handle_added, last_handle_closed}
+unfoldable pub use Rattle.lease_model.specs.client.Commanded.{more_asked, open_on_live, open_other, read_on_live, read_sent}
+unfoldable pub use Rattle.lease_model.specs.client.Commanded.{write_on_live}
 pub use Rattle.lease_model.specs.client.Commands.{Answer, Command, Note, OpenTerms, Refusal, Settlement}
-pub use Rattle.lease_model.specs.client.Connection.{connect_turn, ended_turn, notice_turn, offline_turn, parted_from}
-pub use Rattle.lease_model.specs.client.Connection.{reconnect_request, silent_turn}
-unfoldable pub use Rattle.lease_model.specs.client.Connection.{all_turned, connection_made, live_noticed, live_parted, noticed}
+pub use Rattle.lease_model.specs.client.Connection.{connect_turn, connection_made, ended_turn, notice_turn, noticed}
+pub use Rattle.lease_model.specs.client.Connection.{offline_turn, parted_from, reconnect_request, silent_turn}
+unfoldable pub use Rattle.lease_model.specs.client.Connection.{all_turned, live_noticed, live_parted}
 pub use Rattle.lease_model.specs.client.State.{Asked, Client, Entry, LiveEntry, Parted, Pending, Phase, belief, belief_in}
 pub use Rattle.lease_model.specs.client.State.{belief_of, closed_entry, knows_file, live_entry, patches_of, view}
 unfoldable pub use Rattle.lease_model.specs.client.State.{lease_key, new_client}
 pub use Rattle.lease_model.specs.client.Step.{Step, Turn, believes_noted, quiet_step, refused_step, settled_as, write_requests}
 unfoldable pub use Rattle.lease_model.specs.client.Step.{turned}
-pub use Rattle.lease_model.specs.client.Taken.{acknowledgment, base_with, break_on, create_failed_for, created_for, created_on}
-pub use Rattle.lease_model.specs.client.Taken.{failed_on, failed_turn, file_where, first_belief, flushed, given_state, gives_up}
-pub use Rattle.lease_model.specs.client.Taken.{has_sent, is_file_closed, is_key_of, is_numbered, on_file, one_read_less}
-pub use Rattle.lease_model.specs.client.Taken.{phase_with, promoted_belief, read_failed_on, read_on, reads_under, still_open}
-pub use Rattle.lease_model.specs.client.Taken.{unflushed, without_open, write_failed_in}
-unfoldable pub use Rattle.lease_model.specs.client.Taken.{belief_lowered, break_turn, broken, closed_by_server, create_answered}
-unfoldable pub use Rattle.lease_model.specs.client.Taken.{create_failed, create_failed_on_live, created_on_live, opened_turn}
-unfoldable pub use Rattle.lease_model.specs.client.Taken.{parked_closed, promoted_turn, read_answered, read_failed}
-unfoldable pub use Rattle.lease_model.specs.client.Taken.{read_failed_turn, read_turn, reconnected_turn, sent_without, taken}
-unfoldable pub use Rattle.lease_model.specs.client.Taken.{write_done, write_done_turn, write_failed}
+pub use Rattle.lease_model.specs.client.Taken.{acknowledgment, base_with, belief_lowered, break_on, closed_by_server}
+pub use Rattle.lease_model.specs.client.Taken.{create_failed_for, created_for, created_on, failed_on, failed_turn, file_where}
+pub use Rattle.lease_model.specs.client.Taken.{first_belief, flushed, given_state, gives_up, has_sent, is_file_closed}
+pub use Rattle.lease_model.specs.client.Taken.{is_key_of, is_numbered, on_file, one_read_less, opened_turn, parked_closed}
+pub use Rattle.lease_model.specs.client.Taken.{phase_with, promoted_belief, promoted_turn, read_failed_on, read_on, read_turn}
+pub use Rattle.lease_model.specs.client.Taken.{reads_under, reconnected_turn, still_open, unflushed, without_open}
+pub use Rattle.lease_model.specs.client.Taken.{write_done_turn, write_failed_in}
+unfoldable pub use Rattle.lease_model.specs.client.Taken.{break_turn, broken, create_answered, create_failed}
+unfoldable pub use Rattle.lease_model.specs.client.Taken.{create_failed_on_live, created_on_live, read_answered, read_failed}
+unfoldable pub use Rattle.lease_model.specs.client.Taken.{read_failed_turn, sent_without, taken, write_done, write_failed}
 pub use Rattle.lease_model.specs.messages.FromBytes.{answer_found, ask_found, reply_of, request_of}
 unfoldable pub use Rattle.lease_model.specs.messages.FromBytes.{acknowledged_in, notice_in}
 pub use Rattle.lease_model.specs.messages.Replies.{BreakNotice, CreateAnswer, LeaseGiven, Out, Reply}
@@ -84,32 +84,33 @@ unfoldable pub use Rattle.lease_model.specs.records.Safe.{is_well_formed}
 pub use Rattle.lease_model.specs.records.Verdict.{Believer, Verdict, caches, caches_writes, is_fresh, is_rival, or_else, verdict}
 unfoldable pub use Rattle.lease_model.specs.records.Verdict.{believers, flaw_at, has_two_caches, is_false_done, is_late_write}
 unfoldable pub use Rattle.lease_model.specs.records.Verdict.{is_stale_read, verdict_from}
-pub use Rattle.lease_model.specs.server.Acknowledge.{judged}
-unfoldable pub use Rattle.lease_model.specs.server.Acknowledge.{acknowledged, break_ended}
+pub use Rattle.lease_model.specs.server.Acknowledge.{break_ended, judged}
+unfoldable pub use Rattle.lease_model.specs.server.Acknowledge.{acknowledged}
 unfoldable pub use Rattle.lease_model.specs.server.Allowed.{allowed, conflicts_on, is_other_on}
-pub use Rattle.lease_model.specs.server.Answers.{concluded, created, on_contexts, on_open, read_done}
-unfoldable pub use Rattle.lease_model.specs.server.Answers.{answered, changed, closed}
+pub use Rattle.lease_model.specs.server.Answers.{changed, closed, concluded, created, on_contexts, on_open, read_done}
+unfoldable pub use Rattle.lease_model.specs.server.Answers.{answered}
 pub use Rattle.lease_model.specs.server.Attempt.{Outcome, Tried, after_breaks, after_finding, ended, is_left_open, must_wait}
 pub use Rattle.lease_model.specs.server.Attempt.{tried}
 unfoldable pub use Rattle.lease_model.specs.server.Attempt.{lease_broken, tried_for, want_met, wants_met}
-pub use Rattle.lease_model.specs.server.Calls.{Call, after_first_try, arrived_on, called, disconnected, file_of_create}
-pub use Rattle.lease_model.specs.server.Calls.{file_of_open, file_request_arrived, held_of, is_left_behind, is_lost}
-unfoldable pub use Rattle.lease_model.specs.server.Calls.{arrived, client_forgotten, cut, expire, file_asked, join, joined}
-unfoldable pub use Rattle.lease_model.specs.server.Calls.{key_expired, opens_disconnected, outlives_connection, receive, scavenge}
+pub use Rattle.lease_model.specs.server.Calls.{Call, after_first_try, arrived_on, called, client_forgotten, disconnected}
+pub use Rattle.lease_model.specs.server.Calls.{file_of_create, file_of_open, file_request_arrived, held_of, is_left_behind}
+pub use Rattle.lease_model.specs.server.Calls.{is_lost, joined, key_expired, opens_disconnected}
+unfoldable pub use Rattle.lease_model.specs.server.Calls.{arrived, cut, expire, file_asked, join, outlives_connection}
+unfoldable pub use Rattle.lease_model.specs.server.Calls.{receive, scavenge}
 pub use Rattle.lease_model.specs.server.Findings.{Finding, asked_finding, by_contexts, by_open, connected_open, read_finding}
 unfoldable pub use Rattle.lease_model.specs.server.Findings.{awaits, create_finding, finding, is_leased_elsewhere}
 unfoldable pub use Rattle.lease_model.specs.server.Findings.{reconnect_finding, write_finding}
-pub use Rattle.lease_model.specs.server.Grant.{asked_key, connected_again, lease_after, lease_given, lease_put, new_open}
-pub use Rattle.lease_model.specs.server.Grant.{standing_lease}
-unfoldable pub use Rattle.lease_model.specs.server.Grant.{granted, granted_with, lease_granted, offered, reconnected}
+pub use Rattle.lease_model.specs.server.Grant.{asked_key, connected_again, granted_with, lease_after, lease_given, lease_put}
+pub use Rattle.lease_model.specs.server.Grant.{new_open, reconnected, standing_lease}
+unfoldable pub use Rattle.lease_model.specs.server.Grant.{granted, lease_granted, offered}
 pub use Rattle.lease_model.specs.server.KeyOrder.{open_key_added}
 unfoldable pub use Rattle.lease_model.specs.server.KeyOrder.{key_added, keys_of}
 pub use Rattle.lease_model.specs.server.Naming.{key_of, key_of_open, key_under, lease_by, lease_of, own_key}
 pub use Rattle.lease_model.specs.server.Passes.{Pass, after_try, is_behind, left_waiting, one_pass, pass_answered, passes}
 unfoldable pub use Rattle.lease_model.specs.server.Passes.{all_passes, pass_over, passes_for, passes_over, tried_again}
-pub use Rattle.lease_model.specs.server.Progress.{Progress, begun, break_notice, refusal_of, replied, with_lease}
-unfoldable pub use Rattle.lease_model.specs.server.Progress.{break_begun, held_left, lease_lowered, opens_dropped, refused}
-unfoldable pub use Rattle.lease_model.specs.server.Progress.{request_held, with_opens}
+pub use Rattle.lease_model.specs.server.Progress.{Progress, begun, break_begun, break_notice, held_left, lease_lowered}
+pub use Rattle.lease_model.specs.server.Progress.{opens_dropped, refusal_of, refused, replied, request_held, with_lease}
+pub use Rattle.lease_model.specs.server.Progress.{with_opens}
 pub use Rattle.lease_model.specs.server.Queries.{breaking, kept}
 pub use Rattle.lease_model.specs.server.Ready.{breaks_to_none, breaks_to_some, leaves_nothing, leaves_something}
 unfoldable pub use Rattle.lease_model.specs.server.Ready.{is_ready, waits_for}

@@ -20,10 +20,9 @@ use Rattle.lease_model.specs.worked.ServerWords.{server_after, outs_along}
 use Rattle.lease_model.proofs.ValuesCompute.{the_values}
 
 unfoldable pub the_server : ⊤
-unfolding the_values break_ended acknowledged is_other_on allowed conflicts_on changed closed answered lease_broken want_met
-    wants_met tried_for file_asked arrived receive joined join outlives_connection opens_disconnected client_forgotten cut
-    key_expired expire scavenge is_leased_elsewhere create_finding awaits reconnect_finding write_finding finding offered
-    lease_granted granted_with granted reconnected key_added keys_of tried_again pass_over passes_for passes_over all_passes
-    with_opens opens_dropped lease_lowered break_begun request_held held_left refused is_ready waits_for new_server wants_where
-    handle_wants write_wants all_wants server_after outs_along
+unfolding the_values acknowledged is_other_on allowed conflicts_on answered lease_broken want_met wants_met tried_for
+    file_asked arrived receive join outlives_connection cut expire scavenge is_leased_elsewhere create_finding awaits
+    reconnect_finding write_finding finding offered lease_granted granted key_added keys_of tried_again pass_over passes_for
+    passes_over all_passes is_ready waits_for new_server wants_where handle_wants write_wants all_wants server_after
+    outs_along
 the_server = tt

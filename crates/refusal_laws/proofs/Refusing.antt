@@ -10,6 +10,8 @@ use Rattle.lease_laws.proofs.Words.{not, opens_dropped, receive, refl, refusal_o
 use Rattle.lease_laws.proofs.Words.{tried_for, true, true≢false, want_met, wants_met, with_opens, zero}
 use Rattle.lease_laws.proofs.server.Lists.{if_cases, either, and_parts, not_parts, among_filter, among_filtered}
 use Rattle.lease_laws.proofs.server.Met.{lease_broken-opens}
+use Rattle.lease_laws.proofs.server.cases.Calls.{judges, receives}
+use Rattle.lease_laws.proofs.server.cases.Judgements.{any_judgement}
 use Rattle.lease_model.specs.server.Calls.{first_tried}
 use Rattle.refusal_laws.specs.Refusals.{NeedsRound, IsClosedByBreak, IsLeftAlone, RefusedAsTheyCome, RefusedOnceTried}
 use Rattle.refusal_laws.specs.Refusals.{ClosesAreRefusedAsTheyCome, RefusedAcknowledgments, passes_behind, CallsRefusedAsTheyCome}
@@ -27,7 +29,6 @@ pub record IsOfWant (wants : List Want) (one : Open) : Type 0 where
 dropped_alone : (key : Key) (progress : Progress)
     → IsLeftAlone (λ one. (has_key key one ≡ true) × (one.connected ≡ false)) progress.server
     (opens_dropped (is_left_open key) progress).server
-unfolding opens_dropped with_opens
 dropped_alone key progress = record {
   contents = refl;
   were = λ one a. (among_filter (λ o. not (is_left_open key o)) one progress.server.opens a).0;
@@ -39,7 +40,7 @@ dropped_alone key progress = record {
 
 broken_contents : (key : Key) (lowered : State) (progress : Progress)
     → (lease_broken key lowered progress).server.contents ≡ progress.server.contents
-unfolding lease_broken break_begun lease_lowered
+unfolding lease_broken
 broken_contents key lowered progress = grind arith
 
 met_alone : (want : Want) (progress : Progress)
@@ -150,11 +151,9 @@ tried_alone (suc rounds) client request progress =
     (λ next. tried_alone rounds client request next)
 
 pub refused_once_tried : RefusedOnceTried
-unfolding refused
 refused_once_tried client request progress status is = tried_alone 3 client request progress
 
 pub refused_as_they_come : RefusedAsTheyCome
-unfolding refused
 refused_as_they_come client request progress status is = grind arith
 
 -- ---- closes
@@ -173,65 +172,46 @@ last_same (z ∷ xs) x y e = last_same xs x y (tails e)
     tails : z ∷ (xs ++ x ∷ []) ≡ z ∷ (xs ++ y ∷ []) → xs ++ x ∷ [] ≡ xs ++ y ∷ []
     tails e = cc
 
-judged_alone : (key : Key) (state : State) (broken : Option State) (progress : Progress) (status : Status)
-    → (judged key state broken progress).outs ≡ progress.outs ++ Out.Sent key.client (Reply.AckFailed status) ∷ []
-    → (judged key state broken progress).server ≡ progress.server
-unfolding break_ended
-judged_alone key state None progress status e = refl
-judged_alone key state (Some lowered) progress status e = if_cases
-    (λ (p : Progress). p.outs ≡ progress.outs ++ Out.Sent key.client (Reply.AckFailed status) ∷ [] → p.server ≡ progress.server)
-    (is_state_within state lowered) (break_ended key state progress)
-    (replied key.client (Reply.AckFailed Status.RequestNotAccepted) progress)
-    (λ part x. absurd (done (last_same progress.outs _ _ x))) (λ other x. refl) e
+-- an acknowledgment that ends a break is answered otherwise
+not_both : (xs : List Out) (client : ℕ) (given : Option LeaseOf) (status : Status)
+    → xs ++ Out.Sent client (Reply.AckDone given) ∷ [] ≡ xs ++ Out.Sent client (Reply.AckFailed status) ∷ [] → ⊥
+not_both xs client given status e = apart (last_same xs _ _ e)
   where
-    done : Out.Sent key.client (Reply.AckDone (Some (record { key = key.bytes; state = granted_form_of state })))
-        ≡ Out.Sent key.client (Reply.AckFailed status) → ⊥
-    done e = cc
+    apart : Out.Sent client (Reply.AckDone given) ≡ Out.Sent client (Reply.AckFailed status) → ⊥
+    apart e = cc
 
 pub refused_acknowledgments : RefusedAcknowledgments
-unfolding acknowledged
-refused_acknowledgments client None progress status e = refl
-refused_acknowledgments client (Some given) progress status e = if_cases
-    (λ (p : Progress). p.outs ≡ progress.outs ++ Out.Sent client (Reply.AckFailed status) ∷ [] → p.server ≡ progress.server)
-    (has_lease progress.server (key_of client given.key))
-    (judged (key_of client given.key) given.state (progress.server.leases (key_of client given.key)).broken_to progress)
-    (replied client (Reply.AckFailed Status.ObjectNameNotFound) progress)
-    (λ there x. judged_alone (key_of client given.key) given.state
-    (progress.server.leases (key_of client given.key)).broken_to progress status x)
-    (λ gone x. refl) e
+refused_acknowledgments client given progress status = any_judgement client progress
+    (λ given after. after.outs ≡ progress.outs ++ Out.Sent client (Reply.AckFailed status) ∷ []
+    → after.server ≡ progress.server)
+    (record {
+      failed = λ given why because e. refl;
+      ended = λ told lowered there breaks within e. absurd (not_both progress.outs client _ status e);
+    }) given
 
 -- ---- whole calls
-
-present_so : {X : Type 0} (b : Bool) (x y : X) → b ≡ true → (if b then x else y) ≡ x
-present_so x1 x y e = grind arith
 
 refused_first : (client : ℕ) (request : FileRequest) (progress : Progress) (status : Status)
     → file_asked progress.server client request ≡ Err status
     → first_tried client request progress ≡ replied client (refusal_of request status) progress
-unfolding refused
 refused_first client request progress status is = ap (arrived_on client request progress) is
 
 arrived_refused : (client : ℕ) (request : FileRequest) (progress : Progress) (status : Status)
-    → file_asked progress.server client request ≡ Err status → arrived client (Request.OnFile request) progress
+    → file_asked progress.server client request ≡ Err status → file_request_arrived client request progress
     ≡ passes_behind request (replied client (refusal_of request status) progress)
-unfolding arrived
 arrived_refused client (FileRequest.Close file_id) progress status is =
     ap all_passes (refused_first client (FileRequest.Close file_id) progress status is)
 arrived_refused client request progress status is = refused_first client request progress status is
 
 pub calls_refused_as_they_come : CallsRefusedAsTheyCome
-unfolding receive
 calls_refused_as_they_come server client request status up is =
-    present_so (server.present client) (arrived client (Request.OnFile request) (begun server)) (begun server) up
-    ∙ arrived_refused client request (begun server) status is
+    receives server client request up ∙ arrived_refused client request (begun server) status is
 
 progress_same : (one other : Progress) → one.server ≡ other.server → one.outs ≡ other.outs → one ≡ other
 progress_same one other e f = grind arith
 
 pub calls_of_refused_acknowledgments : CallsOfRefusedAcknowledgments
-unfolding receive arrived
-calls_of_refused_acknowledgments server client given status up is =
-    present_so (server.present client) (all_passes (acknowledged client given (begun server))) (begun server) up
+calls_of_refused_acknowledgments server client given status up is = judges server client given up
     ∙ ap all_passes (progress_same (acknowledged client given (begun server))
     (replied client (Reply.AckFailed status) (begun server)) (refused_acknowledgments client given (begun server) status is) is)
 
@@ -245,8 +225,7 @@ calls_alone : (client file : ℕ) (request : FileRequest) (server : Server) (sta
     → file_asked server client request ≡ Ok file → is_behind client (server.held file) ≡ false
     → (tried client request (begun server)).outcome ≡ Outcome.Refused status
     → IsLeftAlone (IsClosedByBreak client request (begun server)) server
-    (arrived client (Request.OnFile request) (begun server)).server
-unfolding arrived
+    (file_request_arrived client request (begun server)).server
 calls_alone client file (FileRequest.Close file_id) server status asked first is =
     absurd (never (sym asked ∙ closes_are_refused_as_they_come client file_id (begun server) status is))
   where
@@ -263,8 +242,7 @@ calls_alone client file request server status asked first is =
     (refused_once_tried client request (begun server) status is)
 
 pub calls_refused_once_tried : CallsRefusedOnceTried
-unfolding receive
 calls_refused_once_tried server client file request status up asked first is =
     subst (λ (p : Progress). IsLeftAlone (IsClosedByBreak client request (begun server)) server p.server)
-    (sym (present_so (server.present client) (arrived client (Request.OnFile request) (begun server)) (begun server) up))
+    (sym (receives server client request up))
     (calls_alone client file request server status asked first is)

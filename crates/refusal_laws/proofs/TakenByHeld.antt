@@ -89,7 +89,7 @@ again_same file_id one = grind arith
 created_left : (requests : ℕ → List Held) (client file : ℕ) (access : Access) (share : Share) (asked : Option LeaseOf)
     (durable : Bool) (again : Option ℕ) (progress : Progress)
     → IsLeftToHeld requests progress.server (created client file access share asked durable again progress).server
-unfolding granted granted_with reconnected
+unfolding granted
 created_left requests client file access share asked durable None progress = if_cases
     (λ (p : Progress). IsLeftToHeld requests progress.server p.server) (progress.server.last_id == last_file_id)
     (replied client _ progress)
@@ -108,7 +108,6 @@ created_left requests client file access share asked durable (Some file_id) prog
 closed_left : (requests : ℕ → List Held) (at : ℕ) (held : Held) (file file_id : ℕ) (progress : Progress)
     → Among held (requests at) → held.request ≡ FileRequest.Close file_id
     → IsLeftToHeld requests progress.server (closed held.client file_id progress).server
-unfolding closed opens_dropped with_opens
 closed_left requests at held file file_id progress was is = record {
   contents = λ f. inl refl;
   stay = λ one there. either (one.file_id == file_id)
@@ -128,7 +127,7 @@ closed_left requests at held file file_id progress was is = record {
 concluded_left : (requests : ℕ → List Held) (at : ℕ) (held : Held) (request : FileRequest) (progress : Progress)
     (outcome : Outcome) → Among held (requests at) → held.request ≡ request
     → IsLeftToHeld requests progress.server (concluded held.client request progress outcome).server
-unfolding refused answered changed
+unfolding answered
 concluded_left requests at held request progress (Outcome.Refused status) was is = same_left requests progress.server
 concluded_left requests at held request progress Outcome.Waits was is = same_left requests progress.server
 concluded_left requests at held (FileRequest.Create file access share None) progress Outcome.Ready was is =
@@ -201,7 +200,6 @@ passed_over requests start file one waiting pass progress same left p = record {
 
 left_held : (at : ℕ) (left : List Held) (progress : Progress) (requests : ℕ → List Held) → WereHeld requests progress
     → ((x : Held) → Among x left → Among x (requests at)) → WereHeld requests (held_left at left progress)
-unfolding held_left
 left_held at left progress requests were within file x there = either (file == at)
     (λ here. let same = eqb-true file at here in
     subst (λ f. Among x (requests f)) (sym same) (within x (subst (λ l. Among x l)
@@ -216,7 +214,6 @@ answered_pass : (requests : ℕ → List Held) (start : Server) (file : ℕ) (on
     → IsLeftToHeld requests pass.progress.server progress.server → IsPassing requests start file (one ∷ waiting) pass
     → IsPassing requests start file waiting
     (pass_answered file one waiting pass (record { progress = progress; outcome = outcome }))
-unfolding held_left
 answered_pass requests start file one waiting pass progress outcome same left p =
     let gone = held_left file (pass.passed ++ waiting) progress in
     let held = concluded-held one.client one.request gone outcome in

@@ -19,7 +19,6 @@ with_held server client file request = record server {
 held_now : (table after : Table) (outs : List Out) (client file : ℕ) (request : FileRequest)
     → server_of after ≡ with_held (server_of table) client file request
     → progress_of after outs ≡ request_held file (held_of client request) (progress_of table outs)
-unfolding request_held
 held_now table after outs client file request is = silent table after outs _ is
 
 pub behind_held : (table after : Table) (outs : List Out) (client file : ℕ) (request : FileRequest)
@@ -46,5 +45,5 @@ pub faulty_create : (table : Table) (outs more : List Out) (client file : ℕ) (
     (fault : WireFault) (found : Result CreateView WireFault) → Err fault ≡ found
     → more ≡ outs ++ Out.Sent client (Reply.CreateFailed file Status.InvalidParameter) ∷ [] → progress_of table more
     ≡ first_tried client (FileRequest.Create file access share (ask_found found)) (progress_of table outs)
-unfolding file_asked refused
+unfolding file_asked
 faulty_create table outs more client file access share fault found is told = grind arith

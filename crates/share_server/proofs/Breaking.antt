@@ -21,7 +21,6 @@ silent table after outs server is = ap (at_step outs) is ∙ ap (λ given. at_st
 pub dropped : (table after : Table) (outs : List Out) (test : Open → Bool)
     → server_of after ≡ with_opens (server_of table) (without test (server_of table).opens)
     → progress_of after outs ≡ opens_dropped test (progress_of table outs)
-unfolding opens_dropped
 dropped table after outs test is = silent table after outs _ is
 
 pub not_broken : (progress : Progress) (key : Key) (lowered : State)
@@ -42,7 +41,6 @@ begun_or_lowered : (table after : Table) (outs given : List Out) (key : Key) (lo
     → given ≡ outs ++ Out.Sent key.client (break_notice key ((server_of table).leases key).state lowered) ∷ []
     → progress_of after given ≡ (if needs_acknowledgment ((server_of table).leases key).state
     then break_begun key lowered (progress_of table outs) else lease_lowered key lowered (progress_of table outs))
-unfolding lease_lowered break_begun
 begun_or_lowered table after outs given key lowered is told = grind arith
 
 pub is_broken : (table after : Table) (outs given : List Out) (key : Key) (lowered : State) (lease : Lease)

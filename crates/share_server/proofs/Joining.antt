@@ -31,7 +31,6 @@ pub tables_joined : (table : Table) (client : ClientNo) → progress_of (record 
   present = table.present ++ client ∷ [];
   expired = filter (λ key. not (key.client == client.0)) table.expired;
 }) [] ≡ joined client.0 (progress_of table [])
-unfolding joined
 tables_joined table client = same_known (server_of table) _ _ _ _ (fun_ext (present_more table.present client))
     (fun_ext (expired_less table.expired client.0))
 
@@ -62,7 +61,6 @@ pub tables_forgotten : (table : Table) (client : ClientNo) → progress_of (reco
   files = map (file_without client.0) table.files;
   present = filter (λ one. not (one.0 == client.0)) table.present;
 }) [] ≡ client_forgotten client.0 (progress_of table [])
-unfolding client_forgotten
 tables_forgotten table client = same_clients (server_of table) _ _ _ _ _ _
     (fun_ext (λ n. ap (λ (file : File). file.content) (places_without client.0 table.files n)))
     (fun_ext (λ n. ap (λ (file : File). file.held) (places_without client.0 table.files n)))

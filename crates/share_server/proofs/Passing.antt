@@ -126,7 +126,6 @@ released : (before after : Table) (outs : List Out) (file place : ℕ) (q : List
       held = put (server_of before).held file (remove ((server_of before).held file) place);
     } → (server_of before).held file ≡ q
     → progress_of after outs ≡ held_left file (without_place q place) (progress_of before outs)
-unfolding held_left
 released before after outs file place q is same =
     let e : suc place ≡ place + 1 = omega arith in
     silent before after outs _ is ∙ ap (λ left. held_left file left (progress_of before outs))

@@ -43,7 +43,6 @@ lease_left server key spare = grind arith
 
 dropped_none : (server : Server) (test : Open → Bool) (outs : List Out) → HasNoSpare server
     → list_any test server.opens ≡ false → opens_dropped test (at_call server outs) ≡ at_call server outs
-unfolding opens_dropped with_opens
 dropped_none server test outs spare none =
     ap (λ opens. built server opens (left_leases server opens) (outs ++ [])) (none_out test server.opens none)
     ∙ (ap (λ leases. built server server.opens leases (outs ++ [])) (fun_ext (λ key. lease_left server key spare))

@@ -202,7 +202,6 @@ pub table_closed : (table : Table) (closing : Closing) (ids : List ℕ) (summari
     → ids ≡ map (λ one. one.file_id) (filter (closes closing (lease_in summaries)) table.opens)
     → HaveClosed table.opens ids summaries left after → server_of (record table { opens = left; leases = listed after })
     ≡ with_opens (server_of table) (without (closes closing (server_of table).leases) (server_of table).opens)
-unfolding with_opens
 table_closed table closing ids summaries after left same order are closed =
     let chosen_ones : (one : Open) → Among one table.opens → is_one_of ids one ≡ closes closing (lease_in summaries) one =
     λ one a. rw are (chosen (closes closing (lease_in summaries)) table.opens one order a) in

@@ -69,7 +69,7 @@ fn judge(tables: &mut Tables, outs: &mut Outs, key: Key, state: LeaseState) -> R
 }
 
 // The lease has the granted form of the acknowledged state, and isn't breaking.
-#[tactic(auto, unfolding(lease_model::specs::server::Acknowledge::break_ended))]
+#[tactic(auto)]
 fn end_break(
     tables: &mut Tables,
     outs: &mut Outs,

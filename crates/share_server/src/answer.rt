@@ -24,7 +24,7 @@ use lease_state::{ClientNo, FileId, FileNo, Memory, Patch};
 /// # Errors
 ///
 /// `Memory` where there is none left.
-#[tactic(auto, unfolding(lease_model::specs::server::Progress::refused))]
+#[tactic(auto)]
 pub fn conclude(
     tables: &mut Tables,
     outs: &mut Outs,
@@ -117,7 +117,7 @@ fn read(tables: &mut Tables, outs: &mut Outs, client: ClientNo, fid: FileId) -> 
 }
 
 // A write changes its file, and its reply follows directly (3.3.5.13).
-#[tactic(auto, unfolding(lease_model::specs::server::Answers::changed))]
+#[tactic(auto)]
 fn write(
     tables: &mut Tables,
     outs: &mut Outs,

@@ -97,7 +97,7 @@ fn create(
 }
 
 // A request is tried as it comes.
-#[tactic(auto, unfolding(lease_model::specs::server::Progress::refused))]
+#[tactic(auto)]
 fn first_try(
     tables: &mut Tables,
     outs: &mut Outs,

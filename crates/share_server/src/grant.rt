@@ -50,7 +50,7 @@ pub fn grant(tables: &mut Tables, outs: &mut Outs, opening: Opening) -> Result<(
 }
 
 // Grants a new open with this lease.
-#[tactic(auto, unfolding(lease_model::specs::server::Grant::granted_with))]
+#[tactic(auto)]
 fn grant_with(
     tables: &mut Tables,
     outs: &mut Outs,
@@ -166,7 +166,7 @@ fn offered(tables: &Tables, key: Key, file: FileNo, want: LeaseState) -> LeaseSt
 /// # Errors
 ///
 /// `Memory` where there is none left.
-#[tactic(auto, unfolding(lease_model::specs::server::Grant::reconnected))]
+#[tactic(auto)]
 pub fn reconnect(
     tables: &mut Tables,
     outs: &mut Outs,

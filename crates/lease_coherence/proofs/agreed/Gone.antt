@@ -37,7 +37,6 @@ itself n = omega arith
 
 fewer_gone : (id : ℕ) (server : Server) (test : Open → Bool) → IsGoneFrom id server
     → IsGoneFrom id (with_opens server (without test server.opens))
-unfolding with_opens
 fewer_gone id server test g = same_gone id server (with_opens server (without test server.opens)) (itself server.last_id)
     (λ one there. (one, (among_filter (λ o. not (test o)) one server.opens there).0, refl)) g
 
@@ -98,7 +97,7 @@ stepped_gone : (id : ℕ) (world : World) (c : ℕ) (step : Step) → IsGone id 
 stepped_gone id world c step g = subst (IsGoneFrom id) (sym (stepped_server world c step)) g
 
 gone_moves : (id : ℕ) → IsMoved HasLeases (IsGone id)
-unfolding opens_dropped opens_disconnected client_forgotten key_expired joined requests_sent with_opens
+unfolding requests_sent
 gone_moves id world (Move.Step step) next v g = step_deed world (IsGone id) (deeds_gone id world g) step next
 gone_moves id world (Move.Cut c) up v g = let left = fewer_gone id world.server (is_lost world.server c) g in
     same_gone id (with_opens world.server (without (is_lost world.server c) world.server.opens)) _ (itself world.server.last_id)

@@ -60,7 +60,7 @@ as_was : (client : Client) (file : ℕ) (live : LiveEntry) → (client.entries f
 as_was client file live is = subst (λ p. Within live.belief (belief_in p)) (sym is) (same_within live.belief)
 
 commands_low : (client : Client) → HasCommands client (StaysLow client)
-unfolding cached_read opened_anew write_buffered write_sent flush_on_live turned
+unfolding turned
 commands_low client = record {
   refused = λ refusal file. same_within (belief client file);
   opening = λ file terms is on. put_low client file _ refl;
@@ -129,8 +129,7 @@ with_same write (Phase.Live live) = same_within live.belief
 with_same write phase = refl
 
 takes_low : (client : Client) → HasTakes client (LowOrGranted client)
-unfolding opened_turn reconnected_turn promoted_turn read_turn write_done_turn turned parked_closed belief_lowered
-    closed_by_server
+unfolding turned
 takes_low client = record {
   passed = λ reply why file. inl (same_within (belief client file));
   parked_closes = λ file notice live at is parked f. inl (put_low client file _ refl f);
@@ -176,7 +175,7 @@ connect_low client file sent (Phase.Live live) = same_within live.belief
 connect_low client file sent phase = refl
 
 pub beliefs_rise_by_grants : BeliefsRiseByGrants
-unfolding noticed connection_made all_turned
+unfolding all_turned
 beliefs_rise_by_grants client (ClientCall.Commanded command) file =
     inl (any_command client (StaysLow client) (commands_low client) command file)
 beliefs_rise_by_grants client (ClientCall.Taken reply) file = any_reply client (LowOrGranted client) (takes_low client) reply file

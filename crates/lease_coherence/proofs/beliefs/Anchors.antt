@@ -43,7 +43,7 @@ ack_till key file_id notice state own = if_cases (OpenTillAck key file_id) notic
 lowered_anchors : (machine : Client) (at : ℕ) (notice : BreakNotice) (live : LiveEntry)
     → is_key_of machine notice.key at ≡ true → (machine.entries at).phase ≡ Phase.Live live → AnchorsOn machine (turned machine at
     (belief_lowered live (sent_of machine at) notice (meet live.belief notice.lowered)))
-unfolding turned belief_lowered
+unfolding turned
 lowered_anchors machine at notice live own is file =
     let new = meet live.belief notice.lowered in
     either (file == at)

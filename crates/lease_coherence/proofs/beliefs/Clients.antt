@@ -112,7 +112,6 @@ lowered_takes : (machine : Client) (at : ℕ) (notice : BreakNotice) (live : Liv
     → is_key_of machine notice.key at ≡ true → (machine.entries at).phase ≡ Phase.Live live
     → TakesBelief machine (Reply.Break (Some notice))
     (turned machine at (belief_lowered live (sent_of machine at) notice (meet live.belief notice.lowered)))
-unfolding belief_lowered
 lowered_takes machine at notice live own is formed =
     let unsent = flushed live.belief (meet live.belief notice.lowered) live.unsent in
     turn_takes machine (Reply.Break (Some notice)) at _ (lowered_elsewhere machine at notice live own)

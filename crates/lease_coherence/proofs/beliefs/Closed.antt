@@ -81,7 +81,6 @@ anchor_stays world server replies past c file held a there = record {
 
 pub lease_stays : (server : Server) (opens : List Open) (key : Key) → list_any (has_key key) opens ≡ true
     → (with_opens server opens).leases key ≡ server.leases key
-unfolding with_opens
 lease_stays server opens key some = if_cases (λ l. l ≡ server.leases key) (list_any (has_key key) opens)
     (server.leases key) no_lease (λ there. refl) (λ none. clash (list_any (has_key key) opens) some none)
 
@@ -91,7 +90,6 @@ pub dropped_trusted : (world : World) (c : ℕ) (test : Open → Bool)
     → ((one : Open) → test one ≡ true → one.connected ≡ false) → IsStandingAt (without_opens world test) c
     → ((one : Open) → Among one (without_opens world test).server.opens → one.client ≡ c
     → IsOwnOpen (world.clients c).guid one) → HasTrust world c → HasTrust (without_opens world test) c
-unfolding with_opens
 dropped_trusted world c test away s own t =
     let server = with_opens world.server (without test world.server.opens) in
     fewer_trusted world server world.replies world.past c (record {
@@ -113,7 +111,6 @@ pub closed_trusted : (world off : World) (c file_id : ℕ) → IsSource world of
     → ((one : Open) → Among one (without_opens off (λ other. other.file_id == file_id)).server.opens → one.client ≡ c
     → IsOwnOpen (off.clients c).guid one) → HasTrust world c
     → HasTrust (told_to (without_opens off (λ other. other.file_id == file_id)) c (Reply.Closed file_id)) c
-unfolding with_opens
 closed_trusted world off c file_id source s own t =
     let test : Open → Bool = λ other. other.file_id == file_id in
     let server = with_opens off.server (without test off.server.opens) in
@@ -144,7 +141,6 @@ closed_trusted world off c file_id source s own t =
 pub timer_trusted : (world : World) (c file : ℕ) → IsStandingAt (timed_out world c file) c
     → ((one : Open) → Among one world.server.opens → one.client ≡ c → IsOwnOpen (world.clients c).guid one)
     → HasTrust world c → HasTrust (timed_out world c file) c
-unfolding key_expired opens_dropped with_opens
 timer_trusted world c file s own t =
     let key = machine_key world c file in
     let server = (timed_out world c file).server in
@@ -185,5 +181,4 @@ timer_trusted world c file s own t =
 -- the opens that are left were there
 pub left_there : (world : World) (test : Open → Bool) (one : Open)
     → Among one (without_opens world test).server.opens → Among one world.server.opens
-unfolding with_opens
 left_there world test one there = (among_filter (λ o. not (test o)) one world.server.opens there).0

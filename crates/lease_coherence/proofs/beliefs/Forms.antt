@@ -116,7 +116,6 @@ wrote_still machine at entry answer requests write about had =
     record { about = about; beliefs = put_still machine at entry had }
 
 pub commands_still : (machine : Client) → HasCommands machine (IsStill machine)
-unfolding cached_read opened_anew write_buffered write_sent flush_on_live
 commands_still machine = record {
   refused = λ refusal. idle_still machine (Answer.Refused refusal);
   opening = λ file terms is on. turned_still machine file _ (tt, tt)
@@ -182,12 +181,10 @@ gone_idle (Some asked) sent = refl
 
 pub parked_still : (machine : Client) (at : ℕ) (live : LiveEntry)
     → IsStill machine (turned machine at (parked_closed live (sent_of machine at)))
-unfolding parked_closed
 parked_still machine at live = turned_still machine at _ (writes_close_about live.file_id live.unsent [] tt)
     (λ now e. never_live (machine.entries at).phase Phase.Closed refl now e)
 
 pub takes_by_belief : (machine : Client) (P : Reply → Step → Type 0) → HasBeliefTakes machine P → HasTakes machine P
-unfolding opened_turn reconnected_turn promoted_turn read_turn write_done_turn closed_by_server
 takes_by_belief machine P h = record {
   passed = h.passed;
   parked_closes = λ at notice live found is parked. h.parked at notice live

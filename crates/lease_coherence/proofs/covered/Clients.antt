@@ -102,7 +102,6 @@ not_live : (phase : Phase) (live : LiveEntry) → phase ≡ Phase.Closed → pha
 not_live phase live closed is = cc
 
 pub commands_cover : (machine : Client) → HasCommands machine (StepCovers machine)
-unfolding cached_read opened_anew write_buffered write_sent flush_on_live
 commands_cover machine = record {
   refused = λ refusal. idle_covers machine (Answer.Refused refusal);
   opening = λ file terms is on. turned_covers machine file _
@@ -294,7 +293,6 @@ gone_covers machine reply at gone live turn is id none failed = turn_takes machi
     one_live x y e = cc
 
 pub takes_cover : (machine : Client) → IsSoundClient machine → HasTakes machine (TakeCovers machine)
-unfolding opened_turn reconnected_turn promoted_turn read_turn write_done_turn parked_closed belief_lowered closed_by_server
 takes_cover machine s = record {
   passed = λ reply why. passed_covers machine reply why;
   parked_closes = λ at notice live found is parked. plain_turn machine (Reply.Break (Some notice)) at _ (λ file i g. g)

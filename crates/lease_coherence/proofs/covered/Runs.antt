@@ -168,7 +168,6 @@ held_covered world at one oldest turn g h =
 -- ---- opens that close
 
 dropped_covered : (world : World) (c : ℕ) (test : Open → _) → HasCovered world c → HasCovered (without_opens world test) c
-unfolding with_opens
 dropped_covered world c test h =
     let new = without_opens world test in
     let k : KeepsOpens world new c = record {
@@ -185,7 +184,6 @@ dropped_covered world c test h =
 
 closed_covered : (off : World) (c id : ℕ) → IsLeftCovered off c (Request.OnFile (FileRequest.Close id))
     → HasCovered (told_to (without_opens off (λ other. other.file_id == id)) c (Reply.Closed id)) c
-unfolding with_opens
 closed_covered off c id h =
     let test : Open → _ = λ other. other.file_id == id in
     let reply = Reply.Closed id in
@@ -208,7 +206,6 @@ closed_covered off c id h =
     }
 
 timer_covered : (world : World) (c file : ℕ) → HasCovered world c → HasCovered (timed_out world c file) c
-unfolding key_expired opens_dropped with_opens
 timer_covered world c file h =
     let new = timed_out world c file in
     let key = machine_key world c file in
@@ -233,7 +230,6 @@ timer_covered world c file h =
 -- ---- a client connects: none of its opens is connected
 
 connect_covered : (world : World) (c : ℕ) → Ground world → world.links c ≡ Link.Down → HasCovered (connected world c) c
-unfolding joined
 connect_covered world c g down =
     let idle = connect_idle world c g down in
     let same : (connected world c).server.opens ≡ world.server.opens =

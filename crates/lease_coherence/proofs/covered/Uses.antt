@@ -31,7 +31,7 @@ flushed_uses client file live is (write ∷ writes) =
     (record { file = file; live = live; is = is; id = refl }, flushed_uses client file live is writes)
 
 pub commands_use : (client : Client) → HasCommands client (StepUses client)
-unfolding cached_read opened_anew write_buffered write_sent flush_on_live turned
+unfolding turned
 commands_use client = record {
   refused = λ refusal. tt;
   opening = λ file terms is on. (tt, tt);
@@ -49,8 +49,7 @@ commands_use client = record {
 }
 
 pub takes_use : (client : Client) → HasTakes client (λ reply step. StepUses client step)
-unfolding opened_turn reconnected_turn promoted_turn read_turn write_done_turn turned parked_closed belief_lowered
-    closed_by_server
+unfolding turned
 takes_use client = record {
   passed = λ reply why. tt;
   parked_closes = λ file notice live at is parked. uses_writes client file live is live.unsent _ (tt, tt);

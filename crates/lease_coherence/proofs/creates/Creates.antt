@@ -373,7 +373,7 @@ unknown_idle client file closed =
 
 connect_at : (world : World) (client : ℕ) → Ground world → world.links client ≡ Link.Down
     → IsCountedAt (connected world client) client
-unfolding joined connection_made all_turned
+unfolding all_turned
 connect_at world client g down up file =
     let machine = world.clients client in
     let back = come_back world client in
@@ -404,7 +404,6 @@ unmoved_at world new c u a = same_counts world new c u.link u.machine
     + answers file q) u.replies) a
 
 pub creates_move : IsOwnMoved HasStructure IsCountedAt
-unfolding with_opens key_expired opens_dropped
 creates_move = record {
   unmoved = λ world new c v good u a. unmoved_at world new c u a;
   refused = λ world off c request status v good source may a.

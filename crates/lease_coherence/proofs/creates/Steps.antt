@@ -84,7 +84,6 @@ wrote_counts client file entry answer requests write none same other = by_client
     (put_other client.entries file entry other ne))
 
 pub commands_count : (client : Client) → HasCommands client (IsCountedStep client none_answered)
-unfolding cached_read opened_anew write_buffered write_sent flush_on_live
 commands_count client = record {
   refused = λ refusal file. refl;
   opening = λ file terms is on. asking_turn client file _ (ap has_asked is.is_so) refl
@@ -158,7 +157,6 @@ passed_counts c client past (_) why named low file = refl
 pub takes_count : (c : ℕ) (client : Client) (past : List Fact)
     → ((file : ℕ) (live : LiveEntry) → (client.entries file).phase ≡ Phase.Live live → (live.handles == 0) ≡ true
     → is_asking live ≡ false) → HasTakes client (IsCountedTake c client past)
-unfolding opened_turn reconnected_turn promoted_turn read_turn write_done_turn parked_closed belief_lowered closed_by_server
 takes_count c client past parked = record {
   passed = λ reply why named low file. passed_counts c client past reply why named low file;
   parked_closes = λ file notice live at is closes named low. quiet_turn client file _

@@ -84,7 +84,6 @@ idle_keeps machine answer notes =
     record { live = λ file now e. was_it (machine.entries file).phase now e; about = tt }
 
 pub commands_keep : (machine : Client) → HasCommands machine (KeepsLive machine)
-unfolding cached_read opened_anew write_buffered write_sent flush_on_live
 commands_keep machine = record {
   refused = λ refusal. idle_keeps machine (Answer.Refused refusal) [];
   opening = λ file terms is on. turned_keeps machine file _ (tt, tt)

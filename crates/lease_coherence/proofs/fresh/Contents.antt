@@ -33,7 +33,7 @@ changed_contents contents past at client number patch has file = either (at == f
     (λ e. clash (at == file) (eq-eqb at file (sym e)) apart) ∙ has file))
 
 deeds_contents : (world : World) → HasContents world → HasDeeds world HasContents
-unfolding with_opens content_of
+unfolding content_of
 deeds_contents world h = record {
   refused = λ off client request status source may. off_contents world off client request source h;
   full = λ off client file access share ask source. off_contents world off client _ source h;
@@ -72,7 +72,7 @@ stepped_contents world client step h file = ap (λ (s : Server). s.contents file
     ∙ h file ∙ sym (ap (content_of file) (stepped_past world client step) ∙ noted_content client world.past step.notes file)
 
 pub contents_moves : IsMoved Ground HasContents
-unfolding joined key_expired opens_dropped with_opens opens_disconnected client_forgotten requests_sent content_of
+unfolding requests_sent content_of
 contents_moves world (Move.Step step) next g h = step_deed world HasContents (deeds_contents world h) step next
 contents_moves world (Move.Expire client file) (on, breaks) g h = h
 contents_moves world (Move.Scavenge file_id) may g h = h

@@ -68,7 +68,6 @@ dropped_fresh : (world : World) (c : ℕ) (test : Open → Bool) (file : ℕ) �
     → ((one : Open) → Among one (without_opens world test).server.opens → one.client ≡ c → IsOwnOpen (world.clients c).guid one)
     → world.server.expired (machine_key world c file) ≡ false → IsFreshIn world c file
     → IsFreshIn (without_opens world test) c file
-unfolding with_opens
 dropped_fresh world c test file s own fresh f = record {
   old = f.old;
   base = f.base;
@@ -85,7 +84,6 @@ closed_fresh : (off : World) (c file_id : ℕ) (file : ℕ)
     → off.server.expired (machine_key off c file) ≡ false → takings c off.past ≤ length (sendings c off.past)
     → IsFreshIn off c file
     → IsFreshIn (told_to (without_opens off (λ other. other.file_id == file_id)) c (Reply.Closed file_id)) c file
-unfolding with_opens
 closed_fresh off c file_id file s own fresh low f =
     let test : Open → Bool = λ other. other.file_id == file_id in
     let reply = Reply.Closed file_id in
@@ -118,7 +116,6 @@ timer_fresh : (world : World) (c at file : ℕ) → IsStandingAt (timed_out worl
     → ((one : Open) → Among one world.server.opens → one.client ≡ c → IsOwnOpen (world.clients c).guid one)
     → (timed_out world c at).server.expired (machine_key world c file) ≡ false → IsFreshIn world c file
     → IsFreshIn (timed_out world c at) c file
-unfolding key_expired opens_dropped with_opens
 timer_fresh world c at file s own fresh f =
     let key = machine_key world c at in
     let past = timed_past c c at file world.past in
@@ -141,7 +138,6 @@ timer_fresh world c at file s own fresh f =
 
 timer_was : (world : World) (c at file : ℕ) → (timed_out world c at).server.expired (machine_key world c file) ≡ false
     → world.server.expired (machine_key world c file) ≡ false
-unfolding key_expired opens_dropped with_opens
 timer_was world c at file = put_key-cases (λ b. b ≡ false → world.server.expired (machine_key world c file) ≡ false)
     world.server.expired (machine_key world c at) true (machine_key world c file)
     (λ same e. absurd (true≢false e)) (λ other e. e)
@@ -351,7 +347,7 @@ joined_places d past = by_same (d == d) (eq-eqb d d refl)
 
 connect_fresh : (world : World) (c : ℕ) → Ground world → world.links c ≡ Link.Down → (file : ℕ)
     → IsFreshIn (connected world c) c file
-unfolding joined connection_made all_turned
+unfolding all_turned
 connect_fresh world c g down file =
     let machine = world.clients c in
     let back = come_back world c in
@@ -418,7 +414,6 @@ due_of world c reply queue v good up first = record {
 }
 
 pub fresh_moves : IsOwnMoved HasRecord IsUpFresh
-unfolding with_opens
 fresh_moves = record {
   unmoved = λ world new c v good u a up file fresh.
       unmoved_fresh world new c u (ground_of world v).fine.sound (own_of world v c good) file

@@ -119,7 +119,6 @@ lowered_fresh : (c : ℕ) (machine : Client) (past : List Fact) (at : ℕ) (noti
     → (machine.entries at).phase ≡ Phase.Live live → new ≡ meet live.belief notice.lowered
     → TakesFresh c machine past (Reply.Break (Some notice))
     (turned machine at (belief_lowered live (sent_of machine at) notice new))
-unfolding belief_lowered
 lowered_fresh c machine past at notice live new s own was is =
     let writes = write_requests live.file_id (flushed live.belief new live.unsent) in
     let about = writes_about live.file_id (flushed live.belief new live.unsent) in
@@ -156,7 +155,6 @@ lowered_fresh c machine past at notice live new s own was is =
 parked_fresh : (c : ℕ) (machine : Client) (past : List Fact) (at : ℕ) (notice : BreakNotice) (live : LiveEntry)
     → IsSoundClient machine → bytes_eq (lease_key machine.guid at) notice.key ≡ true
     → TakesFresh c machine past (Reply.Break (Some notice)) (turned machine at (parked_closed live (sent_of machine at)))
-unfolding parked_closed
 parked_fresh c machine past at notice live s own = turn_fresh c machine past (Reply.Break (Some notice)) at _ s
     (λ file ne. broken_elsewhere c machine past at notice file own ne)
     (λ file reads ne. all_about (lease_key machine.guid file) reads _ (writes_close_about live.file_id live.unsent [] tt))
@@ -172,7 +170,6 @@ parked_fresh c machine past at notice live s own = turn_fresh c machine past (Re
 read_fresh : (c : ℕ) (machine : Client) (past : List Fact) (at file_id : ℕ) (bytes : List ℕ) (live : LiveEntry)
     → IsSoundClient machine → IsKnownBy c machine past → (machine.entries at).phase ≡ Phase.Live live → live.file_id ≡ file_id
     → TakesFresh c machine past (Reply.ReadDone file_id bytes) (turned machine at (read_turn live (sent_of machine at) bytes))
-unfolding read_turn
 read_fresh c machine past at file_id bytes live s k was id = turn_fresh c machine past (Reply.ReadDone file_id bytes) at _ s
     (λ file ne. record { reads = λ e. refl; same = λ e old new f. f })
     (λ file reads ne. tt)
@@ -228,7 +225,6 @@ each_among P (w ∷ pending) write each a =
 written_fresh : (c : ℕ) (machine : Client) (past : List Fact) (at file_id number : ℕ) → IsSoundClient machine
     → IsKnownBy c machine past → has_sent machine number at ≡ true → TakesFresh c machine past (Reply.WriteDone file_id number)
     (turned machine at (write_done_turn number (machine.entries at)))
-unfolding write_done_turn
 written_fresh c machine past at file_id number s k has = turn_fresh c machine past (Reply.WriteDone file_id number) at _ s
     (λ file ne. written_elsewhere c machine past k at file_id number has file ne)
     (λ file reads ne. tt)
@@ -282,7 +278,6 @@ gone_idle (Some asked) sent = refl
 
 pub takes_fresh : (c : ℕ) (machine : Client) (past : List Fact) → IsSoundClient machine → IsKnownBy c machine past
     → HasTakes machine (TakesFresh c machine past)
-unfolding opened_turn reconnected_turn promoted_turn closed_by_server
 takes_fresh c machine past s k = record {
   passed = λ reply why. plain_fresh c machine past reply (quiet_step machine) s (idle_keeps machine Answer.Quiet [])
       (passed_plain c machine past reply s why);

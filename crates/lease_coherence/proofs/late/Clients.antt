@@ -142,7 +142,6 @@ unfolding turned
 plain_sends client at turn others = SendsWrites.NoWrite others
 
 pub commands_from : (client : Client) → HasCommands client (StepFrom client no_settles)
-unfolding cached_read opened_anew write_buffered write_sent flush_on_live
 commands_from client = record {
   refused = λ refusal. record {
     sends = SendsWrites.NoWrite tt;
@@ -192,7 +191,6 @@ flushed_all false unsent w a = absurd a
 lowered_from : (client : Client) (at : ℕ) (notice : BreakNotice) (live : LiveEntry) (new : State)
     → (client.entries at).phase ≡ Phase.Live live
     → StepFrom client no_settles (turned client at (belief_lowered live (sent_of client at) notice new))
-unfolding belief_lowered
 lowered_from client at notice live new is = quiet_from client at _
     (flush_some client at _ live (flushed live.belief new live.unsent) is
     (flushed_all (gives_up live.belief new) live.unsent) (acknowledgment notice new)
@@ -283,7 +281,6 @@ passed_from client reply why = record {
 
 pub takes_from : (client : Client) → IsSoundClient client
     → HasTakes client (λ reply step. StepFrom client (λ number. settles_of number reply) step)
-unfolding opened_turn reconnected_turn promoted_turn read_turn write_done_turn parked_closed closed_by_server
 takes_from client s = record {
   passed = λ reply why. passed_from client reply why;
   parked_closes = λ at notice live found is parked. quiet_from client at _ (flush_sends client at _ live _ is (tt, tt) refl)

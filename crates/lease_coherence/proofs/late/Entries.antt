@@ -111,7 +111,6 @@ same_turn world c client at live now turn is so sent id belief unsent = less_tur
 
 pub commands_safe : (world : World) (c : ℕ) (client : Client)
     → ((file : ℕ) → is_touched c file (client.last_number + 1) world.past ≡ false) → HasCommands client (StepSafe world c client)
-unfolding cached_read opened_anew write_buffered write_sent flush_on_live
 commands_safe world c client fresh = record {
   refused = λ refusal file p. p;
   opening = λ file terms is on. turned_safe world c client file _ (λ p. tt);
@@ -215,7 +214,6 @@ grant_taken world c client file file_id answer guid known t write x there by id 
 lowered_safe : (world : World) (c : ℕ) (client : Client) (at : ℕ) (notice : BreakNotice) (live : LiveEntry)
     → (client.entries at).phase ≡ Phase.Live live → StepSafe world c client
     (turned client at (belief_lowered live (sent_of client at) notice (meet live.belief notice.lowered)))
-unfolding belief_lowered
 lowered_safe world c client at notice live is =
     less_turn world c client at live _ _ is refl refl (λ w. (and_parts live.belief.write notice.lowered.write w).0)
     (λ each. split (gives_up live.belief (meet live.belief notice.lowered))
@@ -298,7 +296,6 @@ promoted_safe world c client at file_id answer live next turn so_next so_sent s 
 
 pub takes_safe : (world : World) (c : ℕ) (client : Client) → IsSoundClient client → client.guid ≡ (world.clients c).guid
     → HasTakes client (TakesSafe world c client)
-unfolding opened_turn reconnected_turn promoted_turn read_turn write_done_turn parked_closed closed_by_server
 takes_safe world c client s guid = record {
   passed = λ reply why t file p. p;
   parked_closes = λ at notice live found is parked t. turned_safe world c client at _ (λ p. tt);

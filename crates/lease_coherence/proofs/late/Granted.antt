@@ -157,7 +157,6 @@ reconnected_late off c file ask file_id asked e named sound ids n clean a = subs
 
 pub closed_late : (off : World) (c file_id : ℕ) → KnowsIds off c → IsNamedAt off c → IsNotLate off c
     → IsNotLate (told_to (without_opens off (λ other. other.file_id == file_id)) c (Reply.Closed file_id)) c
-unfolding with_opens
 closed_late off c file_id ids n a =
     let test : Open → Bool = λ other. other.file_id == file_id in
     let new = told_to (without_opens off test) c (Reply.Closed file_id) in
@@ -173,7 +172,6 @@ closed_late off c file_id ids n a =
 
 pub timer_late : (world : World) (c at : ℕ) → KnowsIds world c → IsNamedAt world c → IsNotLate world c
     → IsNotLate (timed_out world c at) c
-unfolding key_expired opens_dropped with_opens
 timer_late world c at ids n a =
     let key = machine_key world c at in
     let new = timed_out world c at in

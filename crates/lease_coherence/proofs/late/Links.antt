@@ -22,7 +22,6 @@ use Rattle.lease_laws.proofs.client.cases.Links.{any_notice}
 -- ---- a connection is lost
 
 pub cut_late : (world : World) (c : ℕ) → KnowsIds world c → IsNamedAt world c → IsNotLate world c → IsNotLate (cut_off world c) c
-unfolding opens_dropped opens_disconnected client_forgotten with_opens
 cut_late world c ids n a = record {
   entries = entries_like world (cut_off world c) c (record {
     machine = refl;
@@ -53,7 +52,7 @@ cut_late world c ids n a = record {
 -- ---- it is noticed
 
 pub notice_late : (world : World) (c : ℕ) → IsNotLate world c → IsNotLate (noticed_by world c) c
-unfolding noticed all_turned
+unfolding all_turned
 notice_late world c a =
     let base : World = record world { links = put world.links c Link.Down } in
     let machine = world.clients c in record {
@@ -81,7 +80,6 @@ create_safe world c (Request.OnFile (FileRequest.Create file access share contex
 create_safe world c request is = absurd is
 
 back_safe : (world : World) (c : ℕ) → KnowsIds world c → IsNamedAt world c → IsSafeAt world c → IsSafeAt (come_back world c) c
-unfolding joined
 back_safe world c ids n e = entries_like world (come_back world c) c (record {
   machine = refl;
   past = joined_past c c world.past;
@@ -92,7 +90,7 @@ back_safe world c ids n e = entries_like world (come_back world c) c (record {
 
 pub connect_late : (world : World) (c : ℕ) → Ground world → world.links c ≡ Link.Down → KnowsIds world c
     → IsNamedAt world c → IsNotLate world c → IsNotLate (connected world c) c
-unfolding connection_made all_turned joined
+unfolding all_turned
 connect_late world c g down ids n a =
     let machine = world.clients c in
     let back = come_back world c in

@@ -89,7 +89,6 @@ changed_late off c file file_id number patch ids n a = let new = changed_in off 
 -- ---- opens are closed
 
 closing_like : (world : World) (c : ℕ) (test : Open → Bool) → IsLike world (without_opens world test) c
-unfolding with_opens
 closing_like world c test = record {
   machine = refl;
   past = same_past c world.past;
@@ -98,13 +97,11 @@ closing_like world c test = record {
 }
 
 still_closing : (world : World) (c : ℕ) (test : Open → Bool) → IsNamedAt world c → StillHolds world (without_opens world test) c
-unfolding with_opens
 still_closing world c test n file x there by on h =
     ap (λ (l : Lease). l.state.write) (closing_holds world test c n.opens file x there by on) ∙ h
 
 pub dropped_late : (world : World) (c : ℕ) (test : Open → Bool) → KnowsIds world c → IsNamedAt world c
     → IsNotLate world c → IsNotLate (without_opens world test) c
-unfolding with_opens
 dropped_late world c test ids n a = unsent_late world (without_opens world test) c (closing_like world c test) ids
     (still_closing world c test n) n refl refl refl refl a
 

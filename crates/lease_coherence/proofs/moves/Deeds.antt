@@ -171,7 +171,7 @@ create_deed : (world off : World) (P : World → Type 0) → HasDeeds world P �
     → IsSource world off client (FileRequest.Create file access share (Some ask))
     → has_file off.server file ≡ true → MayCreate off.server client file access share ask.lease again
     → P (served off (created client file access share ask.lease ask.durable again (begun off.server)))
-unfolding granted granted_with reconnected served all_delivered delivered
+unfolding granted served all_delivered delivered
 create_deed world off P h client file access share ask None e source on may = if_both (off.server.last_id == last_file_id) _ _
     (h.full off client file access share ask source) (h.granted off client file access share ask source e on may)
   where
@@ -199,7 +199,7 @@ open_found off P found one done e p = subst (λ o. P (served off (on_open o done
 request_deed : (world off : World) (P : World → Type 0) → HasDeeds world P → (client : ℕ) (request : FileRequest)
     (outcome : Outcome) → IsSource world off client request → MayEnd off.server client request outcome
     → P (served off (concluded client request (begun off.server) outcome))
-unfolding refused answered changed closed opens_dropped served all_delivered delivered
+unfolding answered served all_delivered delivered
 request_deed world off P h client request (Outcome.Refused status) source may = h.refused off client request status source may.1
 request_deed world off P h client request Outcome.Waits source may = absurd may
 request_deed world off P h client (FileRequest.Create file access share contexts) Outcome.Ready source may =
@@ -219,7 +219,7 @@ request_deed world off P h client (FileRequest.Close file_id) Outcome.Ready sour
 acknowledged_deed : (world : World) (P : World → Type 0) → HasDeeds world P → (client : ℕ) (given : Option LeaseOf)
     → IsOldest world client (Request.Acknowledge given) → world.server.present client ≡ true
     → P (served (popped world client) (acknowledged client given (begun world.server)))
-unfolding break_ended served all_delivered delivered
+unfolding served all_delivered delivered
 acknowledged_deed world P h client given oldest up = any_judgement client (begun world.server)
     (λ given after. IsOldest world client (Request.Acknowledge given) → P (served (popped world client) after)) (record {
       failed = λ given status why oldest. h.ack_failed client given status oldest up why;
@@ -229,7 +229,7 @@ acknowledged_deed world P h client given oldest up = any_judgement client (begun
 -- any step
 pub step_deed : (world : World) (P : World → Type 0) → HasDeeds world P → (step : SmallStep) → IsNext world step
     → P (moved world step)
-unfolding held_left request_held opens_dropped lease_lowered break_begun served all_delivered delivered
+unfolding served all_delivered delivered
 step_deed world P h (SmallStep.Answer client request outcome) next =
     request_deed world (popped world client) P h client request outcome (record {
       up = up_of outcome next.guarded;

@@ -241,7 +241,7 @@ notice_moves V k world client link e v = v
 
 connect_moves : (V : World → Type 0) → ((world : World) → V world → Ground world) → IsCarried V
     → (world : World) (client : ℕ) (link : Link) → world.links client ≡ link → V world → V (connect_over world client link)
-unfolding link_connected join joined served all_delivered
+unfolding link_connected join served all_delivered
 connect_moves V ground k world client Link.Down e v =
     let g = ground world v in
     let back : World = happened (record world { links = put world.links client Link.Up }) (Fact.Joined client) in

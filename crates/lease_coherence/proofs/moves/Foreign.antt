@@ -244,7 +244,6 @@ pub unmoved_opens : (world : World) (opens : List Open) (c : ℕ)
     → ((one : Open) → one.client ≡ c → Among one world.server.opens → Among one opens)
     → ((one : Open) → one.client ≡ c → Among one opens → Among one world.server.opens)
     → IsUnmoved world (record world { server = with_opens world.server opens }) c
-unfolding with_opens
 unmoved_opens world opens c law kept from = let s = unmoved_same world c in record {
   later = s.later;
   spared = s.spared;

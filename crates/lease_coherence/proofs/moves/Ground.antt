@@ -47,7 +47,6 @@ answered_well : (file : ℕ) (before behind : List Held) (one : Held) (progress 
     → IsFine progress.server → progress.server.held file ≡ before ++ one ∷ behind
     → after.server.held ≡ (held_left file (before ++ behind) progress).server.held
     → (at : ℕ) (x : Held) → Among x (after.server.held at) → IsHeldWell progress.server at x
-unfolding held_left
 answered_well file before behind one progress after f held same at x a = ⊎_elim
     (λ old. held_well progress.server at x f.orderly old)
     (λ left. subst (λ n. IsHeldWell progress.server n x) (sym left.0) (held_well progress.server file x f.orderly
@@ -57,7 +56,6 @@ answered_well file before behind one progress after f held same at x a = ⊎_eli
 step_well : (step : SmallStep) (progress : Progress) → IsFine progress.server → IsGuarded step progress.server
     → IsInTurn step progress.server → (file : ℕ) (one : Held) → Among one ((step_taken step progress).server.held file)
     → IsHeldWell progress.server file one
-unfolding request_held opens_dropped with_opens lease_lowered break_begun
 step_well (SmallStep.Answer client request outcome) progress f may turn =
     same_well progress (concluded client request progress outcome) f.orderly (concluded-held client request progress outcome)
 step_well (SmallStep.AnswerHeld file before one behind outcome) progress f may turn =
@@ -215,7 +213,7 @@ fact_counted : (past : List Fact) (fact : Fact) (server : Server) → IsOfWorld 
 fact_counted past fact server of c = same_counted past (fact ∷ past) server (world_fact_same past fact of) c
 
 cut_ground : (world : World) (client : ℕ) → Ground world → world.links client ≡ Link.Up → Ground (cut_off world client)
-unfolding client_forgotten opens_disconnected opens_dropped with_opens is_served sendings takings
+unfolding is_served sendings takings
 cut_ground world client g e = record {
   fine = cut-fine world.server client g.fine;
   counted = begun_so (Fact.Dropped client ∷ world.past) world.server (Call.Cut client) _
@@ -239,7 +237,7 @@ cut_ground world client g e = record {
 
 timer_ground : (world : World) (client file : ℕ) → Ground world
     → breaking world.server (machine_key world client file) ≡ true → Ground (timed_out world client file)
-unfolding key_expired opens_dropped with_opens is_served sendings takings
+unfolding is_served sendings takings
 timer_ground world client file g breaks =
     let key = machine_key world client file in record {
       fine = expired-fine world.server key g.fine;
@@ -259,7 +257,6 @@ timer_ground world client file g breaks =
     }
 
 scavenge_ground : (world : World) (file_id : ℕ) → Ground world → Ground (left_behind world file_id)
-unfolding opens_dropped with_opens
 scavenge_ground world file_id g = record {
   fine = dropped-fine (is_left_behind file_id) (begun world.server) g.fine;
   counted = record {
@@ -273,7 +270,7 @@ scavenge_ground world file_id g = record {
 
 back_tied : (world : World) (client : ℕ) → is_up (world.links client) ≡ false → ((c : ℕ) → IsTied world c)
     → (c : ℕ) → IsTied (come_back world client) c
-unfolding joined is_served sendings takings
+unfolding is_served sendings takings
 back_tied world client down tied c = by_client (IsTied (come_back world client)) client c (record {
   present = put_same world.server.present client true ∙ sym (ap is_up (put_same world.links client Link.Up));
   requests = λ d. clash (is_up (put world.links client Link.Up client)) up d;
@@ -288,7 +285,7 @@ back_tied world client down tied c = by_client (IsTied (come_back world client))
     up = ap is_up (put_same world.links client Link.Up)
 
 connect_ground : (world : World) (client : ℕ) → Ground world → world.links client ≡ Link.Down → Ground (connected world client)
-unfolding joined connection_made all_turned
+unfolding all_turned
 connect_ground world client g e = stepped_ground (come_back world client) client ClientCall.Connected (record {
   sound = joined-sound client (begun world.server) g.fine.sound;
   orderly = joined-orderly client (begun world.server) g.fine.orderly;
@@ -326,7 +323,7 @@ take_ground world client reply queue g e = stepped_ground (reply_gone world clie
     ((taken-stays (world.clients client) reply).online ∙ g.online client) (λ c ne. g.online c) g.clients
 
 notice_ground : (world : World) (client : ℕ) → Ground world → world.links client ≡ Link.Cut → Ground (noticed_by world client)
-unfolding noticed all_turned
+unfolding all_turned
 notice_ground world client g e = stepped_ground (record world { links = put world.links client Link.Down }) client
     ClientCall.Noticed g.fine g.counted (relinked world client Link.Down (ap is_up e) refl g.tied)
     (sym (ap (λ k. not (is_down k)) (put_same world.links client Link.Down)))

@@ -205,7 +205,6 @@ deeds_all V A ground k world v a = record {
 -- ---- other moves of others
 
 unmoved_cut : (world : World) (client c : ℕ) → Ground world → client ≢ c → IsUnmoved world (cut_off world client) c
-unfolding client_forgotten opens_disconnected opens_dropped with_opens
 unmoved_cut world client c g ne =
     let lost = unmoved_without world (is_lost world.server client) c g.fine.sound.no_open
     (λ one own a. not_true (is_lost world.server client one) (λ e. ne (sym (eqb-true one.client client
@@ -236,7 +235,6 @@ unmoved_cut world client c g ne =
         (record one { connected = false }) one (λ same. refl) (λ other. refl)
 
 unmoved_timer : (world : World) (client file c : ℕ) → Ground world → client ≢ c → IsUnmoved world (timed_out world client file) c
-unfolding key_expired opens_dropped with_opens
 unmoved_timer world client file c g ne =
     let key = machine_key world client file in
     let gone = unmoved_without world (has_key key) c g.fine.sound.no_open
@@ -256,7 +254,6 @@ unmoved_timer world client file c g ne =
     }
 
 unmoved_back : (world : World) (client c : ℕ) → client ≢ c → IsUnmoved world (come_back world client) c
-unfolding joined
 unmoved_back world client c ne = let s = unmoved_same world c in record {
   later = later_fact world.past (Fact.Joined client);
   spared = spared_fact c world.server.opens world.server.leases (Fact.Joined client) world.past ne;
@@ -371,7 +368,6 @@ stray_all V A k world client request v a c good = either (client == c)
 
 pub own_moves : (V : World → Type 0) (A : World → ℕ → Type 0) → ((world : World) → V world → Ground world)
     → IsOwnMoved V A → IsMoved V (OfGood A)
-unfolding opens_dropped
 own_moves V A ground k world (Move.Step step) next v a =
     λ c good. step_deed world (ForAll A world) (deeds_all V A ground k world v a) step next c
     ((later_told world.past (step_taken step (begun world.server)).outs).strayed c

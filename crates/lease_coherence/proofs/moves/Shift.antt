@@ -32,7 +32,7 @@ created_follows : (client file : ℕ) (access : Access) (share : Share) (asked :
     (again : Option ℕ) (progress : Progress)
     → Follows progress.outs (created client file access share asked durable again progress)
     (created client file access share asked durable again (begun progress.server))
-unfolding granted granted_with reconnected
+unfolding granted
 created_follows client file access share asked durable None progress =
     if_follows progress.outs (progress.server.last_id == last_file_id) _ _ _ _
     (reply_follows client (Reply.CreateFailed file Status.InsufficientResources) progress) (record { server = refl; outs = refl })
@@ -53,7 +53,7 @@ contexts_follow (Some ask) done progress each = each ask
 
 concluded_follows : (client : ℕ) (request : FileRequest) (outcome : Outcome) (progress : Progress)
     → Follows progress.outs (concluded client request progress outcome) (concluded client request (begun progress.server) outcome)
-unfolding refused answered changed closed opens_dropped
+unfolding answered
 concluded_follows client request (Outcome.Refused status) progress = reply_follows client _ progress
 concluded_follows client request Outcome.Waits progress = same_follows progress
 concluded_follows client (FileRequest.Create file access share contexts) Outcome.Ready progress =
@@ -75,7 +75,6 @@ concluded_follows client (FileRequest.Close file_id) Outcome.Ready progress =
 
 judged_follows : (key : Key) (state : State) (lowered : Option State) (progress : Progress)
     → Follows progress.outs (judged key state lowered progress) (judged key state lowered (begun progress.server))
-unfolding break_ended
 judged_follows key state None progress = reply_follows key.client _ progress
 judged_follows key state (Some lowered) progress = if_follows progress.outs (is_state_within state lowered) _ _ _ _
     (record { server = refl; outs = refl }) (reply_follows key.client (Reply.AckFailed Status.RequestNotAccepted) progress)
@@ -92,7 +91,6 @@ acknowledged_follows client (Some given) progress =
 -- any step
 pub step_follows : (step : SmallStep) (progress : Progress)
     → Follows progress.outs (step_taken step progress) (step_taken step (begun progress.server))
-unfolding held_left request_held opens_dropped lease_lowered break_begun
 step_follows (SmallStep.Answer client request outcome) progress = concluded_follows client request outcome progress
 step_follows (SmallStep.AnswerHeld file before one behind outcome) progress =
     let f = concluded_follows one.client one.request outcome (held_left file (before ++ behind) progress) in

@@ -146,7 +146,6 @@ live_named client machine past file live names is = subst (IsNamedPhase client f
 
 commands_named : (client : ℕ) (machine : Client) (past : List Fact) → HasNames client machine past
     → HasCommands machine (IsStepNamed client machine past)
-unfolding cached_read opened_anew write_buffered write_sent flush_on_live
 commands_named client machine past names = record {
   refused = λ refusal. idle_named client machine past (Answer.Refused refusal) names;
   opening = λ file terms is on. turned_named client machine past file _ names
@@ -276,7 +275,6 @@ TakesNamed client machine past reply step = IsNamedReply client past reply → I
 
 takes_named : (client : ℕ) (machine : Client) (past : List Fact) → HasNames client machine past
     → HasTakes machine (TakesNamed client machine past)
-unfolding opened_turn reconnected_turn promoted_turn read_turn write_done_turn parked_closed belief_lowered closed_by_server
 takes_named client machine past names = record {
   passed = λ reply why named. idle_named client machine past Answer.Quiet names;
   parked_closes = λ file notice live at is parked named. let n = live_named client machine past file live names is in
@@ -438,7 +436,6 @@ IsCallNamed client past call = ⊤
 
 pub call_named : (client : ℕ) (machine : Client) (past : List Fact) (call : ClientCall) → HasNames client machine past
     → IsCallNamed client past call → IsStepNamed client machine past (client_called machine call)
-unfolding noticed connection_made
 call_named client machine past (ClientCall.Commanded command) names named =
     any_command machine (IsStepNamed client machine past) (commands_named client machine past names) command
 call_named client machine past (ClientCall.Taken reply) names named =

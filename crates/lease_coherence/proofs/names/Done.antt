@@ -119,7 +119,6 @@ emptied {X} P table client c each = by_client (λ d. Each (P d) (table d) → Ea
     (λ ne apart old. subst (Each (P c)) (sym (put_other table client [] c ne)) old) each
 
 cut_named : (world : World) (client : ℕ) → IsNamed world → IsNamed (cut_off world client)
-unfolding client_forgotten opens_disconnected opens_dropped with_opens
 cut_named world client n c good =
     let later = later_fact world.past (Fact.Dropped client) in
     let m = n c (later.strayed c good) in
@@ -139,7 +138,6 @@ cut_named world client n c good =
     (replies_later c world.past _ (world.replies c) later m.replies)) m
 
 timer_named : (world : World) (client file : ℕ) → IsNamed world → IsNamed (timed_out world client file)
-unfolding key_expired opens_dropped with_opens
 timer_named world client file n c good =
     let later = later_fact world.past (Fact.Expired client file) in
     let m = n c (later.strayed c good) in
@@ -149,13 +147,11 @@ timer_named world client file n c good =
     (replies_later c world.past _ (world.replies c) later m.replies) m
 
 scavenge_named : (world : World) (file_id : ℕ) → IsNamed world → IsNamed (left_behind world file_id)
-unfolding opens_dropped with_opens
 scavenge_named world file_id n c good = let m = n c good in
     at_later world (left_behind world file_id) c (later_same world.past) refl m.requests m.held
     (λ one a own. m.opens one (among_filter (λ o. not (is_left_behind file_id o)) one world.server.opens a).0 own) m.replies m
 
 back_named : (world : World) (client : ℕ) → IsNamed world → IsNamed (come_back world client)
-unfolding joined
 back_named world client n c good =
     let later = later_fact world.past (Fact.Joined client) in
     let m = n c (later.strayed c good) in
@@ -256,7 +252,7 @@ stepped_true world client call same named t =
     )
 
 pub true_moves : IsMoved Ground HasTrueNames
-unfolding noticed connection_made all_turned requests_sent
+unfolding all_turned requests_sent
 true_moves world (Move.Step step) next g t = moved_true world step g next t
 true_moves world (Move.Cut client) up g t = (cut_named world client t.0, (tt, t.1))
 true_moves world (Move.Expire client file) (on, breaks) g t = (timer_named world client file t.0, (tt, t.1))

@@ -188,7 +188,6 @@ again_own guid file_id opens one a each =
 
 pub deeds_named : (world : World) → Ground world → IsNamed world
     → HasDeeds world (λ new. (c : ℕ) → has_strayed c world.past ≡ false → IsNamedAt new c)
-unfolding with_opens
 deeds_named world g named = record {
   refused = λ off client request status source may c good.
       reply_named off client (refusal_of request status) c (refusal_named c _ request status)

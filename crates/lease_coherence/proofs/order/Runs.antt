@@ -160,7 +160,6 @@ replied_order off new c machine requests held expired later kept o = same_order 
 closed_order : (world off : World) (c file_id : ℕ) (one : Open) → IsSource world off c (FileRequest.Close file_id)
     → Ground world → connected_open off.server c file_id ≡ Some one → IsInOrder world c
     → IsInOrder (told_to (without_opens off (λ other. other.file_id == file_id)) c (Reply.Closed file_id)) c
-unfolding with_opens
 closed_order world off c file_id one source g found o =
     let test : Open → Bool = λ other. other.file_id == file_id in
     let new = told_to (without_opens off test) c (Reply.Closed file_id) in
@@ -312,7 +311,7 @@ create_stands world c request is = absurd is
 -- a client that connects asks only for creates
 pub connect_creates : (world : World) (c : ℕ) → Ground world → world.links c ≡ Link.Down
     → Each IsCreate ((connected world c).requests c)
-unfolding connection_made all_turned
+unfolding all_turned
 connect_creates world c g down =
     let machine = world.clients c in
     let back = come_back world c in
@@ -331,7 +330,6 @@ connect_creates world c g down =
 -- and has none that is held
 pub connect_held : (world : World) (c : ℕ) → Ground world → world.links c ≡ Link.Down → (file : ℕ)
     → held_by c ((connected world c).server.held file) ≡ []
-unfolding joined
 connect_held world c g down file =
     ap (λ (x : Server). held_by c (x.held file)) (stepped_server (come_back world c) c (connection_made (world.clients c)))
     ∙ none_held world c g (ap is_up down) file
@@ -380,7 +378,6 @@ timer_stays : (world : World) (c at : ℕ) → IsNamedAt world c → (file id : 
 timer_stays world c at n file id s = timer_stands world c at n file id s
 
 pub order_moves : IsOwnMoved HasRecord IsUpInOrder
-unfolding with_opens key_expired opens_dropped
 order_moves = record {
   unmoved = λ world new c v good u a up. unmoved_order world new c u (a (ap is_up (sym u.link) ∙ up));
   refused = λ world off c request status v good source may a up.

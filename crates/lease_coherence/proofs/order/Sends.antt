@@ -56,7 +56,7 @@ sends client step requests e o u =
     record { ordered = subst AreOrdered (sym e) o; under = subst (Each (UnderLive client)) (sym e) u }
 
 pub commands_send : (client : Client) → HasCommands client (SendsInOrder client)
-unfolding cached_read opened_anew write_buffered write_sent flush_on_live turned
+unfolding turned
 commands_send client = record {
   refused = λ refusal. record { ordered = tt; under = tt };
   opening = λ file terms is on. record { ordered = (tt, tt); under = (tt, tt) };
@@ -85,8 +85,7 @@ commands_send client = record {
 }
 
 pub takes_send : (client : Client) → HasTakes client (λ reply step. SendsInOrder client step)
-unfolding opened_turn reconnected_turn promoted_turn read_turn write_done_turn turned parked_closed belief_lowered
-    closed_by_server
+unfolding turned
 takes_send client = record {
   passed = λ reply why. record { ordered = tt; under = tt };
   parked_closes = λ file notice live at is parked. record {

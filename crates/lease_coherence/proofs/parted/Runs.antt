@@ -98,13 +98,11 @@ changed_untouched off c file id number patch n a = kept_untouched off (changed_i
 
 gone_writes : (server : Server) (opens : List Open) (key : Key)
     → ((with_opens server opens).leases key).state.write ≡ true → (server.leases key).state.write ≡ true
-unfolding with_opens
 gone_writes server opens key = if_cases (λ (l : Lease). l.state.write ≡ true → (server.leases key).state.write ≡ true)
     (list_any (has_key key) opens) (server.leases key) no_lease (λ there e. e) (λ gone e. absurd (true≢false (sym e)))
 
 dropped_untouched : (world : World) (c : ℕ) (test : Open → Bool) → IsNamedAt world c → IsUntouched world c
     → IsUntouched (without_opens world test) c
-unfolding with_opens
 dropped_untouched world c test n a = kept_untouched world (without_opens world test) c refl refl n
     (λ file id named u. under_by world (without_opens world test) c file id
     (λ x there by same. (x, left_there world test x there, by, same))
@@ -112,7 +110,6 @@ dropped_untouched world c test n a = kept_untouched world (without_opens world t
     (λ y there by same w e. e) u) a
 
 timer_untouched : (world : World) (c at : ℕ) → IsNamedAt world c → IsUntouched world c → IsUntouched (timed_out world c at) c
-unfolding key_expired opens_dropped with_opens
 timer_untouched world c at n a =
     let key = machine_key world c at in
     kept_untouched world (timed_out world c at) c refl refl n
@@ -326,7 +323,7 @@ connect_phase world links c file machine sent (Phase.Reconnecting parted) up p =
 connect_phase world links c file machine sent phase up p = tt
 
 notice_untouched : (world : World) (c : ℕ) → world.links c ≡ Link.Cut → IsUntouched world c → IsUntouched (noticed_by world c) c
-unfolding noticed all_turned
+unfolding all_turned
 notice_untouched world c cut a =
     let machine = world.clients c in
     stepped_untouched world (record world { links = put world.links c Link.Down }) c (noticed machine) refl refl refl
@@ -335,7 +332,7 @@ notice_untouched world c cut a =
     (machine.entries file).sent) (machine.entries file).phase (ap is_up cut)) a
 
 connect_untouched : (world : World) (c : ℕ) → IsUntouched world c → IsUntouched (connected world c) c
-unfolding connection_made all_turned joined
+unfolding all_turned
 connect_untouched world c a =
     let machine = world.clients c in
     stepped_untouched world (come_back world c) c (connection_made machine) refl refl refl
@@ -376,7 +373,6 @@ same_phase world off c request source file parted = from_source world off c requ
     ⊎ (((world.clients c).entries file).phase ≡ Phase.Reconnecting parted)) source (λ x. x) (λ at left x. x)
 
 still_named : (world : World) (c : ℕ) (test : Open → Bool) → IsNamedAt world c → IsNamedAt (without_opens world test) c
-unfolding with_opens
 still_named world c test n = record {
   requests = n.requests;
   held = n.held;

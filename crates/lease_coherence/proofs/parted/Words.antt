@@ -131,7 +131,7 @@ put_parts up machine at entry here file = by_client
     (sym (put_other machine.entries at entry file ne)) (same_parts up (machine.entries file).phase))
 
 pub commands_part : (machine : Client) → HasCommands machine (StepParts false machine)
-unfolding cached_read opened_anew write_buffered write_sent flush_on_live turned
+unfolding turned
 commands_part machine = record {
   refused = λ refusal file. same_parts false (machine.entries file).phase;
   opening = λ file terms is on. put_parts false machine file _ tt;
@@ -164,8 +164,7 @@ with_parts old write (Phase.Reconnecting parted) is = is
 with_parts old write phase is = tt
 
 pub takes_part : (machine : Client) → HasTakes machine (λ reply step. StepParts true machine step)
-unfolding opened_turn reconnected_turn promoted_turn read_turn write_done_turn turned parked_closed belief_lowered
-    closed_by_server
+unfolding turned
 takes_part machine = record {
   passed = λ reply why file. same_parts true (machine.entries file).phase;
   parked_closes = λ file notice live at is parked. put_parts true machine file _ tt;

@@ -146,7 +146,7 @@ AllEntries world client queue = (file : ℕ) → EntryStands world client file (
 
 pub commands_stand : (world : World) (c : ℕ) (queue : List Reply) → AllEntries world c queue
     → HasCommands (world.clients c) (StepStands world c queue)
-unfolding turned cached_read opened_anew write_buffered write_sent flush_on_live
+unfolding turned
 commands_stand world c queue all = record {
   refused = λ refusal. StepStands.Idle refl refl;
   opening = λ file terms is on. StepStands.Turns file _ refl refl (from file Phase.Closed is.is_so (record {
@@ -239,7 +239,6 @@ lowered_stands : (world : World) (c : ℕ) (queue : List Reply) (file : ℕ) (li
     (notice : BreakNotice) (new : State) → EntryStands world c file (Phase.Live live) queue
     → TurnStands world c file (Phase.Live live) queue (belief_lowered live sent notice new).entry.phase
     (belief_lowered live sent notice new).requests
-unfolding belief_lowered
 lowered_stands world c queue file live sent notice new s =
     let next : LiveEntry = record live {
       belief = new;
@@ -285,14 +284,14 @@ with_turn world c queue file write phase s = still_turn world c queue file phase
 
 pub takes_stand : (world : World) (c : ℕ) (queue : List Reply) → AllEntries world c queue
     → HasTakes (world.clients c) (TakeStands world c queue)
-unfolding turned opened_turn reconnected_turn promoted_turn read_turn write_done_turn parked_closed closed_by_server
+unfolding turned
 takes_stand world c queue all = record {
   passed = λ reply why given last. StepStands.Idle refl refl;
   parked_closes = λ file notice live at is parked given last. StepStands.Turns file _ refl refl
       (from file (Phase.Live live) is (leave_turn world c file queue live Phase.Closed [] (known file live is) refl
       (λ id. tt) (λ id. tt) tt tt (λ id. tt)));
   lowered = λ file notice live at is stays given last. StepStands.Turns file _ refl refl (from file (Phase.Live live) is
-      (lowered_stands world c queue file live _ notice _ (known file live is)));
+      (lowered_stands world c queue file live (sent_of (world.clients c) file) notice _ (known file live is)));
   opened = λ file file_id answer access share is given last. StepStands.Turns file _ refl refl
       (from file (Phase.Opening access share) is (record {
         phase = (given.stands, given.not_closed);

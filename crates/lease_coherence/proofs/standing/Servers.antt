@@ -237,7 +237,6 @@ reconnected_standing off c file access share ask file_id fits again waits s =
 pub closed_standing : (world off : World) (c file_id : ℕ)
     → IsSource world off c (FileRequest.Close file_id) → IsStandingAt world c
     → IsStandingAt (told_to (without_opens off (λ other. other.file_id == file_id)) c (Reply.Closed file_id)) c
-unfolding with_opens
 closed_standing world off c file_id source s =
     let test : Open → Bool = λ other. other.file_id == file_id in
     let new = told_to (without_opens off test) c (Reply.Closed file_id) in
@@ -258,7 +257,6 @@ closed_standing world off c file_id source s =
 -- opens that aren't connected are closed
 pub dropped_standing : (world : World) (c : ℕ) (test : Open → Bool)
     → ((one : Open) → test one ≡ true → one.connected ≡ false) → IsStandingAt world c → IsStandingAt (without_opens world test) c
-unfolding with_opens
 dropped_standing world c test away s =
     let new = without_opens world test in
     let f : IsFrame world new c = frame_same world new c refl refl
@@ -302,7 +300,6 @@ held_standing world file one oldest s =
 -- a timer runs out
 pub timer_stands : (world : World) (c file : ℕ) → IsNamedAt world c → (at id : ℕ) → Stands world c at id
     → Stands (timed_out world c file) c at id
-unfolding key_expired opens_dropped with_opens
 timer_stands world c file n at id x =
     let key = machine_key world c file in ⊎_elim
     (λ out. inl (put_key-cases (λ b. b ≡ true) world.server.expired key true (machine_key world c at)
@@ -334,7 +331,6 @@ timer_stands world c file n at id x =
 
 pub timer_standing : (world : World) (c file : ℕ) → IsNamedAt world c → IsStandingAt world c
     → IsStandingAt (timed_out world c file) c
-unfolding key_expired opens_dropped with_opens
 timer_standing world c file n s =
     let new = timed_out world c file in
     let f : IsFrame world new c = record {

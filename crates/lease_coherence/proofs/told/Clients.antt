@@ -69,7 +69,6 @@ turn_closes machine at turn live more is idle sends = put_told machine at turn.e
 }))
 
 pub commands_told : (machine : Client) → HasCommands machine (StepTold machine)
-unfolding cached_read opened_anew write_buffered write_sent flush_on_live
 commands_told machine = record {
   refused = λ refusal file. inl (λ e. e);
   opening = λ file terms is on. turn_stays machine file _
@@ -290,7 +289,7 @@ elsewhere_told machine at notice turn queue file own there met = ⊎_elim
 parked_told : (machine : Client) → IsSoundClient machine → (at : ℕ) (notice : BreakNotice) (live : LiveEntry)
     → is_key_of machine notice.key at ≡ true → (machine.entries at).phase ≡ Phase.Live live → (live.handles == 0) ≡ true
     → TakeTold machine (Reply.Break (Some notice)) (turned machine at (parked_closed live (sent_of machine at)))
-unfolding parked_closed turned
+unfolding turned
 parked_told machine s at notice live own is parked whole queue file asked m met = either (file == at)
     (λ here. let e = eqb-true file at here in inr (inr (subst (λ f. IsClosing machine
     (turned machine at (parked_closed live (sent_of machine at))) f) (sym e) (record {
@@ -303,7 +302,7 @@ parked_told machine s at notice live own is parked whole queue file asked m met 
 
 lowered_told : (machine : Client) (at : ℕ) (notice : BreakNotice) (live : LiveEntry) → is_key_of machine notice.key at ≡ true
     → TakeTold machine (Reply.Break (Some notice)) (turned machine at (lowered_by machine at notice live))
-unfolding belief_lowered turned
+unfolding turned
 lowered_told machine at notice live own whole queue file asked m met = either (file == at)
     (λ here. met_here (eqb-true file at here))
     (λ there. elsewhere_told machine at notice (lowered_by machine at notice live) queue file own there met)
@@ -320,7 +319,6 @@ lowered_told machine at notice live own whole queue file asked m met = either (f
         ∙ ap (λ (y : Entry). is_live y.phase) (put_same machine.entries at _)) later))) met
 
 pub takes_told : (machine : Client) → IsSoundClient machine → HasTakes machine (TakeTold machine)
-unfolding opened_turn reconnected_turn promoted_turn read_turn write_done_turn closed_by_server
 takes_told machine s = record {
   passed = λ reply why. passed_told machine reply s why;
   parked_closes = λ at notice live found is parked. parked_told machine s at notice live
@@ -409,7 +407,6 @@ parked_lives machine s at notice live own is parked whole queue file asked m = e
     was false e = e
 
 pub takes_live : (machine : Client) → IsSoundClient machine → HasTakes machine (TakeLives machine)
-unfolding opened_turn reconnected_turn promoted_turn read_turn write_done_turn belief_lowered closed_by_server
 takes_live machine s = record {
   passed = λ reply why. lives machine reply (quiet_step machine) (passed_leaves machine reply why);
   parked_closes = λ at notice live found is parked. parked_lives machine s at notice live

@@ -126,7 +126,6 @@ refusal_no_break request status key = refl
 
 with_handles : (server : Server) (opens : List Open) (key : Key) → ((with_opens server opens).leases key).state.handle ≡ true
     → (server.leases key).state.handle ≡ true
-unfolding with_opens
 with_handles server opens key = if_cases
     (λ (l : Lease). l.state.handle ≡ true → (server.leases key).state.handle ≡ true)
     (list_any (has_key key) opens) (server.leases key) no_lease (λ there e. e) (λ gone e. absurd (true≢false (sym e)))
@@ -218,21 +217,19 @@ gone_lone world c reply queue first h file = by_guid world (reply_gone world c q
     behind a = a.1
 
 noticed_guid : (client : Client) → (noticed client).client.guid ≡ client.guid
-unfolding noticed all_turned
+unfolding all_turned
 noticed_guid client = refl
 
 connected_guid : (client : Client) → (connection_made client).client.guid ≡ client.guid
-unfolding connection_made all_turned
+unfolding all_turned
 connected_guid client = refl
 
 come_back_leases : (world : World) (c : ℕ) (key : Key) → ((come_back world c).server.leases key).state.handle ≡ true
     → (world.server.leases key).state.handle ≡ true
-unfolding joined
 come_back_leases world c key e = e
 
 timer_leases : (world : World) (c file : ℕ) (key : Key) → ((timed_out world c file).server.leases key).state.handle ≡ true
     → (world.server.leases key).state.handle ≡ true
-unfolding key_expired opens_dropped
 timer_leases world c file key e =
     with_handles world.server (without (has_key (machine_key world c file)) world.server.opens) key e
 

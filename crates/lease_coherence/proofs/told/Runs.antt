@@ -59,7 +59,6 @@ unmoved_told world new c u t = kept_told world new c u.machine (λ file fresh br
 -- ---- a client connects: no lease of it is breaking
 
 connect_told : (world : World) (c : ℕ) → Ground world → world.links c ≡ Link.Down → HasTold (connected world c) c
-unfolding joined
 connect_told world c g down file fresh breaks =
     let new = connected world c in
     let key = machine_key new c file in

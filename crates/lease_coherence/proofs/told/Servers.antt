@@ -73,13 +73,11 @@ changed_told world off c file id number patch source t =
 
 with_breaks : (server : Server) (opens : List Open) (key : Key) → is_breaking ((with_opens server opens).leases key) ≡ true
     → is_breaking (server.leases key) ≡ true
-unfolding with_opens
 with_breaks server opens key = if_cases (λ (l : Lease). is_breaking l ≡ true → is_breaking (server.leases key) ≡ true)
     (list_any (has_key key) opens) (server.leases key) no_lease (λ there e. e) (λ gone e. absurd (true≢false (sym e)))
 
 pub closed_told : (world off : World) (c id : ℕ) → IsSource world off c (FileRequest.Close id) → HasTold world c
     → HasTold (told_to (without_opens off (λ other. other.file_id == id)) c (Reply.Closed id)) c
-unfolding with_opens
 closed_told world off c id source t =
     let test : Open → Bool = λ other. other.file_id == id in
     let reply = Reply.Closed id in
@@ -124,13 +122,11 @@ fewer_told world new c machine requests replies held fewer fresh breaks t = kept
     (t file (fresh file on) (breaks file is)))))
 
 pub dropped_told : (world : World) (c : ℕ) (test : Open → Bool) → HasTold world c → HasTold (without_opens world test) c
-unfolding with_opens
 dropped_told world c test t = fewer_told world (without_opens world test) c refl refl refl refl
     (λ x there. left_there world test x there) (λ file e. e)
     (λ file e. with_breaks world.server (without test world.server.opens) (machine_key world c file) e) t
 
 pub timer_told : (world : World) (c file : ℕ) → HasTold world c → HasTold (timed_out world c file) c
-unfolding key_expired opens_dropped with_opens
 timer_told world c file t =
     let key = machine_key world c file in
     fewer_told world (timed_out world c file) c refl refl refl refl

@@ -62,7 +62,6 @@ abbrev HasFineNotes : Client → Step → Type 0
 HasFineNotes client step = EachNote (IsFineNote client step.client) step.notes
 
 commands_fine : (client : Client) → HasCommands client (HasFineNotes client)
-unfolding cached_read opened_anew write_buffered write_sent flush_on_live
 commands_fine client = record {
   refused = λ refusal. tt;
   opening = λ file terms is on. turned_fine client file _ is.known tt;
@@ -90,7 +89,6 @@ either_settles b outcome writes = if_cases (EachNote IsSettling) b [] (settled_a
     (λ keeps. tt) (λ loses. settles outcome writes)
 
 takes_fine : (client : Client) → IsSoundClient client → HasTakes client (λ reply step. HasFineNotes client step)
-unfolding opened_turn reconnected_turn promoted_turn read_turn write_done_turn parked_closed belief_lowered closed_by_server
 takes_fine client s = record {
   passed = λ reply why. tt;
   parked_closes = λ file notice live at is parked. turned_fine client file _
@@ -176,7 +174,6 @@ connect_settles client file sent phase = tt
 -- any call
 pub call_fine : (client : Client) (call : ClientCall) → IsSoundClient client
     → EachNote (IsFineNote client (client_called client call).client) (client_called client call).notes
-unfolding noticed connection_made
 call_fine client (ClientCall.Commanded command) s = any_command client (HasFineNotes client) (commands_fine client) command
 call_fine client (ClientCall.Taken reply) s = any_reply client (λ r step. HasFineNotes client step) (takes_fine client s) reply
 call_fine client ClientCall.Noticed s = all_fine client false (λ file entry. notice_turn entry.sent entry.phase)

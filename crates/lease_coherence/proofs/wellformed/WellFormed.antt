@@ -97,7 +97,6 @@ off_files world off client request source = from_source world off client request
     (λ file left. (refl, refl))
 
 deeds_well : (world : World) → Ground world → IsWell world → HasDeeds world IsWell
-unfolding with_opens
 deeds_well world g w = record {
   refused = λ off client request status source may. sent_well off.past client off.clients off.links off.server off.server refl
       (off_well world off client request source w);
@@ -281,8 +280,7 @@ put_up links client link c up = by_client
     (λ ne apart u. inl (sym (ap is_up (put_other links client link c ne)) ∙ u)) up
 
 pub well_moves : IsMoved Ground IsWell
-unfolding joined key_expired opens_dropped with_opens opens_disconnected client_forgotten is_well_formed has_number requests_sent
-    has_joined noticed connection_made all_turned
+unfolding is_well_formed has_number requests_sent has_joined all_turned
 well_moves world (Move.Step step) next g w = step_deed world IsWell (deeds_well world g w) step next
 well_moves world (Move.Cut client) up g w = plain_well world.past (Fact.Dropped client) world.clients world.links
     (put world.links client Link.Cut) world.server _ refl refl (λ c n. refl)

@@ -121,7 +121,6 @@ break_apart machine at notice own file ne same = clash (bytes_eq (lease_key mach
 
 parked_takes : (machine : Client) (at : ℕ) (notice : BreakNotice) (live : LiveEntry) → is_key_of machine notice.key at ≡ true
     → TakesWithin machine (Reply.Break (Some notice)) (turned machine at (parked_closed live (sent_of machine at)))
-unfolding parked_closed
 parked_takes machine at notice live own = turn_takes machine (Reply.Break (Some notice)) at _
     (λ file ne. break_apart machine at notice own file ne)
     (λ file ne. file_no_acks (lease_key machine.guid file) _ (writes_close_about live.file_id live.unsent [] tt))
@@ -136,7 +135,6 @@ lowered_takes : (machine : Client) (at : ℕ) (notice : BreakNotice) (live : Liv
     → is_key_of machine notice.key at ≡ true → (machine.entries at).phase ≡ Phase.Live live
     → TakesWithin machine (Reply.Break (Some notice))
     (turned machine at (belief_lowered live (sent_of machine at) notice (meet live.belief notice.lowered)))
-unfolding belief_lowered
 lowered_takes machine at notice live own is formed =
     let unsent = flushed live.belief (meet live.belief notice.lowered) live.unsent in
     turn_takes machine (Reply.Break (Some notice)) at _ (λ file ne. break_apart machine at notice own file ne)

@@ -119,7 +119,6 @@ fewer_within world new c f s own t w = record {
 
 lease_goes : (server : Server) (opens : List Open) (key : Key) → list_any (has_key key) opens ≡ false
     → is_breaking ((with_opens server opens).leases key) ≡ false
-unfolding with_opens
 lease_goes server opens key none = if_cases (λ (l : Lease). is_breaking l ≡ false) (list_any (has_key key) opens)
     (server.leases key) no_lease (λ there. clash (list_any (has_key key) opens) there none) (λ gone. refl)
 
@@ -127,7 +126,6 @@ dropped_within : (world : World) (c : ℕ) (test : Open → Bool) → IsStanding
     → ((one : Open) → Among one (without_opens world test).server.opens → one.client ≡ c
     → IsOwnOpen (world.clients c).guid one) → HasTrust (without_opens world test) c → HasWithin world c
     → HasWithin (without_opens world test) c
-unfolding with_opens
 dropped_within world c test s own t w = fewer_within world (without_opens world test) c (record {
   machine = refl;
   requests = refl;
@@ -144,7 +142,6 @@ closed_within : (off : World) (c file_id : ℕ)
     → IsOwnOpen (off.clients c).guid one)
     → HasTrust (told_to (without_opens off (λ other. other.file_id == file_id)) c (Reply.Closed file_id)) c → HasWithin off c
     → HasWithin (told_to (without_opens off (λ other. other.file_id == file_id)) c (Reply.Closed file_id)) c
-unfolding with_opens
 closed_within off c file_id s own t w =
     let test : Open → Bool = λ other. other.file_id == file_id in
     let reply = Reply.Closed file_id in
@@ -166,7 +163,6 @@ timer_within : (world : World) (c file : ℕ) → IsStandingAt (timed_out world 
     → ((one : Open) → Among one (timed_out world c file).server.opens → one.client ≡ c
     → IsOwnOpen (world.clients c).guid one) → HasTrust (timed_out world c file) c → HasWithin world c
     → HasWithin (timed_out world c file) c
-unfolding key_expired opens_dropped with_opens
 timer_within world c file s own t w =
     let key = machine_key world c file in
     let opens = without (has_key key) world.server.opens in
@@ -274,7 +270,6 @@ popped_trust world c given oldest t = record {
 
 timer_there : (world : World) (c file : ℕ) (one : Open) → Among one (timed_out world c file).server.opens
     → Among one world.server.opens
-unfolding key_expired opens_dropped with_opens
 timer_there world c file one there =
     (among_filter (λ o. not (has_key (machine_key world c file) o)) one world.server.opens there).0
 

@@ -239,7 +239,7 @@ connect_sent client file sent Phase.Closed = refl
 connect_sent client file sent phase = refl
 
 connect_once : (world : World) (c : ℕ) → Ground world → world.links c ≡ Link.Down → IsSentOnce (connected world c) c
-unfolding joined connection_made all_turned
+unfolding all_turned
 connect_once world c g down =
     let machine = world.clients c in
     let back = come_back world c in
@@ -280,7 +280,7 @@ unmoved_once world new c u s = same_once world new c u.machine u.spared.written
     (among_filtered (λ h. h.client == c) one (new.server.held at) a (eq-eqb one.client c own)))).0 own file_id number patch is) s
 
 pub once_moves : IsOwnMoved HasRecord IsUpSentOnce
-unfolding with_opens key_expired opens_dropped has_written
+unfolding has_written
 once_moves = record {
   unmoved = λ world new c v good u a up. unmoved_once world new c u (a (ap is_up (sym u.link) ∙ up));
   refused = λ world off c request status v good source may a up.

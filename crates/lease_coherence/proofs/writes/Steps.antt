@@ -211,7 +211,6 @@ wrote_adds c client past k file entry answer requests write patch more new sent 
 
 pub commands_add : (c : ℕ) (client : Client) (past : List Fact) → IsKnownBy c client past
     → HasCommands client (AddsUpWell c client past no_answers)
-unfolding cached_read opened_anew write_buffered write_sent flush_on_live
 commands_add c client past k = record {
   refused = λ refusal. same_adds c client past (Answer.Refused refusal) [];
   opening = λ file terms is on. idle_adds c client past k file _ refl (λ n. zeros);
@@ -312,7 +311,6 @@ passed_adds c client past reply why low file number known own after = record {
 lowered_adds : (c : ℕ) (client : Client) (past : List Fact) → IsKnownBy c client past → (file : ℕ) (notice : BreakNotice)
     (live : LiveEntry) (new : State) → (client.entries file).phase ≡ Phase.Live live
     → AddsUpWell c client past no_answers (turned client file (belief_lowered live (sent_of client file) notice new))
-unfolding belief_lowered
 lowered_adds c client past k file notice live new is = sends_adds c client past k file _ (flushed live.belief new live.unsent)
     (some_named (gives_up live.belief new)) refl
     (λ n. writes_append n (write_requests live.file_id (flushed live.belief new live.unsent)) _
@@ -333,7 +331,6 @@ gone_sent (Some asked) sent = refl
 
 pub takes_add : (c : ℕ) (client : Client) (past : List Fact) → IsKnownBy c client past
     → HasTakes client (AddsUpTaken c client past)
-unfolding opened_turn reconnected_turn promoted_turn read_turn write_done_turn parked_closed closed_by_server
 takes_add c client past k = record {
   passed = λ reply why. passed_adds c client past reply why;
   parked_closes = λ file notice live at is parked low. sends_adds c client past k file _ live.unsent

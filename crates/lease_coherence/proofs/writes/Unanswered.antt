@@ -61,7 +61,6 @@ sound_live : (client : Client) (file : ℕ) (live : LiveEntry) → IsSoundClient
 sound_live client file live s is = (subst (IsSoundPhase client.is_online (client.entries file).sent) is (s.entries file)).1
 
 commands_tell : (client : Client) → IsSoundClient client → HasCommands client (TellsWrites client)
-unfolding cached_read opened_anew write_buffered write_sent flush_on_live
 commands_tell client s = record {
   refused = λ refusal. TellsWrites.Leaves (same_leaves client (Answer.Refused refusal));
   opening = λ file terms is on. turned_tells client file _ s (quiet_leaves (client.entries file) _ refl
@@ -167,7 +166,6 @@ with_unsent write Phase.Closed = refl
 with_unsent write phase = refl
 
 takes_tell : (client : Client) → IsSoundClient client → HasTakes client (λ reply step. LeavesWrites client step)
-unfolding opened_turn reconnected_turn promoted_turn read_turn write_done_turn parked_closed belief_lowered closed_by_server
 takes_tell client s = record {
   passed = λ reply why. same_leaves client Answer.Quiet;
   parked_closes = λ file notice live at is parked. turned_leaves client file _ s (quiet_leaves (client.entries file) _ refl
@@ -335,7 +333,6 @@ CallTells client call step = LeavesWrites client step
 
 pub call_tells_writes : (client : Client) (call : ClientCall) → IsSoundClient client
     → CallTells client call (client_called client call)
-unfolding noticed connection_made
 call_tells_writes client (ClientCall.Commanded command) s =
     any_command client (TellsWrites client) (commands_tell client s) command
 call_tells_writes client (ClientCall.Taken reply) s =
@@ -414,7 +411,7 @@ stepped_writes world c call s files h d file known =
     ∙ ap (λ (m : Client). unanswered_in (m.entries file)) (sym (put_other world.clients c step.client d ne))) k) known
 
 pub writes_moves : IsMoved Ground HasWrites
-unfolding open_writes requests_sent noticed connection_made all_turned joined
+unfolding open_writes requests_sent all_turned
 writes_moves world (Move.Step step) next g h = λ c file known. ap (open_writes c file) (moved_past world step)
     ∙ told_writes c file world.past (step_taken step (begun world.server)).outs
     ∙ h c file (ap (λ (t : ℕ → Client). knows_file (t c) file) (sym (moved_clients world step)) ∙ known)

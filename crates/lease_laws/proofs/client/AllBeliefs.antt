@@ -2,8 +2,8 @@
 use Rattle.lease_laws.proofs.Words.{◌&&◌, ◌++◌, ◌==◌, ◌∙◌, ◌∷◌, ◌≡◌, ◌≢◌, Bool, Client, ClientCall, Decides-eqb, Entry, List}
 use Rattle.lease_laws.proofs.Words.{Note, Pending, Phase, Settlement, State, Turn, ℕ, [], all_turned, ap, append-nil, arith}
 use Rattle.lease_laws.proofs.Words.{belief, belief_in, belief_of, believed_after, believes_noted, client_called, connect_turn}
-use Rattle.lease_laws.proofs.Words.{connection_made, false, flat_map, flat_map-append, if◌then◌else◌, knows_file, nat_le}
-use Rattle.lease_laws.proofs.Words.{notice_turn, noticed, numbers_to, refl, subst, suc, sym, true, without, zero}
+use Rattle.lease_laws.proofs.Words.{false, flat_map, flat_map-append, if◌then◌else◌, knows_file, nat_le}
+use Rattle.lease_laws.proofs.Words.{notice_turn, numbers_to, refl, subst, suc, sym, true, without, zero}
 use Rattle.lease_laws.proofs.client.cases.Links.{HasNotices, any_notice}
 use Rattle.lease_laws.proofs.client.Beliefs.{AreSettlements, settled_settle, settle_pass, noted_own, noted_other}
 use Rattle.lease_laws.proofs.client.Beliefs.{commanded_behaves, taken_tells}
@@ -138,7 +138,6 @@ connect_closed client file sent phase e = grind arith
 
 pub called-beliefs : (client : Client) (call : ClientCall) → InFiles client → (file : ℕ)
     → believed_after file (belief client file) (client_called client call).notes ≡ belief (client_called client call).client file
-unfolding noticed connection_made
 called-beliefs client (ClientCall.Commanded command) closed = (commanded_behaves client command).told.tells
 called-beliefs client (ClientCall.Taken reply) closed = (taken_tells client reply).tells
 called-beliefs client ClientCall.Noticed closed = all_tell client false

@@ -2,11 +2,11 @@
 use Rattle.lease_laws.proofs.Words.{◌++◌, ◌==◌, ◌∙◌, ◌∷◌, ◌≡◌, ◌≢◌, Answer, Bool, Client, Command, Decides-eqb, List}
 use Rattle.std.proofs.Common.{arith}
 use Rattle.lease_laws.proofs.Words.{LiveEntry, Note, Pending, Phase, Refusal, Reply, Request, Settlement, State, Step, Turn, ℕ}
-use Rattle.lease_laws.proofs.Words.{[], ap, belief, belief_in, belief_lowered, belief_of, believed_after, believes_noted}
-use Rattle.lease_laws.proofs.Words.{cached_read, closed_by_server, commanded, false, first_belief, flush_on_live, if◌then◌else◌}
-use Rattle.lease_laws.proofs.Words.{is_empty, lease_key, next_write, opened_anew, opened_turn, parked_closed, promoted_belief}
-use Rattle.lease_laws.proofs.Words.{promoted_turn, put, read_turn, reconnected_turn, refl, refused_step, settled_as}
-use Rattle.lease_laws.proofs.Words.{subst, sym, taken, true, turned, write_buffered, write_done_turn, write_sent}
+use Rattle.lease_laws.proofs.Words.{[], ap, belief, belief_in, belief_of, believed_after, believes_noted}
+use Rattle.lease_laws.proofs.Words.{commanded, false, first_belief, if◌then◌else◌}
+use Rattle.lease_laws.proofs.Words.{is_empty, lease_key, next_write, promoted_belief}
+use Rattle.lease_laws.proofs.Words.{put, refl, refused_step, settled_as}
+use Rattle.lease_laws.proofs.Words.{subst, sym, taken, true, turned}
 use Rattle.lease_laws.proofs.Words.{wrote_step}
 use Rattle.lease_laws.proofs.client.Thin.{put_same, put_other}
 use Rattle.lease_laws.proofs.client.Words.{if_either}
@@ -111,7 +111,6 @@ given_behaves client file live new sent answer requests write is same never = re
 }
 
 commands_behave : (client : Client) → HasCommands client (Behaves client)
-unfolding cached_read opened_anew write_buffered write_sent flush_on_live
 commands_behave client = record {
   refused = λ refusal. record {
     told = record { tells = λ file. refl };
@@ -155,7 +154,6 @@ refused-nothing client command = (commanded_behaves client command).refused
 -- ---- messages
 
 takes_tell : (client : Client) → HasTakes client (λ reply step. Tells client step)
-unfolding belief_lowered parked_closed opened_turn reconnected_turn promoted_turn read_turn closed_by_server write_done_turn
 takes_tell client = record {
   passed = λ reply why. record { tells = λ file. refl };
   parked_closes = λ file notice live at is parked. turned_tells client file _ tt;

@@ -1,11 +1,11 @@
 -- The laws of the entries of a client hold of a new one, and every call keeps them.
 use Rattle.lease_laws.proofs.Words.{◌++◌, ◌+◌, ◌≡◌, ◌≤◌, Asked, Bool, Client, ClientCall, IsSoundEntry, IsSoundLive, IsSoundPhase}
 use Rattle.lease_laws.proofs.Words.{List, LiveEntry, None, Option, Pending, Phase, Some, Step, Turn, ℕ, [], all_turned}
-use Rattle.lease_laws.proofs.Words.{are_buffered, arith, belief_lowered, cached_read, client_called, closed_by_server}
-use Rattle.lease_laws.proofs.Words.{connect_turn, connection_made, false, first_belief, flush_on_live, gives_up, if◌then◌else◌}
-use Rattle.lease_laws.proofs.Words.{is_asking, lease_key, meet, new_client, noticed, one_handle_less, one_read_less, opened_anew}
-use Rattle.lease_laws.proofs.Words.{opened_turn, parked_closed, promoted_belief, promoted_turn, read_turn, reconnected_turn, refl}
-use Rattle.lease_laws.proofs.Words.{sent_without, true, turned, without_open, write_buffered, write_done_turn, write_sent}
+use Rattle.lease_laws.proofs.Words.{are_buffered, arith, client_called}
+use Rattle.lease_laws.proofs.Words.{connect_turn, false, first_belief, gives_up, if◌then◌else◌}
+use Rattle.lease_laws.proofs.Words.{is_asking, lease_key, meet, new_client, one_handle_less, one_read_less}
+use Rattle.lease_laws.proofs.Words.{promoted_belief, refl}
+use Rattle.lease_laws.proofs.Words.{sent_without, true, turned, without_open}
 use Rattle.lease_laws.proofs.client.Words.{some_handle, one_less_still, if_either, put_each, joined_buffered, filter_buffered}
 use Rattle.lease_laws.proofs.client.Words.{sent_without-none, HasSoundEntries, sound_as, kept_under, read_under, unflushed-none}
 use Rattle.lease_laws.proofs.client.Words.{again_under, done_sound}
@@ -33,7 +33,6 @@ counted live handles reads asking s some = grind arith
 -- ---- commands
 
 commands_sound : (client : Client) → HasSoundEntries client → HasCommands client Sound
-unfolding cached_read opened_anew write_buffered write_sent flush_on_live
 commands_sound client sound = record {
   refused = λ refusal. sound;
   opening = λ file terms is on. turned_sound client file _ sound on;
@@ -103,7 +102,6 @@ failed_sound connected number sent (Phase.Reconnecting parted) s = (s.0, sent_wi
 failed_sound connected number sent phase s = s
 
 takes_sound : (client : Client) → HasSoundEntries client → HasTakes client (λ reply step. Sound step)
-unfolding belief_lowered parked_closed opened_turn reconnected_turn promoted_turn read_turn closed_by_server write_done_turn
 takes_sound client sound = record {
   passed = λ reply why. sound;
   parked_closes = λ file notice live at is parked. let s = sound_as client sound file (Phase.Live live) is in
@@ -211,7 +209,7 @@ first_entries guid files file = λ away. refl
 -- and stay so with every call
 pub called_entries : (client : Client) (call : ClientCall) → HasSoundEntries client
     → HasSoundEntries (client_called client call).client
-unfolding noticed connection_made all_turned
+unfolding all_turned
 called_entries client (ClientCall.Commanded command) sound = any_command client Sound (commands_sound client sound) command
 called_entries client (ClientCall.Taken reply) sound = any_reply client _ (takes_sound client sound) reply
 called_entries client ClientCall.Noticed sound = λ file. any_notice (client.entries file).sent _

@@ -2,8 +2,8 @@
 -- every such step has.
 use Rattle.lease_laws.proofs.Words.{◌≡◌, Answer, Client, Command, Entry, List, Pending, Refusal, Reply, Request, Step, Turn, ℕ}
 use Rattle.std.proofs.Common.{arith}
-use Rattle.lease_laws.proofs.Words.{cached_read, commanded, flush_on_live, opened_anew, quiet_step, refused_step, taken}
-use Rattle.lease_laws.proofs.Words.{turned, write_buffered, write_sent, wrote_step}
+use Rattle.lease_laws.proofs.Words.{cached_read, commanded, quiet_step, refused_step, taken}
+use Rattle.lease_laws.proofs.Words.{turned, wrote_step}
 use Rattle.lease_laws.proofs.client.cases.Commands.{HasCommands, any_command}
 use Rattle.lease_laws.proofs.client.cases.Replies.{HasTakes, any_reply}
 
@@ -17,7 +17,6 @@ pub record HasForms (client : Client) (P : Step → Type 0) : Type 0 where
   pub cached : (file : ℕ) (bytes : List ℕ) → P (cached_read client file bytes)
 
 commands_formed : (client : Client) (P : Step → Type 0) → HasForms client P → HasCommands client P
-unfolding opened_anew write_buffered write_sent flush_on_live
 commands_formed client P h = record {
   refused = h.refused;
   opening = λ file terms is on. h.turned file _;
@@ -53,7 +52,7 @@ pub record StaysItself (client : Client) (step : Step) : Type 0 where
   pub online : step.client.is_online ≡ client.is_online
 
 forms_stay : (client : Client) → HasForms client (StaysItself client)
-unfolding turned cached_read
+unfolding turned
 forms_stay client = grind arith
 
 pub commanded-stays : (client : Client) (command : Command) → StaysItself client (commanded client command)

@@ -1,9 +1,8 @@
 -- Entries of files that a client doesn't know stay closed.
 use Rattle.lease_laws.proofs.Words.{◌≡◌, ◌≢◌, Client, ClientCall, Entry, List, Phase, Step, Turn, ℕ, all_turned, ap}
 use Rattle.std.proofs.Common.{arith}
-use Rattle.lease_laws.proofs.Words.{cached_read, client_called, connect_turn, connection_made, false, flush_on_live, is_key_of}
-use Rattle.lease_laws.proofs.Words.{knows_file, new_client, notice_turn, noticed, opened_anew, put, refl, true, turned}
-use Rattle.lease_laws.proofs.Words.{write_buffered, write_sent}
+use Rattle.lease_laws.proofs.Words.{client_called, connect_turn, false, is_key_of}
+use Rattle.lease_laws.proofs.Words.{knows_file, new_client, notice_turn, put, refl, true, turned}
 use Rattle.lease_laws.proofs.client.Beliefs.{by_place}
 use Rattle.lease_laws.proofs.client.cases.Commands.{HasCommands, any_command}
 use Rattle.lease_laws.proofs.client.cases.Files.{found_known}
@@ -29,7 +28,6 @@ unfolding turned
 turned_in client file turn closed known = put_in client file turn.entry closed known
 
 commands_in : (client : Client) → InFiles client → HasCommands client Keeps
-unfolding cached_read opened_anew write_buffered write_sent flush_on_live
 commands_in client c = record {
   refused = λ refusal. c;
   opening = λ file terms is on. turned_in client file _ c is.known;
@@ -87,7 +85,7 @@ unfolding new_client
 first_in_files guid files file unknown = refl
 
 pub called_in_files : (client : Client) (call : ClientCall) → InFiles client → InFiles (client_called client call).client
-unfolding noticed connection_made all_turned
+unfolding all_turned
 called_in_files client (ClientCall.Commanded command) c = any_command client Keeps (commands_in client c) command
 called_in_files client (ClientCall.Taken reply) c = any_reply client _ (takes_in client c) reply
 called_in_files client ClientCall.Noticed c = λ file unknown.

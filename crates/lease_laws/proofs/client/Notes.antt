@@ -1,12 +1,12 @@
 -- What a client notes of writes agrees with their numbers.
 use Rattle.lease_laws.proofs.Words.{◌&&◌, ◌++◌, ◌+◌, ◌<◌, ◌∷◌, ◌≡◌, ◌≤◌, Bool, Client, ClientCall, Entry, IsSoundClient, List}
 use Rattle.lease_laws.proofs.Words.{Note, Pending, Phase, Settlement, State, Step, TellNumbers, Turn, ℕ, [], all_turned}
-use Rattle.lease_laws.proofs.Words.{are_rising, arith, belief_lowered, belief_of, believes_noted, cached_read, client_called}
-use Rattle.lease_laws.proofs.Words.{closed_by_server, connect_turn, connection_made, false, first_belief, flat_map, flush_on_live}
-use Rattle.lease_laws.proofs.Words.{has_number, has_sent, if◌then◌else◌, lease_key, nat_le, nat_lt, next_write, not, noticed}
-use Rattle.lease_laws.proofs.Words.{numbers_to, opened_anew, opened_turn, parked_closed, promoted_belief, promoted_turn}
-use Rattle.lease_laws.proofs.Words.{read_turn, reconnected_turn, refl, same_state, settled_as, true, turned, unsent_in}
-use Rattle.lease_laws.proofs.Words.{without, write_buffered, write_done_turn, write_sent}
+use Rattle.lease_laws.proofs.Words.{are_rising, arith, belief_of, believes_noted, client_called}
+use Rattle.lease_laws.proofs.Words.{connect_turn, false, first_belief, flat_map}
+use Rattle.lease_laws.proofs.Words.{has_number, has_sent, if◌then◌else◌, lease_key, nat_le, nat_lt, next_write, not}
+use Rattle.lease_laws.proofs.Words.{numbers_to, promoted_belief}
+use Rattle.lease_laws.proofs.Words.{refl, same_state, settled_as, true, turned, unsent_in}
+use Rattle.lease_laws.proofs.Words.{without}
 use Rattle.lease_laws.proofs.client.Numbers.{Numbers}
 use Rattle.lease_laws.proofs.client.Thin.{IsThinner, thin_front, thin_behind, thin_filter, beyond}
 use Rattle.lease_laws.proofs.client.Words.{if_either}
@@ -96,7 +96,6 @@ wrote_tells last write is = (omega (arith, is), is)
 -- ---- commands
 
 commands_tell : (client : Client) → HasCommands client (Tells client)
-unfolding cached_read opened_anew write_buffered write_sent flush_on_live
 commands_tell client = record {
   refused = λ refusal. refl;
   opening = λ file terms is on. turned_tells client file _ tt;
@@ -141,7 +140,6 @@ sent_old client number file own passes = old_number client.last_number number (s
     (own.rising file)) passes
 
 takes_tell : (client : Client) → Numbers client → HasTakes client (λ reply step. Tells client step)
-unfolding belief_lowered parked_closed opened_turn reconnected_turn promoted_turn read_turn closed_by_server write_done_turn
 takes_tell client own = record {
   passed = λ reply why. refl;
   parked_closes = λ file notice live at is parked. turned_tells client file _ tt;
@@ -202,7 +200,6 @@ connect_old last client file sent x5 = grind arith
 -- any call
 pub called_tells : (client : Client) (call : ClientCall) → IsSoundClient client
     → TellNumbers client.last_number (client_called client call).notes (client_called client call).client.last_number
-unfolding noticed connection_made
 called_tells client (ClientCall.Commanded command) sound = any_command client (Tells client) (commands_tell client) command
 called_tells client (ClientCall.Taken reply) sound = any_reply client _ (takes_tell client sound.numbers) reply
 called_tells client ClientCall.Noticed sound = all_tell client false _

@@ -2,12 +2,11 @@
 use Rattle.lease_laws.proofs.Words.{◌++◌, ◌+◌, ◌∙◌, ◌∷◌, ◌≡◌, Asked, Bool, Client, ClientCall, Entry, HaveOwnNumbers, List}
 use Rattle.std.proofs.Common.{arith}
 use Rattle.lease_laws.proofs.Words.{LiveEntry, Option, Pending, Phase, Turn, ℕ, [], all_turned, ap, append-nil}
-use Rattle.lease_laws.proofs.Words.{append_assoc, belief_lowered, cached_read, client_called, closed_by_server, connect_turn}
-use Rattle.lease_laws.proofs.Words.{connection_made, false, first_belief, flush_on_live, gives_up, if◌then◌else◌, lease_key, meet}
-use Rattle.lease_laws.proofs.Words.{new_client, next_write, notice_turn, noticed, opened_anew, opened_turn, parked_closed}
-use Rattle.lease_laws.proofs.Words.{phase_with, promoted_belief, promoted_turn, put, read_turn, reconnected_turn, refl}
+use Rattle.lease_laws.proofs.Words.{append_assoc, client_called, connect_turn}
+use Rattle.lease_laws.proofs.Words.{false, first_belief, gives_up, if◌then◌else◌, lease_key, meet}
+use Rattle.lease_laws.proofs.Words.{new_client, next_write, notice_turn}
+use Rattle.lease_laws.proofs.Words.{phase_with, promoted_belief, put, refl}
 use Rattle.lease_laws.proofs.Words.{sent_without, subst, sym, true, turned, unanswered_in, unsent_in, without_open}
-use Rattle.lease_laws.proofs.Words.{write_buffered, write_done_turn, write_sent}
 use Rattle.lease_laws.proofs.client.Thin.{IsThinner, thin_same, thin_equal, thin_none, thin_then, thin_after, thin_behind}
 use Rattle.lease_laws.proofs.client.Thin.{thin_without, thin_filter, thin_table, grown_table, put_at, put_same, put_other}
 use Rattle.lease_laws.proofs.client.Words.{HasSoundEntries, sound_as}
@@ -58,7 +57,6 @@ sent_left sent unsent = thin_after sent [] unsent (thin_none unsent)
 -- ---- commands
 
 commands_own : (client : Client) → HasSoundEntries client → Numbers client → HasCommands client (λ step. Numbers step.client)
-unfolding cached_read opened_anew write_buffered write_sent flush_on_live
 commands_own client sound own = record {
   refused = λ refusal. own;
   opening = λ file terms is on. same_own client file Phase.Closed _ own is.is_so refl;
@@ -110,7 +108,6 @@ done_thin number write sent (Phase.Live live) = thin_without number sent live.un
 done_thin number write sent phase = thin_without number sent (unsent_in phase)
 
 takes_own : (client : Client) → Numbers client → HasTakes client (λ reply step. Numbers step.client)
-unfolding belief_lowered parked_closed opened_turn reconnected_turn promoted_turn read_turn closed_by_server write_done_turn
 takes_own client own = record {
   passed = λ reply why. own;
   parked_closes = λ file notice live at is parked. same_own client file (Phase.Live live) _ own is
@@ -170,7 +167,7 @@ first_numbers guid files = record { rising = λ file. refl; apart = λ file othe
 -- and every call keeps their numbers apart
 pub called_numbers : (client : Client) (call : ClientCall) → HasSoundEntries client → Numbers client
     → Numbers (client_called client call).client
-unfolding noticed connection_made all_turned
+unfolding all_turned
 called_numbers client (ClientCall.Commanded command) sound own = any_command client _ (commands_own client sound own) command
 called_numbers client (ClientCall.Taken reply) sound own = any_reply client _ (takes_own client own) reply
 called_numbers client ClientCall.Noticed sound own = thin_table client.last_number

@@ -2,12 +2,12 @@
 use Rattle.lease_laws.proofs.Words.{◌++◌, ◌∙◌, ◌∷◌, ◌≡◌, Asked, Bool, BreakNotice, CallHasFileId, Client, ClientCall}
 use Rattle.lease_laws.proofs.Words.{EachRequest, Entry, FileRequest, HasFileId, HasRequestBytes, IsWriting, List, OpenTerms}
 use Rattle.lease_laws.proofs.Words.{Option, Pending, Phase, Request, State, Step, Turn, ℕ, [], acknowledgment, all_turned}
-use Rattle.lease_laws.proofs.Words.{ap, arith, belief_lowered, bytes_eq-Decides, cached_read, client_called, closed_by_server}
-use Rattle.lease_laws.proofs.Words.{connect_turn, connection_made, create_request, false, flat_map, flush_on_live, flushed}
+use Rattle.lease_laws.proofs.Words.{ap, arith, bytes_eq-Decides, client_called}
+use Rattle.lease_laws.proofs.Words.{connect_turn, create_request, false, flat_map, flushed}
 use Rattle.lease_laws.proofs.Words.{is_key_of, joint_terms, lease_key, length, meet, notice_turn}
-use Rattle.lease_laws.proofs.Words.{noticed, numbers_to, opened_anew, opened_turn, parked_closed, phase_with, promoted_turn, put}
-use Rattle.lease_laws.proofs.Words.{read_turn, reconnected_turn, subst, sym, true, turned, without_open, write_buffered}
-use Rattle.lease_laws.proofs.Words.{write_done_turn, write_requests, write_sent}
+use Rattle.lease_laws.proofs.Words.{numbers_to, phase_with, put}
+use Rattle.lease_laws.proofs.Words.{subst, sym, true, turned, without_open}
+use Rattle.lease_laws.proofs.Words.{write_requests}
 use Rattle.lease_laws.proofs.client.Words.{if_either, put_each}
 use Rattle.lease_laws.proofs.client.cases.Commands.{HasCommands, any_command}
 use Rattle.lease_laws.proofs.client.cases.Files.{found_so}
@@ -71,7 +71,6 @@ fits_as client w file phase is = subst HasFileId is (w.file_ids file)
 -- ---- commands
 
 commands_write : (client : Client) → IsWriting client → HasCommands client (Writes client)
-unfolding cached_read opened_anew write_buffered write_sent flush_on_live
 commands_write client w = record {
   refused = λ refusal. record { requests = tt; writing = w };
   opening = λ file terms is on. turned_writes client file _ w (create_has client file terms w, tt) tt;
@@ -120,7 +119,6 @@ done_fits write x2 fits = grind arith
 
 takes_write : (client : Client) → IsWriting client
     → HasTakes client (λ reply step. CallHasFileId (ClientCall.Taken reply) → Writes client step)
-unfolding belief_lowered parked_closed opened_turn reconnected_turn promoted_turn read_turn closed_by_server write_done_turn
 takes_write client w = record {
   passed = λ reply why new. record { requests = tt; writing = w };
   parked_closes = λ file notice live at is parked new. turned_writes client file _ w (close_has live.file_id live.unsent) tt;
@@ -188,7 +186,6 @@ connect_fits client file sent x4 fits = grind arith
 
 called_writes : (client : Client) (call : ClientCall) → IsWriting client → CallHasFileId call
     → Writes client (client_called client call)
-unfolding noticed connection_made
 called_writes client (ClientCall.Commanded command) w fits = any_command client (Writes client) (commands_write client w) command
 called_writes client (ClientCall.Taken reply) w fits = any_reply client _ (takes_write client w) reply fits
 called_writes client ClientCall.Noticed w fits =

@@ -4,19 +4,20 @@ use Rattle.std.proofs.Common.{arith}
 use Rattle.lease_laws.proofs.Words.{EachOut, FileRequest, GoOn, HasFullKey, HasReplyBytes, HaveFullKeys, Held, IfSome, IsGuarded}
 use Rattle.lease_laws.proofs.Words.{IsOfCall, IsSound, Key, Lease, LeaseOf, List, None, Open, Option, Out, OutHasBytes, Outcome}
 use Rattle.lease_laws.proofs.Words.{Progress, Reply, Server, Share, SmallStep, Some, Status, WaitsWell, ℕ, ⊎_elim, ⊤, []}
-use Rattle.lease_laws.proofs.Words.{acknowledged, ap, asked_key, begun, break_begun, break_ended, bytes_eq, bytes_eq-Decides}
-use Rattle.lease_laws.proofs.Words.{call_begun, called, changed, client_forgotten, concluded, connected_again, disconnected}
-use Rattle.lease_laws.proofs.Words.{false, granted_with, has_key, has_lease, held_left, if◌then◌else◌, inl, inr, is_breaking}
-use Rattle.lease_laws.proofs.Words.{is_key, is_left_behind, is_left_open, is_lost, join, joined, key_expired, key_of, lease_after}
-use Rattle.lease_laws.proofs.Words.{lease_given, lease_lowered, lease_put, length, list_any, not, opens_disconnected}
-use Rattle.lease_laws.proofs.Words.{opens_dropped, put, reconnected, refl, refusal_of, replied, request_held, standing_lease}
-use Rattle.lease_laws.proofs.Words.{step_taken, steps_taken, subst, sym, true, with_opens}
+use Rattle.lease_laws.proofs.Words.{acknowledged, ap, asked_key, begun, bytes_eq, bytes_eq-Decides}
+use Rattle.lease_laws.proofs.Words.{call_begun, called, client_forgotten, concluded, connected_again, disconnected}
+use Rattle.lease_laws.proofs.Words.{false, granted_with, has_key, has_lease, held_left, inl, inr}
+use Rattle.lease_laws.proofs.Words.{is_key, is_left_behind, is_left_open, is_lost, joined, key_expired, key_of, lease_after}
+use Rattle.lease_laws.proofs.Words.{lease_given, lease_put, length, not, opens_disconnected}
+use Rattle.lease_laws.proofs.Words.{opens_dropped, put, refl, refusal_of, replied, request_held, standing_lease}
+use Rattle.lease_laws.proofs.Words.{step_taken, steps_taken, subst, sym, true}
 use Rattle.lease_laws.proofs.server.Lists.{if_cases, clash, and_parts, any_has, among_append, among_filter, among_map}
 use Rattle.lease_laws.proofs.server.Lists.{among_behind}
 use Rattle.lease_laws.proofs.server.OutLists.{each_append, go_on-same}
 use Rattle.lease_laws.proofs.server.OutSteps.{opens_dropped-outs}
 use Rattle.lease_laws.proofs.server.OutCalls.{request_held-outs, held_left-outs}
 use Rattle.lease_laws.proofs.server.StepCalls.{called-steps, call_begun-silent}
+use Rattle.lease_laws.proofs.server.cases.Calls.{any_call}
 use Rattle.lease_laws.proofs.server.cases.Ends.{HasEnds, any_end}
 use Rattle.lease_laws.proofs.server.cases.Judgements.{any_judgement}
 
@@ -49,7 +50,6 @@ refusal_bytes x1 status = grind arith
 -- fewer opens
 dropped_full : (test : Open → Bool) (progress : Progress) → HaveFullKeys progress.server
     → HaveFullKeys (opens_dropped test progress).server
-unfolding opens_dropped with_opens
 dropped_full test progress full = record {
   opens = λ one bytes a e. full.opens one bytes (among_filter (λ x. not (test x)) one progress.server.opens a).0 e;
   held = full.held;
@@ -75,7 +75,6 @@ put_opens server client x3 lease = grind arith
 granted_full : (client file : ℕ) (access : Access) (share : Share) (asked : Option LeaseOf) (durable : Bool)
     (progress : Progress) → IfSome asked (λ l. length l.key ≡ 16) → HaveFullKeys progress.server → IsFull progress
     (granted_with client file access share asked durable (lease_after progress.server client file asked) progress)
-unfolding granted_with
 granted_full client file access share asked durable progress h full =
     let lease = lease_after progress.server client file asked in
     record {
@@ -96,7 +95,6 @@ again_key file_id one = grind arith
 
 ends_full : (client : ℕ) (progress : Progress) → HaveFullKeys progress.server
     → HasEnds client progress (λ request outcome after. HasFullKey request → IsFull progress after)
-unfolding reconnected changed
 ends_full client progress full = record {
   refused = λ request status h. replied_full client (refusal_of request status) progress (refusal_bytes request status) full;
   left = λ request outcome h. record { outs = go_on-same OutHasBytes progress.outs; keys = full };
@@ -137,7 +135,6 @@ concluded_full client request progress outcome h full =
 
 acknowledged_full : (client : ℕ) (given : Option LeaseOf) (progress : Progress) → HaveFullKeys progress.server
     → IsFull progress (acknowledged client given progress)
-unfolding break_ended
 acknowledged_full client given progress full = any_judgement client progress (λ given. IsFull progress) (record {
   failed = λ given status why. replied_full client (Reply.AckFailed status) progress tt full;
   ended = λ g lowered there breaks within. record {
@@ -166,7 +163,7 @@ of_call call x2 of h = grind arith
 left_full : (file : ℕ) (before : List Held) (one : Held) (behind : List Held) (progress : Progress)
     → progress.server.held file ≡ before ++ one ∷ behind → HaveFullKeys progress.server
     → HaveFullKeys (held_left file (before ++ behind) progress).server
-unfolding held_left put
+unfolding put
 left_full file before one behind progress held full = record {
   opens = full.opens;
   held = λ other x. if_cases (λ list. Among x list → HasFullKey x.request) (other == file) (before ++ behind)
@@ -183,7 +180,7 @@ left_full file before one behind progress held full = record {
 -- one more
 held_full : (file : ℕ) (one : Held) (progress : Progress) → HasFullKey one.request → HaveFullKeys progress.server
     → HaveFullKeys (request_held file one progress).server
-unfolding request_held put
+unfolding put
 held_full file one progress h full = record {
   opens = full.opens;
   held = λ other x. if_cases (λ list. Among x list → HasFullKey x.request) (other == file)
@@ -196,7 +193,6 @@ held_full file one progress h full = record {
 
 step_full : (step : SmallStep) (progress : Progress) → IsGuarded step progress.server → StepHasFullKey step
     → HaveFullKeys progress.server → IsFull progress (step_taken step progress)
-unfolding lease_lowered break_begun
 step_full (SmallStep.Answer client request outcome) progress may h full = concluded_full client request progress outcome h full
 step_full (SmallStep.AnswerHeld file before one behind outcome) progress may h full =
     let left = held_left file (before ++ behind) progress in
@@ -245,7 +241,6 @@ cut_key client one = grind arith
 
 lost_full : (client : ℕ) (progress : Progress) → HaveFullKeys progress.server
     → HaveFullKeys (client_forgotten client (opens_disconnected client progress)).server
-unfolding client_forgotten opens_disconnected
 lost_full client progress full = record {
   opens = λ one bytes a e. let x = among_map (disconnected client) one progress.server.opens a in
       full.opens x.0 bytes x.1 (sym (cut_key client x.0) ∙ ap (λ o. o.lease_key) (sym x.2) ∙ e);
@@ -253,29 +248,23 @@ lost_full client progress full = record {
 }
 
 timer_full : (key : Key) (progress : Progress) → HaveFullKeys progress.server → HaveFullKeys (key_expired key progress).server
-unfolding key_expired
 timer_full key progress full = record { opens = full.opens; held = full.held }
 
 joined_full : (client : ℕ) (progress : Progress) → HaveFullKeys progress.server → HaveFullKeys (joined client progress).server
-unfolding joined
 joined_full client progress full = record { opens = full.opens; held = full.held }
 
-either_full : (b : Bool) (x y : Progress) → HaveFullKeys x.server → HaveFullKeys y.server
-    → HaveFullKeys (if b then x else y).server
-either_full x1 x y f g = grind arith
-
 begun_full : (server : Server) (call : Call) → HaveFullKeys server → HaveFullKeys (call_begun server call).server
-unfolding join
-begun_full server (Call.Join client) full = either_full (server.present client) (begun server) (joined client (begun server)) full
-    (joined_full client (begun server) full)
-begun_full server (Call.Receive client request) full = full
-begun_full server (Call.Cut client) full = either_full (server.present client) _ (begun server)
-    (lost_full client (opens_dropped (is_lost server client) (begun server))
-    (dropped_full (is_lost server client) (begun server) full)) full
-begun_full server (Call.Expire key) full = either_full (is_breaking (server.leases key)) _ (begun server)
-    (timer_full key (opens_dropped (has_key key) (begun server)) (dropped_full (has_key key) (begun server) full)) full
-begun_full server (Call.Scavenge file_id) full = either_full (list_any (is_left_behind file_id) server.opens) _
-    (begun server) (dropped_full (is_left_behind file_id) (begun server) full) full
+begun_full server call full = any_call server (λ call start after. HaveFullKeys start.server) (record {
+  idle = λ call why. full;
+  joins = λ client down. joined_full client (begun server) full;
+  judges = λ client given up. full;
+  receives = λ client request up. full;
+  cuts = λ client up. lost_full client (opens_dropped (is_lost server client) (begun server))
+      (dropped_full (is_lost server client) (begun server) full);
+  expires = λ key breaks. timer_full key (opens_dropped (has_key key) (begun server))
+      (dropped_full (has_key key) (begun server) full);
+  scavenges = λ file_id left. dropped_full (is_left_behind file_id) (begun server) full;
+}) call
 
 pub replies_have_bytes : (server : Server) (call : Call) → IsSound server → WaitsWell server → HaveFullKeys server
     → CallHasFullKey call → EachOut OutHasBytes (called server call).outs × HaveFullKeys (called server call).server

@@ -2,7 +2,7 @@
 use Rattle.lease_laws.proofs.Words.{◌==◌, ◌∙◌, ◌∷◌, ◌≡◌, Among, AreSound, Bool, FileRequest, IsSound, Key, Lease, LeaseOf, List}
 use Rattle.std.proofs.Common.{arith}
 use Rattle.lease_laws.proofs.Words.{None, Open, Option, Outcome, Progress, Some, State, Status, ℕ, [], acknowledged, ap, ap₂}
-use Rattle.lease_laws.proofs.Words.{break_ended, changed, concluded, cond, connected_again, false, granted_form_of, has_key}
+use Rattle.lease_laws.proofs.Words.{break_ended, concluded, cond, connected_again, false, granted_form_of, has_key}
 use Rattle.lease_laws.proofs.Words.{has_lease, if◌then◌else◌, is_breaking, is_some, is_state_within, key_of, map}
 use Rattle.lease_laws.proofs.Words.{reconnected, refl, refused, subst, sym, true, true≢false}
 use Rattle.lease_laws.proofs.server.Grants.{granted_with-sound}
@@ -34,7 +34,6 @@ again_connection file_id one = choose_connection (one.file_id == file_id) true o
 -- a reconnect keeps the laws
 reconnected-sound : (client file : ℕ) (asked : Option LeaseOf) (file_id : ℕ) (progress : Progress) → IsSound progress.server
     → IsSound (reconnected client file asked file_id progress).server
-unfolding reconnected
 reconnected-sound client file asked file_id progress s =
     let up : Open → Bool = λ x. if x.file_id == file_id then true else x.connected in
     subst (λ opens. AreSound opens progress.server.leases progress.server.expired progress.server.last_id)
@@ -47,14 +46,12 @@ reconnected-sound client file asked file_id progress s =
 -- a refusal keeps the laws
 pub refused-sound : (client : ℕ) (request : FileRequest) (status : Status) (progress : Progress)
     → IsSound progress.server → IsSound (refused client request status progress).server
-unfolding refused
 refused-sound client request status progress s = s
 
 -- the end of a try
 ends_sound : (client : ℕ) (progress : Progress) → IsSound progress.server
     → HasEnds client progress (λ request outcome after. (outcome ≡ Outcome.Ready
     → RequestFree progress.server client request) → IsSound after.server)
-unfolding changed
 ends_sound client progress s = record {
   refused = λ request status free. s;
   left = λ request outcome free. s;
@@ -90,7 +87,6 @@ part_form_write state lowered part w = grind arith
 break_ended-sound : (key : Key) (state lowered : State) (progress : Progress) → IsSound progress.server
     → has_lease progress.server key ≡ true → (progress.server.leases key).broken_to ≡ Some lowered
     → is_state_within state lowered ≡ true → IsSound (break_ended key state progress).server
-unfolding break_ended
 break_ended-sound key state lowered progress s there broken part =
     let breaking : is_breaking (progress.server.leases key) ≡ true = ap is_some broken in
     let so = (s.lawful key).is_broken_so lowered broken in

@@ -1,12 +1,12 @@
 -- A request that comes lets no first held request wait for nothing.
-use Rattle.lease_laws.proofs.Words.{◌++◌, ◌==◌, ◌∙◌, ◌∷◌, ◌≡◌, ◌≤◌, Among, Bool, CreateAsk, Decides-eqb, Err, FileRequest}
-use Rattle.lease_laws.proofs.Words.{HasToWait, Held, IsAbout, IsAlone, IsOpenOn, IsOrderly, IsSound, Key, LeaseOf, List, None, Ok}
-use Rattle.lease_laws.proofs.Words.{Open, Option, Outcome, Progress, Reply, Request, Result, Server, Some, State, Status, Tried}
-use Rattle.lease_laws.proofs.Words.{ℕ, ⊎_elim, [], acknowledged, after_first_try, ap, arith, arrived, arrived_on, begun}
-use Rattle.lease_laws.proofs.Words.{break_ended, concluded, cond, connected_open, false, file_asked, file_of_create, file_of_open}
-use Rattle.lease_laws.proofs.Words.{file_request_arrived, find, has_file, has_lease, held_of, is_behind, is_state_within}
-use Rattle.lease_laws.proofs.Words.{judged, key_of, list_any, new_server, put, receive, refl, refused, replied, request_held}
-use Rattle.lease_laws.proofs.Words.{subst, sym, tried, true}
+use Rattle.lease_laws.proofs.Words.{◌++◌, ◌==◌, ◌∙◌, ◌∷◌, ◌≡◌, ◌≤◌, Among, CreateAsk, Decides-eqb, Err, FileRequest}
+use Rattle.lease_laws.proofs.Words.{HasToWait, Held, IsAbout, IsAlone, IsOpenOn, IsOrderly, IsSound, LeaseOf, List, None, Ok}
+use Rattle.lease_laws.proofs.Words.{Open, Option, Outcome, Progress, Result, Server, Some, Status, Tried}
+use Rattle.lease_laws.proofs.Words.{ℕ, ⊎_elim, [], acknowledged, after_first_try, ap, arith, arrived_on}
+use Rattle.lease_laws.proofs.Words.{concluded, connected_open, false, file_asked, file_of_create, file_of_open}
+use Rattle.lease_laws.proofs.Words.{file_request_arrived, find, has_file, held_of, is_behind}
+use Rattle.lease_laws.proofs.Words.{list_any, new_server, put, refl, refused, request_held}
+use Rattle.lease_laws.proofs.Words.{all_passes, subst, sym, tried, true}
 use Rattle.lease_laws.proofs.server.Answers.{acknowledged-sound}
 use Rattle.lease_laws.proofs.server.FileReady.{ready-file}
 use Rattle.lease_laws.proofs.server.Goes.{file_frame, GoesOn, Goes, acknowledged-goes, one_id}
@@ -18,6 +18,7 @@ use Rattle.lease_laws.proofs.server.Orderly.{orderly_goes, all_wait-keep, about_
 use Rattle.lease_laws.proofs.server.PassWaits.{EveryoneWaits, all_passes-wait, find_more}
 use Rattle.lease_laws.proofs.server.Progress.{request_held-sound}
 use Rattle.lease_laws.proofs.server.Ready.{ready-free}
+use Rattle.lease_laws.proofs.server.cases.Judgements.{any_judgement}
 
 -- the first server
 pub new_server-waits : (contents : List (List ℕ)) → EveryoneWaits (new_server contents)
@@ -66,19 +67,17 @@ asked_file server client file (FileRequest.Close file_id) s o e = open_file serv
 
 -- to hold a request lets opens go on
 pub request_held-goes : (file : ℕ) (one : Held) (progress : Progress) → Goes progress (request_held file one progress)
-unfolding request_held
 request_held-goes file one progress = grind arith
 
 -- to hold a request lets wait what has to wait
 request_held-kept : (file : ℕ) (one : Held) (progress : Progress) → Kept Anywhere progress (request_held file one progress)
-unfolding request_held
 request_held-kept file one progress = record { stands = λ key x a k up b g. (a, refl); finds = λ c id x e g. e }
 
 -- what holds of the requests of each file, once one more is held
 request_held-cases : (P : List Held → Type 0) (file : ℕ) (one : Held) (progress : Progress) (other : ℕ)
     → (other ≡ file → P (progress.server.held file ++ one ∷ [])) → P (progress.server.held other)
     → P ((request_held file one progress).server.held other)
-unfolding request_held put
+unfolding put
 request_held-cases x1 file one progress other here there = grind arith
 
 -- a request of a connected client is held on the file that it is about
@@ -126,7 +125,6 @@ request_held-waits file one progress e well new =
 -- a refusal leaves each first held request waiting
 refused_waits : (client : ℕ) (request : FileRequest) (status : Status) (progress : Progress)
     → EveryoneWaits progress.server → EveryoneWaits (refused client request status progress).server
-unfolding refused
 refused_waits client request status progress e = e
 
 -- a call under way, and all that is asked of it before passes
@@ -205,7 +203,6 @@ first_try-waits client file request before progress Outcome.Ready e well alone t
 -- a refusal keeps the laws and the order
 refused-fine : (client : ℕ) (request : FileRequest) (status : Status) (progress : Progress)
     → IsFine progress.server → IsFine (refused client request status progress).server
-unfolding refused
 refused-fine client request status progress f = f
 
 -- a request on a file keeps the laws and the order
@@ -244,30 +241,11 @@ asked_well client request progress f up file e =
     let x = asked_file progress.server client file request f.sound f.orderly e in
     record { up = up; on_file = x.0; about = x.1 }
 
--- to end a break leaves the held requests as they are
-ended-held : (key : Key) (state : State) (progress : Progress) → SameHeld progress (break_ended key state progress)
-unfolding break_ended
-ended-held key state progress = refl
-
--- to judge an acknowledgment leaves the held requests as they are
-judged-held : (key : Key) (state : State) (broken : Option State) (progress : Progress)
-    → SameHeld progress (judged key state broken progress)
-judged-held key state None progress = refl
-judged-held key state (Some lowered) progress = if_cases (SameHeld progress) (is_state_within state lowered)
-    (break_ended key state progress) (replied key.client (Reply.AckFailed Status.RequestNotAccepted) progress)
-    (λ e. ended-held key state progress) (λ e. refl)
-
 -- an acknowledgment leaves the held requests as they are
 pub acknowledged-held : (client : ℕ) (given : Option LeaseOf) (progress : Progress)
     → SameHeld progress (acknowledged client given progress)
-unfolding acknowledged
-acknowledged-held client None progress = refl
-acknowledged-held client (Some given) progress = if_cases (SameHeld progress)
-    (has_lease progress.server (key_of client given.key))
-    (judged (key_of client given.key) given.state (progress.server.leases (key_of client given.key)).broken_to progress)
-    (replied client (Reply.AckFailed Status.ObjectNameNotFound) progress)
-    (λ e. judged-held (key_of client given.key) given.state (progress.server.leases (key_of client given.key)).broken_to progress)
-    (λ e. refl)
+acknowledged-held client given progress = any_judgement client progress (λ given. SameHeld progress)
+    (record { failed = λ given status why. refl; ended = λ g lowered there breaks within. refl }) given
 
 -- opens that go on keep the laws and the order
 pub fine_goes : (before after : Progress) → IsFine before.server → IsSound after.server → Goes before after
@@ -279,7 +257,7 @@ fine_goes before after f s g same = record {
 }
 
 -- a request about a file leaves each first held request waiting
-file_request-waits : (client : ℕ) (request : FileRequest) (progress : Progress) → EveryoneWaits progress.server
+pub file_request-waits : (client : ℕ) (request : FileRequest) (progress : Progress) → EveryoneWaits progress.server
     → progress.server.present client ≡ true → EveryoneWaits (file_request_arrived client request progress).server
 file_request-waits client (FileRequest.Close file_id) progress e up = all_passes-wait
     (arrived_on client (FileRequest.Close file_id) progress (file_asked progress.server client (FileRequest.Close file_id)))
@@ -289,24 +267,9 @@ file_request-waits client (FileRequest.Close file_id) progress e up = all_passes
 file_request-waits client request progress e up = arrived_on-waits client request progress
     (file_asked progress.server client request) e tt (asked_well client request progress e.fine up)
 
--- a request that comes leaves each first held request waiting
-arrived-waits : (client : ℕ) (request : Request) (progress : Progress) → EveryoneWaits progress.server
-    → progress.server.present client ≡ true → EveryoneWaits (arrived client request progress).server
-unfolding arrived
-arrived-waits client (Request.Acknowledge given) progress e up = all_passes-wait (acknowledged client given progress)
+-- so does an acknowledgment
+pub acknowledged-waits : (client : ℕ) (given : Option LeaseOf) (progress : Progress) → EveryoneWaits progress.server
+    → EveryoneWaits (all_passes (acknowledged client given progress)).server
+acknowledged-waits client given progress e = all_passes-wait (acknowledged client given progress)
     (fine_goes progress (acknowledged client given progress) e.fine (acknowledged-sound client given progress e.fine.sound)
     (acknowledged-goes client given progress) (acknowledged-held client given progress))
-arrived-waits client (Request.OnFile request) progress e up = file_request-waits client request progress e up
-
--- a choice of two calls under way
-pub everyone_cases : (b : Bool) (x y : Progress) → (b ≡ true → EveryoneWaits x.server)
-    → (b ≡ false → EveryoneWaits y.server) → EveryoneWaits (cond b x y).server
-everyone_cases b x y at_true at_false = if_cases (λ p. EveryoneWaits p.server) b x y at_true at_false
-
--- a request received leaves each first held request waiting
-pub receive-waits : (server : Server) (client : ℕ) (request : Request) → EveryoneWaits server
-    → EveryoneWaits (receive server client request).server
-unfolding receive
-receive-waits server client request e = everyone_cases (server.present client)
-    (arrived client request (begun server)) (begun server)
-    (λ up. arrived-waits client request (begun server) e up) (λ down. e)

@@ -4,7 +4,7 @@ use Rattle.std.proofs.Common.{arith}
 use Rattle.lease_laws.proofs.Words.{Server, Some, State, Want, [], ap, break_begun, false, filter, has_key, has_lease}
 use Rattle.lease_laws.proofs.Words.{if◌then◌else◌, inl, inr, is_breaking, is_left_open, is_state_within, lease_broken}
 use Rattle.lease_laws.proofs.Words.{lease_lowered, list_any, needs_acknowledgment, no_lease, not, opens_dropped, refl, subst, sym}
-use Rattle.lease_laws.proofs.Words.{true, true≢false, want_met, wants_met, with_opens}
+use Rattle.lease_laws.proofs.Words.{true, true≢false, want_met, wants_met}
 use Rattle.lease_laws.proofs.server.Keys.{put_key-cases}
 use Rattle.lease_laws.proofs.server.Lists.{if_cases, clash, and_both, and_parts, not_parts, not_false, among_filter}
 use Rattle.lease_laws.proofs.server.Lists.{any_has, has_any}
@@ -31,7 +31,6 @@ under-itself server = grind arith
 -- to drop opens goes on under it
 pub opens_dropped-under : (base : Server) (test : Open → Bool) (progress : Progress) → IsUnder base progress.server
     → IsUnder base (opens_dropped test progress).server
-unfolding opens_dropped with_opens
 opens_dropped-under base test progress u =
     let kept : List Open = filter (λ one. not (test one)) progress.server.opens in
     let was : (key : Key) → list_any (has_key key) kept ≡ true
@@ -55,7 +54,6 @@ opens_dropped-under base test progress u =
 -- to begin a break stays on the way by breaks alone
 break_begun-under : (base : Server) (key : Key) (lowered : State) (progress : Progress) → IsUnder base progress.server
     → IsUnder base (break_begun key lowered progress).server
-unfolding break_begun
 break_begun-under base key lowered progress u = record {
   tracked = λ k. put_key-cases (λ l. IsTracked base progress.server.opens k l) progress.server.leases key
       (record { state = (progress.server.leases key).state; broken_to = Some lowered }) k
@@ -68,7 +66,6 @@ break_begun-under base key lowered progress u = record {
 lease_lowered-under : (base : Server) (key : Key) (lowered : State) (progress : Progress) → IsUnder base progress.server
     → needs_acknowledgment lowered ≡ false → needs_acknowledgment (base.leases key).state ≡ false
     → IsUnder base (lease_lowered key lowered progress).server
-unfolding lease_lowered
 lease_lowered-under base key lowered progress u light was = record {
   tracked = λ k. put_key-cases (λ l. IsTracked base progress.server.opens k l) progress.server.leases key
       (record { state = lowered; broken_to = None }) k
@@ -128,7 +125,6 @@ lease_broken-along base want progress i fits present = if_cases (IsAlong base) (
 -- once a key's disconnected opens are dropped, those that it has are connected
 pub left_present : (key : Key) (progress : Progress) (one : Open)
     → Among one (opens_dropped (is_left_open key) progress).server.opens → has_key key one ≡ true → one.connected ≡ true
-unfolding opens_dropped with_opens
 left_present key progress one a k = not_false one.connected (λ d.
     clash (is_left_open key one) (and_both (has_key key one) (not one.connected) k (ap not d))
     (not_parts (is_left_open key one) (among_filter (λ x. not (is_left_open key x)) one progress.server.opens a).1))

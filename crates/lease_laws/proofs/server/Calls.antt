@@ -1,13 +1,13 @@
 -- The laws hold of the first server, and every call keeps them.
 use Rattle.lease_laws.proofs.Words.{◌&&◌, ◌==◌, ◌∙◌, ◌≡◌, Among, AreSound, Bool, Call, Decides-eqb, Err, FileRequest, IsLasting}
 use Rattle.std.proofs.Common.{arith}
-use Rattle.lease_laws.proofs.Words.{IsSound, Key, List, None, Ok, Open, Option, Outcome, Progress, Request, Result, Server, Some}
-use Rattle.lease_laws.proofs.Words.{Status, ℕ, acknowledged, after_first_try, all_passes, ap, arrived, arrived_on, begun, called}
-use Rattle.lease_laws.proofs.Words.{client_forgotten, cond, cut, disconnected, expire, false, file_asked, file_request_arrived}
+use Rattle.lease_laws.proofs.Words.{IsSound, Key, List, None, Ok, Open, Option, Outcome, Progress, Result, Server, Some}
+use Rattle.lease_laws.proofs.Words.{Status, ℕ, acknowledged, after_first_try, ap, arrived_on, begun, called}
+use Rattle.lease_laws.proofs.Words.{client_forgotten, cond, disconnected, false, file_asked, file_request_arrived}
 use Rattle.lease_laws.proofs.Words.{has_key, held_of, if◌then◌else◌, is_behind, is_breaking, is_key, is_left_behind, is_lost}
-use Rattle.lease_laws.proofs.Words.{join, joined, key_expired, key_of, lease_by, lease_of, list_any, new_server, no_lease, not}
-use Rattle.lease_laws.proofs.Words.{opens_disconnected, opens_dropped, outlives_connection, put_key, receive, refl, request_held}
-use Rattle.lease_laws.proofs.Words.{scavenge, subst, sym, tried, true, true≢false, with_opens, without}
+use Rattle.lease_laws.proofs.Words.{joined, key_expired, key_of, lease_by, lease_of, list_any, new_server, no_lease, not}
+use Rattle.lease_laws.proofs.Words.{opens_disconnected, opens_dropped, outlives_connection, put_key, refl, request_held}
+use Rattle.lease_laws.proofs.Words.{subst, sym, tried, true, true≢false, without}
 use Rattle.lease_laws.proofs.server.Answers.{acknowledged-sound, refused-sound, concluded-sound, map_same, choose_connection}
 use Rattle.lease_laws.proofs.server.Keys.{put_key-cases, is_key-refl, lease_by-key}
 use Rattle.lease_laws.proofs.server.Lists.{if_cases, either, clash, and_both, and_parts, not_parts, not_false, among_filter}
@@ -17,6 +17,7 @@ use Rattle.lease_laws.proofs.server.Progress.{opens_dropped-sound, request_held-
 use Rattle.lease_laws.proofs.server.Ready.{ready-free}
 use Rattle.lease_laws.proofs.server.Steps.{connection_sound, with_connection, left_here}
 use Rattle.lease_laws.proofs.server.Tries.{IsGoodTry, tried_for-good}
+use Rattle.lease_laws.proofs.server.cases.Calls.{any_call, lease_lost, links_lost}
 
 -- the first server
 pub new_server-sound : (contents : List (List ℕ)) → IsSound (new_server contents)
@@ -41,19 +42,12 @@ one_timer server key s none = record {
 
 -- a join that applies keeps the laws
 pub joined-sound : (client : ℕ) (progress : Progress) → IsSound progress.server → IsSound (joined client progress).server
-unfolding joined
 joined-sound client progress s = grind arith
 
 -- a choice of two calls under way
 sound_cases : (b : Bool) (x y : Progress) → (b ≡ true → IsSound x.server) → (b ≡ false → IsSound y.server)
     → IsSound (cond b x y).server
 sound_cases b x y at_true at_false = if_cases (λ p. IsSound p.server) b x y at_true at_false
-
--- a join keeps the laws
-pub join-sound : (server : Server) (client : ℕ) → IsSound server → IsSound (join server client).server
-unfolding join
-join-sound server client s = sound_cases (server.present client) (begun server) (joined client (begun server))
-    (λ e. s) (λ e. joined-sound client (begun server) s)
 
 -- what follows a first try keeps the laws
 after_first_try-sound : (client file : ℕ) (request : FileRequest) (progress : Progress) (outcome : Outcome)
@@ -89,21 +83,6 @@ file_request-sound client (FileRequest.Close file_id) progress s = all_passes-so
 file_request-sound client request progress s = arrived_on-sound client request progress
     (file_asked progress.server client request) s
 
--- a request that comes keeps the laws
-arrived-sound : (client : ℕ) (request : Request) (progress : Progress) → IsSound progress.server
-    → IsSound (arrived client request progress).server
-unfolding arrived
-arrived-sound client (Request.Acknowledge given) progress s = all_passes-sound
-    (acknowledged client given progress) (acknowledged-sound client given progress s)
-arrived-sound client (Request.OnFile request) progress s = file_request-sound client request progress s
-
--- a request received keeps the laws
-pub receive-sound : (server : Server) (client : ℕ) (request : Request) → IsSound server
-    → IsSound (receive server client request).server
-unfolding receive
-receive-sound server client request s = sound_cases (server.present client) (arrived client request (begun server)) (begun server)
-    (λ e. arrived-sound client request (begun server) s) (λ e. s)
-
 -- the key of an open whose lease holds H
 handle_key : (server : Server) (client : ℕ) (bytes : Option (List ℕ)) → (lease_by server client bytes).state.handle ≡ true
     → (key : Key) × (is_key key client bytes ≡ true)
@@ -129,7 +108,6 @@ kept_lasting server one kept =
 -- an open that outlives its connection does so among fewer opens, if it is there
 pub lasting_left : (test : Open → Bool) (progress : Progress) (one : Open) → Among one (opens_dropped test progress).server.opens
     → IsLasting progress.server.leases one → IsLasting (opens_dropped test progress).server.leases one
-unfolding opens_dropped with_opens
 lasting_left test progress one a l =
     let same = left_here progress.server.leases (without test progress.server.opens) l.key one a l.has_the_key in
     record {
@@ -144,7 +122,6 @@ lasting_left test progress one a l =
 pub left_lasting : (client : ℕ) (server : Server) (one : Open) → IsSound server
     → Among one (opens_dropped (is_lost server client) (begun server)).server.opens → one.client ≡ client
     → IsLasting server.leases one
-unfolding opens_dropped with_opens
 left_lasting client server one s a c =
     let was = among_filter (λ x. not (is_lost server client x)) one server.opens a in
     either one.connected
@@ -158,7 +135,6 @@ left_lasting client server one s a c =
 pub opens_disconnected-sound : (client : ℕ) (progress : Progress) → IsSound progress.server
     → ((one : Open) → Among one progress.server.opens → one.client ≡ client → IsLasting progress.server.leases one)
     → IsSound (opens_disconnected client progress).server
-unfolding opens_disconnected
 opens_disconnected-sound client progress s lasting =
     let up : Open → Bool = λ x. if x.client == client then false else x.connected in
     subst (λ opens. AreSound opens progress.server.leases progress.server.expired progress.server.last_id)
@@ -173,20 +149,15 @@ opens_disconnected-sound client progress s lasting =
 -- to forget a client keeps the laws
 pub client_forgotten-sound : (client : ℕ) (progress : Progress) → IsSound progress.server
     → IsSound (client_forgotten client progress).server
-unfolding client_forgotten
 client_forgotten-sound client progress s = s
 
--- a cut keeps the laws
-cut-sound : (server : Server) (client : ℕ) → IsSound server → IsSound (cut server client).server
-unfolding cut
-cut-sound server client s =
+-- to lose a client's links keeps the laws
+pub links_lost-sound : (server : Server) (client : ℕ) → IsSound server → IsSound (links_lost server client).server
+links_lost-sound server client s =
     let dropped = opens_dropped (is_lost server client) (begun server) in
-    sound_cases (server.present client) (all_passes (client_forgotten client (opens_disconnected client dropped))) (begun server)
-    (λ e. all_passes-sound (client_forgotten client (opens_disconnected client dropped))
-    (client_forgotten-sound client (opens_disconnected client dropped)
+    client_forgotten-sound client (opens_disconnected client dropped)
     (opens_disconnected-sound client dropped (opens_dropped-sound (is_lost server client) (begun server) s)
-    (λ one a c. lasting_left (is_lost server client) (begun server) one a (left_lasting client server one s a c)))))
-    (λ e. s)
+    (λ one a c. lasting_left (is_lost server client) (begun server) one a (left_lasting client server one s a c)))
 
 -- none of the opens that are left has the key that was dropped
 none_left : (key : Key) (opens : List Open) {X : Type 0} → list_any (has_key key) (without (has_key key) opens) ≡ true → X
@@ -196,7 +167,6 @@ none_left key opens e =
 
 -- a key whose opens are dropped has no lease
 pub dropped_lease : (key : Key) (progress : Progress) → (opens_dropped (has_key key) progress).server.leases key ≡ no_lease
-unfolding opens_dropped with_opens
 dropped_lease key progress = if_cases (λ l. l ≡ no_lease) (list_any (has_key key) (without (has_key key) progress.server.opens))
     (progress.server.leases key) no_lease
     (λ e. none_left key progress.server.opens e) (λ e. refl)
@@ -204,32 +174,23 @@ dropped_lease key progress = if_cases (λ l. l ≡ no_lease) (list_any (has_key 
 -- to mark a key keeps the laws
 pub key_expired-sound : (key : Key) (progress : Progress) → IsSound progress.server → progress.server.leases key ≡ no_lease
     → IsSound (key_expired key progress).server
-unfolding key_expired
 key_expired-sound key progress s none = one_timer progress.server key s none
 
--- a timer that runs out keeps the laws
-expire-sound : (server : Server) (key : Key) → IsSound server → IsSound (expire server key).server
-unfolding expire
-expire-sound server key s = sound_cases (is_breaking (server.leases key))
-    (all_passes (key_expired key (opens_dropped (has_key key) (begun server)))) (begun server)
-    (λ e. all_passes-sound (key_expired key (opens_dropped (has_key key) (begun server)))
-    (key_expired-sound key (opens_dropped (has_key key) (begun server)) (opens_dropped-sound (has_key key) (begun server) s)
-    (dropped_lease key (begun server))))
-    (λ e. s)
-
--- a scavenge keeps the laws
-scavenge-sound : (server : Server) (file_id : ℕ) → IsSound server → IsSound (scavenge server file_id).server
-unfolding scavenge
-scavenge-sound server file_id s = sound_cases (list_any (is_left_behind file_id) server.opens)
-    (all_passes (opens_dropped (is_left_behind file_id) (begun server))) (begun server)
-    (λ e. all_passes-sound (opens_dropped (is_left_behind file_id) (begun server))
-    (opens_dropped-sound (is_left_behind file_id) (begun server) s))
-    (λ e. s)
+-- to lose a lease keeps the laws
+pub lease_lost-sound : (server : Server) (key : Key) → IsSound server → IsSound (lease_lost server key).server
+lease_lost-sound server key s = key_expired-sound key (opens_dropped (has_key key) (begun server))
+    (opens_dropped-sound (has_key key) (begun server) s) (dropped_lease key (begun server))
 
 -- every call keeps the laws
 pub called-sound : (server : Server) (call : Call) → IsSound server → IsSound (called server call).server
-called-sound server (Call.Join client) s = join-sound server client s
-called-sound server (Call.Receive client request) s = receive-sound server client request s
-called-sound server (Call.Cut client) s = cut-sound server client s
-called-sound server (Call.Expire key) s = expire-sound server key s
-called-sound server (Call.Scavenge file_id) s = scavenge-sound server file_id s
+called-sound server call s = any_call server (λ call start after. IsSound after.server) (record {
+  idle = λ call why. s;
+  joins = λ client down. joined-sound client (begun server) s;
+  judges = λ client given up. all_passes-sound (acknowledged client given (begun server))
+      (acknowledged-sound client given (begun server) s);
+  receives = λ client request up. file_request-sound client request (begun server) s;
+  cuts = λ client up. all_passes-sound (links_lost server client) (links_lost-sound server client s);
+  expires = λ key breaks. all_passes-sound (lease_lost server key) (lease_lost-sound server key s);
+  scavenges = λ file_id left. all_passes-sound (opens_dropped (is_left_behind file_id) (begun server))
+      (opens_dropped-sound (is_left_behind file_id) (begun server) s);
+}) call

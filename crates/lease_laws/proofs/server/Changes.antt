@@ -5,12 +5,12 @@ use Rattle.lease_laws.proofs.Words.{CachesAlone, Call, ComesBehindBreaks, Decide
 use Rattle.lease_laws.proofs.Words.{IsCaching, IsGivenUp, IsGuarded, IsOfCall, IsRaised, IsSound, Key, Lease, LeaseOf, List}
 use Rattle.lease_laws.proofs.Words.{MayEnd, None, Open, Option, Out, Outcome, Patch, Progress, Reply, Request, Server, SmallStep}
 use Rattle.lease_laws.proofs.Words.{Some, State, Status, StaysOrRises, WaitsWell, ℕ, ⊎_elim, ⊤, [], acknowledged, answered, ap}
-use Rattle.lease_laws.proofs.Words.{append-nil, append_assoc, break_ended, break_notice, call_begun, called, changed, concluded}
+use Rattle.lease_laws.proofs.Words.{append-nil, append_assoc, break_notice, call_begun, called, changed, concluded}
 use Rattle.lease_laws.proofs.Words.{connected_open, false, granted_form_of, has_lease, held_left, inl, inr, is_breaking}
-use Rattle.lease_laws.proofs.Words.{is_left_open, is_some, is_state_within, judged, key_of, nothing_cached, on_open, refl}
-use Rattle.lease_laws.proofs.Words.{refusal_of, refused, replied, step_taken, steps_taken, subst, sym}
+use Rattle.lease_laws.proofs.Words.{is_left_open, is_some, key_of, nothing_cached, on_open, refl}
+use Rattle.lease_laws.proofs.Words.{refusal_of, refused, step_taken, steps_taken, subst, sym}
 use Rattle.lease_laws.proofs.server.Keys.{put_key-cases}
-use Rattle.lease_laws.proofs.server.Lists.{if_cases, clash, and_parts, among_behind, find_has}
+use Rattle.lease_laws.proofs.server.Lists.{clash, and_parts, among_behind, find_has}
 use Rattle.lease_laws.proofs.server.OutCalls.{request_held-outs, held_left-outs}
 use Rattle.lease_laws.proofs.server.OutLists.{go_on-same, go_on-weaker}
 use Rattle.lease_laws.proofs.server.OutSteps.{opens_dropped-outs}
@@ -18,6 +18,7 @@ use Rattle.lease_laws.proofs.server.StepCalls.{called-steps, call_begun-silent, 
 use Rattle.lease_laws.proofs.server.StepKeeps.{step-sound}
 use Rattle.lease_laws.proofs.server.StepLeases.{step-leases, held_left-serves}
 use Rattle.lease_laws.proofs.server.StepOuts.{IsOfRequest, IsSentTo, concluded-out, acknowledged-out, step-tells}
+use Rattle.lease_laws.proofs.server.cases.Judgements.{any_judgement}
 
 -- ---- lists
 
@@ -129,7 +130,6 @@ refused_first : (client : ℕ) (request : FileRequest) (status : Status) (progre
     (more before behind : List Out) (file by n : ℕ) (p : Patch)
     → (refused client request status progress).outs ≡ progress.outs ++ more
     → more ≡ before ++ Out.Changed file by n p ∷ behind → ⊥
-unfolding refused
 refused_first client request status progress more before behind file by n p e at =
     go_at (IsSentTo client) progress.outs (refused client request status progress).outs more before behind
     (Out.Changed file by n p)
@@ -140,7 +140,7 @@ concluded_first : (client : ℕ) (request : FileRequest) (progress : Progress) (
     → MayEnd progress.server client request outcome → (more before behind : List Out) (file by n : ℕ) (p : Patch)
     → (concluded client request progress outcome).outs ≡ progress.outs ++ more
     → more ≡ before ++ Out.Changed file by n p ∷ behind → IsFirst progress.server file by before
-unfolding answered changed
+unfolding answered
 concluded_first client request progress (Outcome.Refused status) may more before behind file by n p e at =
     absurd (refused_first client request status progress more before behind file by n p e at)
 concluded_first client request progress Outcome.Waits may more before behind file by n p e at = absurd may
@@ -176,7 +176,6 @@ step_first : (step : SmallStep) (progress : Progress) → IsGuarded step progres
     → (more before behind : List Out) (file by n : ℕ) (p : Patch)
     → (step_taken step progress).outs ≡ progress.outs ++ more → more ≡ before ++ Out.Changed file by n p ∷ behind
     → IsFirst progress.server file by before
-unfolding held_left
 step_first (SmallStep.Answer client request outcome) progress may more before behind file by n p e at =
     concluded_first client request progress outcome may more before behind file by n p e at
 step_first (SmallStep.AnswerHeld on earlier one later outcome) progress may more before behind file by n p e at =
@@ -289,32 +288,18 @@ pub record IsAckOf (client : ℕ) (given : Option LeaseOf) (key : Key) (after : 
   pub own : key ≡ key_of client told.key
   pub left : after ≡ record { state = granted_form_of told.state; broken_to = None }
 
-judged_leaves : (client : ℕ) (told : LeaseOf) (broken : Option State) (progress : Progress) (key : Key)
-    → ((judged (key_of client told.key) told.state broken progress).server.leases key ≡ progress.server.leases key)
-    ⊎ IsAckOf client (Some told) key ((judged (key_of client told.key) told.state broken progress).server.leases key)
-unfolding break_ended
-judged_leaves client told None progress key = inl refl
-judged_leaves client told (Some lowered) progress key =
-    if_cases (λ p. (p.server.leases key ≡ progress.server.leases key) ⊎ IsAckOf client (Some told) key (p.server.leases key))
-    (is_state_within told.state lowered) (break_ended (key_of client told.key) told.state progress)
-    (replied client (Reply.AckFailed Status.RequestNotAccepted) progress)
-    (λ part. put_key-cases (λ l. (l ≡ progress.server.leases key) ⊎ IsAckOf client (Some told) key l)
-    progress.server.leases (key_of client told.key) (record { state = granted_form_of told.state; broken_to = None }) key
-    (λ same. inr (record { told = told; is = refl; own = same; left = refl })) (λ other. inl refl))
-    (λ part. inl refl)
-
 acked_leaves : (client : ℕ) (given : Option LeaseOf) (progress : Progress) (key : Key)
     → ((acknowledged client given progress).server.leases key ≡ progress.server.leases key)
     ⊎ IsAckOf client given key ((acknowledged client given progress).server.leases key)
-unfolding acknowledged
-acked_leaves client None progress key = inl refl
-acked_leaves client (Some told) progress key =
-    if_cases (λ p. (p.server.leases key ≡ progress.server.leases key) ⊎ IsAckOf client (Some told) key (p.server.leases key))
-    (has_lease progress.server (key_of client told.key))
-    (judged (key_of client told.key) told.state (progress.server.leases (key_of client told.key)).broken_to progress)
-    (replied client (Reply.AckFailed Status.ObjectNameNotFound) progress)
-    (λ e. judged_leaves client told (progress.server.leases (key_of client told.key)).broken_to progress key)
-    (λ e. inl refl)
+acked_leaves client given progress key = any_judgement client progress
+    (λ given after. (after.server.leases key ≡ progress.server.leases key) ⊎ IsAckOf client given key (after.server.leases key))
+    (record {
+      failed = λ given status why. inl refl;
+      ended = λ told lowered there breaks within.
+          put_key-cases (λ l. (l ≡ progress.server.leases key) ⊎ IsAckOf client (Some told) key l) progress.server.leases
+          (key_of client told.key) (record { state = granted_form_of told.state; broken_to = None }) key
+          (λ same. inr (record { told = told; is = refl; own = same; left = refl })) (λ other. inl refl);
+    }) given
 
 -- where the key had still to give something up after the first step
 goes_on : (call : Call) (key : Key) (step : SmallStep) (steps : List SmallStep) (progress : Progress)

@@ -2,9 +2,9 @@
 use Rattle.lease_laws.proofs.Words.{◌++◌, ◌==◌, ◌∷◌, ◌≡◌, Access, Among, Bool, FileRequest, GoOn, Lease, LeaseOf, None}
 use Rattle.std.proofs.Common.{arith}
 use Rattle.lease_laws.proofs.Words.{Open, Option, Out, Outcome, Patch, Progress, Reply, Share, SmallStep, Some, Status, ℕ, ⊤, []}
-use Rattle.lease_laws.proofs.Words.{acknowledged, ap, break_begun, break_ended, changed, concluded, granted_with, held_left}
-use Rattle.lease_laws.proofs.Words.{is_left_open, lease_after, lease_lowered, opens_dropped, put, read_done, reconnected, refl}
-use Rattle.lease_laws.proofs.Words.{refusal_of, replied, request_held, step_taken, subst, sym, with_opens}
+use Rattle.lease_laws.proofs.Words.{acknowledged, ap, concluded, granted_with, held_left}
+use Rattle.lease_laws.proofs.Words.{is_left_open, lease_after, opens_dropped, put, read_done, refl}
+use Rattle.lease_laws.proofs.Words.{refusal_of, replied, request_held, step_taken, subst, sym}
 use Rattle.lease_state.specs.Content.{patch as patched}
 use Rattle.lease_laws.proofs.server.OutCalls.{held_left-outs, request_held-outs}
 use Rattle.lease_laws.proofs.server.OutLists.{go_on-same}
@@ -55,7 +55,6 @@ same_leaves progress = record { contents = refl; outs = go_on-same IsOther progr
 granted_leaves : (client file : ℕ) (access : Access) (share : Share) (asked : Option LeaseOf) (durable : Bool)
     (lease : Lease) (progress : Progress)
     → LeavesContents progress (granted_with client file access share asked durable lease progress)
-unfolding granted_with
 granted_leaves client file access share None durable lease progress =
     record { contents = refl; outs = record { more = _; are_more = refl; each = (tt, (tt, tt)) } }
 granted_leaves client file access share (Some asked) durable lease progress =
@@ -72,7 +71,6 @@ refusal_leaves : (client : ℕ) (request : FileRequest) (status : Status) (progr
 refusal_leaves client x2 status progress = grind arith
 
 ends_content : (client : ℕ) (progress : Progress) → HasEnds client progress (λ request outcome. ContentStep progress)
-unfolding reconnected changed opens_dropped with_opens
 ends_content client progress = record {
   refused = λ request status. ContentStep.Leaves (refusal_leaves client request status progress);
   left = λ request outcome. ContentStep.Leaves (same_leaves progress);
@@ -109,7 +107,6 @@ concluded_step client request progress = any_end client progress _ (ends_content
 -- an acknowledgment
 acknowledged_leaves : (client : ℕ) (given : Option LeaseOf) (progress : Progress)
     → LeavesContents progress (acknowledged client given progress)
-unfolding break_ended
 acknowledged_leaves client given progress = any_judgement client progress (λ given. LeavesContents progress) (record {
   failed = λ given status why. reply_leaves client _ progress tt;
   ended = λ g lowered there breaks within.
@@ -131,7 +128,6 @@ step_behind before next after contents opens outs x7 = grind arith
 
 -- any step
 pub content_step : (step : SmallStep) (progress : Progress) → ContentStep progress (step_taken step progress)
-unfolding held_left request_held opens_dropped with_opens lease_lowered break_begun
 content_step (SmallStep.Answer client request outcome) progress = concluded_step client request progress outcome
 content_step (SmallStep.AnswerHeld file before one behind outcome) progress =
     let left = held_left file (before ++ behind) progress in

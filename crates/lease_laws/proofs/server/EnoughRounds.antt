@@ -5,7 +5,7 @@ use Rattle.lease_laws.proofs.Words.{false, filter, find, has_key, has_lease, if�
 use Rattle.lease_laws.proofs.Words.{is_left_open, key_added, key_before, key_eq, key_of, keys_of, lease_broken, lease_by}
 use Rattle.lease_laws.proofs.Words.{lease_lowered, lease_of, list_all, list_any, map, needs_acknowledgment, no_lease, not}
 use Rattle.lease_laws.proofs.Words.{nothing_cached, open_key_added, opens_dropped, refl, subst, sym, true, want_met, wants_met}
-use Rattle.lease_laws.proofs.Words.{wants_where, with_opens}
+use Rattle.lease_laws.proofs.Words.{wants_where}
 use Rattle.lease_laws.proofs.server.Breaking.{to_nothing}
 use Rattle.lease_laws.proofs.server.Keys.{key_eq-same, is_key-refl, is_key-one, put_key-cases, put_key-here}
 use Rattle.lease_laws.proofs.server.Lists.{if_cases, clash, and_parts, and_both, not_true, not_false, among_filter}
@@ -118,7 +118,6 @@ and_then holds first middle last f l = record {
 -- the disconnected opens of a key are closed
 dropped_after : (holds : State → Bool) (key : Key) (progress : Progress) → holds nothing_cached ≡ false
     → IsAfterBreaks holds progress.server (opens_dropped (is_left_open key) progress).server
-unfolding opens_dropped with_opens
 dropped_after holds key progress nothing =
     let kept : List Open = filter (λ one. not (is_left_open key one)) progress.server.opens in
     record {
@@ -140,7 +139,6 @@ dropped_after holds key progress nothing =
 -- a break is begun
 break_begun_after : (holds : State → Bool) (key : Key) (lowered : State) (progress : Progress)
     → IsAfterBreaks holds progress.server (break_begun key lowered progress).server
-unfolding break_begun
 break_begun_after holds key lowered progress =
     let new : Lease = record { state = (progress.server.leases key).state; broken_to = Some lowered } in
     record {
@@ -157,7 +155,6 @@ break_begun_after holds key lowered progress =
 lease_lowered_after : (holds : State → Bool) (key : Key) (lowered : State) (progress : Progress)
     → holds lowered ≡ false → is_breaking (progress.server.leases key) ≡ false
     → IsAfterBreaks holds progress.server (lease_lowered key lowered progress).server
-unfolding lease_lowered
 lease_lowered_after holds key lowered progress low settled =
     let new : Lease = record { state = lowered; broken_to = None } in
     record {
@@ -194,7 +191,6 @@ met_later holds key before after later met h = ⊎_elim
 -- a break that is begun leaves the lease breaking
 break_begun_met : (holds : State → Bool) (key : Key) (lowered : State) (progress : Progress)
     → IsBroken holds key progress.server (break_begun key lowered progress).server
-unfolding break_begun
 break_begun_met holds key lowered progress = record {
   goes_on = break_begun_after holds key lowered progress;
   met = λ h. inl (ap (λ (l : Lease). is_breaking l) (put_key-here progress.server.leases key
@@ -205,7 +201,6 @@ break_begun_met holds key lowered progress = record {
 lease_lowered_met : (holds : State → Bool) (key : Key) (lowered : State) (progress : Progress) → holds lowered ≡ false
     → is_breaking (progress.server.leases key) ≡ false
     → IsBroken holds key progress.server (lease_lowered key lowered progress).server
-unfolding lease_lowered
 lease_lowered_met holds key lowered progress low settled = record {
   goes_on = lease_lowered_after holds key lowered progress low settled;
   met = λ h. inr (ap (λ (l : Lease). holds l.state) (put_key-here progress.server.leases key

@@ -2,12 +2,12 @@
 use Rattle.lease_laws.proofs.Words.{◌++◌, ◌==◌, ◌∙◌, ◌∷◌, ◌≡◌, ◌⊎◌, Bool, Call, FileRequest, IsSound, Key, LeaseOf, List}
 use Rattle.std.proofs.Common.{arith}
 use Rattle.lease_laws.proofs.Words.{Option, Outcome, Progress, Server, SmallStep, WaitsWell, ℕ, [], acknowledged}
-use Rattle.lease_laws.proofs.Words.{begun, break_begun, break_ended, call_begun, called, changed, client_forgotten, concluded}
-use Rattle.lease_laws.proofs.Words.{false, granted_with, held_left, if◌then◌else◌, join}
-use Rattle.lease_laws.proofs.Words.{joined, key_expired, lease_lowered, opens_disconnected}
-use Rattle.lease_laws.proofs.Words.{opens_dropped, put_key, reconnected, refl, request_held, step_taken, steps_taken, subst, sym}
-use Rattle.lease_laws.proofs.Words.{true, with_opens}
+use Rattle.lease_laws.proofs.Words.{begun, call_begun, called, concluded}
+use Rattle.lease_laws.proofs.Words.{false, held_left, if◌then◌else◌}
+use Rattle.lease_laws.proofs.Words.{put_key, refl, step_taken, steps_taken, subst, sym}
+use Rattle.lease_laws.proofs.Words.{ap, true}
 use Rattle.lease_laws.proofs.server.StepCalls.{called-steps}
+use Rattle.lease_laws.proofs.server.cases.Calls.{joins}
 use Rattle.lease_laws.proofs.server.cases.Ends.{HasEnds, any_end}
 use Rattle.lease_laws.proofs.server.cases.Judgements.{any_judgement}
 
@@ -16,7 +16,6 @@ abbrev SameExpired : Progress → Progress → Type 0
 SameExpired before after = after.server.expired ≡ before.server.expired
 
 ends_expired : (client : ℕ) (progress : Progress) → HasEnds client progress (λ request outcome. SameExpired progress)
-unfolding granted_with reconnected changed opens_dropped with_opens
 ends_expired client progress = grind arith
 
 concluded_expired : (client : ℕ) (request : FileRequest) (progress : Progress) (outcome : Outcome)
@@ -25,12 +24,10 @@ concluded_expired client request progress = any_end client progress _ (ends_expi
 
 acknowledged_expired : (client : ℕ) (given : Option LeaseOf) (progress : Progress)
     → SameExpired progress (acknowledged client given progress)
-unfolding break_ended
 acknowledged_expired client given progress = any_judgement client progress (λ given. SameExpired progress)
     (record { failed = λ given status why. refl; ended = λ g lowered there breaks within. refl }) given
 
 step_expired : (step : SmallStep) (progress : Progress) → SameExpired progress (step_taken step progress)
-unfolding held_left request_held opens_dropped with_opens lease_lowered break_begun
 step_expired (SmallStep.Answer client request outcome) progress = concluded_expired client request progress outcome
 step_expired (SmallStep.AnswerHeld file before one behind outcome) progress =
     concluded_expired one.client one.request (held_left file (before ++ behind) progress) outcome
@@ -56,21 +53,17 @@ either_expired : (b : Bool) (x y : Progress) (was : Key → Bool) → x.server.e
 either_expired x1 x y was e f = grind arith
 
 pub cut-expired : (server : Server) (client : ℕ) → (call_begun server (Call.Cut client)).server.expired ≡ server.expired
-unfolding opens_dropped with_opens opens_disconnected client_forgotten
 cut-expired server client = either_expired (server.present client) _ (begun server) server.expired refl refl
 
 pub scavenge-expired : (server : Server) (file_id : ℕ)
     → (call_begun server (Call.Scavenge file_id)).server.expired ≡ server.expired
-unfolding opens_dropped with_opens
 scavenge-expired server file_id = grind arith
 
 pub join-expired : (server : Server) (client : ℕ) → server.present client ≡ false → (key : Key)
     → (call_begun server (Call.Join client)).server.expired key ≡ (if key.client == client then false else server.expired key)
-unfolding join joined
-join-expired server client e key = rw (e) refl
+join-expired server client e key = ap (λ p. p.server.expired key) (joins server client e)
 
 pub expire-expired : (server : Server) (key : Key) (other : Key)
     → (call_begun server (Call.Expire key)).server.expired other ≡ true
     → (server.expired other ≡ true) ⊎ (put_key server.expired key true other ≡ true)
-unfolding key_expired opens_dropped with_opens
 expire-expired server key other = grind arith

@@ -1,10 +1,10 @@
 -- How opens come and go: what the small steps but a cut and a join do to them.
 use Rattle.lease_laws.proofs.Words.{◌++◌, ◌+◌, ◌<◌, ◌==◌, ◌∙◌, ◌∷◌, ◌≡◌, ◌≤◌, ◌⊎◌, Access, Among, AreInOrder, Bool, Decides-eqb}
 use Rattle.lease_laws.proofs.Words.{FileRequest, IsSound, Lease, LeaseOf, List, None, Open, Option, Outcome, Progress, Server}
-use Rattle.lease_laws.proofs.Words.{Share, Some, ℕ, ⊎_elim, [], acknowledged, ap, arith, break_begun, break_ended, changed}
+use Rattle.lease_laws.proofs.Words.{Share, Some, ℕ, ⊎_elim, [], acknowledged, ap, arith}
 use Rattle.lease_laws.proofs.Words.{concluded, cond, connected_again, false, granted_with, has_file, inl, inr, is_left_open}
-use Rattle.lease_laws.proofs.Words.{lease_after, lease_lowered, new_open, not, opens_dropped, reconnected, refl, subst, sym}
-use Rattle.lease_laws.proofs.Words.{tried_for, true, with_opens}
+use Rattle.lease_laws.proofs.Words.{lease_after, new_open, not, opens_dropped, reconnected, refl, subst, sym}
+use Rattle.lease_laws.proofs.Words.{tried_for, true}
 use Rattle.lease_laws.proofs.server.FileReady.{IsAwaited, AgainReady, FileReady}
 use Rattle.lease_laws.proofs.server.Lists.{among_append, among_filter, among_map}
 use Rattle.lease_laws.proofs.server.cases.Tries.{HasTries, any_try}
@@ -97,7 +97,6 @@ stay-goes before after files ups ids opens = grind arith
 
 -- to drop opens lets opens go on
 pub dropped-goes : (test : Open → Bool) (progress : Progress) → Goes progress (opens_dropped test progress)
-unfolding opens_dropped with_opens
 dropped-goes test progress = record {
   files = refl;
   ups = λ c. refl;
@@ -106,7 +105,6 @@ dropped-goes test progress = record {
 }
 
 tries_go : HasTries Goes
-unfolding lease_lowered break_begun
 tries_go = record {
   same = λ progress. goes-same progress.server;
   behind = λ before next after. goes-twice before.server next.server after.server;
@@ -137,7 +135,6 @@ granted_with-goes : (client file : ℕ) (access : Access) (share : Share) (asked
     (durable : Bool) (lease : Lease) (progress : Progress)
     → progress.server.present client ≡ true → has_file progress.server file ≡ true
     → Goes progress (granted_with client file access share asked durable lease progress)
-unfolding granted_with
 granted_with-goes client file access share None durable lease progress up on = record {
   files = refl;
   ups = λ c. refl;
@@ -170,7 +167,6 @@ again_old server client file_id was false e s w up a = still_there server was a
 reconnected-goes : (client file : ℕ) (asked : Option LeaseOf) (file_id : ℕ) (progress : Progress) → IsSound progress.server
     → IsAwaited progress.server client file_id → progress.server.present client ≡ true
     → Goes progress (reconnected client file asked file_id progress)
-unfolding reconnected
 reconnected-goes client file asked file_id progress s w up = record {
   files = refl;
   ups = λ c. refl;
@@ -184,7 +180,6 @@ reconnected-goes client file asked file_id progress s w up = record {
 ends_go : (client : ℕ) (progress : Progress) → IsSound progress.server → progress.server.present client ≡ true
     → HasEnds client progress (λ request outcome after. (outcome ≡ Outcome.Ready
     → FileReady progress.server client request) → Goes progress after)
-unfolding changed
 ends_go client progress s up = record {
   refused = λ request status ready. goes-same progress.server;
   left = λ request outcome ready. goes-same progress.server;
@@ -207,7 +202,6 @@ concluded-goes client request progress outcome s up = any_end client progress _ 
 -- any acknowledgment
 pub acknowledged-goes : (client : ℕ) (given : Option LeaseOf) (progress : Progress)
     → Goes progress (acknowledged client given progress)
-unfolding break_ended
 acknowledged-goes client given progress = any_judgement client progress (λ given. Goes progress) (record {
   failed = λ given status why. goes-same progress.server;
   ended = λ g lowered there breaks within. stay-goes progress.server _ refl refl refl refl;

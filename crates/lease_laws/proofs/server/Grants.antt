@@ -171,7 +171,6 @@ pub granted_with-sound : (client file : ℕ) (access : Access) (share : Share) (
     → IsSound progress.server → IsFree progress.server.opens progress.server.leases (own_key client asked) file access share
     → IsSound (granted_with client file access share asked durable
     (lease_after progress.server client file asked) progress).server
-unfolding granted_with
 granted_with-sound client file access share None durable progress s free =
     let new : Open = new_open progress.server client file access share None durable no_lease in
     open_sound progress.server.opens progress.server.leases progress.server.expired progress.server.last_id new s refl

@@ -1,10 +1,10 @@
 -- The passes end: each but the last answers a held request, so that one more than are held is enough.
 use Rattle.lease_laws.proofs.Words.{◌++◌, ◌+◌, ◌<◌, ◌∙◌, ◌∷◌, ◌≡◌, ◌≤◌, Bool, Decides-eqb, FileRequest, Held}
 use Rattle.lease_laws.proofs.Words.{List, Open, Outcome, Pass, Progress, Tried, ℕ, [], after_try, ap}
-use Rattle.lease_laws.proofs.Words.{append-nil, append_assoc, arith, break_begun, changed, concluded, false, granted_with}
-use Rattle.lease_laws.proofs.Words.{held_left, is_behind, is_left_open, lease_lowered, left_waiting, length}
-use Rattle.lease_laws.proofs.Words.{length-append, one_pass, opens_dropped, pass_answered, pass_over, put, reconnected, refl, sym}
-use Rattle.lease_laws.proofs.Words.{tried, tried_again, tried_for, true, true≢false, with_opens}
+use Rattle.lease_laws.proofs.Words.{append-nil, append_assoc, arith, concluded, false}
+use Rattle.lease_laws.proofs.Words.{held_left, is_behind, is_left_open, left_waiting, length}
+use Rattle.lease_laws.proofs.Words.{length-append, one_pass, opens_dropped, pass_answered, pass_over, put, refl, sym}
+use Rattle.lease_laws.proofs.Words.{tried, tried_again, tried_for, true, true≢false}
 use Rattle.lease_laws.proofs.server.Lists.{if_cases}
 use Rattle.lease_laws.proofs.server.cases.Tries.{HasTries, any_try}
 use Rattle.lease_laws.proofs.server.cases.Ends.{HasEnds, any_end}
@@ -15,11 +15,9 @@ SameHeld before after = after.server.held ≡ before.server.held
 
 -- to drop opens leaves the held requests as they are
 pub dropped_held : (test : Open → Bool) (progress : Progress) → SameHeld progress (opens_dropped test progress)
-unfolding opens_dropped with_opens
 dropped_held test progress = refl
 
 tries_hold : HasTries SameHeld
-unfolding lease_lowered break_begun
 tries_hold = record {
   same = λ progress. refl;
   behind = λ before next after e f. f ∙ e;
@@ -35,7 +33,6 @@ tried_for-held = any_try SameHeld tries_hold
 
 -- the end of a try holds and lets go nothing
 ends_hold : (client : ℕ) (progress : Progress) → HasEnds client progress (λ request outcome. SameHeld progress)
-unfolding granted_with reconnected changed opens_dropped with_opens
 ends_hold client progress = grind arith
 
 pub concluded-held : (client : ℕ) (request : FileRequest) (progress : Progress) (outcome : Outcome)
@@ -44,7 +41,7 @@ concluded-held client request progress = any_end client progress _ (ends_hold cl
 
 -- the file has the requests that are left
 pub held_left-here : (file : ℕ) (left : List Held) (progress : Progress) → (held_left file left progress).server.held file ≡ left
-unfolding held_left put
+unfolding put
 held_left-here file left progress = rw ((Decides-eqb file file).1 refl) refl
 
 -- During a pass the file holds the requests passed over and those that wait, no more than there were;

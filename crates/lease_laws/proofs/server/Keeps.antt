@@ -3,10 +3,10 @@
 use Rattle.lease_laws.proofs.Words.{◌&&◌, ◌++◌, ◌==◌, ◌∙◌, ◌∷◌, ◌≡◌, ◌≢◌, Access, Among, AreInOrder, Bool, CreateAsk, Decides-eqb}
 use Rattle.lease_laws.proofs.Words.{FileRequest, HasToWait, IsAbout, IsAlone, IsBlockedBy, IsSound, Key, Lease, LeaseOf, List}
 use Rattle.lease_laws.proofs.Words.{None, Open, Option, Outcome, Progress, Server, Share, Some, State, ℕ, [], ap, arith}
-use Rattle.lease_laws.proofs.Words.{break_begun, breaks_to_some, changed, concluded, cond, connected_again, connected_open, false}
+use Rattle.lease_laws.proofs.Words.{breaks_to_some, concluded, cond, connected_again, connected_open, false}
 use Rattle.lease_laws.proofs.Words.{find, granted_with, has_key, inl, inr, is_breaking, is_left_open, key_of, key_of_open}
-use Rattle.lease_laws.proofs.Words.{lease_after, lease_granted, lease_lowered, map, not, opens_dropped, own_key, put_key}
-use Rattle.lease_laws.proofs.Words.{reconnected, refl, subst, sym, tried_for, true, with_opens, without}
+use Rattle.lease_laws.proofs.Words.{lease_after, lease_granted, map, not, opens_dropped, own_key, put_key}
+use Rattle.lease_laws.proofs.Words.{reconnected, refl, subst, sym, tried_for, true, without}
 use Rattle.lease_laws.proofs.server.Answers.{breaking_present}
 use Rattle.lease_laws.proofs.server.Breaking.{some_breaks}
 use Rattle.lease_laws.proofs.server.Goes.{one_id}
@@ -95,7 +95,6 @@ Kept Guard before after = Keeps Guard before.server after.server
 
 -- opens without their connection are dropped
 left_dropped-kept : (key : Key) (progress : Progress) → Kept Anywhere progress (opens_dropped (is_left_open key) progress)
-unfolding opens_dropped with_opens
 left_dropped-kept key progress =
     let safe : (one : Open) → one.connected ≡ true → not (is_left_open key one) ≡ true = λ one up.
     ap not (not_true (is_left_open key one)
@@ -125,7 +124,6 @@ settled_put-kept key lease before after settled opens leases = record {
 }
 
 tries_keep : HasTries (Kept Anywhere)
-unfolding lease_lowered break_begun
 tries_keep = record {
   same = λ progress. keeps-same Anywhere progress.server;
   behind = λ before next after. keeps-twice Anywhere before.server next.server after.server;
@@ -157,7 +155,6 @@ granted-stays server key file want b = grind arith
 granted_with-kept : (client file : ℕ) (access : Access) (share : Share) (asked : Option LeaseOf)
     (durable : Bool) (progress : Progress) → Kept Anywhere progress (granted_with client file access share asked durable
     (lease_after progress.server client file asked) progress)
-unfolding granted_with
 granted_with-kept client file access share None durable progress = record {
   stands = λ k one a h up b g. (among_before one progress.server.opens _ a, refl);
   finds = λ c file_id one e g. find_append (λ x. x.file_id == file_id && x.client == c && x.connected)
@@ -221,7 +218,6 @@ find_again file_id client id one (first ∷ opens) order e =
 -- a reconnect lets wait what has to wait
 reconnected-kept : (client file : ℕ) (asked : Option LeaseOf) (file_id : ℕ) (progress : Progress) → IsSound progress.server
     → Kept Anywhere progress (reconnected client file asked file_id progress)
-unfolding reconnected
 reconnected-kept client file asked file_id progress s = record {
   stands = λ k one a h up b g. (among_again file_id one progress.server.opens up a, refl);
   finds = λ c id one e g. find_again file_id c id one progress.server.opens s.in_order e;
@@ -235,7 +231,6 @@ Elsewhere file other = other ≢ file
 closed-kept : (client file_id : ℕ) (gone : Open) (progress : Progress) → IsSound progress.server
     → connected_open progress.server client file_id ≡ Some gone
     → Kept (Elsewhere gone.file) progress (opens_dropped (λ one. one.file_id == file_id) progress)
-unfolding opens_dropped with_opens
 closed-kept client file_id gone progress s e =
     let x = connected_has progress.server client file_id gone e in
     let other : (one : Open) → Among one progress.server.opens → one.file ≢ gone.file → one.file_id ≢ file_id = λ one a away same.
@@ -268,7 +263,6 @@ kept_everywhere request before after k = grind arith
 
 ends_keep : (client : ℕ) (progress : Progress) → IsSound progress.server
     → HasEnds client progress (λ request outcome after. IsKeptBy progress.server request after.server)
-unfolding changed
 ends_keep client progress s = record {
   refused = λ request status. kept_everywhere request progress.server _ (keeps-same Anywhere progress.server);
   left = λ request outcome. kept_everywhere request progress.server _ (keeps-same Anywhere progress.server);

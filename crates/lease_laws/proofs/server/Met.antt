@@ -1,21 +1,20 @@
 -- What is left once wants are met and none of their leases is breaking: no open passes the test any more.
 use Rattle.lease_laws.proofs.Words.{◌&&◌, ◌==◌, ◌∙◌, ◌∷◌, ◌≡◌, Among, Bool, Key, List, Open, Progress, Some, State, Want, ℕ, []}
 use Rattle.std.proofs.Common.{arith}
-use Rattle.lease_laws.proofs.Words.{ap, break_begun, connected_open, filter, find, has_key, if◌then◌else◌}
-use Rattle.lease_laws.proofs.Words.{is_left_open, lease_broken, lease_lowered, not, opens_dropped, refl}
-use Rattle.lease_laws.proofs.Words.{subst, true, want_met, wants_met, with_opens}
+use Rattle.lease_laws.proofs.Words.{ap, connected_open, filter, find, has_key, if◌then◌else◌}
+use Rattle.lease_laws.proofs.Words.{is_left_open, lease_broken, not, opens_dropped, refl}
+use Rattle.lease_laws.proofs.Words.{subst, true, want_met, wants_met}
 use Rattle.lease_laws.proofs.server.Lists.{if_cases, clash, and_parts, not_parts, not_true, among_filter}
 
 -- opens are only dropped
 pub lease_broken-opens : (key : Key) (lowered : State) (progress : Progress)
     → (lease_broken key lowered progress).server.opens ≡ progress.server.opens
-unfolding lease_broken break_begun lease_lowered
+unfolding lease_broken
 lease_broken-opens key lowered progress = grind arith
 
 -- the opens that are left
 dropped-opens : (test : Open → Bool) (progress : Progress)
     → (opens_dropped test progress).server.opens ≡ filter (λ one. not (test one)) progress.server.opens
-unfolding opens_dropped with_opens
 dropped-opens test progress = refl
 
 -- the opens that are left once a want is met

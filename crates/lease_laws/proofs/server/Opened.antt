@@ -2,9 +2,9 @@
 use Rattle.lease_laws.proofs.Words.{◌++◌, ◌+◌, ◌==◌, ◌∷◌, ◌≡◌, ◌⊎◌, Access, Among, Bool, FileRequest, GoOn, Lease, LeaseOf}
 use Rattle.std.proofs.Common.{arith}
 use Rattle.lease_laws.proofs.Words.{Open, Option, Out, Outcome, Progress, Reply, Server, Share, SmallStep, ℕ, ⊎_elim, ⊤, []}
-use Rattle.lease_laws.proofs.Words.{acknowledged, ap, break_begun, break_ended, changed, concluded, granted_with, held_left, inl}
-use Rattle.lease_laws.proofs.Words.{inr, is_left_open, lease_after, lease_lowered, new_open, opens_dropped, reconnected, refl}
-use Rattle.lease_laws.proofs.Words.{replied, request_held, step_taken, subst, sym, with_opens}
+use Rattle.lease_laws.proofs.Words.{acknowledged, ap, concluded, granted_with, held_left, inl}
+use Rattle.lease_laws.proofs.Words.{inr, is_left_open, lease_after, new_open, opens_dropped, refl}
+use Rattle.lease_laws.proofs.Words.{replied, request_held, step_taken, subst, sym}
 use Rattle.lease_laws.proofs.server.Goes.{IsOld, still_there}
 use Rattle.lease_laws.proofs.server.Lists.{among_append}
 use Rattle.lease_laws.proofs.server.OutCalls.{held_left-outs, request_held-outs}
@@ -53,7 +53,6 @@ same_quiet progress = record { last = refl; outs = go_on-same IsNoOpened progres
 -- a new open
 granted_told : (client file : ℕ) (access : Access) (share : Share) (asked : Option LeaseOf) (durable : Bool)
     (lease : Lease) (progress : Progress) → IsGrant progress (granted_with client file access share asked durable lease progress)
-unfolding granted_with
 granted_told client file access share asked durable lease progress = record {
   file = file;
   client = client;
@@ -70,7 +69,6 @@ granted_told client file access share asked durable lease progress = record {
 
 -- the end of a request
 ends_told : (client : ℕ) (progress : Progress) → HasEnds client progress (λ request outcome. IsTold progress)
-unfolding reconnected changed opens_dropped with_opens
 ends_told client progress = record {
   refused = λ request status. inl (reply_quiet client _ progress);
   left = λ request outcome. inl (same_quiet progress);
@@ -100,7 +98,6 @@ concluded-told client request progress = any_end client progress _ (ends_told cl
 -- an acknowledgment
 acknowledged_quiet : (client : ℕ) (given : Option LeaseOf) (progress : Progress)
     → IsQuiet progress (acknowledged client given progress)
-unfolding break_ended
 acknowledged_quiet client given progress = any_judgement client progress (λ given. IsQuiet progress) (record {
   failed = λ given status why. reply_quiet client _ progress;
   ended = λ g lowered there breaks within.
@@ -122,7 +119,6 @@ told_behind before next after last outs old x7 = grind arith
 
 -- any step
 pub step-told : (step : SmallStep) (progress : Progress) → IsTold progress (step_taken step progress)
-unfolding held_left request_held opens_dropped with_opens lease_lowered break_begun
 step-told (SmallStep.Answer client request outcome) progress = concluded-told client request progress outcome
 step-told (SmallStep.AnswerHeld file before one behind outcome) progress =
     let left = held_left file (before ++ behind) progress in

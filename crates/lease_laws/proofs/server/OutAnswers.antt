@@ -4,7 +4,7 @@ use Rattle.lease_laws.proofs.Words.{◌&&◌, ◌==◌, ◌||◌, ◌∙◌, ◌
 use Rattle.std.proofs.Common.{arith}
 use Rattle.lease_laws.proofs.Words.{FileRequest, Finding, GoOn, IsAlone, IsBreak, IsNoBreak, IsSound, List, Ok, Open}
 use Rattle.lease_laws.proofs.Words.{Option, Out, Outcome, Patch, Progress, Request, Result, Server, Some, State, Status, Want, ℕ}
-use Rattle.lease_laws.proofs.Words.{[], after_first_try, all_wants, ap, append-nil, arrived, arrived_on, begun, breaks_to_none}
+use Rattle.lease_laws.proofs.Words.{[], after_first_try, all_wants, ap, append-nil, arrived_on, begun, breaks_to_none}
 use Rattle.lease_laws.proofs.Words.{by_open, connected_open, false, file_asked, file_request_arrived, finding, has_own_key}
 use Rattle.lease_laws.proofs.Words.{held_of, holds_any, inl, inr, is_behind, is_other_on, is_ready, is_within_limit, key_of_open}
 use Rattle.lease_laws.proofs.Words.{lease_of, leaves_nothing, may_write, not, nothing_cached, receive, refl, refused}
@@ -18,6 +18,7 @@ use Rattle.lease_laws.proofs.server.OutLists.{answers_go_on}
 use Rattle.lease_laws.proofs.server.OutSteps.{refused-answered}
 use Rattle.lease_laws.proofs.server.States.{rights}
 use Rattle.lease_laws.proofs.server.Tries.{tried_for-good}
+use Rattle.lease_laws.proofs.server.cases.Calls.{passes_by, receives}
 
 -- breaks, and then an answer
 breaks_then : (middle after : List Out) → GoOn IsBreak [] middle → GoOn IsNoBreak middle after → AreBreaksFirst after
@@ -70,10 +71,11 @@ arrived-breaks client request server alone = arrived_on-breaks client request se
 -- a request after which none is tried again gives out breaks, and then its answer
 pub receive-breaks : (server : Server) (client : ℕ) (request : FileRequest) → IsAlone request
     → AreBreaksFirst (receive server client (Request.OnFile request)).outs
-unfolding receive arrived
-receive-breaks server client request alone = if_cases (λ p. AreBreaksFirst p.outs) (server.present client)
-    (file_request_arrived client request (begun server)) (begun server)
-    (λ e. arrived-breaks client request server alone) (λ e. breaks_only [] [] no_breaks refl)
+receive-breaks server client request alone = either (server.present client)
+    (λ up. subst (λ p. AreBreaksFirst p.outs) (sym (receives server client request up))
+    (arrived-breaks client request server alone))
+    (λ down. subst (λ p. AreBreaksFirst p.outs) (sym (passes_by server client (Request.OnFile request) down))
+    (breaks_only [] [] no_breaks refl))
 
 -- a state that holds nothing
 holds_none : (r w h : Bool) → (r || w || h) ≡ false → rights r w h ≡ nothing_cached

@@ -1,17 +1,18 @@
 -- Every call gives out fair outs.
-use Rattle.lease_laws.proofs.Words.{◌++◌, ◌+◌, ◌∷◌, ◌≡◌, Bool, Call, Err, FileRequest, GoOn, Held, IsBreak, IsNoBreak, Key, List}
-use Rattle.lease_laws.proofs.Words.{Ok, Out, Outcome, Pass, Progress, Request, Result, Server, Status, Tried, ℕ, [], acknowledged}
-use Rattle.lease_laws.proofs.Words.{after_first_try, after_try, all_passes, append-nil, arrived, arrived_on, begun, called}
-use Rattle.lease_laws.proofs.Words.{client_forgotten, concluded, cond, cut, expire, false, file_asked, file_request_arrived}
-use Rattle.lease_laws.proofs.Words.{has_key, held_left, held_of, is_behind, is_breaking, is_left_behind, is_lost, join, joined}
-use Rattle.lease_laws.proofs.Words.{key_expired, left_waiting, length, list_any, numbers_to, one_pass, opens_disconnected}
-use Rattle.lease_laws.proofs.Words.{opens_dropped, pass_answered, pass_over, passes, passes_for, passes_over, receive, refused}
-use Rattle.lease_laws.proofs.Words.{request_held, scavenge, subst, suc, sym, tried, tried_again, zero}
+use Rattle.lease_laws.proofs.Words.{◌++◌, ◌+◌, ◌∷◌, ◌≡◌, Call, Err, FileRequest, GoOn, Held, IsBreak, IsNoBreak, Key, List}
+use Rattle.lease_laws.proofs.Words.{Ok, Out, Outcome, Pass, Progress, Result, Server, Status, Tried, ℕ, [], acknowledged}
+use Rattle.lease_laws.proofs.Words.{after_first_try, after_try, all_passes, append-nil, arrived_on, begun, called}
+use Rattle.lease_laws.proofs.Words.{client_forgotten, concluded, false, file_asked, file_request_arrived}
+use Rattle.lease_laws.proofs.Words.{has_key, held_left, held_of, is_behind, is_left_behind, is_lost, joined}
+use Rattle.lease_laws.proofs.Words.{key_expired, left_waiting, length, numbers_to, one_pass, opens_disconnected}
+use Rattle.lease_laws.proofs.Words.{opens_dropped, pass_answered, pass_over, passes, passes_for, passes_over, refused}
+use Rattle.lease_laws.proofs.Words.{request_held, subst, suc, sym, tried, tried_again, zero}
 use Rattle.lease_laws.proofs.server.Lists.{if_cases}
 use Rattle.lease_laws.proofs.server.OutLists.{AreFair, IsGoodBreak, breaks_fair, answers_fair, answers_go_on, none_fair}
 use Rattle.lease_laws.proofs.server.OutLists.{go_on-weaker}
 use Rattle.lease_laws.proofs.server.OutSteps.{opens_dropped-outs, tried_for-broken, concluded-answered, acknowledged-answered}
 use Rattle.lease_laws.proofs.server.OutSteps.{refused-answered}
+use Rattle.lease_laws.proofs.server.cases.Calls.{any_call, lease_lost, links_lost}
 
 -- for calls under way
 abbrev pub Fair : Progress → Type 0
@@ -23,32 +24,26 @@ silent_fair before after same fair = subst AreFair (sym same) fair
 
 -- to take a request off the held ones gives nothing out
 pub held_left-outs : (file : ℕ) (left : List Held) (progress : Progress) → (held_left file left progress).outs ≡ progress.outs
-unfolding held_left
 held_left-outs file left progress = append-nil progress.outs
 
 -- to hold a request gives nothing out
 pub request_held-outs : (file : ℕ) (one : Held) (progress : Progress) → (request_held file one progress).outs ≡ progress.outs
-unfolding request_held
 request_held-outs file one progress = append-nil progress.outs
 
 -- to disconnect opens gives nothing out
 opens_disconnected-outs : (client : ℕ) (progress : Progress) → (opens_disconnected client progress).outs ≡ progress.outs
-unfolding opens_disconnected
 opens_disconnected-outs client progress = append-nil progress.outs
 
 -- to forget a client gives nothing out
 client_forgotten-outs : (client : ℕ) (progress : Progress) → (client_forgotten client progress).outs ≡ progress.outs
-unfolding client_forgotten
 client_forgotten-outs client progress = append-nil progress.outs
 
 -- to mark a key gives nothing out
 key_expired-outs : (key : Key) (progress : Progress) → (key_expired key progress).outs ≡ progress.outs
-unfolding key_expired
 key_expired-outs key progress = append-nil progress.outs
 
 -- a join that applies gives nothing out
 joined-outs : (client : ℕ) (progress : Progress) → (joined client progress).outs ≡ progress.outs
-unfolding joined
 joined-outs client progress = append-nil progress.outs
 
 -- a try
@@ -153,67 +148,36 @@ file_request-fair client (FileRequest.Close file_id) progress fair = all_passes-
 file_request-fair client request progress fair = arrived_on-fair client request progress
     (file_asked progress.server client request) fair
 
--- a request that comes keeps the outs fair
-arrived-fair : (client : ℕ) (request : Request) (progress : Progress) → Fair progress → Fair (arrived client request progress)
-unfolding arrived
-arrived-fair client (Request.Acknowledge given) progress fair = all_passes-fair (acknowledged client given progress)
-    (answers_fair progress.outs (acknowledged client given progress).outs fair (acknowledged-answered client given progress))
-arrived-fair client (Request.OnFile request) progress fair = file_request-fair client request progress fair
-
--- a call that may not apply
-fair_cases : (b : Bool) (x y : Progress) → Fair x → Fair y → Fair (cond b x y)
-fair_cases b x y fx fy = if_cases Fair b x y (λ e. fx) (λ e. fy)
-
--- a join keeps the outs fair
-join-fair : (server : Server) (client : ℕ) → Fair (join server client)
-unfolding join
-join-fair server client = fair_cases (server.present client) (begun server) (joined client (begun server)) none_fair
-    (silent_fair [] (joined client (begun server)).outs (joined-outs client (begun server)) none_fair)
-
--- a request received keeps the outs fair
-receive-fair : (server : Server) (client : ℕ) (request : Request) → Fair (receive server client request)
-unfolding receive
-receive-fair server client request = fair_cases (server.present client) (arrived client request (begun server)) (begun server)
-    (arrived-fair client request (begun server) none_fair) none_fair
-
--- a cut keeps the outs fair
-cut-fair : (server : Server) (client : ℕ) → Fair (cut server client)
-unfolding cut
-cut-fair server client =
+-- to lose a client's links gives nothing out
+links_lost-fair : (server : Server) (client : ℕ) → Fair (links_lost server client)
+links_lost-fair server client =
     let dropped = opens_dropped (is_lost server client) (begun server) in
     let apart = opens_disconnected client dropped in
-    fair_cases (server.present client) (all_passes (client_forgotten client apart)) (begun server)
-    (all_passes-fair (client_forgotten client apart)
-    (silent_fair apart.outs (client_forgotten client apart).outs (client_forgotten-outs client apart)
+    silent_fair apart.outs (client_forgotten client apart).outs (client_forgotten-outs client apart)
     (silent_fair dropped.outs apart.outs (opens_disconnected-outs client dropped)
-    (silent_fair [] dropped.outs (opens_dropped-outs (is_lost server client) (begun server)) none_fair)))) none_fair
+    (silent_fair [] dropped.outs (opens_dropped-outs (is_lost server client) (begun server)) none_fair))
 
--- a timer that runs out keeps the outs fair
-expire-fair : (server : Server) (key : Key) → Fair (expire server key)
-unfolding expire
-expire-fair server key =
+-- to lose a lease gives nothing out
+lease_lost-fair : (server : Server) (key : Key) → Fair (lease_lost server key)
+lease_lost-fair server key =
     let dropped = opens_dropped (has_key key) (begun server) in
-    fair_cases (is_breaking (server.leases key)) (all_passes (key_expired key dropped)) (begun server)
-    (all_passes-fair (key_expired key dropped)
-    (silent_fair dropped.outs (key_expired key dropped).outs (key_expired-outs key dropped)
-    (silent_fair [] dropped.outs (opens_dropped-outs (has_key key) (begun server)) none_fair))) none_fair
-
--- a scavenge keeps the outs fair
-scavenge-fair : (server : Server) (file_id : ℕ) → Fair (scavenge server file_id)
-unfolding scavenge
-scavenge-fair server file_id =
-    let dropped = opens_dropped (is_left_behind file_id) (begun server) in
-    fair_cases (list_any (is_left_behind file_id) server.opens) (all_passes dropped) (begun server)
-    (all_passes-fair dropped (silent_fair [] dropped.outs (opens_dropped-outs (is_left_behind file_id) (begun server)) none_fair))
-    none_fair
+    silent_fair dropped.outs (key_expired key dropped).outs (key_expired-outs key dropped)
+    (silent_fair [] dropped.outs (opens_dropped-outs (has_key key) (begun server)) none_fair)
 
 -- the outs of a call are fair
 pub called-fair : (server : Server) (call : Call) → Fair (called server call)
-called-fair server (Call.Join client) = join-fair server client
-called-fair server (Call.Receive client request) = receive-fair server client request
-called-fair server (Call.Cut client) = cut-fair server client
-called-fair server (Call.Expire key) = expire-fair server key
-called-fair server (Call.Scavenge file_id) = scavenge-fair server file_id
+called-fair server call = any_call server (λ call start after. Fair after) (record {
+  idle = λ call why. none_fair;
+  joins = λ client down. silent_fair [] (joined client (begun server)).outs (joined-outs client (begun server)) none_fair;
+  judges = λ client given up. all_passes-fair (acknowledged client given (begun server)) (answers_fair []
+      (acknowledged client given (begun server)).outs none_fair (acknowledged-answered client given (begun server)));
+  receives = λ client request up. file_request-fair client request (begun server) none_fair;
+  cuts = λ client up. all_passes-fair (links_lost server client) (links_lost-fair server client);
+  expires = λ key breaks. all_passes-fair (lease_lost server key) (lease_lost-fair server key);
+  scavenges = λ file_id left. all_passes-fair (opens_dropped (is_left_behind file_id) (begun server)) (silent_fair []
+      (opens_dropped (is_left_behind file_id) (begun server)).outs
+      (opens_dropped-outs (is_left_behind file_id) (begun server)) none_fair);
+}) call
 
 -- what a try gives out are breaks
 pub tried-breaks : (client : ℕ) (request : FileRequest) (progress : Progress)

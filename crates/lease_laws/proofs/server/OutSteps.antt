@@ -1,8 +1,8 @@
 -- A try gives out breaks alone, flagged rightly; and the end of a try gives out an answer without one.
 use Rattle.lease_laws.proofs.Words.{◌==◌, ◌∷◌, ◌≡◌, Bool, FileRequest, GoOn, LeaseOf, Open, Option, Out}
 use Rattle.std.proofs.Common.{arith}
-use Rattle.lease_laws.proofs.Words.{Outcome, Progress, Reply, Status, ℕ, [], acknowledged, append-nil, break_begun, break_ended}
-use Rattle.lease_laws.proofs.Words.{changed, concluded, granted_with, is_left_open, lease_lowered, opens_dropped, reconnected}
+use Rattle.lease_laws.proofs.Words.{Outcome, Progress, Reply, Status, ℕ, [], acknowledged, append-nil}
+use Rattle.lease_laws.proofs.Words.{concluded, is_left_open, opens_dropped}
 use Rattle.lease_laws.proofs.Words.{refl, refusal_of, refused, replied, subst, sym, tried_for}
 use Rattle.lease_laws.proofs.server.OutLists.{IsGoodBreak, AreAnswered, answered_by, answered_nothing, go_on-same}
 use Rattle.lease_laws.proofs.server.OutLists.{go_on-twice}
@@ -16,7 +16,6 @@ Broken before after = GoOn IsGoodBreak before.outs after.outs
 
 -- opens are dropped silently
 pub opens_dropped-outs : (test : Open → Bool) (progress : Progress) → (opens_dropped test progress).outs ≡ progress.outs
-unfolding opens_dropped
 opens_dropped-outs test progress = append-nil progress.outs
 
 -- to drop opens gives nothing out
@@ -25,7 +24,6 @@ dropped_broken test progress = subst (λ outs. GoOn IsGoodBreak progress.outs ou
     (go_on-same IsGoodBreak progress.outs)
 
 tries_break : HasTries Broken
-unfolding lease_lowered break_begun
 tries_break = record {
   same = λ progress. go_on-same IsGoodBreak progress.outs;
   behind = λ before next after. go_on-twice IsGoodBreak before.outs next.outs after.outs;
@@ -61,12 +59,10 @@ refusal_of-plain x1 status = grind arith
 -- a refusal gives out an answer without a break
 pub refused-answered : (client : ℕ) (request : FileRequest) (status : Status) (progress : Progress)
     → Answered progress (refused client request status progress)
-unfolding refused
 refused-answered client request status progress = grind arith
 
 -- the end of a try
 ends_answer : (client : ℕ) (progress : Progress) → HasEnds client progress (λ request outcome. Answered progress)
-unfolding granted_with reconnected changed
 ends_answer client progress = record {
   refused = λ request status. replied-answered client (refusal_of request status) progress (refusal_of-plain request status);
   left = λ request outcome. answered_nothing progress.outs;
@@ -99,7 +95,6 @@ concluded-answered client request progress = any_end client progress _ (ends_ans
 -- any acknowledgment
 pub acknowledged-answered : (client : ℕ) (given : Option LeaseOf) (progress : Progress)
     → Answered progress (acknowledged client given progress)
-unfolding break_ended
 acknowledged-answered client given progress = any_judgement client progress (λ given. Answered progress) (record {
   failed = λ given status why. replied-answered client (Reply.AckFailed status) progress tt;
   ended = λ g lowered there breaks within. record {

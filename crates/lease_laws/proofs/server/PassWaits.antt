@@ -18,18 +18,16 @@ use Rattle.lease_laws.proofs.server.Ready.{ready-free}
 
 -- to take a request off the held ones lets opens go on
 pub held_left-goes : (file : ℕ) (left : List Held) (progress : Progress) → Goes progress (held_left file left progress)
-unfolding held_left
 held_left-goes file left progress = grind arith
 
 -- to take a request off the held ones lets wait what has to wait
 held_left-kept : (file : ℕ) (left : List Held) (progress : Progress) → Kept Anywhere progress (held_left file left progress)
-unfolding held_left
 held_left-kept file left progress = grind arith
 
 -- what holds of the requests of each file, once one is taken off
 held_left-cases : (P : List Held → Type 0) (file : ℕ) (left : List Held) (progress : Progress) (other : ℕ)
     → (other ≡ file → P left) → P (progress.server.held other) → P ((held_left file left progress).server.held other)
-unfolding held_left put
+unfolding put
 held_left-cases x1 file left progress other here there = grind arith
 
 -- other files have what they had

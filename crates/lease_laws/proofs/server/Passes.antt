@@ -14,20 +14,17 @@ use Rattle.lease_laws.proofs.server.Tries.{IsGoodTry, tried_for-good}
 create_free : (client file : ℕ) (access : Access) (share : Share) (asked : Option LeaseOf) (again : Option ℕ)
     (at : ℕ) (left : List Held) (progress : Progress) → CreateFree progress.server client file access share asked again
     → CreateFree (held_left at left progress).server client file access share asked again
-unfolding held_left
 create_free client file access share asked x6 at left progress free = grind arith
 
 -- what a create needs, by its contexts
 contexts_free : (client file : ℕ) (access : Access) (share : Share) (contexts : Option CreateAsk) (at : ℕ)
     (left : List Held) (progress : Progress) → ContextsFree progress.server client file access share contexts
     → ContextsFree (held_left at left progress).server client file access share contexts
-unfolding held_left
 contexts_free client file access share x5 at left progress free = grind arith
 
 -- what requests are held has nothing to do with what a create needs
 pub held_left-free : (client : ℕ) (request : FileRequest) (file : ℕ) (left : List Held) (progress : Progress)
     → RequestFree progress.server client request → RequestFree (held_left file left progress).server client request
-unfolding held_left
 held_left-free client x2 at left progress free = grind arith
 
 -- a held request is answered

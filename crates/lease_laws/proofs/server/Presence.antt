@@ -1,11 +1,12 @@
 -- Which clients a call leaves connected.
 use Rattle.lease_laws.proofs.Words.{◌∙◌, ◌∷◌, ◌≡◌, AreGuarded, Call, IsSound, List, Progress, Server, SmallStep, WaitsWell}
 use Rattle.std.proofs.Common.{arith}
-use Rattle.lease_laws.proofs.Words.{ℕ, ⊤, [], call_begun, called, client_forgotten, false}
-use Rattle.lease_laws.proofs.Words.{join, joined, key_expired, opens_disconnected, opens_dropped, put}
-use Rattle.lease_laws.proofs.Words.{refl, step_taken, steps_taken, subst, sym, true, with_opens}
+use Rattle.lease_laws.proofs.Words.{ℕ, ⊤, [], call_begun, called, false}
+use Rattle.lease_laws.proofs.Words.{put}
+use Rattle.lease_laws.proofs.Words.{ap, refl, step_taken, steps_taken, subst, sym, true}
 use Rattle.lease_laws.proofs.server.StepCalls.{called-steps, call_begun-up}
 use Rattle.lease_laws.proofs.server.StepKeeps.{step-sound, step-goes}
+use Rattle.lease_laws.proofs.server.cases.Calls.{joins}
 
 steps_present : (steps : List SmallStep) (progress : Progress) → IsSound progress.server → AreGuarded steps progress
     → (c : ℕ) → (steps_taken steps progress).server.present c ≡ progress.server.present c
@@ -30,15 +31,12 @@ IsAmong call = ⊤
 
 pub begun_present : (server : Server) (call : Call) → IsAmong call → (c : ℕ)
     → (call_begun server call).server.present c ≡ server.present c
-unfolding opens_dropped with_opens key_expired
 begun_present server x2 among c = grind arith
 
 pub join_present : (server : Server) (client : ℕ) → server.present client ≡ false → (c : ℕ)
     → (call_begun server (Call.Join client)).server.present c ≡ put server.present client true c
-unfolding join joined
-join_present server client e c = rw (e) refl
+join_present server client e c = ap (λ p. p.server.present c) (joins server client e)
 
 pub cut_present : (server : Server) (client : ℕ) → server.present client ≡ true → (c : ℕ)
     → (call_begun server (Call.Cut client)).server.present c ≡ put server.present client false c
-unfolding client_forgotten opens_disconnected opens_dropped with_opens
 cut_present server client e c = rw (e) refl

@@ -10,7 +10,7 @@ use Rattle.lease_laws.proofs.Words.{handle_wants, has_file, has_key, has_lease, 
 use Rattle.lease_laws.proofs.Words.{is_leased_elsewhere, is_left_open, is_ready, is_within_limit, key_before, key_eq}
 use Rattle.lease_laws.proofs.Words.{lease_broken, lease_lowered, list_any, may_read, may_write, must_wait, needs_acknowledgment}
 use Rattle.lease_laws.proofs.Words.{not, opens_dropped, own_count, own_key, read_finding, reconnect_finding, refl, step_taken}
-use Rattle.lease_laws.proofs.Words.{steps_taken, subst, suc, sym, tried, tried_for, true, want_met, wants_met, with_opens}
+use Rattle.lease_laws.proofs.Words.{steps_taken, subst, suc, sym, tried, tried_for, true, want_met, wants_met}
 use Rattle.lease_laws.proofs.Words.{without, write_finding, write_wants, zero}
 use Rattle.lease_laws.proofs.server.Breaks.{left_present, wants_met-sound}
 use Rattle.lease_laws.proofs.server.EnoughTries.{tries_end}
@@ -93,7 +93,6 @@ Lowers server want = has_lease server want.key ≡ true → IsLowered (server.le
 -- dropped opens leave that so
 dropped-lowers : (test : Open → Bool) (progress : Progress) (want : Want) → Lowers progress.server want
     → Lowers (opens_dropped test progress).server want
-unfolding opens_dropped with_opens
 dropped-lowers test progress want lowers there =
     let x = any_has (has_key want.key) (without test progress.server.opens) there in
     let was = among_filter (λ one. not (test one)) x.0 progress.server.opens x.1 in
@@ -104,7 +103,7 @@ dropped-lowers test progress want lowers there =
 -- so does the break of another key
 broken-lowers : (key : Key) (lowered : State) (progress : Progress) (want : Want) → key_eq want.key key ≡ false
     → Lowers progress.server want → Lowers (lease_broken key lowered progress).server want
-unfolding lease_broken break_begun lease_lowered
+unfolding lease_broken
 broken-lowers key lowered progress want other lowers =
     let Stays : Lease → Type 0 = λ l. has_lease progress.server want.key ≡ true → IsLowered l.state want.lowered in
     if_cases (λ p. Lowers p.server want) (has_lease progress.server key && not (is_breaking (progress.server.leases key)))

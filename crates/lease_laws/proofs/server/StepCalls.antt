@@ -1,14 +1,14 @@
 -- Passes and calls go by guarded small steps.
-use Rattle.lease_laws.proofs.Words.{◌+◌, ◌∙◌, ◌∷◌, ◌≡◌, Among, Bool, Call, Err, FileRequest, GoesBySteps, Held}
+use Rattle.lease_laws.proofs.Words.{◌+◌, ◌∙◌, ◌∷◌, ◌≡◌, Among, Call, Err, FileRequest, GoesBySteps, Held}
 use Rattle.lease_laws.proofs.Words.{IsSound, List, MayEnd, MayRefuse, Ok, Open, Outcome, Pass, Progress, Request}
 use Rattle.lease_laws.proofs.Words.{Result, Server, SmallStep, Status, WaitsWell, ℕ, [], acknowledged, after_first_try}
-use Rattle.lease_laws.proofs.Words.{after_try, all_passes, ap, arith, arrived, arrived_on, begun, call_begun, called}
-use Rattle.lease_laws.proofs.Words.{client_forgotten, concluded, cut, expire, false, file_asked}
-use Rattle.lease_laws.proofs.Words.{file_request_arrived, has_key, held_of, if◌then◌else◌, inl, inr}
-use Rattle.lease_laws.proofs.Words.{is_behind, is_breaking, is_left_behind, is_lost, join, joined, key_expired, left_waiting}
-use Rattle.lease_laws.proofs.Words.{length, list_any, numbers_to, one_pass, opens_disconnected, opens_dropped, own_steps}
-use Rattle.lease_laws.proofs.Words.{pass_over, passes, passes_for, passes_over, receive, refl, request_held, scavenge, subst, suc}
-use Rattle.lease_laws.proofs.Words.{sym, tried, tried_again, true, zero}
+use Rattle.lease_laws.proofs.Words.{after_try, all_passes, ap, arith, arrived_on, begun, call_begun, called}
+use Rattle.lease_laws.proofs.Words.{concluded, false, file_asked}
+use Rattle.lease_laws.proofs.Words.{file_request_arrived, held_of, inl, inr}
+use Rattle.lease_laws.proofs.Words.{is_behind, is_left_behind, joined, left_waiting}
+use Rattle.lease_laws.proofs.Words.{length, numbers_to, one_pass, opens_dropped, own_steps}
+use Rattle.lease_laws.proofs.Words.{pass_over, passes, passes_for, passes_over, refl, request_held, subst, suc}
+use Rattle.lease_laws.proofs.Words.{LeaseOf, Option, sym, tried, tried_again, true, zero}
 use Rattle.lease_laws.proofs.server.Answers.{acknowledged-sound}
 use Rattle.lease_laws.proofs.server.Calls.{joined-sound}
 use Rattle.lease_laws.proofs.server.Arrivals.{arrived_on-fine, asked_well, acknowledged-held, fine_goes}
@@ -20,6 +20,7 @@ use Rattle.lease_laws.proofs.server.Orderly.{IsFine, IsTry, any_try, held_well}
 use Rattle.lease_laws.proofs.server.PassWaits.{PassWaits, pass_begun, one_pass-waits, tried_again-waits, passes_for-waits}
 use Rattle.lease_laws.proofs.server.SmallSteps.{steps_none, step_one, steps_then, tried-steps, tried-guarded}
 use Rattle.lease_laws.proofs.server.WaitCalls.{joined-orderly, cut-fine, expired-fine, dropped-fine}
+use Rattle.lease_laws.proofs.server.cases.Calls.{IsIdle, any_call, lease_lost, links_lost}
 
 -- a held request's end is guarded
 abbrev MayEndAt : Progress → Held → Outcome → Type 0
@@ -180,64 +181,60 @@ file_request-steps call client (FileRequest.Close file_id) progress of f w up =
     (asked_well client request progress f up)))
 file_request-steps call client request progress of f w up = asked-steps call client request progress of f w up
 
--- any request
-arrived-steps : (call : Call) (client : ℕ) (request : Request) (progress : Progress)
-    → call ≡ Call.Receive client request → IsFine progress.server → WaitsWell progress.server
-    → progress.server.present client ≡ true → GoesBySteps call 1 progress (arrived client request progress)
-unfolding arrived
-arrived-steps call client (Request.Acknowledge given) progress of f w up =
+-- an acknowledgment
+acknowledged-steps : (call : Call) (client : ℕ) (given : Option LeaseOf) (progress : Progress)
+    → call ≡ Call.Receive client (Request.Acknowledge given) → IsFine progress.server
+    → progress.server.present client ≡ true → GoesBySteps call 1 progress (all_passes (acknowledged client given progress))
+acknowledged-steps call client given progress of f up =
     let after = acknowledged client given progress in
     steps_then call 1 0 progress after (all_passes after) (step_one call (SmallStep.Acknowledge client given) progress up tt of)
     (all_passes-steps call after (fine_goes progress after f (acknowledged-sound client given progress f.sound)
     (acknowledged-goes client given progress) (acknowledged-held client given progress)))
-arrived-steps call client (Request.OnFile request) progress of f w up = file_request-steps call client request progress of f w up
 
 -- ---- calls
 
--- a call that applies or doesn't
-either_steps : (call : Call) (b : Bool) (start : Progress) (after : Progress) (nothing : Progress)
-    → (b ≡ true → GoesBySteps call 0 start after)
-    → GoesBySteps call 0 (if b then start else nothing) (if b then after else nothing)
-either_steps call x2 start after nothing go = grind arith
+-- it has one step of its own where its client is connected
+received-steps : (server : Server) (client : ℕ) (request : Request) (after : Progress) → server.present client ≡ true
+    → GoesBySteps (Call.Receive client request) 1 (begun server) after
+    → GoesBySteps (Call.Receive client request) (own_steps server (Call.Receive client request)) (begun server) after
+received-steps server client request after up go =
+    rw (up) go
 
--- a request received
-receive-steps : (call : Call) (server : Server) (client : ℕ) (request : Request)
-    → call ≡ Call.Receive client request → IsFine server → WaitsWell server
-    → GoesBySteps call (if server.present client then 1 else 0) (begun server) (receive server client request)
-unfolding receive
-receive-steps call server client request of f w = received (server.present client)
-    (λ up. arrived-steps call client request (begun server) of f w up)
-  where
-    received : (b : Bool) → (b ≡ true → GoesBySteps call 1 (begun server) (arrived client request (begun server)))
-        → GoesBySteps call (if b then 1 else 0) (begun server) (if b then arrived client request (begun server) else begun server)
-    received x1 go = grind arith
+idle-steps : (server : Server) (call : Call) → IsIdle server call
+    → GoesBySteps call (own_steps server call) (begun server) (begun server)
+idle-steps server (Call.Receive client request) why = rw (why) (steps_none (Call.Receive client request) (begun server))
+idle-steps server call why = steps_none call (begun server)
 
 -- every call
 pub called-steps : (server : Server) (call : Call) → IsSound server → WaitsWell server
     → GoesBySteps call (own_steps server call) (call_begun server call) (called server call)
-unfolding cut expire scavenge
-called-steps server (Call.Join client) s w = steps_none (Call.Join client) (join server client)
-called-steps server (Call.Receive client request) s w =
-    receive-steps (Call.Receive client request) server client request refl (record { sound = s; orderly = w.is_orderly }) w
-called-steps server (Call.Cut client) s w =
-    let start = client_forgotten client (opens_disconnected client (opens_dropped (is_lost server client) (begun server))) in
-    either_steps (Call.Cut client) (server.present client) start (all_passes start) (begun server)
-    (λ up. all_passes-steps (Call.Cut client) start (cut-fine server client (record { sound = s; orderly = w.is_orderly })))
-called-steps server (Call.Expire key) s w =
-    let start = key_expired key (opens_dropped (has_key key) (begun server)) in
-    either_steps (Call.Expire key) (is_breaking (server.leases key)) start (all_passes start) (begun server)
-    (λ up. all_passes-steps (Call.Expire key) start (expired-fine server key (record { sound = s; orderly = w.is_orderly })))
-called-steps server (Call.Scavenge file_id) s w =
-    let start = opens_dropped (is_left_behind file_id) (begun server) in
-    either_steps (Call.Scavenge file_id) (list_any (is_left_behind file_id) server.opens) start (all_passes start) (begun server)
-    (λ up. all_passes-steps (Call.Scavenge file_id) start
-    (dropped-fine (is_left_behind file_id) (begun server) (record { sound = s; orderly = w.is_orderly })))
+called-steps server call s w =
+    let fine : IsFine server = record { sound = s; orderly = w.is_orderly } in
+    any_call server (λ call. GoesBySteps call (own_steps server call)) (record {
+      idle = idle-steps server;
+      joins = λ client down. steps_none (Call.Join client) (joined client (begun server));
+      judges = λ client given up. received-steps server client (Request.Acknowledge given) _ up
+          (acknowledged-steps (Call.Receive client (Request.Acknowledge given)) client given (begun server) refl fine up);
+      receives = λ client request up. received-steps server client (Request.OnFile request) _ up
+          (file_request-steps (Call.Receive client (Request.OnFile request)) client request (begun server) refl fine w up);
+      cuts = λ client up. all_passes-steps (Call.Cut client) (links_lost server client) (cut-fine server client fine);
+      expires = λ key breaks. all_passes-steps (Call.Expire key) (lease_lost server key) (expired-fine server key fine);
+      scavenges = λ file_id left. all_passes-steps (Call.Scavenge file_id)
+          (opens_dropped (is_left_behind file_id) (begun server)) (dropped-fine (is_left_behind file_id) (begun server) fine);
+    }) call
 
 -- ---- the first part of a call gives nothing out
 
 pub call_begun-silent : (server : Server) (call : Call) → (call_begun server call).outs ≡ []
-unfolding join joined client_forgotten opens_disconnected opens_dropped key_expired
-call_begun-silent server x2 = grind arith
+call_begun-silent server call = any_call server (λ call start after. start.outs ≡ []) (record {
+  idle = λ call why. refl;
+  joins = λ client down. refl;
+  judges = λ client given up. refl;
+  receives = λ client request up. refl;
+  cuts = λ client up. refl;
+  expires = λ key breaks. refl;
+  scavenges = λ file_id left. refl;
+}) call
 
 -- ---- and leaves the laws, and who is connected
 
@@ -245,24 +242,21 @@ pub record IsBegunWell (progress : Progress) : Type 0 where
   pub sound : IsSound progress.server
   pub up : (one : Open) → Among one progress.server.opens → one.connected ≡ true → progress.server.present one.client ≡ true
 
--- a choice of two
-either_begun : (b : Bool) (x y : Progress) → IsFine x.server → IsFine y.server → IsBegunWell (if b then x else y)
-either_begun x1 x y f g = grind arith
-
 pub call_begun-up : (server : Server) (call : Call) → IsSound server → WaitsWell server → IsBegunWell (call_begun server call)
-unfolding join
-call_begun-up server (Call.Join client) s w =
+call_begun-up server call s w =
     let fine : IsFine server = record { sound = s; orderly = w.is_orderly } in
-    either_begun (server.present client) (begun server) (joined client (begun server)) fine
-    (record { sound = joined-sound client (begun server) s; orderly = joined-orderly client (begun server) w.is_orderly })
-call_begun-up server (Call.Receive client request) s w = record { sound = s; up = w.is_orderly.opens_up }
-call_begun-up server (Call.Cut client) s w =
-    let fine : IsFine server = record { sound = s; orderly = w.is_orderly } in
-    either_begun (server.present client) _ (begun server) (cut-fine server client fine) fine
-call_begun-up server (Call.Expire key) s w =
-    let fine : IsFine server = record { sound = s; orderly = w.is_orderly } in
-    either_begun (is_breaking (server.leases key)) _ (begun server) (expired-fine server key fine) fine
-call_begun-up server (Call.Scavenge file_id) s w =
-    let fine : IsFine server = record { sound = s; orderly = w.is_orderly } in
-    either_begun (list_any (is_left_behind file_id) server.opens) _ (begun server)
-    (dropped-fine (is_left_behind file_id) (begun server) fine) fine
+    let well : (progress : Progress) → IsFine progress.server → IsBegunWell progress =
+    λ progress f. record { sound = f.sound; up = f.orderly.opens_up } in
+    any_call server (λ call start after. IsBegunWell start) (record {
+      idle = λ call why. well (begun server) fine;
+      joins = λ client down. well (joined client (begun server)) (record {
+        sound = joined-sound client (begun server) s;
+        orderly = joined-orderly client (begun server) w.is_orderly;
+      });
+      judges = λ client given up. well (begun server) fine;
+      receives = λ client request up. well (begun server) fine;
+      cuts = λ client up. well (links_lost server client) (cut-fine server client fine);
+      expires = λ key breaks. well (lease_lost server key) (expired-fine server key fine);
+      scavenges = λ file_id left. well (opens_dropped (is_left_behind file_id) (begun server))
+          (dropped-fine (is_left_behind file_id) (begun server) fine);
+    }) call

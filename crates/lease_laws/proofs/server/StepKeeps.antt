@@ -83,11 +83,9 @@ step-sound (SmallStep.Begin key lowered) progress s may = break_begun-sound key 
 
 -- a lease lowered at once, or a break begun, leaves opens alone
 lowered-goes : (key : Key) (lowered : State) (progress : Progress) → Goes progress (lease_lowered key lowered progress)
-unfolding lease_lowered
 lowered-goes key lowered progress = grind arith
 
 begun-goes : (key : Key) (lowered : State) (progress : Progress) → Goes progress (break_begun key lowered progress)
-unfolding break_begun
 begun-goes key lowered progress = grind arith
 
 -- Each step lets opens go on.

@@ -3,12 +3,12 @@ use Rattle.lease_laws.proofs.Words.{◌++◌, ◌==◌, ◌∙◌, ◌∷◌, �
 use Rattle.lease_laws.proofs.Words.{FileRequest, Held, IsBreakTold, IsEnded, IsFree, IsGuarded, IsRaised, IsSound}
 use Rattle.lease_laws.proofs.Words.{Key, Lease, LeaseOf, List, MayCreate, MayServe, None, Open, Option, Out, Outcome, Progress}
 use Rattle.lease_laws.proofs.Words.{Server, Share, SmallStep, Some, State, StaysOrRises, ℕ, ⊎_elim, [], acknowledged, allowed, ap}
-use Rattle.lease_laws.proofs.Words.{append-nil, append_assoc, arith, break_begun, break_ended, break_notice, changed, concluded}
+use Rattle.lease_laws.proofs.Words.{append-nil, append_assoc, arith, break_ended, break_notice, concluded}
 use Rattle.lease_laws.proofs.Words.{false, granted_form_of, granted_with, has_key, has_lease, held_left, inl, inr}
 use Rattle.lease_laws.proofs.Words.{is_breaking, is_left_open, is_other_on, is_some, is_state_within, key_of, lease_after}
-use Rattle.lease_laws.proofs.Words.{lease_granted, lease_lowered, list_any, nothing_cached, offered, opens_dropped}
-use Rattle.lease_laws.proofs.Words.{own_key, reconnected, refl, request_held, step_taken, steps_taken, subst, sym, true}
-use Rattle.lease_laws.proofs.Words.{with_opens, without_write}
+use Rattle.lease_laws.proofs.Words.{lease_granted, list_any, nothing_cached, offered, opens_dropped}
+use Rattle.lease_laws.proofs.Words.{own_key, refl, step_taken, steps_taken, subst, sym, true}
+use Rattle.lease_laws.proofs.Words.{without_write}
 use Rattle.lease_laws.proofs.server.Keys.{put_key-cases}
 use Rattle.lease_laws.proofs.server.Lists.{if_cases, clash, not_true, any_has, among_before}
 use Rattle.lease_laws.proofs.server.Lists.{among_behind}
@@ -24,7 +24,6 @@ use Rattle.lease_laws.proofs.server.cases.Judgements.{any_judgement}
 dropped-lease : (test : Open → Bool) (progress : Progress) (key : Key)
     → ((opens_dropped test progress).server.leases key ≡ progress.server.leases key)
     ⊎ (has_lease (opens_dropped test progress).server key ≡ false)
-unfolding opens_dropped with_opens
 dropped-lease test progress key = grind arith
 
 -- ---- a grant
@@ -95,7 +94,6 @@ granted_with-lease : (client file : ℕ) (access : Access) (share : Share) (aske
     (progress : Progress) (key : Key) → IsSound progress.server
     → IsFree progress.server.opens progress.server.leases (own_key client asked) file access share → StaysOrRises progress.server
     (granted_with client file access share asked durable (lease_after progress.server client file asked) progress).server key
-unfolding granted_with
 granted_with-lease client file access share None durable progress key s free = inl refl
 granted_with-lease client file access share (Some asked) durable progress key s free =
     let own : Key = key_of client asked.key in
@@ -113,7 +111,6 @@ granted_with-lease client file access share (Some asked) durable progress key s 
 ends_lease : (client : ℕ) (progress : Progress) (key : Key) → IsSound progress.server
     → HasEnds client progress (λ request outcome after. (outcome ≡ Outcome.Ready
     → MayServe progress.server client request) → StaysOrRises progress.server after.server key)
-unfolding reconnected changed
 ends_lease client progress key s = record {
   refused = λ request status may. inl refl;
   left = λ request outcome may. inl refl;
@@ -145,7 +142,6 @@ ended-lease : (key : Key) (state lowered : State) (progress : Progress) (other :
     → (progress.server.leases key).broken_to ≡ Some lowered → is_state_within state lowered ≡ true
     → ((break_ended key state progress).server.leases other ≡ progress.server.leases other)
     ⊎ IsEnded (progress.server.leases other) ((break_ended key state progress).server.leases other)
-unfolding break_ended
 ended-lease key state lowered progress other broken part =
     let new : Lease = record { state = granted_form_of state; broken_to = None } in
     put_key-cases (λ l. (l ≡ progress.server.leases other) ⊎ IsEnded (progress.server.leases other) l)
@@ -174,13 +170,11 @@ acknowledged-lease client given progress other = any_judgement client progress
 -- what is held has nothing to do with what may be served
 pub held_left-serves : (client : ℕ) (request : FileRequest) (file : ℕ) (left : List Held) (progress : Progress)
     → MayServe progress.server client request → MayServe (held_left file left progress).server client request
-unfolding held_left
 held_left-serves client x2 file left progress may = grind arith
 
 -- what each step makes of the lease of any key
 pub step-leases : (step : SmallStep) (progress : Progress) → IsSound progress.server → IsGuarded step progress.server
     → (key : Key) → BecomesBy step progress.server (step_taken step progress).server key
-unfolding lease_lowered break_begun request_held held_left
 step-leases (SmallStep.Answer client request outcome) progress s may key =
     concluded-lease client request progress outcome key s (end_serves progress.server client request outcome may)
 step-leases (SmallStep.AnswerHeld file before one behind outcome) progress s may key =

@@ -3,9 +3,9 @@ use Rattle.lease_laws.proofs.Words.{◌++◌, ◌==◌, ◌∷◌, ◌≡◌, Ar
 use Rattle.std.proofs.Common.{arith}
 use Rattle.lease_laws.proofs.Words.{IsGuarded, IsNoBreak, IsShort, IsSound, IsToPresent, Key, LeaseOf, List, MayEnd, MayLower}
 use Rattle.lease_laws.proofs.Words.{MayServe, Open, Option, Out, Outcome, Progress, Reply, Server, SmallStep, State}
-use Rattle.lease_laws.proofs.Words.{Status, TellsBreaks, WaitsWell, ℕ, [], acknowledged, break_begun, break_ended}
-use Rattle.lease_laws.proofs.Words.{call_begun, called, changed, concluded, granted_with, has_key, held_left, is_key}
-use Rattle.lease_laws.proofs.Words.{is_left_open, lease_lowered, opens_dropped, reconnected, refl, refusal_of}
+use Rattle.lease_laws.proofs.Words.{Status, TellsBreaks, WaitsWell, ℕ, [], acknowledged}
+use Rattle.lease_laws.proofs.Words.{call_begun, called, concluded, has_key, held_left, is_key}
+use Rattle.lease_laws.proofs.Words.{is_left_open, opens_dropped, refl, refusal_of}
 use Rattle.lease_laws.proofs.Words.{refused, replied, step_taken, steps_taken, subst, sym, true}
 use Rattle.lease_laws.proofs.server.Lists.{any_has}
 use Rattle.lease_laws.proofs.server.OutCalls.{concluded-answers, request_held-outs, held_left-outs}
@@ -34,7 +34,6 @@ replied-out client request reply progress = grind arith
 
 -- any request
 ends_out : (client : ℕ) (progress : Progress) → HasEnds client progress (λ request outcome. GoesOut client request progress)
-unfolding granted_with reconnected changed
 ends_out client progress = record {
   refused = λ request status. replied-out client request (refusal_of request status) progress;
   left = λ request outcome. go_on-same (IsOfRequest client request) progress.outs;
@@ -66,7 +65,6 @@ sent-out client reply progress = grind arith
 -- however it is judged
 pub acknowledged-out : (client : ℕ) (given : Option LeaseOf) (progress : Progress)
     → GoOn (IsSentTo client) progress.outs (acknowledged client given progress).outs
-unfolding break_ended
 acknowledged-out client given progress =
     any_judgement client progress (λ given after. GoOn (IsSentTo client) progress.outs after.outs) (record {
       failed = λ given status why. sent-out client (Reply.AckFailed status) progress;
@@ -87,7 +85,6 @@ of_request server client request outcome up serves ready x8 e = grind arith
 -- a refusal is one reply
 refused_fine : (server : Server) (client : ℕ) (request : FileRequest) (status : Status) (progress : Progress)
     → server.present client ≡ true → GoOn (IsFine server) progress.outs (refused client request status progress).outs
-unfolding refused
 refused_fine server client request status progress up = grind arith
 
 -- the end of a request
@@ -114,7 +111,6 @@ break_fine server key lowered up may =
 -- each step
 pub step_fine : (step : SmallStep) (progress : Progress) → OpensUp progress.server → IsGuarded step progress.server
     → GoOn (IsFine progress.server) progress.outs (step_taken step progress).outs
-unfolding lease_lowered break_begun
 step_fine (SmallStep.Answer client request outcome) progress up may =
     concluded_fine progress.server client request progress outcome may
 step_fine (SmallStep.AnswerHeld file before one behind outcome) progress up may = subst
@@ -183,7 +179,6 @@ changes-short server call s w = each_weaker (IsFine (called server call).server)
 
 -- each step tells its own
 pub step-tells : (step : SmallStep) (progress : Progress) → TellsBreaks step progress
-unfolding lease_lowered break_begun
 step-tells (SmallStep.Answer client request outcome) progress = concluded-answers client request progress outcome
 step-tells (SmallStep.AnswerHeld file before one behind outcome) progress = subst
     (λ outs. GoOn IsNoBreak outs (concluded one.client one.request (held_left file (before ++ behind) progress) outcome).outs)

@@ -2,15 +2,14 @@
 -- nothing.
 use Rattle.lease_laws.proofs.Words.{◌==◌, ◌∙◌, ◌≡◌, Among, Bool, Call, FileRequest, HasToWait, Held, IsAbout, IsBlocked, IsOpenOn}
 use Rattle.lease_laws.proofs.Words.{IsOrderly, IsSound, IsUnder, Key, List, None, Open, Option, Progress, Server, Some, WaitsWell}
-use Rattle.lease_laws.proofs.Words.{ℕ, all_passes, ap, arith, begun, called, client_forgotten, cond, cut, disconnected, expire}
-use Rattle.lease_laws.proofs.Words.{false, find, has_file, has_key, has_own_key, is_breaking, is_key, is_left_behind}
-use Rattle.lease_laws.proofs.Words.{is_lost, join, joined, key_expired, key_of, key_of_open, key_under, list_any, map, new_server}
-use Rattle.lease_laws.proofs.Words.{not, opens_disconnected, opens_dropped, own_key, put, refl, scavenge, subst, sym, true}
+use Rattle.lease_laws.proofs.Words.{ℕ, ap, arith, begun, called, client_forgotten, cond, disconnected}
+use Rattle.lease_laws.proofs.Words.{false, find, has_file, has_key, has_own_key, is_key, is_left_behind}
+use Rattle.lease_laws.proofs.Words.{is_lost, joined, key_expired, key_of, key_of_open, key_under, map, new_server}
+use Rattle.lease_laws.proofs.Words.{not, opens_disconnected, opens_dropped, own_key, put, refl, subst, sym, true}
 use Rattle.lease_laws.proofs.Words.{without}
 use Rattle.lease_laws.proofs.server.Keys.{is_key-one, is_key-refl}
-use Rattle.lease_laws.proofs.server.Arrivals.{everyone_keeps, fine_goes, everyone_cases, receive-waits, new_server-waits}
-use Rattle.lease_laws.proofs.server.Calls.{joined-sound, opens_disconnected-sound, client_forgotten-sound, key_expired-sound}
-use Rattle.lease_laws.proofs.server.Calls.{dropped_lease, left_lasting, lasting_left}
+use Rattle.lease_laws.proofs.server.Arrivals.{acknowledged-waits, everyone_keeps, file_request-waits, fine_goes, new_server-waits}
+use Rattle.lease_laws.proofs.server.Calls.{joined-sound, lease_lost-sound, links_lost-sound}
 use Rattle.lease_laws.proofs.server.Goes.{Goes, dropped-goes}
 use Rattle.lease_laws.proofs.server.Held.{SameHeld, dropped_held}
 use Rattle.lease_laws.proofs.server.Keeps.{Kept, Anywhere, connected_has}
@@ -18,6 +17,7 @@ use Rattle.lease_laws.proofs.server.Lists.{if_cases, clash, not_parts, among_fil
 use Rattle.lease_laws.proofs.server.Orderly.{IsFine}
 use Rattle.lease_laws.proofs.server.PassWaits.{EveryoneWaits, all_passes-wait}
 use Rattle.lease_laws.proofs.server.Progress.{opens_dropped-sound}
+use Rattle.lease_laws.proofs.server.cases.Calls.{any_call, lease_lost, links_lost}
 
 -- a client that is connected stays so when another joins
 put_true : (up : ℕ → Bool) (client other : ℕ) → up other ≡ true → put up client true other ≡ true
@@ -27,7 +27,6 @@ put_true up client other e = if_cases (λ b. b ≡ true) (other == client) true 
 -- a join: what a FileId is about stays
 joined-open : (client file file_id : ℕ) (progress : Progress) → IsOpenOn progress.server file file_id
     → IsOpenOn (joined client progress).server file file_id
-unfolding joined
 joined-open client file file_id progress o = record { was_given = o.was_given; is_on_file = o.is_on_file }
 
 -- a join: what a request is about stays
@@ -40,7 +39,6 @@ joined-about client file (FileRequest.Close file_id) progress about = joined-ope
 
 -- a join that applies keeps the order
 pub joined-orderly : (client : ℕ) (progress : Progress) → IsOrderly progress.server → IsOrderly (joined client progress).server
-unfolding joined
 joined-orderly client progress o = record {
   opens_up = λ one a up. put_true progress.server.present client one.client (o.opens_up one a up);
   open_files = o.open_files;
@@ -51,23 +49,18 @@ joined-orderly client progress o = record {
 
 -- a join that applies lets wait what has to wait
 joined-kept : (client : ℕ) (progress : Progress) → Kept Anywhere progress (joined client progress)
-unfolding joined
 joined-kept client progress = record { stands = λ key one a k up b g. (a, refl); finds = λ c id one e g. e }
 
 -- a join that applies leaves the held requests as they are
 joined-held : (client : ℕ) (progress : Progress) → SameHeld progress (joined client progress)
-unfolding joined
 joined-held client progress = refl
 
--- a join leaves each first held request waiting
-join-waits : (server : Server) (client : ℕ) → EveryoneWaits server → EveryoneWaits (join server client).server
-unfolding join
-join-waits server client e = everyone_cases (server.present client) (begun server) (joined client (begun server))
-    (λ t. e)
-    (λ t. everyone_keeps (begun server) (joined client (begun server)) e (record {
-      sound = joined-sound client (begun server) e.fine.sound;
-      orderly = joined-orderly client (begun server) e.fine.orderly;
-    }) (joined-kept client (begun server)) (joined-held client (begun server)))
+-- so does the join itself
+joined-waits : (server : Server) (client : ℕ) → EveryoneWaits server → EveryoneWaits (joined client (begun server)).server
+joined-waits server client e = everyone_keeps (begun server) (joined client (begun server)) e (record {
+  sound = joined-sound client (begun server) e.fine.sound;
+  orderly = joined-orderly client (begun server) e.fine.orderly;
+}) (joined-kept client (begun server)) (joined-held client (begun server))
 
 -- to drop opens keeps the laws and the order
 pub dropped-fine : (test : Open → Bool) (progress : Progress) → IsFine progress.server
@@ -77,40 +70,19 @@ dropped-fine test progress f = fine_goes progress (opens_dropped test progress) 
 
 -- to mark a key lets opens go on
 expired-goes : (key : Key) (progress : Progress) → Goes progress (key_expired key progress)
-unfolding key_expired
 expired-goes key progress = grind arith
 
 -- to mark a key leaves the held requests as they are
 expired-held : (key : Key) (progress : Progress) → SameHeld progress (key_expired key progress)
-unfolding key_expired
 expired-held key progress = refl
 
--- a timer that runs out keeps the laws and the order
-pub expired-fine : (server : Server) (key : Key) → IsFine server
-    → IsFine (key_expired key (opens_dropped (has_key key) (begun server))).server
+-- to lose a lease keeps the laws and the order
+pub expired-fine : (server : Server) (key : Key) → IsFine server → IsFine (lease_lost server key).server
 expired-fine server key fine =
     let dropped = opens_dropped (has_key key) (begun server) in
     let f = dropped-fine (has_key key) (begun server) fine in
-    fine_goes dropped (key_expired key dropped) f (key_expired-sound key dropped f.sound (dropped_lease key (begun server)))
+    fine_goes dropped (key_expired key dropped) f (lease_lost-sound server key fine.sound)
     (expired-goes key dropped) (expired-held key dropped)
-
--- and leaves each first held request waiting
-expire-waits : (server : Server) (key : Key) → EveryoneWaits server → EveryoneWaits (expire server key).server
-unfolding expire
-expire-waits server key e =
-    let start = key_expired key (opens_dropped (has_key key) (begun server)) in
-    everyone_cases (is_breaking (server.leases key)) (all_passes start) (begun server)
-    (λ t. all_passes-wait start (expired-fine server key e.fine))
-    (λ t. e)
-
--- a scavenge leaves each first held request waiting
-scavenge-waits : (server : Server) (file_id : ℕ) → EveryoneWaits server → EveryoneWaits (scavenge server file_id).server
-unfolding scavenge
-scavenge-waits server file_id e = everyone_cases (list_any (is_left_behind file_id) server.opens)
-    (all_passes (opens_dropped (is_left_behind file_id) (begun server))) (begun server)
-    (λ t. all_passes-wait (opens_dropped (is_left_behind file_id) (begun server))
-    (dropped-fine (is_left_behind file_id) (begun server) e.fine))
-    (λ t. e)
 
 -- an open of another client isn't disconnected
 record IsCutFrom (server : Server) (client : ℕ) (one : Open) : Type 0 where
@@ -141,7 +113,6 @@ put_other up client other e = grind arith
 -- a cut: what a FileId is about stays
 cut_about_open : (client file file_id : ℕ) (progress : Progress) → IsOpenOn progress.server file file_id
     → IsOpenOn (client_forgotten client (opens_disconnected client progress)).server file file_id
-unfolding client_forgotten opens_disconnected
 cut_about_open client file file_id progress o = record {
   was_given = o.was_given;
   is_on_file = λ one a e. let x = cut_opens progress.server client one a in
@@ -159,7 +130,6 @@ cut_about client file (FileRequest.Close file_id) progress about = cut_about_ope
 -- a cut keeps the order
 cut_orderly : (client : ℕ) (progress : Progress) → IsOrderly progress.server
     → IsOrderly (client_forgotten client (opens_disconnected client progress)).server
-unfolding client_forgotten opens_disconnected
 cut_orderly client progress o =
     let left : (file : ℕ) (one : Held) → Among one (without (λ x. x.client == client) (progress.server.held file))
     → (Among one (progress.server.held file)) × (not (one.client == client) ≡ true) =
@@ -177,34 +147,26 @@ cut_orderly client progress o =
       held_about = λ file one a. cut_about client file one.request progress (o.held_about file one (left file one a).0);
     }
 
--- a cut keeps the laws and the order
-pub cut-fine : (server : Server) (client : ℕ) → IsFine server → IsFine (client_forgotten client (opens_disconnected client
-    (opens_dropped (is_lost server client) (begun server)))).server
-cut-fine server client fine =
-    let dropped = opens_dropped (is_lost server client) (begun server) in
-    let f = dropped-fine (is_lost server client) (begun server) fine in
-    record {
-      sound = client_forgotten-sound client (opens_disconnected client dropped) (opens_disconnected-sound client dropped f.sound
-          (λ one a c. lasting_left (is_lost server client) (begun server) one a (left_lasting client server one fine.sound a c)));
-      orderly = cut_orderly client dropped f.orderly;
-    }
+-- to lose a client's links keeps the laws and the order
+pub cut-fine : (server : Server) (client : ℕ) → IsFine server → IsFine (links_lost server client).server
+cut-fine server client fine = record {
+  sound = links_lost-sound server client fine.sound;
+  orderly = cut_orderly client (opens_dropped (is_lost server client) (begun server))
+      (dropped-fine (is_lost server client) (begun server) fine).orderly;
+}
 
--- and leaves each first held request waiting
-cut-waits : (server : Server) (client : ℕ) → EveryoneWaits server → EveryoneWaits (cut server client).server
-unfolding cut
-cut-waits server client e =
-    let start = client_forgotten client (opens_disconnected client (opens_dropped (is_lost server client) (begun server))) in
-    everyone_cases (server.present client) (all_passes start) (begun server)
-    (λ t. all_passes-wait start (cut-fine server client e.fine))
-    (λ t. e)
-
--- every call
+-- every call leaves each first held request waiting
 pub called-waits : (server : Server) (call : Call) → EveryoneWaits server → EveryoneWaits (called server call).server
-called-waits server (Call.Join client) e = join-waits server client e
-called-waits server (Call.Receive client request) e = receive-waits server client request e
-called-waits server (Call.Cut client) e = cut-waits server client e
-called-waits server (Call.Expire key) e = expire-waits server key e
-called-waits server (Call.Scavenge file_id) e = scavenge-waits server file_id e
+called-waits server call e = any_call server (λ call start after. EveryoneWaits after.server) (record {
+  idle = λ call why. e;
+  joins = λ client down. joined-waits server client e;
+  judges = λ client given up. acknowledged-waits client given (begun server) e;
+  receives = λ client request up. file_request-waits client request (begun server) e up;
+  cuts = λ client up. all_passes-wait (links_lost server client) (cut-fine server client e.fine);
+  expires = λ key breaks. all_passes-wait (lease_lost server key) (expired-fine server key e.fine);
+  scavenges = λ file_id left. all_passes-wait (opens_dropped (is_left_behind file_id) (begun server))
+      (dropped-fine (is_left_behind file_id) (begun server) e.fine);
+}) call
 
 -- the first server waits well
 pub first-waits-well : (contents : List (List ℕ)) → WaitsWell (new_server contents)

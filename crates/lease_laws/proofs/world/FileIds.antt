@@ -2,12 +2,12 @@
 use Rattle.lease_laws.proofs.Words.{◌&&◌, ◌++◌, ◌+◌, ◌==◌, ◌||◌, ◌∙◌, ◌∷◌, ◌≡◌, ◌⊎◌, Among, AreGuarded, Bool, Call, EachOut}
 use Rattle.lease_laws.proofs.Words.{Event, Fact, FileIdsAreCounted, IsGuarded, IsSound, List, Note, Open, OpensAreTold, Out}
 use Rattle.lease_laws.proofs.Words.{Progress, Server, Setup, SmallStep, Step, WaitsWell, World, ℕ, ⊎_elim, [], after}
-use Rattle.lease_laws.proofs.Words.{all_delivered, ap, arith, begun, call_begun, called, client_called, client_forgotten}
-use Rattle.lease_laws.proofs.Words.{delivered, disconnected, eq-eqb, fact_of, false, first_world, happened, has_key, is_breaking}
-use Rattle.lease_laws.proofs.Words.{is_left_behind, is_lost, is_start, join, joined, key_expired, list_all, list_any, map}
-use Rattle.lease_laws.proofs.Words.{new_server, not, noted, opened_count, opens_disconnected, opens_dropped, refl, requests_sent}
+use Rattle.lease_laws.proofs.Words.{all_delivered, ap, arith, call_begun, called, client_called}
+use Rattle.lease_laws.proofs.Words.{delivered, disconnected, eq-eqb, fact_of, false, first_world, happened, has_key}
+use Rattle.lease_laws.proofs.Words.{is_left_behind, is_lost, is_start, list_all, map}
+use Rattle.lease_laws.proofs.Words.{new_server, not, noted, opened_count, refl, requests_sent}
 use Rattle.lease_laws.proofs.Words.{reverse, served, starts_from, step_taken, stepped_in, steps_taken, subst, sym, true}
-use Rattle.lease_laws.proofs.Words.{was_opened, with_opens, without}
+use Rattle.lease_laws.proofs.Words.{was_opened, without}
 use Rattle.lease_laws.proofs.records.Runs.{all_starts, all_reversed}
 use Rattle.lease_laws.proofs.server.Calls.{new_server-sound, called-sound}
 use Rattle.lease_laws.proofs.server.Goes.{IsOld, IsNew}
@@ -16,6 +16,7 @@ use Rattle.lease_laws.proofs.server.Opened.{IsNoOpened, IsQuiet, IsGrant, step-t
 use Rattle.lease_laws.proofs.server.StepCalls.{called-steps, call_begun-silent, call_begun-up}
 use Rattle.lease_laws.proofs.server.StepKeeps.{step-sound, step-goes}
 use Rattle.lease_laws.proofs.server.WaitCalls.{first-waits-well, called-waits-well}
+use Rattle.lease_laws.proofs.server.cases.Calls.{any_call}
 use Rattle.lease_laws.proofs.world.Kept.{IsKept, IsOfWorld, served-server, after-kept}
 use Rattle.lease_laws.proofs.world.Runs.{stepped_server}
 
@@ -184,17 +185,16 @@ AllSame server progress =
     (progress.server.last_id ≡ server.last_id) × ((one : Open) → Among one progress.server.opens → IsSame server one)
 
 begun_same : (server : Server) (call : Call) → AllSame server (call_begun server call)
-unfolding AllSame join joined opens_dropped with_opens opens_disconnected client_forgotten key_expired
-begun_same server (Call.Join client) = if_cases (AllSame server) (server.present client) (begun server)
-    (joined client (begun server)) (λ e. (refl, here server)) (λ e. (refl, here server))
-begun_same server (Call.Receive client request) = (refl, here server)
-begun_same server (Call.Cut client) = if_cases (AllSame server) (server.present client) _ (begun server)
-    (λ e. (refl, cut_same server client)) (λ e. (refl, here server))
-begun_same server (Call.Expire key) = if_cases (AllSame server) (is_breaking (server.leases key)) _ (begun server)
-    (λ e. (refl, left_same server (has_key key))) (λ e. (refl, here server))
-begun_same server (Call.Scavenge file_id) = if_cases (AllSame server)
-    (list_any (is_left_behind file_id) server.opens) _ (begun server)
-    (λ e. (refl, left_same server (is_left_behind file_id))) (λ e. (refl, here server))
+unfolding AllSame
+begun_same server call = any_call server (λ call start after. AllSame server start) (record {
+  idle = λ call why. (refl, here server);
+  joins = λ client down. (refl, here server);
+  judges = λ client given up. (refl, here server);
+  receives = λ client request up. (refl, here server);
+  cuts = λ client up. (refl, cut_same server client);
+  expires = λ key breaks. (refl, left_same server (has_key key));
+  scavenges = λ file_id left. (refl, left_same server (is_left_behind file_id));
+}) call
 
 pub begun_counted : (past : List Fact) (server : Server) (call : Call) → IsCounted past server
     → IsCounted past (call_begun server call).server

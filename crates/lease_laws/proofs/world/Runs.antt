@@ -2,20 +2,21 @@
 use Rattle.lease_laws.proofs.Words.{◌++◌, ◌+◌, ◌∷◌, ◌≡◌, ◌≤◌, AreGuarded, Call, Event, FILE_LIMIT, FileRequest}
 use Rattle.lease_laws.proofs.Words.{IsGuarded, IsSound, Lease, LeaseOf, List, MayServe, Note, Option, Outcome, Patch}
 use Rattle.lease_laws.proofs.Words.{Progress, Server, Setup, SmallStep, Step, WaitsWell, World, ℕ, [], acknowledged, after}
-use Rattle.lease_laws.proofs.Words.{arith, break_begun, break_ended, call_begun, called, changed, client_called}
-use Rattle.lease_laws.proofs.Words.{client_forgotten, concluded, fact_of, first_world, granted_with, happened, held_left}
+use Rattle.lease_laws.proofs.Words.{arith, call_begun, called, client_called}
+use Rattle.lease_laws.proofs.Words.{concluded, fact_of, first_world, happened, held_left}
 use Rattle.lease_laws.proofs.Words.{is_allowed_setup, is_content, is_within_limit}
-use Rattle.lease_laws.proofs.Words.{join, joined, key_expired, last_file_number, lease_lowered, lease_put, length, length-written}
-use Rattle.lease_laws.proofs.Words.{list_all, max, nat_le, new_server, noted, numbered, opens_disconnected}
-use Rattle.lease_laws.proofs.Words.{opens_dropped, patch, patch_at, put, reconnected, refl, request_held, requests_sent, served}
+use Rattle.lease_laws.proofs.Words.{last_file_number, lease_put, length, length-written}
+use Rattle.lease_laws.proofs.Words.{list_all, max, nat_le, new_server, noted, numbered}
+use Rattle.lease_laws.proofs.Words.{patch, patch_at, put, refl, requests_sent, served}
 use Rattle.lease_laws.proofs.Words.{slice_get, step_taken, stepped_in, steps_taken, subst, suc, sym, take, true, unwrap_or}
-use Rattle.lease_laws.proofs.Words.{with_number, with_opens, zero}
+use Rattle.lease_laws.proofs.Words.{with_number, zero}
 use Rattle.lease_laws.proofs.server.Calls.{new_server-sound, called-sound}
 use Rattle.lease_laws.proofs.server.Lists.{and_parts}
 use Rattle.lease_laws.proofs.server.StepCalls.{called-steps}
 use Rattle.lease_laws.proofs.server.StepKeeps.{end_serves}
 use Rattle.lease_laws.proofs.server.WaitCalls.{first-waits-well, called-waits-well}
 use Rattle.lease_laws.proofs.world.Kept.{IsKept, served-server, after-kept}
+use Rattle.lease_laws.proofs.server.cases.Calls.{any_call}
 use Rattle.lease_laws.proofs.server.cases.Ends.{HasEnds, any_end}
 use Rattle.lease_laws.proofs.server.cases.Judgements.{any_judgement}
 
@@ -106,7 +107,6 @@ ends_fit : (client : ℕ) (progress : Progress) → DoFit progress.server.conten
     → HasEnds client progress (λ request outcome after. (outcome ≡ Outcome.Ready → (number : ℕ) (file_id : ℕ)
     (patch : Patch) → request ≡ FileRequest.Write file_id number patch → is_within_limit patch ≡ true)
     → DoFit after.server.contents)
-unfolding granted_with reconnected changed opens_dropped with_opens
 ends_fit client progress fit = record {
   refused = λ request status may. fit;
   left = λ request outcome may. fit;
@@ -135,7 +135,6 @@ serve_fits server client request may number file_id patch e = (subst (λ q. MayS
 -- an acknowledgment changes no content
 acknowledged_contents : (client : ℕ) (given : Option LeaseOf) (progress : Progress)
     → (acknowledged client given progress).server.contents ≡ progress.server.contents
-unfolding break_ended
 acknowledged_contents client given progress = any_judgement client progress
     (λ given after. after.server.contents ≡ progress.server.contents)
     (record { failed = λ given status why. refl; ended = λ g lowered there breaks within. refl }) given
@@ -143,7 +142,6 @@ acknowledged_contents client given progress = any_judgement client progress
 -- each step
 step_fits : (step : SmallStep) (progress : Progress) → IsGuarded step progress.server
     → DoFit progress.server.contents → DoFit (step_taken step progress).server.contents
-unfolding held_left request_held opens_dropped with_opens lease_lowered break_begun
 step_fits (SmallStep.Answer client request outcome) progress may fit = concluded_fits client request progress outcome
     (λ ready. serve_fits progress.server client request (end_serves progress.server client request outcome may ready)) fit
 step_fits (SmallStep.AnswerHeld file before one behind outcome) progress may fit =
@@ -160,8 +158,15 @@ steps_fit [] progress g fit = fit
 steps_fit (step ∷ steps) progress g fit = steps_fit steps (step_taken step progress) g.1 (step_fits step progress g.0 fit)
 
 pub begun_contents : (server : Server) (call : Call) → (call_begun server call).server.contents ≡ server.contents
-unfolding join joined client_forgotten opens_disconnected opens_dropped with_opens key_expired
-begun_contents server x2 = grind arith
+begun_contents server call = any_call server (λ call start after. start.server.contents ≡ server.contents) (record {
+  idle = λ call why. refl;
+  joins = λ client down. refl;
+  judges = λ client given up. refl;
+  receives = λ client request up. refl;
+  cuts = λ client up. refl;
+  expires = λ key breaks. refl;
+  scavenges = λ file_id left. refl;
+}) call
 
 called_fits : (server : Server) (call : Call) → IsSound server → WaitsWell server → DoFit server.contents
     → DoFit (called server call).server.contents

@@ -48,7 +48,7 @@ is_asking live = is_some live.asking
 
 -- A parked entry that is asked for more gives its open up and opens the file anew: the unsent writes, a
 -- Close of the old FileId, and a create on the command's own terms.
-unfoldable pub opened_anew : Client → ℕ → LiveEntry → List Pending → OpenTerms → Step
+abbrev pub opened_anew : Client → ℕ → LiveEntry → List Pending → OpenTerms → Step
 opened_anew client file live sent terms = turned client file (turn_of
     (record { phase = Phase.Opening terms.access terms.share; sent = sent ++ live.unsent })
     Answer.Waiting
@@ -118,7 +118,7 @@ close_on_live client file live sent =
     else last_handle_closed client file live sent)
 
 -- a read from the cache
-unfoldable pub cached_read : Client → ℕ → List ℕ → Step
+abbrev pub cached_read : Client → ℕ → List ℕ → Step
 cached_read client file bytes = record {
   client = client;
   answer = Answer.Bytes bytes true;
@@ -159,12 +159,12 @@ abbrev pub next_write : Client → Patch → Bool → Pending
 next_write client patch buffered =
     record { number = client.last_number + 1; patch = patch; buffered = buffered }
 
-unfoldable pub write_buffered : Client → ℕ → LiveEntry → List Pending → Patch → Step
+abbrev pub write_buffered : Client → ℕ → LiveEntry → List Pending → Patch → Step
 write_buffered client file live sent patch = wrote_step client file
     (live_entry (record live { unsent = live.unsent ++ next_write client patch true ∷ [] }) sent)
     Answer.Done [] (next_write client patch true)
 
-unfoldable pub write_sent : Client → ℕ → LiveEntry → List Pending → Patch → Step
+abbrev pub write_sent : Client → ℕ → LiveEntry → List Pending → Patch → Step
 write_sent client file live sent patch = wrote_step client file
     (live_entry live (sent ++ next_write client patch false ∷ []))
     Answer.Waiting (Request.OnFile (FileRequest.Write live.file_id (client.last_number + 1) patch) ∷ [])
@@ -185,7 +185,7 @@ write_on_live client file live sent patch =
     else write_taken client file live sent patch))
 
 -- the unsent writes are sent, in order
-unfoldable pub flush_on_live : Client → ℕ → LiveEntry → List Pending → Step
+abbrev pub flush_on_live : Client → ℕ → LiveEntry → List Pending → Step
 flush_on_live client file live sent = turned client file (turn_of
     (live_entry (record live { unsent = [] }) (sent ++ live.unsent))
     (if is_empty live.unsent then Answer.Done else Answer.Waiting)

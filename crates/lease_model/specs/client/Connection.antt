@@ -67,7 +67,7 @@ notice_turn sent (Phase.Offline parted) = offline_turn parted sent
 notice_turn sent (Phase.Reconnecting parted) = offline_turn parted sent
 
 -- The client notices that its connection is lost.
-unfoldable pub noticed : Client → Step
+abbrev pub noticed : Client → Step
 noticed client = all_turned client false (λ file entry. notice_turn entry.sent entry.phase)
 
 -- the create that reconnects: RqLs with the file's key and no state (profile), and DHnC of the FileId
@@ -89,5 +89,5 @@ connect_turn client file sent (Phase.Offline parted) = record {
 connect_turn client file sent phase = silent_turn (record { phase = phase; sent = sent }) []
 
 -- The client connects: each offline entry is reconnecting.
-unfoldable pub connection_made : Client → Step
+abbrev pub connection_made : Client → Step
 connection_made client = all_turned client true (λ file entry. connect_turn client file entry.sent entry.phase)

@@ -44,7 +44,7 @@ acknowledgment notice state =
     else []
 
 -- the belief is lowered; without reads the base is dropped, and the acknowledgment comes last
-unfoldable pub belief_lowered : LiveEntry → List Pending → BreakNotice → State → Turn
+abbrev pub belief_lowered : LiveEntry → List Pending → BreakNotice → State → Turn
 belief_lowered live sent notice new = record {
   entry = live_entry
       (record live {
@@ -59,7 +59,7 @@ belief_lowered live sent notice new = record {
 }
 
 -- A parked entry that loses H closes its open, which is its answer (3.2.5.19.2).
-unfoldable pub parked_closed : LiveEntry → List Pending → Turn
+abbrev pub parked_closed : LiveEntry → List Pending → Turn
 parked_closed live sent = record {
   entry = closed_entry (sent ++ live.unsent);
   answer = Answer.Quiet;
@@ -96,7 +96,7 @@ given_state key None = nothing_cached
 given_state key (Some given) =
     if bytes_eq given.key key && not given.in_progress then given.state else nothing_cached
 
-unfoldable pub opened_turn : ℕ → Access → Share → List Pending → CreateAnswer → State → Turn
+abbrev pub opened_turn : ℕ → Access → Share → List Pending → CreateAnswer → State → Turn
 opened_turn file_id access share sent answer belief = record {
   entry = live_entry
       (record {
@@ -119,7 +119,7 @@ opened_turn file_id access share sent answer belief = record {
 
 -- A reconnected entry has its own FileId and handles, and no base; what it kept is unsent again
 -- under W, and else given up.
-unfoldable pub reconnected_turn : Parted → List Pending → State → Turn
+abbrev pub reconnected_turn : Parted → List Pending → State → Turn
 reconnected_turn parted sent belief = record {
   entry = live_entry
       (record {
@@ -150,7 +150,7 @@ promoted_belief key belief (Some given) =
 
 -- An entry that asked for more has its new open, one handle more, and closes the old one. Where the new
 -- belief lacks W its unsent writes have failed, and where it lacks R the base is dropped.
-unfoldable pub promoted_turn : LiveEntry → List Pending → Asked → ℕ → Bool → State → Turn
+abbrev pub promoted_turn : LiveEntry → List Pending → Asked → ℕ → Bool → State → Turn
 promoted_turn live sent asked file_id durable belief = record {
   entry = live_entry
       (record live {
@@ -248,7 +248,7 @@ one_read_less (suc reads) = reads
 
 -- The bytes of a Read become the base where the belief holds R; the application sees its own
 -- unanswered writes in them.
-unfoldable pub read_turn : LiveEntry → List Pending → List ℕ → Turn
+abbrev pub read_turn : LiveEntry → List Pending → List ℕ → Turn
 read_turn live sent bytes = record {
   entry = live_entry
       (record live {
@@ -283,7 +283,7 @@ without_open None sent = closed_entry sent
 without_open (Some asked) sent = record { phase = Phase.Opening asked.access asked.share; sent = sent }
 
 -- FILE_CLOSED for the FileId of a live entry: its open is gone, and its unsent writes have failed.
-unfoldable pub closed_by_server : LiveEntry → List Pending → List Note → Status → Turn
+abbrev pub closed_by_server : LiveEntry → List Pending → List Note → Status → Turn
 closed_by_server live sent settled status = record {
   entry = without_open live.asking sent;
   answer = Answer.Failed status;
@@ -330,7 +330,7 @@ phase_with write (Phase.Live live) = Phase.Live (record live { base = base_with 
 phase_with write phase = phase
 
 -- A write is done: it is settled, and the base, if any, is patched.
-unfoldable pub write_done_turn : ℕ → Entry → Turn
+abbrev pub write_done_turn : ℕ → Entry → Turn
 write_done_turn number entry = record {
   entry = record {
     phase = phase_with (find (is_numbered number) entry.sent) entry.phase;

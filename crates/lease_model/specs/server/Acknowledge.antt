@@ -10,7 +10,7 @@ use Rattle.lease_model.specs.server.State.{has_lease}
 use Rattle.lease_model.specs.server.Naming.{key_of}
 
 -- the lease has the granted form of the acknowledged state, and isn't breaking
-unfoldable pub break_ended : Key → State → Progress → Progress
+abbrev pub break_ended : Key → State → Progress → Progress
 break_ended key state progress = stepped progress
     (with_lease progress.server key (record { state = granted_form_of state; broken_to = None }))
     (Out.Sent key.client (Reply.AckDone (Some (record {

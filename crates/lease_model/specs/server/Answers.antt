@@ -14,7 +14,7 @@ use Rattle.lease_model.specs.values.Tables.{put}
 use Rattle.lease_model.specs.server.Findings.{connected_open}
 
 -- A write is done (MS-SMB2 3.3.5.13): the file is changed, and the reply follows directly.
-unfoldable pub changed : ℕ → ℕ → ℕ → ℕ → Patch → Progress → Progress
+abbrev pub changed : ℕ → ℕ → ℕ → ℕ → Patch → Progress → Progress
 changed client file file_id number patch progress = stepped progress
     (record progress.server {
       contents = put progress.server.contents file (patched (progress.server.contents file) patch);
@@ -27,7 +27,7 @@ read_done client file file_id progress =
     replied client (Reply.ReadDone file_id (progress.server.contents file)) progress
 
 -- an open is closed (3.3.5.10)
-unfoldable pub closed : ℕ → ℕ → Progress → Progress
+abbrev pub closed : ℕ → ℕ → Progress → Progress
 closed client file_id progress = replied client (Reply.Closed file_id)
     (opens_dropped (λ one. one.file_id == file_id) progress)
 

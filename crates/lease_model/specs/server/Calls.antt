@@ -70,7 +70,7 @@ receive server client request =
     if server.present client then arrived client request (begun server) else begun server
 
 -- A client connects (3.3.5.1), and its keys are no longer expired (profile).
-unfoldable pub joined : ℕ → Progress → Progress
+abbrev pub joined : ℕ → Progress → Progress
 joined client progress = stepped progress (record progress.server {
   present = put progress.server.present client true;
   expired = λ key. if key.client == client then false else progress.server.expired key;
@@ -92,12 +92,12 @@ is_lost server client one = one.client == client && one.connected && not (outliv
 abbrev pub disconnected : ℕ → Open → Open
 disconnected client one = if one.client == client then record one { connected = false } else one
 
-unfoldable pub opens_disconnected : ℕ → Progress → Progress
+abbrev pub opens_disconnected : ℕ → Progress → Progress
 opens_disconnected client progress = stepped progress
     (record progress.server { opens = map (disconnected client) progress.server.opens }) []
 
 -- the connection and the client's held requests are forgotten
-unfoldable pub client_forgotten : ℕ → Progress → Progress
+abbrev pub client_forgotten : ℕ → Progress → Progress
 client_forgotten client progress = stepped progress (record progress.server {
   present = put progress.server.present client false;
   held = λ file. without (λ one. one.client == client) (progress.server.held file);
@@ -111,7 +111,7 @@ cut server client =
     (opens_dropped (is_lost server client) (begun server))))
     else begun server
 
-unfoldable pub key_expired : Key → Progress → Progress
+abbrev pub key_expired : Key → Progress → Progress
 key_expired key progress =
     stepped progress (record progress.server { expired = put_key progress.server.expired key true }) []
 

@@ -61,7 +61,7 @@ new_open server client file access share asked durable lease = record {
 }
 
 -- the small step of a grant, with the lease that it gives
-unfoldable pub granted_with : ℕ → ℕ → Access → Share → Option LeaseOf → Bool → Lease → Progress → Progress
+abbrev pub granted_with : ℕ → ℕ → Access → Share → Option LeaseOf → Bool → Lease → Progress → Progress
 granted_with client file access share asked durable lease progress = stepped progress
     (record (lease_put progress.server client asked lease) {
       opens = progress.server.opens
@@ -93,7 +93,7 @@ standing_lease server client (Some asked) = server.leases (key_of client asked.k
 
 -- A durable open is connected again (3.3.5.9.7): nothing is opened, and the lease is told as it
 -- stands.
-unfoldable pub reconnected : ℕ → ℕ → Option LeaseOf → ℕ → Progress → Progress
+abbrev pub reconnected : ℕ → ℕ → Option LeaseOf → ℕ → Progress → Progress
 reconnected client file asked file_id progress = stepped progress
     (record progress.server { opens = map (connected_again file_id) progress.server.opens })
     (Out.Sent client (Reply.Created file file_id (Some (record {

@@ -24,13 +24,13 @@ abbrev pub stepped : Progress → Server → List Out → Progress
 stepped progress server outs = record { server = server; outs = progress.outs ++ outs }
 
 -- Opens that pass the test are closed, and with its last open a lease is gone (MS-SMB2 3.3.5.10).
-unfoldable pub with_opens : Server → List Open → Server
+abbrev pub with_opens : Server → List Open → Server
 with_opens server opens = record server {
   opens = opens;
   leases = λ key. if list_any (has_key key) opens then server.leases key else no_lease;
 }
 
-unfoldable pub opens_dropped : (Open → Bool) → Progress → Progress
+abbrev pub opens_dropped : (Open → Bool) → Progress → Progress
 opens_dropped test progress =
     stepped progress (with_opens progress.server (without test progress.server.opens)) []
 
@@ -46,27 +46,27 @@ break_notice key current lowered = Reply.Break (Some (record {
 }))
 
 -- A lease of reads alone is broken at once, and no acknowledgment is asked for (3.3.4.7).
-unfoldable pub lease_lowered : Key → State → Progress → Progress
+abbrev pub lease_lowered : Key → State → Progress → Progress
 lease_lowered key lowered progress = stepped progress
     (with_lease progress.server key (record { state = lowered; broken_to = None }))
     (Out.Sent key.client (break_notice key (progress.server.leases key).state lowered) ∷ [])
 
 -- Any other keeps its state until the break is acknowledged (3.3.4.7).
-unfoldable pub break_begun : Key → State → Progress → Progress
+abbrev pub break_begun : Key → State → Progress → Progress
 break_begun key lowered progress = stepped progress
     (with_lease progress.server key
     (record { state = (progress.server.leases key).state; broken_to = Some lowered }))
     (Out.Sent key.client (break_notice key (progress.server.leases key).state lowered) ∷ [])
 
 -- a request is held on a file, after those that are held there
-unfoldable pub request_held : ℕ → Held → Progress → Progress
+abbrev pub request_held : ℕ → Held → Progress → Progress
 request_held file one progress = stepped progress
     (record progress.server {
       held = put progress.server.held file (progress.server.held file ++ one ∷ []);
     }) []
 
 -- the requests left on a file once one of them is about to be answered
-unfoldable pub held_left : ℕ → List Held → Progress → Progress
+abbrev pub held_left : ℕ → List Held → Progress → Progress
 held_left file left progress =
     stepped progress (record progress.server { held = put progress.server.held file left }) []
 
@@ -81,5 +81,5 @@ refusal_of (FileRequest.Close file_id) status = Reply.CloseFailed file_id status
 abbrev pub replied : ℕ → Reply → Progress → Progress
 replied client reply progress = stepped progress progress.server (Out.Sent client reply ∷ [])
 
-unfoldable pub refused : ℕ → FileRequest → Status → Progress → Progress
+abbrev pub refused : ℕ → FileRequest → Status → Progress → Progress
 refused client request status progress = replied client (refusal_of request status) progress

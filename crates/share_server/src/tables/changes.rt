@@ -59,7 +59,7 @@ impl Tables {
     /// # Errors
     ///
     /// `Memory` where there is none left for the list of FileIds.
-    #[tactic(auto, unfolding(lease_model::specs::server::Progress::with_opens))]
+    #[tactic(auto)]
     pub fn close(&mut self, closing: Closing) -> Result<(), Memory>
         ensures { OnOk result (server_of self.new ≡ with_opens (server_of self.old)
             (without (closes closing (server_of self.old).leases) (server_of self.old).opens)) }

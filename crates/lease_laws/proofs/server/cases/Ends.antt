@@ -4,7 +4,7 @@ use Rattle.lease_laws.proofs.Words.{◌&&◌, ◌==◌, ◌≡◌, Access, Among
 use Rattle.std.proofs.Common.{arith}
 use Rattle.lease_laws.proofs.Words.{Progress, Reply, Server, Share, Some, Status, ℕ, answered, changed, closed, concluded}
 use Rattle.lease_laws.proofs.Words.{connected_open, created, eqb-true, granted, granted_with, lease_after, on_open}
-use Rattle.lease_laws.proofs.Words.{opens_dropped, read_done, reconnected, refl, refusal_of, refused, replied, true}
+use Rattle.lease_laws.proofs.Words.{opens_dropped, read_done, reconnected, refl, refusal_of, replied, true}
 use Rattle.lease_laws.proofs.server.Lists.{and_parts, find_has}
 
 -- an open of a client that is there and connected
@@ -75,7 +75,7 @@ open_end client progress P h request file_id done each (Some one) e = each one (
 pub any_end : (client : ℕ) (progress : Progress) (P : FileRequest → Outcome → Progress → Type 0)
     → HasEnds client progress P → (request : FileRequest) (outcome : Outcome)
     → P request outcome (concluded client request progress outcome)
-unfolding refused answered closed
+unfolding answered
 any_end client progress P h request (Outcome.Refused status) = h.refused request status
 any_end client progress P h request Outcome.Waits = h.left request Outcome.Waits
 any_end client progress P h (FileRequest.Create file access share None) Outcome.Ready =

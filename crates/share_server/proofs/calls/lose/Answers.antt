@@ -5,7 +5,6 @@ use Rattle.share_server.proofs.Losing.{lost_are}
 use Rattle.share_server.proofs.calls.lose.Goals as goal
 
 pub returns : goal.returns
-unfolding opens_disconnected
 returns c = c.forget.ensures ∙ ap (client_forgotten c.args.client.0)
     (silent c.close.new.self c.disconnect.new.self [] _ c.in_ok-disconnect.ensures ∙ ap (opens_disconnected c.args.client.0)
     (dropped c.args.tables.now c.close.new.self [] _ c.in_ok-close.ensures
