@@ -1,13 +1,14 @@
 -- A try changes no content, and closes only opens that aren't connected, of keys that it wants.
-use Rattle.lease_laws.proofs.Words.{◌&&◌, ◌++◌, ◌∙◌, ◌∷◌, ◌≡◌, Among, Bool, Err, FileRequest, Finding, Key, List, None, Ok, Open}
-use Rattle.lease_laws.proofs.Words.{Option, Out, Outcome, Progress, Reply, Request, Result, Server, Some, State, Status, Tried}
-use Rattle.lease_laws.proofs.Words.{Want, ℕ, ⊎_elim, [], acknowledged, after_breaks, after_finding, after_first_try, all_passes}
-use Rattle.lease_laws.proofs.Words.{ap, arith, arrived, arrived_on, begun, break_begun, break_ended, by_open, concluded}
-use Rattle.lease_laws.proofs.Words.{connected_open, ended, false, file_asked, file_of_open, finding, granted_form_of, has_key}
-use Rattle.lease_laws.proofs.Words.{has_lease, if◌then◌else◌, inl, inr, is_behind, is_breaking, is_left_open, is_ready}
-use Rattle.lease_laws.proofs.Words.{is_state_within, judged, key_of, lease_broken, lease_lowered, must_wait, needs_acknowledgment}
-use Rattle.lease_laws.proofs.Words.{not, opens_dropped, receive, refl, refusal_of, refused, replied, subst, suc, sym, tried}
-use Rattle.lease_laws.proofs.Words.{tried_for, true, true≢false, want_met, wants_met, with_opens, zero}
+use Rattle.lease_laws.proofs.Words.{◌++◌, ◌∙◌, ◌∷◌, ◌≡◌, Among, Err, FileRequest, Finding, Key, List, Ok, Open}
+use Rattle.lease_laws.proofs.Words.{Option, Out, Outcome, Progress, Reply, Server, State, Status, Tried}
+use Rattle.lease_laws.proofs.Words.{Want, ℕ, ⊎_elim, [], acknowledged, after_breaks, after_finding, all_passes}
+use Rattle.lease_laws.proofs.Words.{ap, arith, arrived_on, begun, concluded}
+use Rattle.lease_laws.proofs.Words.{ended, false, file_asked, finding, has_key}
+use Rattle.lease_laws.proofs.Words.{inl, inr, is_behind, is_left_open, is_ready}
+use Rattle.lease_laws.proofs.Words.{lease_broken, must_wait}
+use Rattle.lease_laws.proofs.Words.{not, opens_dropped, refl, refusal_of, replied, subst, suc, sym, tried}
+use Rattle.lease_laws.proofs.Words.{LeaseOf, file_request_arrived, tried_for, true, want_met, wants_met}
+use Rattle.lease_laws.proofs.Words.{zero}
 use Rattle.lease_laws.proofs.server.Lists.{if_cases, either, and_parts, not_parts, among_filter, among_filtered}
 use Rattle.lease_laws.proofs.server.Met.{lease_broken-opens}
 use Rattle.lease_laws.proofs.server.cases.Calls.{judges, receives}

@@ -1,15 +1,15 @@
 -- What passes over held requests change is the doing of these requests.
-use Rattle.lease_laws.proofs.Words.{◌++◌, ◌+◌, ◌==◌, ◌∙◌, ◌∷◌, ◌≡◌, Access, Among, Bool, FileRequest, Held, Lease, LeaseOf, List}
-use Rattle.lease_laws.proofs.Words.{None, Open, Option, Outcome, Pass, Progress, Server, Share, Some, ℕ, ⊎_elim, [], after_try}
-use Rattle.lease_laws.proofs.Words.{all_passes, answered, ap, append_assoc, arith, changed, closed, concluded, connected_again}
+use Rattle.lease_laws.proofs.Words.{◌++◌, ◌==◌, ◌∙◌, ◌∷◌, ◌≡◌, Access, Among, Bool, FileRequest, Held, Lease, LeaseOf, List}
+use Rattle.lease_laws.proofs.Words.{None, Open, Option, Outcome, Pass, Progress, Server, Share, Some, ℕ, ⊎_elim, []}
+use Rattle.lease_laws.proofs.Words.{answered, ap, append_assoc, arith, changed, closed, concluded, connected_again}
 use Rattle.lease_laws.proofs.Words.{connected_open, created, eq-eqb, eqb-true, false, granted, granted_with, held_left, inl, inr}
-use Rattle.lease_laws.proofs.Words.{is_behind, last_file_id, lease_after, lease_put, left_waiting, length, map, not, numbers_to}
-use Rattle.lease_laws.proofs.Words.{on_open, one_pass, opens_dropped, pass_answered, pass_over, passes, passes_for, passes_over}
-use Rattle.lease_laws.proofs.Words.{put, read_done, reconnected, refl, refused, replied, subst, suc, sym, tried, tried_again}
-use Rattle.lease_laws.proofs.Words.{true, with_opens, zero}
+use Rattle.lease_laws.proofs.Words.{last_file_id, lease_after, lease_put, left_waiting, map, not}
+use Rattle.lease_laws.proofs.Words.{on_open, pass_answered}
+use Rattle.lease_laws.proofs.Words.{put, read_done, refl, replied, subst, sym, tried, tried_again}
 use Rattle.lease_laws.proofs.client.Thin.{put_same, put_other}
 use Rattle.lease_laws.proofs.server.Held.{concluded-held, tried_for-held}
 use Rattle.lease_laws.proofs.server.Lists.{if_cases, either, clash, among_append, among_before, among_behind, among_filtered}
+use Rattle.lease_laws.proofs.server.cases.Passes.{HasPasses, any_passes, any_try_again}
 use Rattle.lease_state.specs.Content.{patch as patched}
 use Rattle.refusal_laws.proofs.Refusing.{tried_alone}
 use Rattle.refusal_laws.specs.Refusals.{IsSameOpen, IsTakenByHeld, IsLeftToHeld, PassesAreOfHeld}
@@ -233,66 +233,40 @@ answered_pass requests start file one waiting pass progress outcome same left p 
           (inside one (among_behind one pass.passed (one ∷ waiting) (inl refl))) refl)));
     }
 
-after_pass_try : (requests : ℕ → List Held) (start : Server) (file : ℕ) (one : Held) (waiting : List Held) (pass : Pass)
-    (progress : Progress) (outcome : Outcome) → progress.server.held ≡ pass.progress.server.held
-    → IsLeftToHeld requests pass.progress.server progress.server → IsPassing requests start file (one ∷ waiting) pass
-    → IsPassing requests start file waiting (after_try file one waiting pass progress outcome)
-after_pass_try requests start file one waiting pass progress Outcome.Waits same left p =
-    passed_over requests start file one waiting pass progress same left p
-after_pass_try requests start file one waiting pass progress outcome same left p =
-    answered_pass requests start file one waiting pass progress outcome same left p
-
 tried_pass : (requests : ℕ → List Held) (start : Server) (file : ℕ) (one : Held) (waiting : List Held) (pass : Pass)
     → IsPassing requests start file (one ∷ waiting) pass
     → IsPassing requests start file waiting (tried_again file one waiting pass)
-unfolding tried_again
 tried_pass requests start file one waiting pass p =
     let done = tried one.client one.request pass.progress in
     let there = subst (λ l. Among one l) (sym p.is_held) (among_behind one pass.passed (one ∷ waiting) (inl refl)) in
-    if_cases (IsPassing requests start file waiting) (is_behind one.client pass.passed) (left_waiting one pass pass.progress)
-    (after_try file one waiting pass done.progress done.outcome)
-    (λ behind. passed_over requests start file one waiting pass pass.progress refl (same_left requests pass.progress.server) p)
-    (λ first. after_pass_try requests start file one waiting pass done.progress done.outcome
-    (tried_for-held 3 one.client one.request pass.progress)
-    (tried_left requests pass.progress file one (record { was = p.were file one there; still = there })) p)
-
-over_pass : (requests : ℕ → List Held) (start : Server) (file : ℕ) (waiting : List Held) (pass : Pass)
-    → IsPassing requests start file waiting pass → IsPassing requests start file [] (pass_over file waiting pass)
-unfolding pass_over
-over_pass requests start file [] pass p = p
-over_pass requests start file (one ∷ waiting) pass p =
-    over_pass requests start file waiting (tried_again file one waiting pass) (tried_pass requests start file one waiting pass p)
+    let same = tried_for-held 3 one.client one.request pass.progress in
+    let left = tried_left requests pass.progress file one (record { was = p.were file one there; still = there }) in
+    any_try_again file one waiting pass (IsPassing requests start file waiting) (record {
+      behind = λ behind.
+          passed_over requests start file one waiting pass pass.progress refl (same_left requests pass.progress.server) p;
+      waits = λ first waits. passed_over requests start file one waiting pass done.progress same left p;
+      answers = λ first ends. answered_pass requests start file one waiting pass done.progress done.outcome same left p;
+    })
 
 -- passes so far
 pub record ArePassed (requests : ℕ → List Held) (start : Server) (progress : Progress) : Type 0 where
   pub were : WereHeld requests progress
   pub left : IsLeftToHeld requests start progress.server
 
-one_passed : (requests : ℕ → List Held) (start : Server) (file : ℕ) (progress : Progress)
-    → ArePassed requests start progress → ArePassed requests start (one_pass file progress).progress
-one_passed requests start file progress a =
-    let p = over_pass requests start file (progress.server.held file)
-    (record { passed = []; progress = progress; has_answered = false })
-    (record { is_held = refl; were = a.were; left = a.left }) in record { were = p.were; left = p.left }
-
-passes_passed : (requests : ℕ → List Held) (start : Server) (count file : ℕ) (progress : Progress)
-    → ArePassed requests start progress → ArePassed requests start (passes_for count file progress)
-unfolding passes_for
-passes_passed requests start zero file progress a = a
-passes_passed requests start (suc count) file progress a =
-    let pass = one_pass file progress in
-    let next = one_passed requests start file progress a in
-    if_cases (ArePassed requests start) pass.has_answered (passes_for count file pass.progress) pass.progress
-    (λ more. passes_passed requests start count file pass.progress next) (λ done. next)
-
-files_passed : (requests : ℕ → List Held) (start : Server) (files : List ℕ) (progress : Progress)
-    → ArePassed requests start progress → ArePassed requests start (passes_over files progress)
-unfolding passes_over
-files_passed requests start [] progress a = a
-files_passed requests start (file ∷ files) progress a = files_passed requests start files (passes file progress)
-    (passes_passed requests start (length (progress.server.held file) + 1) file progress a)
+passes_passed : (requests : ℕ → List Held) (start : Server) → HasPasses
+    (λ file from waiting pass. ArePassed requests start from → IsPassing requests start file waiting pass)
+    (λ count file from after. ArePassed requests start from → ArePassed requests start after)
+    (λ files from after. ArePassed requests start from → ArePassed requests start after)
+passes_passed requests start = record {
+  begins = λ file from a. record { is_held = refl; were = a.were; left = a.left };
+  goes = λ file from one waiting pass p a. tried_pass requests start file one waiting pass (p a);
+  out = λ file from a. a;
+  again = λ count file from after pass p answered rest a. let q = p a in rest (record { were = q.were; left = q.left });
+  last = λ count file from pass p none a. let q = p a in record { were = q.were; left = q.left };
+  none = λ from a. a;
+  more = λ file files from next after first rest a. rest (first a);
+}
 
 pub passes_are_of_held : PassesAreOfHeld
-unfolding all_passes
-passes_are_of_held progress = (files_passed progress.server.held progress.server (numbers_to progress.server.files) progress
+passes_are_of_held progress = (any_passes _ _ _ (passes_passed progress.server.held progress.server) progress
     (record { were = λ file one there. there; left = same_left progress.server.held progress.server })).left

@@ -8,6 +8,8 @@ use Rattle.std.proofs.lemmas.List.{drop_all}
 use Rattle.std.proofs.Math.Seq.{take-suc, drop-cons}
 use Rattle.std.specs.List.{remove, slice_get}
 use Rattle.lease_laws.proofs.server.Held.{tried_for-held, concluded-held, held_left-here, one_pass-fewer}
+use Rattle.lease_laws.proofs.server.cases.Passes.{file_by_file, goes_on, is_over, is_passed_over, is_tried, no_file_left}
+use Rattle.lease_laws.proofs.server.cases.Passes.{over_all, passes_on, passes_stop}
 use Rattle.share_server.proofs.Breaking.{silent}
 use Rattle.share_server.specs.Kept.{CanBeAnswered}
 use Rattle.share_server.specs.Outs.{progress_of}
@@ -65,9 +67,8 @@ next_step file place has progress one =
 one_on : (file place : ℕ) (has : Bool) (before : Progress) (one : Held)
     → place < length (before.server.held file) → one ≡ get_or (before.server.held file) place one → pass_at file place has before
     ≡ pass_over file (drop (place + 1) (before.server.held file)) (next_step file place has before one)
-unfolding pass_over
 one_on file place has before one inside is = ap (λ waiting. pass_over file waiting (so_far file place has before))
-    (cells (before.server.held file) place one inside is)
+    (cells (before.server.held file) place one inside is) ∙ goes_on file one _ (so_far file place has before)
 
 left_here : (file place : ℕ) (has : Bool) (before after : Progress) (one : Held)
     → place < length (before.server.held file) → one ≡ get_or (before.server.held file) place one
@@ -85,16 +86,17 @@ pub behind_here : (file place : ℕ) (has : Bool) (before : Progress) (one : Hel
     → place < length (before.server.held file) → one ≡ get_or (before.server.held file) place one
     → is_behind one.client (take place (before.server.held file)) ≡ true
     → pass_at file (place + 1) has before ≡ pass_at file place has before
-unfolding tried_again
 behind_here file place has before one inside is behind =
-    left_here file place has before before one inside is refl (rw behind refl)
+    left_here file place has before before one inside is refl (is_passed_over file one _ (so_far file place has before) behind)
 
 tried_then : (file place : ℕ) (has : Bool) (before after : Progress) (one : Held) (outcome : Outcome)
     → is_behind one.client (take place (before.server.held file)) ≡ false
     → ended after outcome ≡ tried one.client one.request before → next_step file place has before one
     ≡ after_try file one (drop (place + 1) (before.server.held file)) (so_far file place has before) after outcome
-unfolding tried_again
-tried_then file place has before after one outcome first end = grind arith
+tried_then file place has before after one outcome first end =
+    let pass = so_far file place has before in
+    is_tried file one _ pass first
+    ∙ ap (λ (t : Tried). after_try file one (drop (place + 1) (before.server.held file)) pass t.progress t.outcome) (sym end)
 
 pub same_held : (file client : ℕ) (request : FileRequest) (before after : Progress) (outcome : Outcome)
     → ended after outcome ≡ tried client request before → after.server.held file ≡ before.server.held file
@@ -203,11 +205,11 @@ pub record IsPassed (now : Progress) (has : Bool) (whole : Pass) : Type 0 where
 
 pub pass_done : (file place : ℕ) (has : Bool) (now : Progress) (whole : Pass)
     → length (now.server.held file) ≤ place → pass_at file place has now ≡ whole → IsPassed now has whole
-unfolding pass_over
 pass_done file place has now whole all is =
     let none = drop_all place (now.server.held file) all in
     let end : so_far file place has now ≡ whole =
-    sym (ap (λ waiting. pass_over file waiting (so_far file place has now)) none) ∙ is in
+    sym (is_over file (so_far file place has now))
+    ∙ sym (ap (λ waiting. pass_over file waiting (so_far file place has now)) none) ∙ is in
     record {
       progress = sym (ap (λ (p : Pass). p.progress) end);
       has_answered = sym (ap (λ (p : Pass). p.has_answered) end);
@@ -217,18 +219,17 @@ pass_done file place has now whole all is =
 
 pub another_pass : PassesAreEnough → (file : ℕ) (progress : Progress) → (one_pass file progress).has_answered ≡ true
     → passes file (one_pass file progress).progress ≡ passes file progress
-unfolding passes_for
 another_pass enough file progress has =
     let less = one_pass-fewer file progress has in
     let e : length (progress.server.held file) + 1 ≡ suc (length (progress.server.held file)) = omega arith in
     sym (enough (length (progress.server.held file)) file (one_pass file progress).progress less)
-    ∙ (ap (λ b. if b then passes_for (length (progress.server.held file)) file (one_pass file progress).progress
-    else (one_pass file progress).progress) (sym has) ∙ ap (λ n. passes_for n file progress) (sym e))
+    ∙ (sym (passes_on (length (progress.server.held file)) file progress has) ∙ ap (λ n. passes_for n file progress) (sym e))
 
 pub last_pass : (file : ℕ) (progress : Progress) → (one_pass file progress).has_answered ≡ false
     → (one_pass file progress).progress ≡ passes file progress
-unfolding passes_for
-last_pass file progress has = grind arith
+last_pass file progress has =
+    let e : length (progress.server.held file) + 1 ≡ suc (length (progress.server.held file)) = omega arith in
+    sym (passes_stop (length (progress.server.held file)) file progress has) ∙ ap (λ n. passes_for n file progress) (sym e)
 
 -- ---- files in the order of their numbers
 
@@ -249,22 +250,23 @@ all_numbers (suc n) =
     ap (λ xs. xs ++ suc n ∷ []) (all_numbers n) ∙ (ap (λ m. numbers_behind 0 n ++ m ∷ []) e ∙ one_behind 0 n)
 
 pub first_file : (progress : Progress) → passes_over (numbers_behind 0 (progress.server.files - 0)) progress ≡ all_passes progress
-unfolding all_passes
 first_file progress =
     let e : progress.server.files - 0 ≡ progress.server.files = omega arith in
     ap (λ n. passes_over (numbers_behind 0 n) progress) e
-    ∙ ap (λ files. passes_over files progress) (sym (all_numbers progress.server.files))
+    ∙ ap (λ files. passes_over files progress) (sym (all_numbers progress.server.files)) ∙ sym (over_all progress)
 
 pub next_file : (i end : ℕ) (progress after whole : Progress) → i < end → after ≡ passes (i + 1) progress
     → passes_over (numbers_behind i (end - i)) progress ≡ whole
     → passes_over (numbers_behind (i + 1) (end - (i + 1))) after ≡ whole
-unfolding passes_over numbers_behind
+unfolding numbers_behind
 next_file i end progress after whole less is so_on =
     let e : end - i ≡ suc (end - (i + 1)) = omega arith in
     ap (passes_over (numbers_behind (i + 1) (end - (i + 1)))) is
-    ∙ (ap (λ n. passes_over (numbers_behind i n) progress) (sym e) ∙ so_on)
+    ∙ sym (file_by_file (i + 1) (numbers_behind (i + 1) (end - (i + 1))) progress) ∙ (ap (λ n. passes_over (numbers_behind i n) progress) (sym e) ∙ so_on)
 
 pub no_more_files : (i end : ℕ) (progress whole : Progress) → end ≤ i
     → passes_over (numbers_behind i (end - i)) progress ≡ whole → progress ≡ whole
-unfolding passes_over numbers_behind
-no_more_files i end progress whole over is = grind arith
+unfolding numbers_behind
+no_more_files i end progress whole over is =
+    let e : end - i ≡ 0 = omega arith in
+    sym (no_file_left progress) ∙ ap (λ n. passes_over (numbers_behind i n) progress) (sym e) ∙ is

@@ -1,13 +1,13 @@
 -- The passes end: each but the last answers a held request, so that one more than are held is enough.
 use Rattle.lease_laws.proofs.Words.{◌++◌, ◌+◌, ◌<◌, ◌∙◌, ◌∷◌, ◌≡◌, ◌≤◌, Bool, Decides-eqb, FileRequest, Held}
-use Rattle.lease_laws.proofs.Words.{List, Open, Outcome, Pass, Progress, Tried, ℕ, [], after_try, ap}
-use Rattle.lease_laws.proofs.Words.{append-nil, append_assoc, arith, concluded, false}
-use Rattle.lease_laws.proofs.Words.{held_left, is_behind, is_left_open, left_waiting, length}
-use Rattle.lease_laws.proofs.Words.{length-append, one_pass, opens_dropped, pass_answered, pass_over, put, refl, sym}
+use Rattle.lease_laws.proofs.Words.{List, Open, Outcome, Pass, Progress, Tried, ℕ, [], ap}
+use Rattle.lease_laws.proofs.Words.{append-nil, append_assoc, arith, concluded}
+use Rattle.lease_laws.proofs.Words.{held_left, is_left_open, left_waiting, length}
+use Rattle.lease_laws.proofs.Words.{length-append, one_pass, opens_dropped, pass_answered, put, refl, sym}
 use Rattle.lease_laws.proofs.Words.{tried, tried_again, tried_for, true, true≢false}
-use Rattle.lease_laws.proofs.server.Lists.{if_cases}
 use Rattle.lease_laws.proofs.server.cases.Tries.{HasTries, any_try}
 use Rattle.lease_laws.proofs.server.cases.Ends.{HasEnds, any_end}
+use Rattle.lease_laws.proofs.server.cases.Passes.{any_pass, any_try_again, pass_begun}
 
 -- the call has gone on, and what is held is the same
 abbrev pub SameHeld : Progress → Progress → Type 0
@@ -94,48 +94,35 @@ pass_answered-in file count one waiting pass done i =
       is_fewer = λ e. omega (arith, shorter, i.is_counted);
     }
 
--- what follows a try in a pass keeps count of the pass
-after_try-in : (file count : ℕ) (one : Held) (waiting : List Held) (pass : Pass) (progress : Progress) (outcome : Outcome)
-    → InPass file count (one ∷ waiting) pass → SameHeld pass.progress progress
-    → InPass file count waiting (after_try file one waiting pass progress outcome)
-after_try-in file count one waiting pass progress Outcome.Waits i same = left_waiting-in file count one waiting
-    pass progress i same
-after_try-in file count one waiting pass progress (Outcome.Refused status) i same = pass_answered-in file count one waiting pass
-    (record { progress = progress; outcome = Outcome.Refused status }) i
-after_try-in file count one waiting pass progress Outcome.Ready i same = pass_answered-in file count one waiting pass
-    (record { progress = progress; outcome = Outcome.Ready }) i
-
 -- a held request tried again keeps count of the pass
 tried_again-in : (file count : ℕ) (one : Held) (waiting : List Held) (pass : Pass)
     → InPass file count (one ∷ waiting) pass → InPass file count waiting (tried_again file one waiting pass)
-unfolding tried_again
-tried_again-in file count one waiting pass i =
-    if_cases (InPass file count waiting) (is_behind one.client pass.passed) (left_waiting one pass pass.progress)
-    (after_try file one waiting pass (tried one.client one.request pass.progress).progress
-    (tried one.client one.request pass.progress).outcome)
-    (λ e. left_waiting-in file count one waiting pass pass.progress i refl)
-    (λ e. after_try-in file count one waiting pass (tried one.client one.request pass.progress).progress
-    (tried one.client one.request pass.progress).outcome i (tried_for-held 3 one.client one.request pass.progress))
+tried_again-in file count one waiting pass i = any_try_again file one waiting pass (InPass file count waiting) (record {
+  behind = λ behind. left_waiting-in file count one waiting pass pass.progress i refl;
+  waits = λ first waits. left_waiting-in file count one waiting pass (tried one.client one.request pass.progress).progress i
+      (tried_for-held 3 one.client one.request pass.progress);
+  answers = λ first ends. pass_answered-in file count one waiting pass (tried one.client one.request pass.progress) i;
+})
 
--- a pass keeps count of the pass
-pass_over-in : (file count : ℕ) (waiting : List Held) (pass : Pass) → InPass file count waiting pass
-    → InPass file count [] (pass_over file waiting pass)
-unfolding pass_over
-pass_over-in file count [] pass i = i
-pass_over-in file count (one ∷ waiting) pass i = pass_over-in file count waiting
-    (tried_again file one waiting pass) (tried_again-in file count one waiting pass i)
+-- a pass begins
+pub begun-in : (file : ℕ) (progress : Progress)
+    → InPass file (length (progress.server.held file)) (progress.server.held file) (pass_begun progress)
+begun-in file progress = record {
+  is_held = refl;
+  is_counted = all_counted (progress.server.held file);
+  is_fewer = λ never. absurd (true≢false (sym never));
+}
 
 -- a pass that answers a request leaves fewer
+pub answered-fewer : (file : ℕ) (progress : Progress) (pass : Pass) → InPass file (length (progress.server.held file)) [] pass
+    → pass.has_answered ≡ true → length (pass.progress.server.held file) < length (progress.server.held file)
+answered-fewer file progress pass i e =
+    nothing_more (length pass.passed) (length (progress.server.held file)) _ (i.is_fewer e)
+    (ap length (i.is_held ∙ append-nil pass.passed))
+
 pub one_pass-fewer : (file : ℕ) (progress : Progress) → (one_pass file progress).has_answered ≡ true
     → length ((one_pass file progress).progress.server.held file) < length (progress.server.held file)
-one_pass-fewer file progress e =
-    let i = pass_over-in file (length (progress.server.held file)) (progress.server.held file)
-    (record { passed = []; progress = progress; has_answered = false }) (record {
-      is_held = refl;
-      is_counted = all_counted (progress.server.held file);
-      is_fewer = λ never. absurd (true≢false (sym never));
-    }) in
-    let less = i.is_fewer e in
-    let same : length ((one_pass file progress).progress.server.held file) ≡ length
-    (one_pass file progress).passed = ap length (i.is_held ∙ append-nil (one_pass file progress).passed) in
-    nothing_more (length (one_pass file progress).passed) (length (progress.server.held file)) _ less same
+one_pass-fewer file progress = answered-fewer file progress (one_pass file progress)
+    (any_pass file (InPass file (length (progress.server.held file)))
+    (tried_again-in file (length (progress.server.held file))) (progress.server.held file) (pass_begun progress)
+    (begun-in file progress))

@@ -1,18 +1,19 @@
 -- Every call gives out fair outs.
-use Rattle.lease_laws.proofs.Words.{◌++◌, ◌+◌, ◌∷◌, ◌≡◌, Call, Err, FileRequest, GoOn, Held, IsBreak, IsNoBreak, Key, List}
+use Rattle.lease_laws.proofs.Words.{◌++◌, ◌≡◌, Call, Err, FileRequest, GoOn, Held, IsBreak, IsNoBreak, Key, List}
 use Rattle.lease_laws.proofs.Words.{Ok, Out, Outcome, Pass, Progress, Result, Server, Status, Tried, ℕ, [], acknowledged}
-use Rattle.lease_laws.proofs.Words.{after_first_try, after_try, all_passes, append-nil, arrived_on, begun, called}
-use Rattle.lease_laws.proofs.Words.{client_forgotten, concluded, false, file_asked, file_request_arrived}
+use Rattle.lease_laws.proofs.Words.{after_first_try, all_passes, append-nil, arrived_on, begun, called}
+use Rattle.lease_laws.proofs.Words.{client_forgotten, concluded, file_asked, file_request_arrived}
 use Rattle.lease_laws.proofs.Words.{has_key, held_left, held_of, is_behind, is_left_behind, is_lost, joined}
-use Rattle.lease_laws.proofs.Words.{key_expired, left_waiting, length, numbers_to, one_pass, opens_disconnected}
-use Rattle.lease_laws.proofs.Words.{opens_dropped, pass_answered, pass_over, passes, passes_for, passes_over, refused}
-use Rattle.lease_laws.proofs.Words.{request_held, subst, suc, sym, tried, tried_again, zero}
+use Rattle.lease_laws.proofs.Words.{key_expired, opens_disconnected}
+use Rattle.lease_laws.proofs.Words.{opens_dropped, pass_answered, refused}
+use Rattle.lease_laws.proofs.Words.{request_held, subst, sym, tried, tried_again}
 use Rattle.lease_laws.proofs.server.Lists.{if_cases}
 use Rattle.lease_laws.proofs.server.OutLists.{AreFair, IsGoodBreak, breaks_fair, answers_fair, answers_go_on, none_fair}
 use Rattle.lease_laws.proofs.server.OutLists.{go_on-weaker}
 use Rattle.lease_laws.proofs.server.OutSteps.{opens_dropped-outs, tried_for-broken, concluded-answered, acknowledged-answered}
 use Rattle.lease_laws.proofs.server.OutSteps.{refused-answered}
 use Rattle.lease_laws.proofs.server.cases.Calls.{any_call, lease_lost, links_lost}
+use Rattle.lease_laws.proofs.server.cases.Passes.{any_try_again, passes_keep}
 
 -- for calls under way
 abbrev pub Fair : Progress → Type 0
@@ -66,56 +67,21 @@ pass_answered-fair file one waiting pass done fair = concluded-fair one.client o
     (silent_fair done.progress.outs (held_left file (pass.passed ++ waiting) done.progress).outs
     (held_left-outs file (pass.passed ++ waiting) done.progress) fair)
 
--- what follows a try in a pass keeps the outs fair
-after_try-fair : (file : ℕ) (one : Held) (waiting : List Held) (pass : Pass) (progress : Progress)
-    (outcome : Outcome) → Fair progress → Fair (after_try file one waiting pass progress outcome).progress
-after_try-fair file one waiting pass progress Outcome.Waits fair = fair
-after_try-fair file one waiting pass progress (Outcome.Refused status) fair = pass_answered-fair file one waiting pass
-    (record { progress = progress; outcome = Outcome.Refused status }) fair
-after_try-fair file one waiting pass progress Outcome.Ready fair = pass_answered-fair file one waiting pass
-    (record { progress = progress; outcome = Outcome.Ready }) fair
-
 -- a held request tried again keeps the outs fair
 tried_again-fair : (file : ℕ) (one : Held) (waiting : List Held) (pass : Pass) → Fair pass.progress
     → Fair (tried_again file one waiting pass).progress
-unfolding tried_again
 tried_again-fair file one waiting pass fair =
-    if_cases (λ p. Fair p.progress) (is_behind one.client pass.passed) (left_waiting one pass pass.progress)
-    (after_try file one waiting pass (tried one.client one.request pass.progress).progress
-    (tried one.client one.request pass.progress).outcome)
-    (λ e. fair)
-    (λ e. after_try-fair file one waiting pass (tried one.client one.request pass.progress).progress
-    (tried one.client one.request pass.progress).outcome (tried-fair one.client one.request pass.progress fair))
+    let done = tried-fair one.client one.request pass.progress fair in
+    any_try_again file one waiting pass (λ after. Fair after.progress) (record {
+      behind = λ behind. fair;
+      waits = λ first waits. done;
+      answers = λ first ends.
+          pass_answered-fair file one waiting pass (tried one.client one.request pass.progress) done;
+    })
 
--- a pass keeps the outs fair
-pass_over-fair : (file : ℕ) (waiting : List Held) (pass : Pass) → Fair pass.progress → Fair (pass_over file waiting pass).progress
-unfolding pass_over
-pass_over-fair file [] pass fair = fair
-pass_over-fair file (one ∷ waiting) pass fair = pass_over-fair file waiting
-    (tried_again file one waiting pass) (tried_again-fair file one waiting pass fair)
-
--- passes over a file keeps the outs fair
-passes_for-fair : (count file : ℕ) (progress : Progress) → Fair progress → Fair (passes_for count file progress)
-unfolding passes_for
-passes_for-fair zero file progress fair = fair
-passes_for-fair (suc count) file progress fair =
-    let next = pass_over-fair file (progress.server.held file)
-    (record { passed = []; progress = progress; has_answered = false }) fair in
-    if_cases Fair (one_pass file progress).has_answered
-    (passes_for count file (one_pass file progress).progress) (one_pass file progress).progress
-    (λ e. passes_for-fair count file (one_pass file progress).progress next) (λ e. next)
-
--- passes over files keeps the outs fair
-passes_over-fair : (files : List ℕ) (progress : Progress) → Fair progress → Fair (passes_over files progress)
-unfolding passes_over
-passes_over-fair [] progress fair = fair
-passes_over-fair (file ∷ files) progress fair = passes_over-fair files (passes file progress)
-    (passes_for-fair (length (progress.server.held file) + 1) file progress fair)
-
--- passes over all files keeps the outs fair
+-- passes keep the outs fair
 all_passes-fair : (progress : Progress) → Fair progress → Fair (all_passes progress)
-unfolding all_passes
-all_passes-fair progress fair = passes_over-fair (numbers_to progress.server.files) progress fair
+all_passes-fair = passes_keep Fair tried_again-fair
 
 -- what follows a first try keeps the outs fair
 after_first_try-fair : (client file : ℕ) (request : FileRequest) (progress : Progress) (outcome : Outcome) → Fair progress

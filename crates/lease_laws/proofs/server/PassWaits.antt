@@ -1,13 +1,13 @@
 -- After the passes each first held request has to wait.
-use Rattle.lease_laws.proofs.Words.{◌++◌, ◌+◌, ◌<◌, ◌==◌, ◌||◌, ◌∙◌, ◌∷◌, ◌≡◌, ◌≢◌, ◌≤◌, ◌⊎◌, AllWait, Among, Bool, Decides-eqb}
+use Rattle.lease_laws.proofs.Words.{◌++◌, ◌<◌, ◌==◌, ◌||◌, ◌∙◌, ◌∷◌, ◌≡◌, ◌≢◌, ◌≤◌, ◌⊎◌, AllWait, Among, Bool, Decides-eqb}
 use Rattle.lease_laws.proofs.Words.{HasToWait, Held, List, None, Outcome, Pass, Progress, Server, Some, T, Tried, ℕ, ⊎_elim, []}
-use Rattle.lease_laws.proofs.Words.{after_try, all_passes, ap, append-nil, arith, concluded, cond, false, find, has_file}
+use Rattle.lease_laws.proofs.Words.{all_passes, ap, append-nil, arith, concluded, cond, false, find, has_file}
 use Rattle.lease_laws.proofs.Words.{held_left, inl, inr, is_behind, leb→le, left_waiting, length, list_any, nat_le, numbers_to}
-use Rattle.lease_laws.proofs.Words.{one_pass, pass_answered, pass_over, passes, passes_for, passes_over, put, refl, subst, suc}
+use Rattle.lease_laws.proofs.Words.{pass_answered, put, refl, subst, suc}
 use Rattle.lease_laws.proofs.Words.{sym, tried, tried_again, true, true≢false, zero}
 use Rattle.lease_laws.proofs.server.FileReady.{ready-file}
 use Rattle.lease_laws.proofs.server.Goes.{file_frame, Goes, concluded-goes, goes-same}
-use Rattle.lease_laws.proofs.server.Held.{one_pass-fewer, SameHeld, InPass, left_waiting-in, pass_answered-in, concluded-held}
+use Rattle.lease_laws.proofs.server.Held.{answered-fewer, begun-in, SameHeld, InPass, left_waiting-in, pass_answered-in, concluded-held}
 use Rattle.lease_laws.proofs.server.Keeps.{Kept, Anywhere, Elsewhere, waits_keep, concluded-kept, keeps-same}
 use Rattle.lease_laws.proofs.server.Lists.{if_cases, either, clash, and_parts, among_append, among_before, among_behind, find_has}
 use Rattle.lease_laws.proofs.server.Orderly.{IsHeldWell, held_well, IsFine, IsTry, any_try, fine_try, fine_concluded}
@@ -15,6 +15,7 @@ use Rattle.lease_laws.proofs.server.Orderly.{orderly_goes, all_wait-keep, held_l
 use Rattle.lease_laws.proofs.server.Passes.{held_left-free}
 use Rattle.lease_laws.proofs.server.Progress.{held_left-sound}
 use Rattle.lease_laws.proofs.server.Ready.{ready-free}
+use Rattle.lease_laws.proofs.server.cases.Passes.{HasPasses, any_passes, any_try_again, pass_begun}
 
 -- to take a request off the held ones lets opens go on
 pub held_left-goes : (file : ℕ) (left : List Held) (progress : Progress) → Goes progress (held_left file left progress)
@@ -149,41 +150,20 @@ answered_waits start file count one waiting pass done p t =
           (ap (λ h. h other) t.held) (p.others other away all)));
     }
 
--- what follows a try in a pass leaves each first held request waiting
-after_try-waits : (start : Progress) (file count : ℕ) (one : Held) (waiting : List Held) (pass : Pass)
-    (progress : Progress) (outcome : Outcome) → PassWaits start file count (one ∷ waiting) pass
-    → IsTry one.client one.request pass.progress (record { progress = progress; outcome = outcome })
-    → PassWaits start file count waiting (after_try file one waiting pass progress outcome)
-after_try-waits start file count one waiting pass progress Outcome.Waits p t = kept_waits start file count one
-    waiting pass progress p
-    (fine_try one.client one.request pass.progress (record { progress = progress; outcome = Outcome.Waits })
-    p.fine t) t.held t.goes t.keeps (λ e. t.waits refl)
-after_try-waits start file count one waiting pass progress (Outcome.Refused status) p t = answered_waits start
-    file count one waiting pass (record { progress = progress; outcome = Outcome.Refused status }) p t
-after_try-waits start file count one waiting pass progress Outcome.Ready p t = answered_waits start file count one waiting pass
-    (record { progress = progress; outcome = Outcome.Ready }) p t
-
 -- a held request tried again leaves each first held request waiting
 pub tried_again-waits : (start : Progress) (file count : ℕ) (one : Held) (waiting : List Held) (pass : Pass)
     → PassWaits start file count (one ∷ waiting) pass → PassWaits start file count waiting (tried_again file one waiting pass)
-unfolding tried_again
 tried_again-waits start file count one waiting pass p =
-    if_cases (PassWaits start file count waiting) (is_behind one.client pass.passed) (left_waiting one pass pass.progress)
-    (after_try file one waiting pass (tried one.client one.request pass.progress).progress
-    (tried one.client one.request pass.progress).outcome)
-    (λ behind. kept_waits start file count one waiting pass pass.progress p p.fine refl
-    (goes-same pass.progress.server) (keeps-same Anywhere pass.progress.server)
-    (λ first. clash (is_behind one.client pass.passed) behind first))
-    (λ e. after_try-waits start file count one waiting pass (tried one.client one.request pass.progress).progress
-    (tried one.client one.request pass.progress).outcome p (any_try one.client one.request pass.progress p.fine.sound))
-
--- a pass leaves each first held request waiting
-pass_over-waits : (start : Progress) (file count : ℕ) (waiting : List Held) (pass : Pass)
-    → PassWaits start file count waiting pass → PassWaits start file count [] (pass_over file waiting pass)
-unfolding pass_over
-pass_over-waits start file count [] pass p = p
-pass_over-waits start file count (one ∷ waiting) pass p = pass_over-waits start file count waiting
-    (tried_again file one waiting pass) (tried_again-waits start file count one waiting pass p)
+    let done = tried one.client one.request pass.progress in
+    let t = any_try one.client one.request pass.progress p.fine.sound in
+    any_try_again file one waiting pass (PassWaits start file count waiting) (record {
+      behind = λ behind. kept_waits start file count one waiting pass pass.progress p p.fine refl
+          (goes-same pass.progress.server) (keeps-same Anywhere pass.progress.server)
+          (λ first. clash (is_behind one.client pass.passed) behind first);
+      waits = λ first waits. kept_waits start file count one waiting pass done.progress p
+          (fine_try one.client one.request pass.progress done p.fine t) t.held t.goes t.keeps (λ e. t.waits waits);
+      answers = λ first ends. answered_waits start file count one waiting pass done p t;
+    })
 
 -- What passes over a file come to.
 pub record FileWaits (start : Progress) (file : ℕ) (after : Progress) : Type 0 where
@@ -197,43 +177,37 @@ below_one : (file n : ℕ) → file ≤ suc n → file ≢ suc n → file ≤ n
 below_one file n high away = omega (arith, high, away)
 
 -- a pass begins
-pub pass_begun : (file : ℕ) (progress : Progress) → IsFine progress.server
-    → PassWaits progress file (length (progress.server.held file)) (progress.server.held file)
-    (record { passed = []; progress = progress; has_answered = false })
-pass_begun file progress f = grind arith
+pub begun-waits : (file : ℕ) (progress : Progress) → IsFine progress.server
+    → PassWaits progress file (length (progress.server.held file)) (progress.server.held file) (pass_begun progress)
+begun-waits file progress f = record {
+  fine = f;
+  files = refl;
+  in_pass = begun-in file progress;
+  kept_wait = λ none client one never. absurd (cc);
+  others = λ other away all. all;
+}
 
--- a pass over a file leaves each first held request waiting
-pub one_pass-waits : (file : ℕ) (progress : Progress) → IsFine progress.server
-    → PassWaits progress file (length (progress.server.held file)) [] (one_pass file progress)
-one_pass-waits file progress f = pass_over-waits progress file (length (progress.server.held file)) (progress.server.held file)
-    (record { passed = []; progress = progress; has_answered = false }) (pass_begun file progress f)
+-- passes over a file go on
+pub more_wait : (count file : ℕ) (start after : Progress) (pass : Pass)
+    → PassWaits start file (length (start.server.held file)) [] pass → FileWaits pass.progress file after
+    → FileWaits start file after
+more_wait count file start after pass p rest = record {
+  fine = rest.fine;
+  files = rest.files ∙ p.files;
+  here = rest.here;
+  others = λ other away all. rest.others other away (p.others other away all);
+}
 
--- passes over a file leaves each first held request waiting
-pub passes_for-waits : (count file : ℕ) (progress : Progress) → length (progress.server.held file) < count
-    → IsFine progress.server → FileWaits progress file (passes_for count file progress)
-unfolding passes_for
-passes_for-waits zero file progress less f = absurd (omega (arith, less))
-passes_for-waits (suc count) file progress less f =
-    let p = one_pass-waits file progress f in
-    let pass = one_pass file progress in
-    if_cases (FileWaits progress file) (one_pass file progress).has_answered
-    (passes_for count file (one_pass file progress).progress) (one_pass file progress).progress
-    (λ answered. let fewer = one_pass-fewer file progress answered in
-    let rest = passes_for-waits count file (one_pass file progress).progress (omega (arith, fewer, less)) p.fine in
-    record {
-      fine = rest.fine;
-      files = rest.files ∙ p.files;
-      here = rest.here;
-      others = λ other away all. rest.others other away (p.others other away all);
-    })
-    (λ none. record {
-      fine = p.fine;
-      files = p.files;
-      here = λ client one first. p.kept_wait none client one
-          (subst (λ list. find (λ other. other.client == client) list ≡ Some one)
-          (p.in_pass.is_held ∙ append-nil (one_pass file progress).passed) first);
-      others = p.others;
-    })
+-- the last pass answered none
+pub last_waits : (file : ℕ) (start : Progress) (pass : Pass) → PassWaits start file (length (start.server.held file)) [] pass
+    → pass.has_answered ≡ false → FileWaits start file pass.progress
+last_waits file start pass p none = record {
+  fine = p.fine;
+  files = p.files;
+  here = λ client one first. p.kept_wait none client one
+      (subst (λ list. find (λ other. other.client == client) list ≡ Some one) (p.in_pass.is_held ∙ append-nil pass.passed) first);
+  others = p.others;
+}
 
 -- what passes over files come to
 pub record FilesWait (start : Progress) (listed : List ℕ) (after : Progress) : Type 0 where
@@ -241,29 +215,38 @@ pub record FilesWait (start : Progress) (listed : List ℕ) (after : Progress) :
   pub files : after.server.files ≡ start.server.files
   pub wait : (file : ℕ) → Among file listed ⊎ AllWait start.server file → AllWait after.server file
 
--- passes over files leaves each first held request waiting
-passes_over-waits : (files : List ℕ) (progress : Progress) → IsFine progress.server
-    → FilesWait progress files (passes_over files progress)
-unfolding passes_over
-passes_over-waits [] progress f = record {
-  fine = f;
-  files = refl;
-  wait = λ file. ⊎_elim (λ never. absurd never) (λ all. all);
+-- first over one file, and then over others
+file_then_files : (file : ℕ) (files : List ℕ) (start next after : Progress) → FileWaits start file next
+    → FilesWait next files after → FilesWait start (file ∷ files) after
+file_then_files file files start next after first rest = record {
+  fine = rest.fine;
+  files = rest.files ∙ first.files;
+  wait = λ other known. either (other == file)
+      (λ e. rest.wait other (inr (subst (AllWait next.server) (sym ((Decides-eqb other file).0 e)) first.here)))
+      (λ e. let away : other ≢ file = λ same. clash (other == file) ((Decides-eqb other file).1 same) e in
+      ⊎_elim
+      (λ listed. ⊎_elim (λ same. absurd (away same)) (λ later. rest.wait other (inl later)) listed)
+      (λ all. rest.wait other (inr (first.others other away all))) known);
 }
-passes_over-waits (file ∷ files) progress f =
-    let first = passes_for-waits (length (progress.server.held file) + 1) file progress (omega arith) f in
-    let rest = passes_over-waits files (passes file progress) first.fine in
-    record {
-      fine = rest.fine;
-      files = rest.files ∙ first.files;
-      wait = λ other known. either (other == file)
-          (λ e. rest.wait other (inr (subst (AllWait (passes file progress).server)
-          (sym ((Decides-eqb other file).0 e)) first.here)))
-          (λ e. let away : other ≢ file = λ same. clash (other == file) ((Decides-eqb other file).1 same) e in
-          ⊎_elim
-          (λ listed. ⊎_elim (λ same. absurd (away same)) (λ later. rest.wait other (inl later)) listed)
-          (λ all. rest.wait other (inr (first.others other away all))) known);
-    }
+
+-- what passes come to
+pub passes-wait : HasPasses (λ file start waiting pass. IsFine start.server
+    → PassWaits start file (length (start.server.held file)) waiting pass)
+    (λ count file start after. length (start.server.held file) < count → IsFine start.server → FileWaits start file after)
+    (λ files start after. IsFine start.server → FilesWait start files after)
+passes-wait = record {
+  begins = begun-waits;
+  goes = λ file start one waiting pass p f.
+      tried_again-waits start file (length (start.server.held file)) one waiting pass (p f);
+  out = λ file start less f. absurd (omega (arith, less));
+  again = λ count file start after pass p answered rest less f.
+      let fewer = answered-fewer file start pass (p f).in_pass answered in
+      more_wait count file start after pass (p f) (rest (omega (arith, fewer, less)) (p f).fine);
+  last = λ count file start pass p none less f. last_waits file start pass (p f) none;
+  none = λ start f. record { fine = f; files = refl; wait = λ file. ⊎_elim (λ never. absurd never) (λ all. all) };
+  more = λ file files start next after first rest f.
+      let here = first (omega arith) f in file_then_files file files start next after here (rest here.fine);
+}
 
 -- a number from 1 to n is among them
 numbered_to : (n file : ℕ) → 1 ≤ file → file ≤ n → Among file (numbers_to n)
@@ -286,10 +269,9 @@ pub record EveryoneWaits (server : Server) : Type 0 where
 
 -- passes over all files leave each first held request waiting
 pub all_passes-wait : (progress : Progress) → IsFine progress.server → EveryoneWaits (all_passes progress).server
-unfolding all_passes
 all_passes-wait progress f =
-    let done = passes_over-waits (numbers_to progress.server.files) progress f in
-    let after = passes_over (numbers_to progress.server.files) progress in
+    let done = any_passes _ _ _ passes-wait progress f in
+    let after = all_passes progress in
     record {
       fine = done.fine;
       wait = λ file client one first.

@@ -1,14 +1,14 @@
 -- Passes and calls go by guarded small steps.
-use Rattle.lease_laws.proofs.Words.{◌+◌, ◌∙◌, ◌∷◌, ◌≡◌, Among, Call, Err, FileRequest, GoesBySteps, Held}
+use Rattle.lease_laws.proofs.Words.{◌∙◌, ◌∷◌, ◌≡◌, Among, Call, Err, FileRequest, GoesBySteps, Held}
 use Rattle.lease_laws.proofs.Words.{IsSound, List, MayEnd, MayRefuse, Ok, Open, Outcome, Pass, Progress, Request}
 use Rattle.lease_laws.proofs.Words.{Result, Server, SmallStep, Status, WaitsWell, ℕ, [], acknowledged, after_first_try}
-use Rattle.lease_laws.proofs.Words.{after_try, all_passes, ap, arith, arrived_on, begun, call_begun, called}
+use Rattle.lease_laws.proofs.Words.{all_passes, ap, arith, arrived_on, begun, call_begun, called}
 use Rattle.lease_laws.proofs.Words.{concluded, false, file_asked}
 use Rattle.lease_laws.proofs.Words.{file_request_arrived, held_of, inl, inr}
-use Rattle.lease_laws.proofs.Words.{is_behind, is_left_behind, joined, left_waiting}
-use Rattle.lease_laws.proofs.Words.{length, numbers_to, one_pass, opens_dropped, own_steps}
-use Rattle.lease_laws.proofs.Words.{pass_over, passes, passes_for, passes_over, refl, request_held, subst, suc}
-use Rattle.lease_laws.proofs.Words.{LeaseOf, Option, sym, tried, tried_again, true, zero}
+use Rattle.lease_laws.proofs.Words.{is_behind, is_left_behind, joined}
+use Rattle.lease_laws.proofs.Words.{length, opens_dropped, own_steps}
+use Rattle.lease_laws.proofs.Words.{refl, request_held, subst}
+use Rattle.lease_laws.proofs.Words.{LeaseOf, Option, pass_answered, sym, tried, tried_again, true, ◌<◌}
 use Rattle.lease_laws.proofs.server.Answers.{acknowledged-sound}
 use Rattle.lease_laws.proofs.server.Calls.{joined-sound}
 use Rattle.lease_laws.proofs.server.Arrivals.{arrived_on-fine, asked_well, acknowledged-held, fine_goes}
@@ -17,10 +17,12 @@ use Rattle.lease_laws.proofs.server.Held.{SameHeld}
 use Rattle.lease_laws.proofs.server.Keeps.{Keeps, Anywhere}
 use Rattle.lease_laws.proofs.server.Lists.{if_cases, among_behind}
 use Rattle.lease_laws.proofs.server.Orderly.{IsFine, IsTry, any_try, held_well}
-use Rattle.lease_laws.proofs.server.PassWaits.{PassWaits, pass_begun, one_pass-waits, tried_again-waits, passes_for-waits}
+use Rattle.lease_laws.proofs.server.PassWaits.{FileWaits, PassWaits, last_waits, more_wait, passes-wait}
 use Rattle.lease_laws.proofs.server.SmallSteps.{steps_none, step_one, steps_then, tried-steps, tried-guarded}
 use Rattle.lease_laws.proofs.server.WaitCalls.{joined-orderly, cut-fine, expired-fine, dropped-fine}
 use Rattle.lease_laws.proofs.server.cases.Calls.{IsIdle, any_call, lease_lost, links_lost}
+use Rattle.lease_laws.proofs.server.cases.Passes.{HasPasses, any_passes, any_try_again}
+use Rattle.lease_laws.proofs.server.Held.{answered-fewer}
 
 -- a held request's end is guarded
 abbrev MayEndAt : Progress → Held → Outcome → Type 0
@@ -28,77 +30,67 @@ MayEndAt progress one outcome = MayEnd progress.server one.client one.request ou
 
 -- ---- passes
 
--- what follows the try of a held request
-after_try-steps : (call : Call) (start : Progress) (file count : ℕ) (one : Held) (waiting : List Held) (pass : Pass)
-    (progress : Progress) (outcome : Outcome) → PassWaits start file count (one ∷ waiting) pass
-    → IsTry one.client one.request pass.progress (record { progress = progress; outcome = outcome })
-    → GoesBySteps call 0 pass.progress progress → ((outcome ≡ Outcome.Waits → ⊥) → MayEndAt progress one outcome)
-    → is_behind one.client pass.passed ≡ false
-    → GoesBySteps call 0 pass.progress (after_try file one waiting pass progress outcome).progress
-after_try-steps call start file count one waiting pass progress Outcome.Waits p t go may turn = go
-after_try-steps call start file count one waiting pass progress outcome p t go may turn =
-    steps_then call 0 0 pass.progress progress _ go
-    (step_one call (SmallStep.AnswerHeld file pass.passed one waiting outcome) progress
-    (ap (λ h. h file) t.held ∙ p.in_pass.is_held, may (λ never. absurd (cc))) turn tt)
+-- the try of a held request, and then its answer
+answered-steps : (call : Call) (start : Progress) (file count : ℕ) (one : Held) (waiting : List Held) (pass : Pass)
+    → PassWaits start file count (one ∷ waiting) pass → is_behind one.client pass.passed ≡ false
+    → ((tried one.client one.request pass.progress).outcome ≡ Outcome.Waits → ⊥)
+    → GoesBySteps call 0 pass.progress
+    (pass_answered file one waiting pass (tried one.client one.request pass.progress)).progress
+answered-steps call start file count one waiting pass p first ends =
+    let done = tried one.client one.request pass.progress in
+    let t = any_try one.client one.request pass.progress p.fine.sound in
+    let well = held_well pass.progress.server file one p.fine.orderly (subst (λ list. Among one list) (sym p.in_pass.is_held)
+    (among_behind one pass.passed (one ∷ waiting) (inl refl))) in
+    let may : MayEndAt done.progress one done.outcome =
+    tried-guarded one.client one.request pass.progress ends (t.goes.ups one.client ∙ well.up) in
+    steps_then call 0 0 pass.progress done.progress _ (tried-steps call one.client one.request pass.progress p.fine.sound)
+    (step_one call (SmallStep.AnswerHeld file pass.passed one waiting done.outcome) done.progress
+    (ap (λ h. h file) t.held ∙ p.in_pass.is_held, may) first tt)
 
 -- a held request tried again
 tried_again-steps : (call : Call) (start : Progress) (file count : ℕ) (one : Held) (waiting : List Held) (pass : Pass)
     → PassWaits start file count (one ∷ waiting) pass
     → GoesBySteps call 0 pass.progress (tried_again file one waiting pass).progress
-unfolding tried_again
 tried_again-steps call start file count one waiting pass p =
-    let done = tried one.client one.request pass.progress in
-    let t = any_try one.client one.request pass.progress p.fine.sound in
-    let well = held_well pass.progress.server file one p.fine.orderly (subst (λ list. Among one list) (sym p.in_pass.is_held)
-    (among_behind one pass.passed (one ∷ waiting) (inl refl))) in
-    if_cases (λ q. GoesBySteps call 0 pass.progress q.progress) (is_behind one.client pass.passed)
-    (left_waiting one pass pass.progress) (after_try file one waiting pass done.progress done.outcome)
-    (λ e. steps_none call pass.progress)
-    (λ e. after_try-steps call start file count one waiting pass done.progress done.outcome p t
-    (tried-steps call one.client one.request pass.progress p.fine.sound)
-    (λ ends. tried-guarded one.client one.request pass.progress ends (t.goes.ups one.client ∙ well.up)) e)
+    any_try_again file one waiting pass (λ after. GoesBySteps call 0 pass.progress after.progress) (record {
+      behind = λ behind. steps_none call pass.progress;
+      waits = λ first waits. tried-steps call one.client one.request pass.progress p.fine.sound;
+      answers = answered-steps call start file count one waiting pass p;
+    })
 
--- a pass
-pass_over-steps : (call : Call) (start : Progress) (file count : ℕ) (waiting : List Held) (pass : Pass)
-    → PassWaits start file count waiting pass → GoesBySteps call 0 pass.progress (pass_over file waiting pass).progress
-unfolding pass_over
-pass_over-steps call start file count [] pass p = steps_none call pass.progress
-pass_over-steps call start file count (one ∷ waiting) pass p =
-    let next = tried_again file one waiting pass in
-    steps_then call 0 0 pass.progress next.progress (pass_over file waiting next).progress
-    (tried_again-steps call start file count one waiting pass p)
-    (pass_over-steps call start file count waiting next (tried_again-waits start file count one waiting pass p))
+-- passes go by steps
+pass_by : Call → ℕ → Progress → List Held → Pass → Type 0
+pass_by call file start waiting pass = IsFine start.server
+    → PassWaits start file (length (start.server.held file)) waiting pass × GoesBySteps call 0 start pass.progress
 
--- so many passes over a file
-passes_for-steps : (call : Call) (count file : ℕ) (progress : Progress) → IsFine progress.server
-    → GoesBySteps call 0 progress (passes_for count file progress)
-unfolding passes_for
-passes_for-steps call zero file progress f = steps_none call progress
-passes_for-steps call (suc count) file progress f =
-    let pass = one_pass file progress in
-    let go = pass_over-steps call progress file (length (progress.server.held file)) (progress.server.held file)
-    (record { passed = []; progress = progress; has_answered = false }) (pass_begun file progress f) in
-    if_cases (GoesBySteps call 0 progress) pass.has_answered (passes_for count file pass.progress) pass.progress
-    (λ e. steps_then call 0 0 progress pass.progress (passes_for count file pass.progress) go
-    (passes_for-steps call count file pass.progress (one_pass-waits file progress f).fine))
-    (λ e. go)
+passes-steps : (call : Call) → HasPasses (pass_by call)
+    (λ count file start after. length (start.server.held file) < count → IsFine start.server
+    → FileWaits start file after × GoesBySteps call 0 start after)
+    (λ files start after. IsFine start.server → GoesBySteps call 0 start after)
+unfolding pass_by
+passes-steps call = record {
+  begins = λ file start f. (passes-wait.begins file start f, steps_none call start);
+  goes = λ file start one waiting pass p f. (
+    passes-wait.goes file start one waiting pass (λ f. (p f).0) f,
+    steps_then call 0 0 start pass.progress (tried_again file one waiting pass).progress (p f).1
+        (tried_again-steps call start file (length (start.server.held file)) one waiting pass (p f).0),
+  );
+  out = λ file start less f. absurd (omega (arith, less));
+  again = λ count file start after pass p answered rest less f.
+      let fewer = answered-fewer file start pass (p f).0.in_pass answered in
+      let later = rest (omega (arith, fewer, less)) (p f).0.fine in (
+        more_wait count file start after pass (p f).0 later.0,
+        steps_then call 0 0 start pass.progress after (p f).1 later.1,
+      );
+  last = λ count file start pass p none less f. (last_waits file start pass (p f).0 none, (p f).1);
+  none = λ start f. steps_none call start;
+  more = λ file files start next after first rest f.
+      let here = first (omega arith) f in steps_then call 0 0 start next after here.1 (rest here.0.fine);
+}
 
--- passes over files
-passes_over-steps : (call : Call) (files : List ℕ) (progress : Progress) → IsFine progress.server
-    → GoesBySteps call 0 progress (passes_over files progress)
-unfolding passes_over
-passes_over-steps call [] progress f = steps_none call progress
-passes_over-steps call (file ∷ files) progress f =
-    let next = passes file progress in
-    steps_then call 0 0 progress next (passes_over files next)
-    (passes_for-steps call (length (progress.server.held file) + 1) file progress f) (passes_over-steps call files next
-    (passes_for-waits (length (progress.server.held file) + 1) file progress (omega arith) f).fine)
-
--- passes over all files
 all_passes-steps : (call : Call) (progress : Progress) → IsFine progress.server
     → GoesBySteps call 0 progress (all_passes progress)
-unfolding all_passes
-all_passes-steps call progress f = passes_over-steps call (numbers_to progress.server.files) progress f
+all_passes-steps call progress f = any_passes (pass_by call) _ _ (passes-steps call) progress f
 
 -- ---- arrivals
 

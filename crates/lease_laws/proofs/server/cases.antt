@@ -1,4 +1,5 @@
 pub mod Calls
 pub mod Ends
 pub mod Judgements
+pub mod Passes
 pub mod Tries
