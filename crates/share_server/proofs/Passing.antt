@@ -262,7 +262,8 @@ unfolding numbers_behind
 next_file i end progress after whole less is so_on =
     let e : end - i ≡ suc (end - (i + 1)) = omega arith in
     ap (passes_over (numbers_behind (i + 1) (end - (i + 1)))) is
-    ∙ sym (file_by_file (i + 1) (numbers_behind (i + 1) (end - (i + 1))) progress) ∙ (ap (λ n. passes_over (numbers_behind i n) progress) (sym e) ∙ so_on)
+    ∙ sym (file_by_file (i + 1) (numbers_behind (i + 1) (end - (i + 1))) progress)
+    ∙ (ap (λ n. passes_over (numbers_behind i n) progress) (sym e) ∙ so_on)
 
 pub no_more_files : (i end : ℕ) (progress whole : Progress) → end ≤ i
     → passes_over (numbers_behind i (end - i)) progress ≡ whole → progress ≡ whole
