@@ -82,7 +82,6 @@ pub all_after : (known : Known) (online : Bool) (turn : ℕ → Entry → Turn) 
     → given.notes ≡ notes_to turn (client_of known).entries (length known.entries)
     → IsAfter (record known { entries = entries_to turn known.entries (length known.entries); is_online = online }) given
     (all_turned (client_of known) online turn)
-unfolding all_turned
 all_after known online turn given leaves answer requests notes = record {
   client = ap (λ n. with_table (client_of known) online n (numbered (closed_entry [])
       (entries_to turn known.entries (length known.entries)))) (length_to turn known.entries (length known.entries))

@@ -176,11 +176,9 @@ connect_lowers : (client : Client) (file : ℕ) (sent : List Pending) (phase : P
 connect_lowers client file sent x4 = grind arith
 
 pub notices_raise_none : (client : Client) → NoneRose client (connection.noticed client).client
-unfolding connection.all_turned
 notices_raise_none client file = notice_lowers (client.entries file).sent (client.entries file).phase
 
 pub connects_raise_none : (client : Client) → NoneRose client (connection.connection_made client).client
-unfolding connection.all_turned
 connects_raise_none client file = connect_lowers client file (client.entries file).sent (client.entries file).phase
 
 -- ---- the client that a step leaves

@@ -48,9 +48,9 @@ unfoldable pub use Rattle.lease_model.specs.client.Commanded.{close_on_live, com
 unfoldable pub use Rattle.lease_model.specs.client.Commanded.{more_asked, open_on_live, open_other, read_on_live, read_sent}
 unfoldable pub use Rattle.lease_model.specs.client.Commanded.{write_on_live}
 pub use Rattle.lease_model.specs.client.Commands.{Answer, Command, Note, OpenTerms, Refusal, Settlement}
-pub use Rattle.lease_model.specs.client.Connection.{connect_turn, connection_made, ended_turn, notice_turn, noticed}
-pub use Rattle.lease_model.specs.client.Connection.{offline_turn, parted_from, reconnect_request, silent_turn}
-unfoldable pub use Rattle.lease_model.specs.client.Connection.{all_turned, live_noticed, live_parted}
+pub use Rattle.lease_model.specs.client.Connection.{all_turned, connect_turn, connection_made, ended_turn, notice_turn}
+pub use Rattle.lease_model.specs.client.Connection.{noticed, offline_turn, parted_from, reconnect_request, silent_turn}
+unfoldable pub use Rattle.lease_model.specs.client.Connection.{live_noticed, live_parted}
 pub use Rattle.lease_model.specs.client.State.{Asked, Client, Entry, LiveEntry, Parted, Pending, Phase, belief, belief_in}
 pub use Rattle.lease_model.specs.client.State.{belief_of, closed_entry, knows_file, live_entry, patches_of, view}
 unfoldable pub use Rattle.lease_model.specs.client.State.{lease_key, new_client}

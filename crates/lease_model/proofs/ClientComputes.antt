@@ -15,7 +15,7 @@ use Rattle.lease_model.proofs.ValuesCompute.{the_values}
 
 unfoldable pub the_client : ⊤
 unfolding the_values handle_added more_asked open_other open_on_live last_handle_closed close_on_live read_sent read_on_live
-    write_on_live commanded all_turned live_parted live_noticed new_client lease_key turned break_turn broken created_on_live
+    write_on_live commanded live_parted live_noticed new_client lease_key turned break_turn broken created_on_live
     create_answered create_failed_on_live create_failed read_answered read_failed_turn read_failed sent_without write_done
     write_failed taken steps_along client_after
 the_client = tt

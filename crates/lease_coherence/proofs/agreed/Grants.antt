@@ -175,7 +175,6 @@ connect_low client file sent (Phase.Live live) = same_within live.belief
 connect_low client file sent phase = refl
 
 pub beliefs_rise_by_grants : BeliefsRiseByGrants
-unfolding all_turned
 beliefs_rise_by_grants client (ClientCall.Commanded command) file =
     inl (any_command client (StaysLow client) (commands_low client) command file)
 beliefs_rise_by_grants client (ClientCall.Taken reply) file = any_reply client (LowOrGranted client) (takes_low client) reply file

@@ -145,7 +145,6 @@ pub record IsIdle (world : World) (c : ℕ) : Type 0 where
   pub held : (at : ℕ) → held_by c (world.server.held at) ≡ []
 
 pub connect_idle : (world : World) (c : ℕ) → Ground world → world.links c ≡ Link.Down → IsIdle (connected world c) c
-unfolding all_turned
 connect_idle world c g down =
     let machine = world.clients c in
     let back = come_back world c in

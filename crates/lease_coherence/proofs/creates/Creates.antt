@@ -373,7 +373,6 @@ unknown_idle client file closed =
 
 connect_at : (world : World) (client : ℕ) → Ground world → world.links client ≡ Link.Down
     → IsCountedAt (connected world client) client
-unfolding all_turned
 connect_at world client g down up file =
     let machine = world.clients client in
     let back = come_back world client in

@@ -347,7 +347,6 @@ joined_places d past = by_same (d == d) (eq-eqb d d refl)
 
 connect_fresh : (world : World) (c : ℕ) → Ground world → world.links c ≡ Link.Down → (file : ℕ)
     → IsFreshIn (connected world c) c file
-unfolding all_turned
 connect_fresh world c g down file =
     let machine = world.clients c in
     let back = come_back world c in

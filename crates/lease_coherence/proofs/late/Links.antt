@@ -52,7 +52,6 @@ cut_late world c ids n a = record {
 -- ---- it is noticed
 
 pub notice_late : (world : World) (c : ℕ) → IsNotLate world c → IsNotLate (noticed_by world c) c
-unfolding all_turned
 notice_late world c a =
     let base : World = record world { links = put world.links c Link.Down } in
     let machine = world.clients c in record {
@@ -90,7 +89,6 @@ back_safe world c ids n e = entries_like world (come_back world c) c (record {
 
 pub connect_late : (world : World) (c : ℕ) → Ground world → world.links c ≡ Link.Down → KnowsIds world c
     → IsNamedAt world c → IsNotLate world c → IsNotLate (connected world c) c
-unfolding all_turned
 connect_late world c g down ids n a =
     let machine = world.clients c in
     let back = come_back world c in

@@ -285,7 +285,6 @@ back_tied world client down tied c = by_client (IsTied (come_back world client))
     up = ap is_up (put_same world.links client Link.Up)
 
 connect_ground : (world : World) (client : ℕ) → Ground world → world.links client ≡ Link.Down → Ground (connected world client)
-unfolding all_turned
 connect_ground world client g e = stepped_ground (come_back world client) client ClientCall.Connected (record {
   sound = joined-sound client (begun world.server) g.fine.sound;
   orderly = joined-orderly client (begun world.server) g.fine.orderly;
@@ -323,7 +322,6 @@ take_ground world client reply queue g e = stepped_ground (reply_gone world clie
     ((taken-stays (world.clients client) reply).online ∙ g.online client) (λ c ne. g.online c) g.clients
 
 notice_ground : (world : World) (client : ℕ) → Ground world → world.links client ≡ Link.Cut → Ground (noticed_by world client)
-unfolding all_turned
 notice_ground world client g e = stepped_ground (record world { links = put world.links client Link.Down }) client
     ClientCall.Noticed g.fine g.counted (relinked world client Link.Down (ap is_up e) refl g.tied)
     (sym (ap (λ k. not (is_down k)) (put_same world.links client Link.Down)))

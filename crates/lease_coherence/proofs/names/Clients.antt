@@ -352,7 +352,6 @@ pub record IsTurnNamed (client : ℕ) (guid : List ℕ) (past : List Fact) (file
 all_named : (client : ℕ) (machine : Client) (past : List Fact) (online : Bool) (turn : ℕ → Entry → Turn)
     → ((file : ℕ) → IsTurnNamed client machine.guid past file (turn file (machine.entries file)))
     → IsStepNamed client machine past (all_turned machine online turn)
-unfolding all_turned
 all_named client machine past online turn each =
     let notes = (all_turned machine online turn).notes in
     let later = later_noted client past notes in record {

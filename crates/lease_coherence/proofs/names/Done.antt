@@ -252,7 +252,7 @@ stepped_true world client call same named t =
     )
 
 pub true_moves : IsMoved Ground HasTrueNames
-unfolding all_turned requests_sent
+unfolding requests_sent
 true_moves world (Move.Step step) next g t = moved_true world step g next t
 true_moves world (Move.Cut client) up g t = (cut_named world client t.0, (tt, t.1))
 true_moves world (Move.Expire client file) (on, breaks) g t = (timer_named world client file t.0, (tt, t.1))

@@ -311,7 +311,6 @@ create_stands world c request is = absurd is
 -- a client that connects asks only for creates
 pub connect_creates : (world : World) (c : ℕ) → Ground world → world.links c ≡ Link.Down
     → Each IsCreate ((connected world c).requests c)
-unfolding all_turned
 connect_creates world c g down =
     let machine = world.clients c in
     let back = come_back world c in

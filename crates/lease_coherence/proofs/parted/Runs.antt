@@ -323,7 +323,6 @@ connect_phase world links c file machine sent (Phase.Reconnecting parted) up p =
 connect_phase world links c file machine sent phase up p = tt
 
 notice_untouched : (world : World) (c : ℕ) → world.links c ≡ Link.Cut → IsUntouched world c → IsUntouched (noticed_by world c) c
-unfolding all_turned
 notice_untouched world c cut a =
     let machine = world.clients c in
     stepped_untouched world (record world { links = put world.links c Link.Down }) c (noticed machine) refl refl refl
@@ -332,7 +331,6 @@ notice_untouched world c cut a =
     (machine.entries file).sent) (machine.entries file).phase (ap is_up cut)) a
 
 connect_untouched : (world : World) (c : ℕ) → IsUntouched world c → IsUntouched (connected world c) c
-unfolding all_turned
 connect_untouched world c a =
     let machine = world.clients c in
     stepped_untouched world (come_back world c) c (connection_made machine) refl refl refl

@@ -181,7 +181,6 @@ no_entry held c one none a own = absurd (subst (λ (l : List Held). Among one l)
     (among_filtered (λ h. h.client == c) one held a (eq-eqb one.client c own)))
 
 connect_standing : (world : World) (c : ℕ) → Ground world → world.links c ≡ Link.Down → IsStandingAt (connected world c) c
-unfolding all_turned
 connect_standing world c g down =
     let machine = world.clients c in
     let back = come_back world c in

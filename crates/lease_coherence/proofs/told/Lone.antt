@@ -217,11 +217,9 @@ gone_lone world c reply queue first h file = by_guid world (reply_gone world c q
     behind a = a.1
 
 noticed_guid : (client : Client) → (noticed client).client.guid ≡ client.guid
-unfolding all_turned
 noticed_guid client = refl
 
 connected_guid : (client : Client) → (connection_made client).client.guid ≡ client.guid
-unfolding all_turned
 connected_guid client = refl
 
 come_back_leases : (world : World) (c : ℕ) (key : Key) → ((come_back world c).server.leases key).state.handle ≡ true

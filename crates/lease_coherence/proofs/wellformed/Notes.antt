@@ -151,7 +151,6 @@ each_fine client after turn same settled (file ∷ files) known = notes_append (
 all_fine : (client : Client) (online : Bool) (turn : ℕ → Entry → Turn)
     → ((file : ℕ) → EachNote IsSettling (turn file (client.entries file)).settled)
     → EachNote (IsFineNote client (all_turned client online turn).client) (all_turned client online turn).notes
-unfolding all_turned
 all_fine client online turn settled = each_fine client (all_turned client online turn).client turn (λ file. refl)
     settled (numbers_to client.files) (λ file a. numbers_known client.files file a)
 

@@ -280,7 +280,7 @@ put_up links client link c up = by_client
     (λ ne apart u. inl (sym (ap is_up (put_other links client link c ne)) ∙ u)) up
 
 pub well_moves : IsMoved Ground IsWell
-unfolding is_well_formed has_number requests_sent has_joined all_turned
+unfolding is_well_formed has_number requests_sent has_joined
 well_moves world (Move.Step step) next g w = step_deed world IsWell (deeds_well world g w) step next
 well_moves world (Move.Cut client) up g w = plain_well world.past (Fact.Dropped client) world.clients world.links
     (put world.links client Link.Cut) world.server _ refl refl (λ c n. refl)

@@ -239,7 +239,6 @@ connect_sent client file sent Phase.Closed = refl
 connect_sent client file sent phase = refl
 
 connect_once : (world : World) (c : ℕ) → Ground world → world.links c ≡ Link.Down → IsSentOnce (connected world c) c
-unfolding all_turned
 connect_once world c g down =
     let machine = world.clients c in
     let back = come_back world c in

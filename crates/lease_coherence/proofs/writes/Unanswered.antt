@@ -305,7 +305,6 @@ flat_settles notes file number files others there = same_bool (settles_in (flat_
 all_tell : (client : Client) (online : Bool) (turn : ℕ → Entry → Turn) → IsSoundClient client
     → ((file : ℕ) → TurnLeaves (client.entries file) (turn file (client.entries file)))
     → LeavesWrites client (all_turned client online turn)
-unfolding all_turned
 all_tell client online turn s each =
     let notes : ℕ → List Note = λ f. turn_notes f (client.entries f) (turn f (client.entries f)) in
     record {
@@ -411,7 +410,7 @@ stepped_writes world c call s files h d file known =
     ∙ ap (λ (m : Client). unanswered_in (m.entries file)) (sym (put_other world.clients c step.client d ne))) k) known
 
 pub writes_moves : IsMoved Ground HasWrites
-unfolding open_writes requests_sent all_turned
+unfolding open_writes requests_sent
 writes_moves world (Move.Step step) next g h = λ c file known. ap (open_writes c file) (moved_past world step)
     ∙ told_writes c file world.past (step_taken step (begun world.server)).outs
     ∙ h c file (ap (λ (t : ℕ → Client). knows_file (t c) file) (sym (moved_clients world step)) ∙ known)

@@ -102,7 +102,6 @@ all_tell : (client : Client) (online : Bool) (turn : ℕ → Entry → Turn)
     → belief client file ≡ belief_of (turn file (client.entries file)).entry)
     → (file : ℕ) → believed_after file (belief client file) (all_turned client online turn).notes
     ≡ belief (all_turned client online turn).client file
-unfolding all_turned
 all_tell client online turn settles unknown file =
     let all = tell_to (λ f. (turn f (client.entries f)).settled) (λ f. belief client f)
     (λ f. belief_of (turn f (client.entries f)).entry) file client.files settles in

@@ -209,7 +209,6 @@ first_entries guid files file = λ away. refl
 -- and stay so with every call
 pub called_entries : (client : Client) (call : ClientCall) → HasSoundEntries client
     → HasSoundEntries (client_called client call).client
-unfolding all_turned
 called_entries client (ClientCall.Commanded command) sound = any_command client Sound (commands_sound client sound) command
 called_entries client (ClientCall.Taken reply) sound = any_reply client _ (takes_sound client sound) reply
 called_entries client ClientCall.Noticed sound = λ file. any_notice (client.entries file).sent _

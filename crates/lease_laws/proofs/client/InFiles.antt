@@ -85,7 +85,6 @@ unfolding new_client
 first_in_files guid files file unknown = refl
 
 pub called_in_files : (client : Client) (call : ClientCall) → InFiles client → InFiles (client_called client call).client
-unfolding all_turned
 called_in_files client (ClientCall.Commanded command) c = any_command client Keeps (commands_in client c) command
 called_in_files client (ClientCall.Taken reply) c = any_reply client _ (takes_in client c) reply
 called_in_files client ClientCall.Noticed c = λ file unknown.

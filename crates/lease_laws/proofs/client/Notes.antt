@@ -6,7 +6,7 @@ use Rattle.lease_laws.proofs.Words.{connect_turn, false, first_belief, flat_map}
 use Rattle.lease_laws.proofs.Words.{has_number, has_sent, if◌then◌else◌, lease_key, nat_le, nat_lt, next_write, not}
 use Rattle.lease_laws.proofs.Words.{numbers_to, promoted_belief}
 use Rattle.lease_laws.proofs.Words.{refl, same_state, settled_as, true, turned, unsent_in}
-use Rattle.lease_laws.proofs.Words.{without}
+use Rattle.lease_laws.proofs.Words.{notice_turn, without}
 use Rattle.lease_laws.proofs.client.Numbers.{Numbers}
 use Rattle.lease_laws.proofs.client.Thin.{IsThinner, thin_front, thin_behind, thin_filter, beyond}
 use Rattle.lease_laws.proofs.client.Words.{if_either}
@@ -183,7 +183,6 @@ notices_old last sent = record {
 all_tell : (client : Client) (online : Bool) (turn : ℕ → Entry → Turn)
     → ((file : ℕ) → AreOld client.last_number (turn file (client.entries file)).settled)
     → Tells client (all_turned client online turn)
-unfolding all_turned
 all_tell client online turn old =
     let notes : ℕ → List Note = λ file. (turn file (client.entries file)).settled
     ++ believes_noted file (belief_of (client.entries file)) (belief_of (turn file (client.entries file)).entry) in
@@ -202,8 +201,9 @@ pub called_tells : (client : Client) (call : ClientCall) → IsSoundClient clien
     → TellNumbers client.last_number (client_called client call).notes (client_called client call).client.last_number
 called_tells client (ClientCall.Commanded command) sound = any_command client (Tells client) (commands_tell client) command
 called_tells client (ClientCall.Taken reply) sound = any_reply client _ (takes_tell client sound.numbers) reply
-called_tells client ClientCall.Noticed sound = all_tell client false _
+called_tells client ClientCall.Noticed sound = all_tell client false (λ file entry. notice_turn entry.sent entry.phase)
     (λ file. any_notice (client.entries file).sent _ (notices_old client.last_number (client.entries file).sent)
     (client.entries file).phase (sound.numbers.rising file))
-called_tells client ClientCall.Connected sound = all_tell client true _
+called_tells client ClientCall.Connected sound =
+    all_tell client true (λ file entry. connect_turn client file entry.sent entry.phase)
     (λ file. connect_old client.last_number client file (client.entries file).sent (client.entries file).phase)

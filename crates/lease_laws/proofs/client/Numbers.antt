@@ -167,7 +167,6 @@ first_numbers guid files = record { rising = λ file. refl; apart = λ file othe
 -- and every call keeps their numbers apart
 pub called_numbers : (client : Client) (call : ClientCall) → HasSoundEntries client → Numbers client
     → Numbers (client_called client call).client
-unfolding all_turned
 called_numbers client (ClientCall.Commanded command) sound own = any_command client _ (commands_own client sound own) command
 called_numbers client (ClientCall.Taken reply) sound own = any_reply client _ (takes_own client own) reply
 called_numbers client ClientCall.Noticed sound own = thin_table client.last_number

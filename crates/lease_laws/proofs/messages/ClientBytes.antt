@@ -162,7 +162,6 @@ each_file requests (file ∷ files) each = each_joined (requests file) (flat_map
 all_writes : (client : Client) (online : Bool) (turn : ℕ → Entry → Turn) → IsWriting client
     → ((file : ℕ) → EachRequest HasRequestBytes (turn file (client.entries file)).requests)
     → ((file : ℕ) → HasFileId (turn file (client.entries file)).entry.phase) → Writes client (all_turned client online turn)
-unfolding all_turned
 all_writes client online turn w each fits = record {
   requests = each_file (λ file. (turn file (client.entries file)).requests) (numbers_to client.files) each;
   writing = record { guid = w.guid; file_ids = fits };

@@ -355,7 +355,7 @@ cut_linked world client link e l = l
 -- its client notices
 notice_linked : (world : World) (client : ℕ) (link : Link) → world.links client ≡ link → IsLinked world
     → IsLinked (notice_over world client link)
-unfolding link_noticed all_turned
+unfolding link_noticed
 notice_linked world client Link.Cut e l = stepped_linked (record world { links = put world.links client Link.Down }) client
     (noticed (world.clients client)) l.sound l.waits (relinked world client Link.Down (ap is_up e) refl l.tied)
     (sym (ap (λ k. not (is_down k)) (put_same world.links client Link.Down)))
@@ -365,7 +365,7 @@ notice_linked world client link e l = l
 -- a client connects
 connect_linked : (world : World) (client : ℕ) (link : Link) → world.links client ≡ link → IsLinked world
     → IsLinked (connect_over world client link)
-unfolding link_connected all_turned
+unfolding link_connected
 connect_linked world client Link.Down e l =
     let back : World = happened (record world { links = put world.links client Link.Up }) (Fact.Joined client) in
     let progress = join world.server client in

@@ -9,7 +9,7 @@ use Rattle.lease_model.specs.values.Lists.{without, numbers_to}
 use Rattle.lease_model.specs.messages.Requests.{FileRequest, Request}
 
 -- every entry has a turn of its own; notes and requests stand file by file
-unfoldable pub all_turned : Client → Bool → (ℕ → Entry → Turn) → Step
+abbrev pub all_turned : Client → Bool → (ℕ → Entry → Turn) → Step
 all_turned client online turn = record {
   client = record client {
     is_online = online;

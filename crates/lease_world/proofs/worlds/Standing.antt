@@ -138,7 +138,6 @@ one_seat x1 old new number world after is all here clients links requests replie
 
 -- a client keeps its ClientGuid
 same_guid : (client : Client) (call : ClientCall) → (client_called client call).client.guid ≡ client.guid
-unfolding all_turned
 same_guid client (ClientCall.Commanded command) = (commanded-stays client command).guid
 same_guid client (ClientCall.Taken reply) = (taken-stays client reply).guid
 same_guid client ClientCall.Noticed = refl
