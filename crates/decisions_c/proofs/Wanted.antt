@@ -32,7 +32,6 @@ want_at wish server key = record { key = key; lowered = lowered_for wish (server
 
 wants_are : (wish : Wish) (server : Server) (own : Option Key)
     → wants_where server (is_wanted wish server own) (lowered_for wish) ≡ wants_for wish server own
-unfolding handle_wants write_wants all_wants
 wants_are x1 server own = grind arith
 
 -- ---- the want of a key
@@ -140,7 +139,6 @@ not_elsewhere_at key (one ∷ opens) = with_access (access_of_bits one.access) (
 
 pub not_elsewhere : (own : Option Key) (opens : List LeaseOpen) (server : Server) → server.opens ≡ opens_held opens
     → is_leased_elsewhere server own 1 ≡ false
-unfolding is_leased_elsewhere
 not_elsewhere None opens server same = refl
 not_elsewhere (Some key) opens server same = rw same (not_elsewhere_at key opens)
 
@@ -150,7 +148,6 @@ pub broken_first : (server : Server) (own : Option Key) (opens : List LeaseOpen)
     → server.opens ≡ opens_held opens → list_any (conflicts_on 1 access share) server.opens ≡ true
     → list_any (is_wanted (NoHandles access share) server own) server.opens ≡ true
     → Finding.Needs (handle_wants server own 1 access share) ≡ create_finding server own 1 access share
-unfolding create_finding
 broken_first server own opens access share same conflicts wanted =
     let some : is_empty (handle_wants server own 1 access share)
     ≡ not (list_any (is_wanted (NoHandles access share) server own) server.opens) = some_wanted (NoHandles access share) server
@@ -161,7 +158,6 @@ pub refused_at_once : (server : Server) (own : Option Key) (opens : List LeaseOp
     → server.opens ≡ opens_held opens → list_any (conflicts_on 1 access share) server.opens ≡ true
     → list_any (is_wanted (NoHandles access share) server own) server.opens ≡ false
     → Finding.Fails Status.SharingViolation ≡ create_finding server own 1 access share
-unfolding create_finding
 refused_at_once server own opens access share same conflicts wanted =
     let some : is_empty (handle_wants server own 1 access share)
     ≡ not (list_any (is_wanted (NoHandles access share) server own) server.opens) = some_wanted (NoHandles access share) server
@@ -171,5 +167,4 @@ refused_at_once server own opens access share same conflicts wanted =
 pub without_conflict : (server : Server) (own : Option Key) (opens : List LeaseOpen) (access : Access) (share : Share)
     → server.opens ≡ opens_held opens → list_any (conflicts_on 1 access share) server.opens ≡ false
     → Finding.Needs (write_wants server own 1) ≡ create_finding server own 1 access share
-unfolding create_finding
 without_conflict server own opens access share same conflicts = rw (not_elsewhere own opens server same, conflicts) refl

@@ -105,7 +105,7 @@ impl<'a> Tables<'a> {
     }
 
     // What a write wishes, or the status that refuses it.
-    #[tactic(auto, unfolding(lease_model::specs::server::Findings::write_finding))]
+    #[tactic(auto)]
     fn write_wish(&self, request: &LeaseRequest) -> Result<Wish, Status>
         ensures { found_by (server_of self.now) (own_held request.now) result ≡ write_found (server_of self.now) request.now }
     {

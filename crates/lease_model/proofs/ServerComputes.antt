@@ -20,9 +20,7 @@ use Rattle.lease_model.specs.worked.ServerWords.{server_after, outs_along}
 use Rattle.lease_model.proofs.ValuesCompute.{the_values}
 
 unfoldable pub the_server : ⊤
-unfolding the_values acknowledged is_other_on allowed conflicts_on answered lease_broken want_met wants_met tried_for
-    file_asked arrived receive join outlives_connection cut expire scavenge is_leased_elsewhere create_finding awaits
-    reconnect_finding write_finding finding offered lease_granted granted key_added keys_of tried_again pass_over passes_for
-    passes_over all_passes is_ready waits_for new_server wants_where handle_wants write_wants all_wants server_after
-    outs_along
+unfolding the_values acknowledged is_other_on allowed conflicts_on answered lease_broken wants_met tried_for file_asked
+    arrived receive join outlives_connection cut expire scavenge finding offered lease_granted granted key_added keys_of
+    tried_again pass_over passes_for passes_over all_passes new_server wants_where server_after outs_along
 the_server = tt

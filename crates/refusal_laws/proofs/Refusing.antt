@@ -46,7 +46,6 @@ broken_contents key lowered progress = grind arith
 
 met_alone : (want : Want) (progress : Progress)
     → IsLeftAlone (λ one. (has_key want.key one ≡ true) × (one.connected ≡ false)) progress.server (want_met want progress).server
-unfolding want_met
 met_alone want progress =
     let dropped = opens_dropped (is_left_open want.key) progress in
     let same = lease_broken-opens want.key want.lowered dropped in
@@ -160,7 +159,7 @@ refused_as_they_come client request progress status is = grind arith
 -- ---- closes
 
 pub closes_are_refused_as_they_come : ClosesAreRefusedAsTheyCome
-unfolding file_asked tried_for finding is_ready
+unfolding file_asked tried_for finding
 closes_are_refused_as_they_come client file_id progress status is = grind arith
 
 -- ---- acknowledgments

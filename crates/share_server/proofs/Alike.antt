@@ -15,7 +15,7 @@ found_for server one fits = by_open one (λ one. if may_write one.access
 write_found : (server : Server) (client file_id number : ℕ) (patch : Patch)
     → finding server client (FileRequest.Write file_id number patch)
     ≡ found_for server (connected_open server client file_id) (is_within_limit patch)
-unfolding finding write_finding
+unfolding finding
 write_found server client file_id number patch = refl
 
 -- two writes on one open
@@ -29,7 +29,6 @@ after_alike : (again more : Progress → Tried) (file_id number other : ℕ) (pa
     (found : Finding) → ((next : Progress) → again next ≡ more next)
     → after_finding again (FileRequest.Write file_id number patch) progress found
     ≡ after_finding more (FileRequest.Write file_id other like) progress found
-unfolding is_ready waits_for
 after_alike again more file_id number other patch like progress x9 same = grind arith
 
 tried_alike : (rounds client file_id number other : ℕ) (patch like : Patch) (progress : Progress)
@@ -56,7 +55,6 @@ writes_are_tried_alike client file_id number patch fits progress same =
 pub writes_wait_alike : (client file file_id number : ℕ) (patch : Patch) (fits : Bool) (server : Server)
     → fits ≡ is_within_limit patch → HasOnlyToWait server file client (FileRequest.Write file_id 0 (patch_like fits))
     → HasOnlyToWait server file client (FileRequest.Write file_id number patch)
-unfolding is_ready waits_for
 writes_wait_alike client file file_id number patch fits server same has = record {
   wants = has.wants;
   found = sym (found_alike server client file_id 0 number (patch_like fits) patch (limit_like fits ∙ same)) ∙ has.found;

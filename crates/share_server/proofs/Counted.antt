@@ -284,5 +284,4 @@ none_in waiting file none = go waiting.counts.entries none
 pub home_by : (server : Server) (file : ℕ) (key : Key) (summaries : Summaries) → Agrees summaries server.opens
     → list_any (has_key key) server.opens ≡ true
     → not (is_leased_elsewhere server (Some key) file) ≡ list_any (has_key key) (on_file file server.opens)
-unfolding is_leased_elsewhere
 home_by server file key summaries agree some = at_home_here file key server.opens summaries agree some

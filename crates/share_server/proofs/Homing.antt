@@ -32,7 +32,6 @@ tried_ready (suc rounds) client request progress =
 
 home_free : (server : Server) (own : Option Key) (file : ℕ) (access : Access) (share : Share)
     → IsFree server.opens server.leases own file access share → is_leased_elsewhere server own file ≡ false
-unfolding is_leased_elsewhere
 home_free server None file access share free = refl
 home_free server (Some key) file access share free =
     has_none (λ one. has_key key one && not (one.file == file)) server.opens (λ one a. either (has_key key one)
@@ -41,7 +40,6 @@ home_free server (Some key) file access share free =
 
 write_fits : (found : Option Open) (server : Server) (patch : Patch) (wants : List Want)
     → by_open found (λ one. write_finding server one patch) ≡ Finding.Needs wants → is_within_limit patch ≡ true
-unfolding write_finding
 write_fits x1 server patch wants e = grind arith
 
 at_home : (server : Server) (client : ℕ) (request : FileRequest) (wants : List Want)
@@ -71,7 +69,6 @@ ready_at_home client request before after outcome end ready =
 
 pub elsewhere_same : (a b : Server) (own : Option Key) (file : ℕ) → a.opens ≡ b.opens
     → is_leased_elsewhere a own file ≡ is_leased_elsewhere b own file
-unfolding is_leased_elsewhere
 elsewhere_same a b x3 file same = grind arith
 
 -- what is held has no part in it
@@ -90,7 +87,6 @@ home_kept a b client (FileRequest.Close file_id) same home = tt
 
 pub home_asked : (server : Server) (client file : ℕ) (asked : Option LeaseOf) (bytes : Option (List ℕ)) → bytes ≡ asked_key asked
     → is_leased_elsewhere server (own_key client asked) file ≡ false → IsAtHome (key_under client bytes) file server.opens
-unfolding is_leased_elsewhere
 home_asked server client file x4 bytes same home = grind arith
 
 -- ---- the file of a key

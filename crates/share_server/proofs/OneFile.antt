@@ -80,7 +80,6 @@ other_for own file one is = (and_parts (is_on file one) _ is).0
 
 pub handles_on : (file : ℕ) (server : Server) (own : Option Key) (access : Access) (share : Share)
     → handle_wants (local file server) own file access share ≡ handle_wants server own file access share
-unfolding handle_wants
 handles_on file server own access share = wants_on file server _ _ _
     (λ one is.
     let both = (and_parts (conflicts_on file access share one && is_other_on own file one) _ is).0 in
@@ -90,20 +89,17 @@ handles_on file server own access share = wants_on file server _ _ _
 
 pub writes_on : (file : ℕ) (server : Server) (own : Option Key)
     → write_wants (local file server) own file ≡ write_wants server own file
-unfolding write_wants
 writes_on file server own = wants_on file server _ _ _
     (λ one is. other_for own file one (and_parts (is_other_on own file one) _ is).0)
     (λ one there on. ap (λ (lease : Lease). is_other_on own file one && lease.state.write) (lease_on file server one there on))
 
 pub all_on : (file : ℕ) (server : Server) (own : Option Key) → all_wants (local file server) own file ≡ all_wants server own file
-unfolding all_wants
 all_on file server own = wants_on file server _ _ _
     (λ one is. other_for own file one (and_parts (is_other_on own file one) _ is).0)
     (λ one there on.
     ap (λ (lease : Lease). is_other_on own file one && holds_any lease.state) (lease_on file server one there on))
 
 elsewhere_here : (file : ℕ) (server : Server) (own : Option Key) → is_leased_elsewhere (local file server) own file ≡ false
-unfolding is_leased_elsewhere
 elsewhere_here file server None = refl
 elsewhere_here file server (Some key) = has_none (λ one. has_key key one && not (one.file == file)) (on_file file server.opens)
     (λ one a.
@@ -113,7 +109,6 @@ elsewhere_here file server (Some key) = has_none (λ one. has_key key one && not
 pub create_on : (file : ℕ) (server : Server) (own : Option Key) (access : Access) (share : Share)
     → is_leased_elsewhere server own file ≡ false
     → create_finding (local file server) own file access share ≡ create_finding server own file access share
-unfolding create_finding
 create_on file server own access share home =
     let away = elsewhere_here file server own in
     let conflict = any_on file (conflicts_on file access share) server.opens (conflicts_for file access share) in
@@ -124,12 +119,10 @@ create_on file server own access share home =
 -- ---- what a look finds
 
 awaits_for : (client file : ℕ) (own : Option Key) (file_id : ℕ) → IsFor file (awaits client file own file_id)
-unfolding awaits
 awaits_for client file x3 file_id one is = grind arith
 
 reconnect_on : (file : ℕ) (server : Server) (client : ℕ) (own : Option Key) (file_id : ℕ)
     → reconnect_finding (local file server) client file own file_id ≡ reconnect_finding server client file own file_id
-unfolding reconnect_finding
 reconnect_on file server client own file_id = ap (λ b. if b then Finding.Needs [] else Finding.Fails Status.ObjectNameNotFound)
     (any_on file (awaits client file own file_id) server.opens (awaits_for client file own file_id))
 
@@ -166,7 +159,6 @@ found_on test p (x ∷ xs) one found is = either (test x)
 
 write_same : (file : ℕ) (server : Server) (one : Open) (patch : Patch) → one.file ≡ file
     → write_finding (local file server) one patch ≡ write_finding server one patch
-unfolding write_finding
 write_same file server one patch same = ap (λ wants. if may_write one.access
     then (if is_within_limit patch then Finding.Needs wants else Finding.Fails Status.InvalidParameter)
     else Finding.Fails Status.AccessDenied)
@@ -220,7 +212,6 @@ none_alike leases others (want ∷ wants) same =
 
 ready_alike : (request : FileRequest) (leases others : Key → Lease) (wants : List Want) → AreAlike leases others wants
     → is_ready request leases wants ≡ is_ready request others wants
-unfolding is_ready
 ready_alike (FileRequest.Create file access share contexts) leases others wants same = refl
 ready_alike (FileRequest.Read file_id) leases others wants same = refl
 ready_alike (FileRequest.Write file_id number patch) leases others wants same = none_alike leases others wants same

@@ -90,7 +90,6 @@ about_left : (file : ℕ) (test : Open → Bool) (count : ℕ) (opens : List Ope
     (request : FileRequest) → ((one : Open) → Among one opens → is_on file one ≡ true → test one ≡ false)
     → IsOnlyAbout (deciding count opens leases) file client request
     → IsOnlyAbout (deciding count (without test opens) later) file client request
-unfolding is_leased_elsewhere
 about_left file test count opens leases later client (FileRequest.Create other access share None) none about = absurd about
 about_left file test count opens leases later client (FileRequest.Create other access share (Some ask)) none about =
     (about.0, away (own_key client ask.lease) about.1)
@@ -179,7 +178,6 @@ found_before test (first ∷ opens) one found is = either (test first)
 about_more : (file count : ℕ) (opens : List Open) (one : Open) (leases later : Key → Lease) (held : Held)
     → asks_with one held ≡ false → IsOnlyAbout (deciding count opens leases) file held.client held.request
     → IsOnlyAbout (deciding count (opens ++ one ∷ []) later) file held.client held.request
-unfolding is_leased_elsewhere
 about_more file count opens one leases later held apart about = go held.client held.request apart about
   where
     away : (own : Option Key) → has_own_key own one ≡ false → is_leased_elsewhere (deciding count opens leases) own file ≡ false

@@ -50,7 +50,6 @@ dropped_none server test outs spare none =
 
 want_met_already : (server : Server) (file : ℕ) (want : Want) (outs : List Out) → HasNoSpare server
     → is_under_way server file want.key ≡ true → want_met want (at_call server outs) ≡ at_call server outs
-unfolding want_met
 want_met_already server file want outs spare is =
     let parts = and_parts (is_breaking (server.leases want.key)) _ is in
     ap (lease_broken want.key want.lowered) (dropped_none server (is_left_open want.key) outs spare
@@ -79,8 +78,7 @@ decider server = deciding server.files server.opens server.leases
 
 pub decided : (server : Server) (client : ℕ) (request : FileRequest)
     → finding (decider server) client request ≡ finding server client request
-unfolding finding create_finding reconnect_finding write_finding is_leased_elsewhere handle_wants write_wants all_wants
-    wants_where
+unfolding finding wants_where
 decided server client (FileRequest.Create file access share None) = refl
 decided server client (FileRequest.Create file access share (Some ask)) = grind arith
 decided server client (FileRequest.Read file_id) = refl

@@ -340,12 +340,10 @@ left_only n one is = (and_parts (has_id n one) (not one.connected) is).0
 
 pub awaits_only : (client file : ℕ) (own : Option Key) (n : ℕ) (one : Open) → awaits client file own n one ≡ true
     → has_id n one ≡ true
-unfolding awaits
 awaits_only client file x3 n one is = grind arith
 
 pub leased_by : (server : Server) (own : Option Key) (key : Key) (file : ℕ) (b : Bool) → own ≡ Some key
     → b ≡ list_any (is_elsewhere key file) server.opens → b ≡ is_leased_elsewhere server own file
-unfolding is_leased_elsewhere
 leased_by server own key file b is e = rw is e
 
 -- ---- steps of loops over FileIds

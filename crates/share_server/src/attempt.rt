@@ -113,7 +113,7 @@ pub fn must_wait(tables: &Tables, ask: Ask, wants: &[Want]) -> bool
 }
 
 // Whether the lease keeps the request waiting.
-#[tactic(auto, unfolding(lease_model::specs::server::Ready::waits_for))]
+#[tactic(auto)]
 fn waits_for(ask: Ask, lease: Lease) -> bool
     ensures { result ≡ ready.waits_for (request_like ask) (lease_of lease) }
 {

@@ -34,7 +34,7 @@ impl Tables {
     /// # Errors
     ///
     /// `Memory` where there is none left for the list of leases.
-    #[tactic(auto, unfolding(lease_model::specs::server::Findings::finding, lease_model::specs::server::Ready::is_ready))]
+    #[tactic(auto, unfolding(lease_model::specs::server::Findings::finding))]
     pub fn finding(&self, client: ClientNo, ask: Ask) -> Result<Finding, Memory>
         ensures { IfOk result (λ found. look_of found
             ≡ looked (λ wants. ready.is_ready (request_like ask) (server_of self.now).leases wants)
@@ -79,7 +79,7 @@ impl Tables {
         }
     }
 
-    #[tactic(auto, unfolding(lease_model::specs::server::Findings::write_finding))]
+    #[tactic(auto)]
     fn write_finding(&self, client: ClientNo, fid: FileId, fits: bool) -> Result<Finding, Memory>
         ensures { IfOk result (λ found. look_of found ≡ looked
             (λ wants. list_all (λ want. ready.breaks_to_none ((server_of self.now).leases want.key)) wants)
@@ -140,7 +140,7 @@ impl Tables {
     }
 
     // A reconnect fails in one way whatever is wrong (profile).
-    #[tactic(auto, unfolding(lease_model::specs::server::Findings::reconnect_finding))]
+    #[tactic(auto)]
     fn reconnect_finding(
         &self,
         client: ClientNo,
@@ -159,7 +159,7 @@ impl Tables {
     }
 
     // First the key's file, then conflicts, then cached writes (profile).
-    #[tactic(auto, unfolding(lease_model::specs::server::Findings::create_finding))]
+    #[tactic(auto)]
     fn open_finding(
         &self,
         own: Option<Key>,

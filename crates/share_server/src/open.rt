@@ -100,7 +100,7 @@ impl Open {
     }
 
     /// Whether a reconnect of this client under this key may name the open (MS-SMB2 3.3.5.9.7).
-    #[tactic(auto, unfolding(lease_model::specs::server::Findings::awaits))]
+    #[tactic(auto)]
     pub fn awaits(&self, client: ClientNo, file: FileNo, own: Option<Key>, fid: FileId) -> bool
         ensures { result ≡ awaits client.0 file.0 own fid.0 self.now }
     {

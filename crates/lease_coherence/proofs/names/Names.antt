@@ -169,7 +169,6 @@ pub record IsAwaiting (client file file_id : ℕ) (one : Open) : Type 0 where
 
 pub awaits_parts : (client file : ℕ) (own : Option Key) (file_id : ℕ) (one : Open) → awaits client file own file_id one ≡ true
     → IsAwaiting client file file_id one
-unfolding awaits
 awaits_parts client file None file_id one e = absurd (true≢false (sym e))
 awaits_parts client file (Some key) file_id one e =
     let a = and_parts _ _ e in

@@ -50,7 +50,6 @@ where_other server own file test lowering other want a =
 -- a conflicting create wants other keys
 handles_other : (server : Server) (own : Option Key) (file : ℕ) (access : Access) (share : Share)
     → AreOtherKeys server own file (handle_wants server own file access share)
-unfolding handle_wants
 handles_other server own file access share = where_other server own file
     (λ one. conflicts_on file access share one && is_other_on own file one && (lease_of server one).state.handle) without_handle
     (λ one t. (and_parts (conflicts_on file access share one) (is_other_on own file one)
@@ -58,14 +57,12 @@ handles_other server own file access share = where_other server own file
 
 -- a create wants other keys
 writes_other : (server : Server) (own : Option Key) (file : ℕ) → AreOtherKeys server own file (write_wants server own file)
-unfolding write_wants
 writes_other server own file = where_other server own file
     (λ one. is_other_on own file one && (lease_of server one).state.write) without_write
     (λ one t. (and_parts (is_other_on own file one) (lease_of server one).state.write t).0)
 
 -- a write wants other keys
 all_other : (server : Server) (own : Option Key) (file : ℕ) → AreOtherKeys server own file (all_wants server own file)
-unfolding all_wants
 all_other server own file = where_other server own file
     (λ one. is_other_on own file one && holds_any (lease_of server one).state) (λ state. nothing_cached)
     (λ one t. (and_parts (is_other_on own file one) (holds_any (lease_of server one).state) t).0)
@@ -113,7 +110,6 @@ WantsOther server own file (Finding.Needs wants) = AreOtherKeys server own file 
 -- what a create finds
 create_other : (server : Server) (own : Option Key) (file : ℕ) (access : Access) (share : Share)
     → WantsOther server own file (create_finding server own file access share)
-unfolding create_finding
 create_other server own file access share = if_cases (WantsOther server own file) (is_leased_elsewhere server own file) _ _
     (λ e. tt)
     (λ e. if_cases (WantsOther server own file) (list_any (conflicts_on file access share) server.opens) _ _
@@ -124,7 +120,6 @@ create_other server own file access share = if_cases (WantsOther server own file
 -- what a reconnect finds
 reconnect_other : (server : Server) (client file : ℕ) (own : Option Key) (file_id : ℕ)
     → WantsOther server own file (reconnect_finding server client file own file_id)
-unfolding reconnect_finding
 reconnect_other server client file own file_id = grind arith
 
 -- what a create finds, with a reconnect or without
@@ -137,7 +132,6 @@ asked_other server client file access share lease (Some file_id) = reconnect_oth
 -- what a write finds
 write_other : (server : Server) (one : Open) (patch : Patch)
     → WantsOther server (key_of_open one) one.file (write_finding server one patch)
-unfolding write_finding
 write_other server one patch = if_cases (WantsOther server (key_of_open one) one.file) (may_write one.access) _ _
     (λ e. if_cases (WantsOther server (key_of_open one) one.file) (is_within_limit patch) _ _
     (λ i. all_other server (key_of_open one) one.file) (λ i. tt))
@@ -160,7 +154,7 @@ create_waits : (client file : ℕ) (access : Access) (share : Share) (contexts :
     → finding progress.server client (FileRequest.Create file access share contexts) ≡ Finding.Needs wants
     → must_wait (FileRequest.Create file access share contexts) (wants_met wants progress) wants ≡ true
     → HasToWait (wants_met wants progress).server client (FileRequest.Create file access share contexts)
-unfolding finding waits_for
+unfolding finding
 create_waits client file access share None progress wants s next never wait = absurd (cc)
 create_waits client file access share (Some ask) progress wants s next found wait =
     wait_blocked (λ lease. is_breaking lease) (own_key client ask.lease) file wants progress (λ lease b. b) s next
@@ -177,7 +171,6 @@ write_waits_at : (client file_id number : ℕ) (patch : Patch) (progress : Progr
     → by_open one (λ x. write_finding progress.server x patch) ≡ Finding.Needs wants
     → must_wait (FileRequest.Write file_id number patch) (wants_met wants progress) wants ≡ true
     → IsOpenBlocked (wants_met wants progress).server client file_id
-unfolding waits_for
 write_waits_at client file_id number patch progress wants None s next is_open never wait = absurd (cc)
 write_waits_at client file_id number patch progress wants (Some one) s next is_open found wait = record {
   one = one;

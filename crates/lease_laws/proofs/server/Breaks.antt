@@ -132,7 +132,6 @@ left_present key progress one a k = not_false one.connected (λ d.
 -- to meet a want keeps the laws, on the way by breaks alone
 pub want_met-along : (base : Server) (want : Want) (progress : Progress) → IsAlong base progress
     → Fits base want → IsAlong base (want_met want progress)
-unfolding want_met
 want_met-along base want progress i fits = lease_broken-along base want (opens_dropped (is_left_open want.key) progress) (record {
   sound = opens_dropped-sound (is_left_open want.key) progress i.sound;
   under = opens_dropped-under base (is_left_open want.key) progress i.under;

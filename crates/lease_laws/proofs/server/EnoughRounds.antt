@@ -233,7 +233,6 @@ lease_broken_met holds key lowered progress low =
 -- one want
 want_met_met : (holds : State → Bool) (want : Want) (progress : Progress) → holds nothing_cached ≡ false
     → holds want.lowered ≡ false → IsBroken holds want.key progress.server (want_met want progress).server
-unfolding want_met
 want_met_met holds want progress nothing low =
     let dropped : Progress = opens_dropped (is_left_open want.key) progress in
     let broken : IsBroken holds want.key dropped.server (lease_broken want.key want.lowered dropped).server =

@@ -88,7 +88,6 @@ ends_wants rounds client request progress wants e next = grind arith
 
 -- where nothing is wanted each request is ready
 nothing_ready : (request : FileRequest) (leases : Key → Lease) → is_ready request leases [] ≡ true
-unfolding is_ready
 nothing_ready x1 leases = grind arith
 
 -- a look wants nothing
@@ -117,7 +116,6 @@ create file access share lease durable = FileRequest.Create file access share
 create_goes_on : (file : ℕ) (access : Access) (share : Share) (lease : Option LeaseOf) (durable : Bool)
     (wants : List Want) (progress : Progress) → must_wait (create file access share lease durable) progress wants ≡ false
     → NoneIs (λ lease. is_breaking lease) progress.server wants
-unfolding waits_for
 create_goes_on file access share lease durable wants progress e = e
 
 -- the file is there, and the key has no lease on another
@@ -136,7 +134,6 @@ fewer_none test before after was none = not_true (list_any test after.opens) (λ
 home_after : (own : Option Key) (file : ℕ) (before after : Server)
     → ((one : Open) → Among one after.opens → Among one before.opens)
     → is_leased_elsewhere before own file ≡ false → is_leased_elsewhere after own file ≡ false
-unfolding is_leased_elsewhere
 home_after None file before after was home = refl
 home_after (Some key) file before after was home = fewer_none _ before after was home
 
@@ -159,7 +156,7 @@ finds_nowhere client file access share lease durable server e = rw e refl
 finds_elsewhere : (client file : ℕ) (access : Access) (share : Share) (lease : Option LeaseOf) (durable : Bool) (server : Server)
     → has_file server file ≡ true → is_leased_elsewhere server (own_key client lease) file ≡ true
     → finding server client (create file access share lease durable) ≡ Finding.Fails Status.InvalidParameter
-unfolding finding create_finding
+unfolding finding
 finds_elsewhere client file access share lease durable server e h = rw (e, h) refl
 
 -- no conflict: it wants writes given up
@@ -167,7 +164,7 @@ finds_writes : (client file : ℕ) (access : Access) (share : Share) (lease : Op
     → IsAt (own_key client lease) file server → list_any (conflicts_on file access share) server.opens ≡ false
     → finding server client (create file access share lease durable)
     ≡ Finding.Needs (write_wants server (own_key client lease) file)
-unfolding finding create_finding
+unfolding finding
 finds_writes client file access share lease durable server at calm = rw (at.there, at.home, calm) refl
 
 -- a conflict, and no handle to be given up: it is refused
@@ -175,7 +172,7 @@ finds_violation : (client file : ℕ) (access : Access) (share : Share) (lease :
     → IsAt (own_key client lease) file server → list_any (conflicts_on file access share) server.opens ≡ true
     → is_empty (handle_wants server (own_key client lease) file access share) ≡ true
     → finding server client (create file access share lease durable) ≡ Finding.Fails Status.SharingViolation
-unfolding finding create_finding
+unfolding finding
 finds_violation client file access share lease durable server at clash none = rw (at.there, at.home, clash, none) refl
 
 -- a conflict, and handles to be given up
@@ -184,7 +181,7 @@ finds_handles : (client file : ℕ) (access : Access) (share : Share) (lease : O
     → is_empty (handle_wants server (own_key client lease) file access share) ≡ false
     → finding server client (create file access share lease durable)
     ≡ Finding.Needs (handle_wants server (own_key client lease) file access share)
-unfolding finding create_finding
+unfolding finding
 finds_handles client file access share lease durable server at clash some = rw (at.there, at.home, clash, some) refl
 
 -- which leases a create without conflicts, and one with, wants lowered
@@ -205,7 +202,6 @@ last_round : (rounds client file : ℕ) (access : Access) (share : Share) (lease
     → list_any (conflicts_on file access share) progress.server.opens ≡ false → ((one : Open) → Among one progress.server.opens
     → is_wanted writes (is_other_on (own_key client lease) file) progress.server one ≡ false)
     → Ends (suc rounds) client (create file access share lease durable) progress
-unfolding write_wants
 last_round rounds client file access share lease durable progress at calm none =
     ends_ready rounds client (create file access share lease durable) progress
     (finds_writes client file access share lease durable progress.server at calm ∙ ap (λ (w : List Want). Finding.Needs w)
@@ -216,7 +212,6 @@ write_round : (rounds client file : ℕ) (access : Access) (share : Share) (leas
     (progress : Progress) → IsAt (own_key client lease) file progress.server
     → list_any (conflicts_on file access share) progress.server.opens ≡ false
     → Ends (suc (suc rounds)) client (create file access share lease durable) progress
-unfolding write_wants
 write_round rounds client file access share lease durable progress at calm =
     let own : Option Key = own_key client lease in
     let next : Progress = wants_met (write_wants progress.server own file) progress in
@@ -235,7 +230,6 @@ handles_gone : (client file : ℕ) (access : Access) (share : Share) (lease : Op
     → IsAt (own_key client lease) file progress.server → ((one : Open) → Among one progress.server.opens
     → is_wanted handles (in_conflict (own_key client lease) file access share) progress.server one ≡ false)
     → Ends 2 client (create file access share lease durable) progress
-unfolding handle_wants
 handles_gone client file access share lease durable progress at none =
     either (list_any (conflicts_on file access share) progress.server.opens)
     (λ clash. ends_refused 1 client (create file access share lease durable) progress Status.SharingViolation
@@ -248,7 +242,6 @@ handle_round : (client file : ℕ) (access : Access) (share : Share) (lease : Op
     → IsAt (own_key client lease) file progress.server → list_any (conflicts_on file access share) progress.server.opens ≡ true
     → is_empty (handle_wants progress.server (own_key client lease) file access share) ≡ false
     → Ends 3 client (create file access share lease durable) progress
-unfolding handle_wants
 handle_round client file access share lease durable progress at clash some =
     let own : Option Key = own_key client lease in
     let next : Progress = wants_met (handle_wants progress.server own file access share) progress in
@@ -297,7 +290,6 @@ plain_ends client request progress (Finding.Needs wants) e plain =
 -- a reconnect wants nothing
 reconnect_plain : (server : Server) (client file : ℕ) (own : Option Key) (file_id : ℕ)
     → IsPlain (reconnect_finding server client file own file_id)
-unfolding reconnect_finding
 reconnect_plain server client file own file_id = grind arith
 
 -- also where its file is looked for
@@ -329,14 +321,14 @@ contexts_end client file access share (Some ask) progress =
 finds_all : (client file_id number : ℕ) (patch : Patch) (server : Server) (one : Open)
     → connected_open server client file_id ≡ Some one → may_write one.access ≡ true → is_within_limit patch ≡ true
     → finding server client (FileRequest.Write file_id number patch) ≡ Finding.Needs (all_wants server (key_of_open one) one.file)
-unfolding finding write_finding
+unfolding finding
 finds_all client file_id number patch server one e may fits = grind arith
 
 -- a write without access, or too long, is refused
 finds_refused : (client file_id number : ℕ) (patch : Patch) (server : Server) (one : Open)
     → connected_open server client file_id ≡ Some one → (may_write one.access && is_within_limit patch) ≡ false
     → IsPlain (finding server client (FileRequest.Write file_id number patch))
-unfolding finding write_finding
+unfolding finding
 finds_refused client file_id number patch server one e refused = grind arith
 
 -- a write by an open that is gone is refused
@@ -349,20 +341,17 @@ finds_closed client file_id number patch server e = ap (λ (o : Option Open). by
 write_goes_on : (file_id number : ℕ) (patch : Patch) (wants : List Want) (progress : Progress)
     → must_wait (FileRequest.Write file_id number patch) progress wants ≡ false
     → NoneIs (λ lease. breaks_to_some lease) progress.server wants
-unfolding waits_for
 write_goes_on file_id number patch wants progress e = e
 
 -- a write is ready where all that it wants is breaking to nothing
 write_is_ready : (file_id number : ℕ) (patch : Patch) (server : Server) (wants : List Want)
     → AllBreakToNone server wants → is_ready (FileRequest.Write file_id number patch) server.leases wants ≡ true
-unfolding is_ready
 write_is_ready file_id number patch server wants e = e
 
 -- a write that others cache against is ready after one round
 all_round : (client file_id number : ℕ) (patch : Patch) (progress : Progress) (one : Open)
     → connected_open progress.server client file_id ≡ Some one → may_write one.access ≡ true → is_within_limit patch ≡ true
     → Ends 3 client (FileRequest.Write file_id number patch) progress
-unfolding all_wants
 all_round client file_id number patch progress one e may fits =
     let others : Open → Bool = is_other_on (key_of_open one) one.file in
     let wants : List Want = all_wants progress.server (key_of_open one) one.file in

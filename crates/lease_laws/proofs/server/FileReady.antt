@@ -31,13 +31,11 @@ FileReady server client request = Unit {0}
 -- an open that waits for its client is its own
 pub awaits_own : (client file : ℕ) (own : Option Key) (file_id : ℕ) (one : Open) → awaits client file own file_id one ≡ true
     → (one.file_id ≡ file_id) × (one.client ≡ client)
-unfolding awaits
 awaits_own client file x3 file_id one e = grind arith
 
 -- a reconnect that is ready finds its open
 reconnect_awaited : (server : Server) (client file : ℕ) (own : Option Key) (file_id : ℕ) (wants : List Want)
     → reconnect_finding server client file own file_id ≡ Finding.Needs wants → IsAwaited server client file_id
-unfolding reconnect_finding
 reconnect_awaited server client file own file_id wants =
     if_cases (λ found. found ≡ Finding.Needs wants → IsAwaited server client file_id)
     (list_any (awaits client file own file_id) server.opens) (Finding.Needs []) (Finding.Fails Status.ObjectNameNotFound)

@@ -20,7 +20,6 @@ dropped-opens test progress = refl
 -- the opens that are left once a want is met
 want_met-opens : (want : Want) (progress : Progress)
     → (want_met want progress).server.opens ≡ filter (λ one. not (is_left_open want.key one)) progress.server.opens
-unfolding want_met
 want_met-opens want progress = lease_broken-opens want.key want.lowered (opens_dropped (is_left_open want.key) progress)
     ∙ dropped-opens (is_left_open want.key) progress
 

@@ -92,7 +92,7 @@ to_none x1 e = grind arith
 -- where all that a write wants is breaking to nothing, each other key on its file is given up
 all_wants-given : (server : Server) (one : Open)
     → AllBreakToNone server (all_wants server (key_of_open one) one.file) → CachesAlone server one
-unfolding all_wants is_other_on
+unfolding is_other_on
 all_wants-given server one ready key other a f strange k =
     let test : Open → Bool = λ x. is_other_on (key_of_open one) one.file x && holds_any (lease_of server x).state in
     either (holds_any (server.leases key).state)
@@ -113,7 +113,6 @@ AloneWhenReady server one (Finding.Needs wants) = AllBreakToNone server wants �
 -- a write that finds such is alone
 pub write_finding-alone : (server : Server) (one : Open) (patch : Patch)
     → AloneWhenReady server one (write_finding server one patch)
-unfolding write_finding
 write_finding-alone server one patch = if_cases (AloneWhenReady server one) (may_write one.access) _ _
     (λ e. if_cases (AloneWhenReady server one) (is_within_limit patch) _ _
     (λ i. all_wants-given server one) (λ i. tt))
@@ -127,7 +126,6 @@ found_alone server one found wants alone e none = (subst (AloneWhenReady server 
 -- a write is ready only where all that it wants is breaking to nothing
 pub write_ready-given : (file_id number : ℕ) (patch : Patch) (server : Server) (wants : List Want)
     → is_ready (FileRequest.Write file_id number patch) server.leases wants ≡ true → AllBreakToNone server wants
-unfolding is_ready
 write_ready-given file_id number patch server wants e = e
 
 -- what a write finds, by its open

@@ -18,7 +18,6 @@ same_file one file e = (Decides-eqb one.file file).1 e
 -- the key has no open elsewhere
 home_at : (server : Server) (own : Option Key) (file : ℕ) → is_leased_elsewhere server own file ≡ false
     → (one : Open) → Among one server.opens → has_own_key own one ≡ true → one.file ≡ file
-unfolding is_leased_elsewhere
 home_at server None file e one a k = absurd (true≢false (sym k))
 home_at server (Some key) file e one a k = (Decides-eqb one.file file).0 (not_false (one.file == file) (λ d.
     clash (has_key key one && not (one.file == file)) (and_both (has_key key one) (not (one.file == file)) k (ap not d))
@@ -38,7 +37,7 @@ peaceful_at server file access share e one a f = not_true (conflict access share
 unwritten_at : (server : Server) (own : Option Key) (file : ℕ) → is_empty (write_wants server own file) ≡ true
     → (key : Key) (one : Open) → Among one server.opens → one.file ≡ file → has_own_key own one ≡ false
     → has_key key one ≡ true → (server.leases key).state.write ≡ false
-unfolding write_wants is_other_on
+unfolding is_other_on
 unwritten_at server own file none key one a f other k = not_true (server.leases key).state.write (λ w.
     clash (is_other_on own file one && (lease_of server one).state.write)
     (and_both (is_other_on own file one) (lease_of server one).state.write
@@ -55,7 +54,6 @@ FreeWhenEmpty server own file access share (Finding.Needs wants) =
 -- a create that wants nothing is free
 create_finding-free : (server : Server) (own : Option Key) (file : ℕ) (access : Access) (share : Share)
     → FreeWhenEmpty server own file access share (create_finding server own file access share)
-unfolding create_finding
 create_finding-free server own file access share =
     if_cases (FreeWhenEmpty server own file access share) (is_leased_elsewhere server own file) _ _
     (λ e. tt)
@@ -118,7 +116,6 @@ contexts_free server client file access share (Some ask) wants e none = if_cases
 pub create_ready-empty : (file : ℕ) (access : Access) (share : Share) (contexts : Option CreateAsk)
     (leases : Key → Lease) (wants : List Want)
     → is_ready (FileRequest.Create file access share contexts) leases wants ≡ true → is_empty wants ≡ true
-unfolding is_ready
 create_ready-empty file access share contexts leases wants e = e
 
 -- what is known of a request once it is ready

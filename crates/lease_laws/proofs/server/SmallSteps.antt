@@ -124,7 +124,7 @@ broken-lowers key lowered progress want other lowers =
 -- one want
 want_met-steps : (call : Call) (want : Want) (progress : Progress) → Lowers progress.server want
     → GoesBySteps call 0 progress (want_met want progress)
-unfolding want_met lease_broken
+unfolding lease_broken
 want_met-steps call want progress lowers =
     let dropped = opens_dropped (is_left_open want.key) progress in
     steps_then call 0 0 progress dropped (lease_broken want.key want.lowered dropped)
@@ -148,7 +148,6 @@ want_met-steps call want progress lowers =
 -- it leaves the others to be met
 want_met-lowers : (first other : Want) (progress : Progress) → key_eq other.key first.key ≡ false
     → Lowers progress.server other → Lowers (want_met first progress).server other
-unfolding want_met
 want_met-lowers first other progress apart lowers = broken-lowers first.key first.lowered
     (opens_dropped (is_left_open first.key) progress) other apart (dropped-lowers (is_left_open first.key) progress other lowers)
 
@@ -176,7 +175,6 @@ IsOrdered (Finding.Needs wants) = AreInKeyOrder wants
 -- what a create finds
 create-ordered : (server : Server) (own : Option Key) (file : ℕ) (access : Access) (share : Share)
     → IsOrdered (create_finding server own file access share)
-unfolding create_finding handle_wants write_wants
 create-ordered server own file access share = if_cases IsOrdered (is_leased_elsewhere server own file) _ _ (λ e. tt)
     (λ e. if_cases IsOrdered (list_any (conflicts_on file access share) server.opens) _ _
     (λ c. if_cases IsOrdered (is_empty (handle_wants server own file access share)) _ _
@@ -186,7 +184,6 @@ create-ordered server own file access share = if_cases IsOrdered (is_leased_else
 -- with a reconnect or without
 asked-ordered : (server : Server) (client file : ℕ) (access : Access) (share : Share) (lease : Option LeaseOf)
     (again : Option ℕ) → IsOrdered (asked_finding server client file access share lease again)
-unfolding reconnect_finding
 asked-ordered server client file access share lease None = create-ordered server (own_key client lease) file access share
 asked-ordered server client file access share lease (Some file_id) =
     if_cases IsOrdered (list_any (awaits client file (own_key client lease) file_id) server.opens)
@@ -209,7 +206,6 @@ by_open-ordered x1 found each = grind arith
 
 -- a write
 write-ordered : (server : Server) (patch : Patch) (one : Open) → IsOrdered (write_finding server one patch)
-unfolding write_finding all_wants
 write-ordered server patch one = if_cases IsOrdered (may_write one.access) _ _
     (λ e. if_cases IsOrdered (is_within_limit patch) _ _
     (λ i. (wants_where-exact server _ _).in_order) (λ i. tt)) (λ e. tt)
@@ -268,7 +264,7 @@ tried-steps call client request progress s = tried_for-steps call 3 client reque
 -- a refused request
 finding-refuses : (server : Server) (client : ℕ) (request : FileRequest) (status : Status)
     → finding server client request ≡ Finding.Fails status → MayRefuse server client request status
-unfolding finding write_finding
+unfolding finding
 finding-refuses server client x3 status same = grind arith
 
 -- a request by an open that is found
@@ -280,7 +276,6 @@ open_by server client file_id found may wants each x8 e same = grind arith
 -- a reconnect finds its open
 reconnect_at : (server : Server) (client file : ℕ) (own : Option Key) (file_id : ℕ) (wants : List Want)
     → reconnect_finding server client file own file_id ≡ Finding.Needs wants → IsAwaitedAt server client file own file_id
-unfolding reconnect_finding
 reconnect_at server client file own file_id wants =
     if_cases (λ found. found ≡ Finding.Needs wants → IsAwaitedAt server client file own file_id)
     (list_any (awaits client file own file_id) server.opens) (Finding.Needs []) (Finding.Fails Status.ObjectNameNotFound)
@@ -312,7 +307,6 @@ create_may server client file access share ask wants same none = if_cases (λ fo
 -- a write that finds all other keys given up may change the file
 write_allowed : (server : Server) (patch : Patch) (one : Open) (wants : List Want) → CachesAlone server one
     → write_finding server one patch ≡ Finding.Needs wants → MayChange server patch one
-unfolding write_finding
 write_allowed server patch one wants alone = grind arith
 
 -- so does one that is ready

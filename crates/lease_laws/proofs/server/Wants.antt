@@ -128,7 +128,6 @@ wants_where-fit server test lowering s good want a =
 -- a conflicting create's wants fit
 pub handle_wants-fit : (server : Server) (own : Option Key) (file : ℕ) (access : Access) (share : Share)
     → IsSound server → AllFit server (handle_wants server own file access share)
-unfolding handle_wants
 handle_wants-fit server own file access share s = wants_where-fit server
     (λ one. conflicts_on file access share one && is_other_on own file one && (lease_of server one).state.handle) without_handle s
     (λ one t form. let holds = (and_parts (conflicts_on file access share one && is_other_on own file one)
@@ -140,7 +139,6 @@ handle_wants-fit server own file access share s = wants_where-fit server
 -- a create's wants fit
 pub write_wants-fit : (server : Server) (own : Option Key) (file : ℕ) → IsSound server
     → AllFit server (write_wants server own file)
-unfolding write_wants
 write_wants-fit server own file s = wants_where-fit server
     (λ one. is_other_on own file one && (lease_of server one).state.write) without_write s
     (λ one t form. let holds = (and_parts (is_other_on own file one) (lease_of server one).state.write t).1 in (
@@ -150,7 +148,6 @@ write_wants-fit server own file s = wants_where-fit server
 
 -- a write's wants fit
 pub all_wants-fit : (server : Server) (own : Option Key) (file : ℕ) → IsSound server → AllFit server (all_wants server own file)
-unfolding all_wants
 all_wants-fit server own file s = wants_where-fit server
     (λ one. is_other_on own file one && holds_any (lease_of server one).state) (λ state. nothing_cached) s
     (λ one t form. let holds = (and_parts (is_other_on own file one) (holds_any (lease_of server one).state) t).1 in (
@@ -166,7 +163,6 @@ FindingFits server (Finding.Needs wants) = AllFit server wants
 -- what a create finds fits
 pub create_finding-fits : (server : Server) (own : Option Key) (file : ℕ) (access : Access) (share : Share)
     → IsSound server → FindingFits server (create_finding server own file access share)
-unfolding create_finding
 create_finding-fits server own file access share s = if_cases (FindingFits server) (is_leased_elsewhere server own file) _ _
     (λ e. tt)
     (λ e. if_cases (FindingFits server) (list_any (conflicts_on file access share) server.opens) _ _
@@ -177,13 +173,11 @@ create_finding-fits server own file access share s = if_cases (FindingFits serve
 -- what a reconnect finds fits
 pub reconnect_finding-fits : (server : Server) (client file : ℕ) (own : Option Key) (file_id : ℕ)
     → FindingFits server (reconnect_finding server client file own file_id)
-unfolding reconnect_finding
 reconnect_finding-fits server client file own file_id = grind arith
 
 -- what a write finds fits
 pub write_finding-fits : (server : Server) (one : Open) (patch : Patch) → IsSound server
     → FindingFits server (write_finding server one patch)
-unfolding write_finding
 write_finding-fits server one patch s = if_cases (FindingFits server) (may_write one.access) _ _
     (λ e. if_cases (FindingFits server) (is_within_limit patch) _ _
     (λ i. all_wants-fit server (key_of_open one) one.file s) (λ i. tt))

@@ -27,7 +27,7 @@ lease_broken key lowered progress =
 
 -- One want is met as far as it can be at once: the key's disconnected opens are closed (profile), and
 -- its lease, if any is left, is broken.
-unfoldable pub want_met : Want → Progress → Progress
+abbrev pub want_met : Want → Progress → Progress
 want_met want progress = lease_broken want.key want.lowered (opens_dropped (is_left_open want.key) progress)
 
 unfoldable pub wants_met : List Want → Progress → Progress

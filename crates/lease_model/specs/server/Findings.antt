@@ -20,13 +20,13 @@ pub data Finding : Type 0 where
   Needs : (wants : List Want) → Finding
 
 -- the key has a lease, and on another file (MS-SMB2 3.3.5.9.8)
-unfoldable pub is_leased_elsewhere : Server → Option Key → ℕ → Bool
+abbrev pub is_leased_elsewhere : Server → Option Key → ℕ → Bool
 is_leased_elsewhere server None file = false
 is_leased_elsewhere server (Some key) file =
     list_any (λ one. has_key key one && not (one.file == file)) server.opens
 
 -- A create without a reconnect: first the key's file, then conflicts, then cached writes.
-unfoldable pub create_finding : Server → Option Key → ℕ → Access → Share → Finding
+abbrev pub create_finding : Server → Option Key → ℕ → Access → Share → Finding
 create_finding server own file access share =
     if is_leased_elsewhere server own file then Finding.Fails Status.InvalidParameter
     else (if list_any (conflicts_on file access share) server.opens
@@ -37,13 +37,13 @@ create_finding server own file access share =
 
 -- A durable open that waits for its client (3.3.5.9.7): not connected, of this client, on this
 -- file, under this key.
-unfoldable pub awaits : ℕ → ℕ → Option Key → ℕ → Open → Bool
+abbrev pub awaits : ℕ → ℕ → Option Key → ℕ → Open → Bool
 awaits client file None file_id one = false
 awaits client file (Some key) file_id one =
     one.file_id == file_id && not one.connected && one.client == client && one.file == file && has_key key one
 
 -- a reconnect fails in one way whatever is wrong (profile)
-unfoldable pub reconnect_finding : Server → ℕ → ℕ → Option Key → ℕ → Finding
+abbrev pub reconnect_finding : Server → ℕ → ℕ → Option Key → ℕ → Finding
 reconnect_finding server client file own file_id =
     if list_any (awaits client file own file_id) server.opens
     then Finding.Needs []
@@ -55,7 +55,7 @@ connected_open server client file_id =
     find (λ one. one.file_id == file_id && one.client == client && one.connected) server.opens
 
 -- a write: its access, its end, then the other keys
-unfoldable pub write_finding : Server → Open → Patch → Finding
+abbrev pub write_finding : Server → Open → Patch → Finding
 write_finding server one patch =
     if may_write one.access
     then (if is_within_limit patch

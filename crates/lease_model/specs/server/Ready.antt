@@ -27,13 +27,13 @@ breaks_to_none lease = leaves_nothing lease.broken_to
 
 -- A write goes on where each lease that it wants broken is breaking to nothing. Any other request is
 -- ready where nothing is left that it wants.
-unfoldable pub is_ready : FileRequest → (Key → Lease) → List Want → Bool
+abbrev pub is_ready : FileRequest → (Key → Lease) → List Want → Bool
 is_ready (FileRequest.Write file_id number patch) leases wants =
     list_all (λ want. breaks_to_none (leases want.key)) wants
 is_ready request leases wants = is_empty wants
 
 -- A write waits for a lease that it wants broken as long as that is breaking to something. Any other
 -- request waits for one that is breaking.
-unfoldable pub waits_for : FileRequest → Lease → Bool
+abbrev pub waits_for : FileRequest → Lease → Bool
 waits_for (FileRequest.Write file_id number patch) lease = breaks_to_some lease
 waits_for request lease = is_breaking lease

@@ -23,19 +23,19 @@ wants_where server test lowering =
 
 -- A create that conflicts with opens wants their leases to give up handles (own in that only other
 -- keys are wanted).
-unfoldable pub handle_wants : Server → Option Key → ℕ → Access → Share → List Want
+abbrev pub handle_wants : Server → Option Key → ℕ → Access → Share → List Want
 handle_wants server own file access share = wants_where server
     (λ one. conflicts_on file access share one && is_other_on own file one && (lease_of server one).state.handle)
     without_handle
 
 -- A create that conflicts with none wants no other key on its file to cache writes (profile).
-unfoldable pub write_wants : Server → Option Key → ℕ → List Want
+abbrev pub write_wants : Server → Option Key → ℕ → List Want
 write_wants server own file = wants_where server
     (λ one. is_other_on own file one && (lease_of server one).state.write)
     without_write
 
 -- A write wants no other key on its file to cache anything (profile).
-unfoldable pub all_wants : Server → Option Key → ℕ → List Want
+abbrev pub all_wants : Server → Option Key → ℕ → List Want
 all_wants server own file = wants_where server
     (λ one. is_other_on own file one && holds_any (lease_of server one).state)
     (λ state. nothing_cached)

@@ -50,7 +50,7 @@ impl Tables {
     }
 
     /// Whether the key has a lease, and on another file.
-    #[tactic(auto, unfolding(lease_model::specs::server::Findings::is_leased_elsewhere))]
+    #[tactic(auto)]
     pub fn is_leased_elsewhere(&self, own: Option<Key>, file: FileNo) -> bool
         ensures { result ≡ findings.is_leased_elsewhere (server_of self.now) own file.0 }
     {
