@@ -43,7 +43,7 @@ pub fn receive(tables: &mut Tables, client: ClientNo, request: Request) -> Resul
 }
 
 /// A client's connection is lost.
-#[tactic(auto, unfolding(lease_model::specs::server::Calls::cut))]
+#[tactic(auto)]
 pub fn cut(tables: &mut Tables, client: ClientNo) -> Result<Outs, Memory>
     ensures step { IfOk result (λ outs. progress_of tables.new outs ≡ rules.cut (server_of tables.old) client.0) }
     ensures idle { (server_of tables.old).present client.0 ≡ false → IsOk result }

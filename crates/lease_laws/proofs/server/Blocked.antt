@@ -15,6 +15,7 @@ use Rattle.lease_laws.proofs.server.Lists.{if_cases, clash, and_parts, not_parts
 use Rattle.lease_laws.proofs.server.Lists.{among_filter}
 use Rattle.lease_laws.proofs.server.Met.{wants_met-were, wants_met-found}
 use Rattle.lease_laws.proofs.server.Wants.{keys_of-has}
+use Rattle.lease_laws.proofs.server.cases.Findings.{any_needs}
 
 -- a key of an open on the file that isn't the one
 pub record IsOtherKey (server : Server) (own : Option Key) (file : ℕ) (key : Key) : Type 0 where
@@ -102,142 +103,30 @@ wait_blocked test own file wants progress only s next other wait =
       is_other = other_alike own (x.0).key was.one y.0 was.has_the_key y.2 was.is_other;
     }
 
--- what is wanted is of other keys
-abbrev WantsOther : Server → Option Key → ℕ → Finding → Type 0
-WantsOther server own file (Finding.Fails status) = Unit {0}
-WantsOther server own file (Finding.Needs wants) = AreOtherKeys server own file wants
-
--- what a create finds
-create_other : (server : Server) (own : Option Key) (file : ℕ) (access : Access) (share : Share)
-    → WantsOther server own file (create_finding server own file access share)
-create_other server own file access share = if_cases (WantsOther server own file) (is_leased_elsewhere server own file) _ _
-    (λ e. tt)
-    (λ e. if_cases (WantsOther server own file) (list_any (conflicts_on file access share) server.opens) _ _
-    (λ c. if_cases (WantsOther server own file) (is_empty (handle_wants server own file access share)) _ _
-    (λ n. tt) (λ n. handles_other server own file access share))
-    (λ c. writes_other server own file))
-
--- what a reconnect finds
-reconnect_other : (server : Server) (client file : ℕ) (own : Option Key) (file_id : ℕ)
-    → WantsOther server own file (reconnect_finding server client file own file_id)
-reconnect_other server client file own file_id = grind arith
-
--- what a create finds, with a reconnect or without
-asked_other : (server : Server) (client file : ℕ) (access : Access) (share : Share) (lease : Option LeaseOf) (again : Option ℕ)
-    → WantsOther server (own_key client lease) file (asked_finding server client file access share lease again)
-asked_other server client file access share lease None = create_other server (own_key client lease) file access share
-asked_other server client file access share lease (Some file_id) = reconnect_other server client file
-    (own_key client lease) file_id
-
--- what a write finds
-write_other : (server : Server) (one : Open) (patch : Patch)
-    → WantsOther server (key_of_open one) one.file (write_finding server one patch)
-write_other server one patch = if_cases (WantsOther server (key_of_open one) one.file) (may_write one.access) _ _
-    (λ e. if_cases (WantsOther server (key_of_open one) one.file) (is_within_limit patch) _ _
-    (λ i. all_other server (key_of_open one) one.file) (λ i. tt))
-    (λ e. tt)
-
--- what is found wants other keys
-found_other : (server : Server) (own : Option Key) (file : ℕ) (found : Finding) (wants : List Want)
-    → WantsOther server own file found → found ≡ Finding.Needs wants → AreOtherKeys server own file wants
-found_other server own file found wants other e = subst (WantsOther server own file) e other
-
--- nothing wanted is nothing to wait for
-nobody_waits : {X : Type 0} (request : FileRequest) (wants : List Want) (progress : Progress) → [] ≡ wants
-    → must_wait request (wants_met wants progress) wants ≡ true → X
-nobody_waits request wants progress e wait = absurd
-    (true≢false (sym (subst (λ x. must_wait request (wants_met x progress) x ≡ true) (sym e) wait)))
-
--- a create that has to wait is blocked
-create_waits : (client file : ℕ) (access : Access) (share : Share) (contexts : Option CreateAsk)
-    (progress : Progress) (wants : List Want) → IsSound progress.server → IsSound (wants_met wants progress).server
-    → finding progress.server client (FileRequest.Create file access share contexts) ≡ Finding.Needs wants
-    → must_wait (FileRequest.Create file access share contexts) (wants_met wants progress) wants ≡ true
-    → HasToWait (wants_met wants progress).server client (FileRequest.Create file access share contexts)
-unfolding finding
-create_waits client file access share None progress wants s next never wait = absurd (cc)
-create_waits client file access share (Some ask) progress wants s next found wait =
-    wait_blocked (λ lease. is_breaking lease) (own_key client ask.lease) file wants progress (λ lease b. b) s next
-    (found_other progress.server (own_key client ask.lease) file
-    (if has_file progress.server file then asked_finding progress.server client file access share ask.lease ask.reconnect
-    else Finding.Fails Status.ObjectNameNotFound) wants
-    (if_cases (WantsOther progress.server (own_key client ask.lease) file) (has_file progress.server file)
-    (asked_finding progress.server client file access share ask.lease ask.reconnect) (Finding.Fails Status.ObjectNameNotFound)
-    (λ e. asked_other progress.server client file access share ask.lease ask.reconnect) (λ e. tt)) found) wait
-
--- a write by this open that has to wait is blocked
-write_waits_at : (client file_id number : ℕ) (patch : Patch) (progress : Progress) (wants : List Want) (one : Option Open)
-    → IsSound progress.server → IsSound (wants_met wants progress).server → connected_open progress.server client file_id ≡ one
-    → by_open one (λ x. write_finding progress.server x patch) ≡ Finding.Needs wants
-    → must_wait (FileRequest.Write file_id number patch) (wants_met wants progress) wants ≡ true
-    → IsOpenBlocked (wants_met wants progress).server client file_id
-write_waits_at client file_id number patch progress wants None s next is_open never wait = absurd (cc)
-write_waits_at client file_id number patch progress wants (Some one) s next is_open found wait = record {
-  one = one;
-  is_open = wants_met-found wants progress client file_id ∙ is_open;
-  is_blocked = wait_blocked (λ lease. breaks_to_some lease) (key_of_open one) one.file wants progress
-      (λ lease. some_breaks lease.broken_to) s next
-      (found_other progress.server (key_of_open one) one.file (write_finding progress.server one patch) wants
-      (write_other progress.server one patch) found) wait;
-}
-
--- a write that has to wait is blocked
-write_waits : (client file_id number : ℕ) (patch : Patch) (progress : Progress) (wants : List Want)
-    → IsSound progress.server → IsSound (wants_met wants progress).server
-    → finding progress.server client (FileRequest.Write file_id number patch) ≡ Finding.Needs wants
-    → must_wait (FileRequest.Write file_id number patch) (wants_met wants progress) wants ≡ true
-    → IsOpenBlocked (wants_met wants progress).server client file_id
-unfolding finding
-write_waits client file_id number patch progress wants s next found wait =
-    write_waits_at client file_id number patch progress wants (connected_open progress.server client file_id)
-    s next refl found wait
-
--- a finding that refuses, or wants nothing
-abbrev Idle : Finding → Type 0
-Idle (Finding.Fails status) = Unit {0}
-Idle (Finding.Needs wants) = [] ≡ wants
-
--- what is idle by every open
-by_open-idle : (one : Option Open) (found : Open → Finding) → ((x : Open) → Idle (found x)) → Idle (by_open one found)
-by_open-idle x1 found each = grind arith
-
--- a read wants nothing
-read-idle : (one : Open) → Idle (read_finding one)
-read-idle one = grind arith
-
--- what is idle never waits
-idle_waits : {X : Type 0} (request : FileRequest) (progress : Progress) (wants : List Want) (found : Finding) → Idle found
-    → found ≡ Finding.Needs wants → must_wait request (wants_met wants progress) wants ≡ true → X
-idle_waits request progress wants found idle e wait = nobody_waits request wants progress (subst Idle e idle) wait
-
--- a read never waits
-read_waits : {X : Type 0} (client file_id : ℕ) (progress : Progress) (wants : List Want)
-    → finding progress.server client (FileRequest.Read file_id) ≡ Finding.Needs wants
-    → must_wait (FileRequest.Read file_id) (wants_met wants progress) wants ≡ true → X
-unfolding finding
-read_waits client file_id progress wants found wait = idle_waits (FileRequest.Read file_id) progress wants
-    (by_open (connected_open progress.server client file_id) read_finding)
-    (by_open-idle (connected_open progress.server client file_id) read_finding read-idle) found wait
-
--- a close never waits
-close_waits : {X : Type 0} (client file_id : ℕ) (progress : Progress) (wants : List Want)
-    → finding progress.server client (FileRequest.Close file_id) ≡ Finding.Needs wants
-    → must_wait (FileRequest.Close file_id) (wants_met wants progress) wants ≡ true → X
-unfolding finding
-close_waits client file_id progress wants found wait = idle_waits (FileRequest.Close file_id) progress wants
-    (by_open (connected_open progress.server client file_id) (λ one. Finding.Needs []))
-    (by_open-idle (connected_open progress.server client file_id) (λ one. Finding.Needs []) (λ one. refl)) found wait
-
 -- where a round of a try has to wait, so has the request
 pub round_waits : (client : ℕ) (request : FileRequest) (progress : Progress) (wants : List Want)
     → IsSound progress.server → IsSound (wants_met wants progress).server
     → finding progress.server client request ≡ Finding.Needs wants → must_wait request (wants_met wants progress) wants ≡ true
     → HasToWait (wants_met wants progress).server client request
-round_waits client (FileRequest.Create file access share contexts) progress wants s next found wait = create_waits
-    client file access share contexts progress wants s next found wait
-round_waits client (FileRequest.Read file_id) progress wants s next found wait = read_waits client file_id
-    progress wants found wait
-round_waits client (FileRequest.Write file_id number patch) progress wants s next found wait = write_waits client
-    file_id number patch progress wants s next found wait
-round_waits client (FileRequest.Close file_id) progress wants s next found wait = close_waits client file_id
-    progress wants found wait
+round_waits client request progress wants s next found wait = any_needs progress.server client
+    (λ request wants. IsSound (wants_met wants progress).server → must_wait request (wants_met wants progress) wants ≡ true
+    → HasToWait (wants_met wants progress).server client request) (record {
+      conflicts = λ file access share ask at clash some next wait.
+          let own = own_key client ask.lease in
+          wait_blocked (λ lease. is_breaking lease) own file (handle_wants progress.server own file access share) progress
+          (λ lease b. b) s next (handles_other progress.server own file access share) wait;
+      enters = λ file access share ask at calm next wait.
+          let own = own_key client ask.lease in
+          wait_blocked (λ lease. is_breaking lease) own file (write_wants progress.server own file) progress
+          (λ lease b. b) s next (writes_other progress.server own file) wait;
+      awaited = λ file access share ask file_id there again some next wait. absurd (true≢false (sym wait));
+      reads = λ file_id one own may next wait. absurd (true≢false (sym wait));
+      writes = λ file_id number patch one own may fits next wait.
+          let wants = all_wants progress.server (key_of_open one) one.file in record {
+            one = one;
+            is_open = wants_met-found wants progress client file_id ∙ own.found;
+            is_blocked = wait_blocked (λ lease. breaks_to_some lease) (key_of_open one) one.file wants progress
+                (λ lease. some_breaks lease.broken_to) s next (all_other progress.server (key_of_open one) one.file) wait;
+          };
+      closes = λ file_id one own next wait. absurd (true≢false (sym wait));
+    }) request wants found next wait

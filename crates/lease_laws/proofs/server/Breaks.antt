@@ -10,6 +10,7 @@ use Rattle.lease_laws.proofs.server.Lists.{if_cases, clash, and_both, and_parts,
 use Rattle.lease_laws.proofs.server.Lists.{any_has, has_any}
 use Rattle.lease_laws.proofs.server.Progress.{MayBreak, opens_dropped-sound, lease_lowered-sound, break_begun-sound}
 use Rattle.lease_laws.proofs.server.Wants.{Fits, AllFit}
+use Rattle.lease_laws.proofs.server.cases.Tries.{IsWhole, any_break, any_wants}
 
 -- While wants are met, a lease that is there and not breaking is what it was, or needed no
 -- acknowledgment and still needs none.
@@ -95,32 +96,27 @@ pub record IsAlong (base : Server) (progress : Progress) : Type 0 where
 lease_broken-along : (base : Server) (want : Want) (progress : Progress) → IsAlong base progress → Fits base want
     → ((one : Open) → Among one progress.server.opens → has_key want.key one ≡ true → one.connected ≡ true)
     → IsAlong base (lease_broken want.key want.lowered progress)
-unfolding lease_broken
-lease_broken-along base want progress i fits present = if_cases (IsAlong base) (has_lease progress.server want.key && not
-    (is_breaking (progress.server.leases want.key))) (if needs_acknowledgment (progress.server.leases want.key).state
-    then break_begun want.key want.lowered progress else lease_lowered want.key want.lowered progress) progress
-    (λ t. let parts = and_parts (has_lease progress.server want.key) (not (is_breaking (progress.server.leases want.key))) t in
-    let settled = not_parts (is_breaking (progress.server.leases want.key)) parts.1 in
-    let may : MayBreak progress.server want.key = record {
-      has_open = parts.0;
+lease_broken-along base want progress i fits present =
+    let may : IsWhole progress.server want.key → MayBreak progress.server want.key = λ whole. record {
+      has_open = whole.there;
       is_timely = i.under.timers want.key ∙ fits.is_timely;
       is_present = present;
     } in
     let track = i.under.tracked want.key in
-    if_cases (IsAlong base) (needs_acknowledgment (progress.server.leases want.key).state)
-    (break_begun want.key want.lowered progress) (lease_lowered want.key want.lowered progress)
-    (λ needs. record {
-      sound = break_begun-sound want.key want.lowered progress i.sound may needs
-          (subst (λ l. IsLowered l.state want.lowered) (sym (track.is_same parts.0 settled needs)) fits.can_lower);
-      under = break_begun-under base want.key want.lowered progress i.under;
+    any_break want.key want.lowered progress (IsAlong base) (record {
+      stays = λ not. i;
+      begins = λ whole needs. record {
+        sound = break_begun-sound want.key want.lowered progress i.sound (may whole) needs (subst
+            (λ l. IsLowered l.state want.lowered) (sym (track.is_same whole.there whole.settled needs)) fits.can_lower);
+        under = break_begun-under base want.key want.lowered progress i.under;
+      };
+      lowers = λ whole light. let was = track.is_light whole.there whole.settled light in
+          let lower = light_part want.lowered (base.leases want.key).state fits.can_lower.is_part was in record {
+            sound = lease_lowered-sound want.key want.lowered progress i.sound (may whole) fits.can_lower.is_granted_form
+                (light_writeless want.lowered lower);
+            under = lease_lowered-under base want.key want.lowered progress i.under lower was;
+          };
     })
-    (λ light. let was = track.is_light parts.0 settled light in
-    let lower = light_part want.lowered (base.leases want.key).state fits.can_lower.is_part was in record {
-      sound = lease_lowered-sound want.key want.lowered progress i.sound may fits.can_lower.is_granted_form
-          (light_writeless want.lowered lower);
-      under = lease_lowered-under base want.key want.lowered progress i.under lower was;
-    }))
-    (λ f. i)
 
 -- once a key's disconnected opens are dropped, those that it has are connected
 pub left_present : (key : Key) (progress : Progress) (one : Open)
@@ -140,11 +136,10 @@ want_met-along base want progress i fits = lease_broken-along base want (opens_d
 -- to meet wants keeps the laws, on the way by breaks alone
 pub wants_met-along : (base : Server) (wants : List Want) (progress : Progress) → IsAlong base progress
     → AllFit base wants → IsAlong base (wants_met wants progress)
-unfolding wants_met
-wants_met-along base [] progress i fit = i
-wants_met-along base (want ∷ wants) progress i fit = wants_met-along base wants (want_met want progress)
-    (want_met-along base want progress i (fit want (inl refl)))
-    (λ other a. fit other (inr a))
+wants_met-along base wants progress i fit = any_wants
+    (λ wants progress after. IsAlong base progress → AllFit base wants → IsAlong base after) (λ progress i fit. i)
+    (λ want wants progress after rest i fit. rest (want_met-along base want progress i (fit want (inl refl)))
+    (λ other a. fit other (inr a))) wants progress i fit
 
 -- to meet wants that fit keeps the laws
 pub wants_met-sound : (wants : List Want) (progress : Progress) → IsSound progress.server → AllFit progress.server wants

@@ -11,6 +11,7 @@ use Rattle.lease_laws.proofs.server.Keys.{key_eq-same, is_key-refl, is_key-one, 
 use Rattle.lease_laws.proofs.server.Lists.{if_cases, clash, and_parts, and_both, not_true, not_false, among_filter}
 use Rattle.lease_laws.proofs.server.Lists.{among_filtered, among_map, any_has, has_any, none_has, each_all}
 use Rattle.lease_laws.proofs.server.Wants.{keys_of-has}
+use Rattle.lease_laws.proofs.server.cases.Tries.{any_break, any_wants}
 
 -- ---- words on lists
 
@@ -210,23 +211,16 @@ lease_lowered_met holds key lowered progress low settled = record {
 -- so with whichever of these a lease is broken
 lease_broken_met : (holds : State → Bool) (key : Key) (lowered : State) (progress : Progress) → holds lowered ≡ false
     → IsBroken holds key progress.server (lease_broken key lowered progress).server
-unfolding lease_broken
 lease_broken_met holds key lowered progress low =
-    let there : Bool = has_lease progress.server key in
-    let breaking : Bool = is_breaking (progress.server.leases key) in
-    if_cases (λ (q : Progress). IsBroken holds key progress.server q.server) (there && not breaking)
-    (if needs_acknowledgment (progress.server.leases key).state
-    then break_begun key lowered progress else lease_lowered key lowered progress) progress
-    (λ e. if_cases (λ (q : Progress). IsBroken holds key progress.server q.server)
-    (needs_acknowledgment (progress.server.leases key).state)
-    (break_begun key lowered progress) (lease_lowered key lowered progress)
-    (λ n. break_begun_met holds key lowered progress)
-    (λ n. lease_lowered_met holds key lowered progress low (settled there breaking e)))
-    (λ e. record { goes_on = itself holds progress.server; met = λ h. inl (goes_on there breaking e h) })
+    any_break key lowered progress (λ after. IsBroken holds key progress.server after.server) (record {
+      stays = λ not. record {
+        goes_on = itself holds progress.server;
+        met = λ h. inl (goes_on (has_lease progress.server key) (is_breaking (progress.server.leases key)) not h);
+      };
+      begins = λ whole needs. break_begun_met holds key lowered progress;
+      lowers = λ whole light. lease_lowered_met holds key lowered progress low whole.settled;
+    })
   where
-    settled : (t b : Bool) → (t && not b) ≡ true → b ≡ false
-    settled t b e = grind arith
-
     goes_on : (t b : Bool) → (t && not b) ≡ false → t ≡ true → b ≡ true
     goes_on t b e h = grind arith
 
@@ -252,22 +246,21 @@ pub record IsRound (holds : State → Bool) (wants : List Want) (before : Server
 wants_met_met : (holds : State → Bool) (wants : List Want) (progress : Progress) → holds nothing_cached ≡ false
     → ((want : Want) → Among want wants → holds want.lowered ≡ false)
     → IsRound holds wants progress.server (wants_met wants progress).server
-unfolding wants_met
-wants_met_met holds [] progress nothing low =
-    record { goes_on = itself holds progress.server; met = λ want a. absurd a }
-wants_met_met holds (first ∷ wants) progress nothing low =
-    let next : Progress = want_met first progress in
-    let here : IsBroken holds first.key progress.server next.server =
-    want_met_met holds first progress nothing (low first (inl refl)) in
-    let rest : IsRound holds wants next.server (wants_met wants next).server =
-    wants_met_met holds wants next nothing (λ want a. low want (inr a)) in
+wants_met_met holds wants progress nothing = any_wants
+    (λ wants progress after. ((want : Want) → Among want wants → holds want.lowered ≡ false)
+    → IsRound holds wants progress.server after.server)
+    (λ progress low. record { goes_on = itself holds progress.server; met = λ want a. absurd a })
+    (λ first wants progress after more low.
+    let next = want_met first progress in
+    let here = want_met_met holds first progress nothing (low first (inl refl)) in
+    let rest = more (λ want a. low want (inr a)) in
     record {
-      goes_on = and_then holds progress.server next.server (wants_met wants next).server here.goes_on rest.goes_on;
+      goes_on = and_then holds progress.server next.server after.server here.goes_on rest.goes_on;
       met = λ want a. ⊎_elim
-          (λ same. subst (λ (w : Want). IsMet holds w.key (wants_met wants next).server) (sym same)
-          (met_later holds first.key next.server (wants_met wants next).server rest.goes_on here.met))
+          (λ same. subst (λ (w : Want). IsMet holds w.key after.server) (sym same)
+          (met_later holds first.key next.server after.server rest.goes_on here.met))
           (λ later. rest.met want later) a;
-    }
+    }) wants progress
 
 -- ---- one round
 

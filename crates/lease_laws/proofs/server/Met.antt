@@ -5,12 +5,14 @@ use Rattle.lease_laws.proofs.Words.{ap, connected_open, filter, find, has_key, i
 use Rattle.lease_laws.proofs.Words.{is_left_open, lease_broken, not, opens_dropped, refl}
 use Rattle.lease_laws.proofs.Words.{subst, true, want_met, wants_met}
 use Rattle.lease_laws.proofs.server.Lists.{if_cases, clash, and_parts, not_parts, not_true, among_filter}
+use Rattle.lease_laws.proofs.server.cases.Tries.{any_break, any_wants}
 
 -- opens are only dropped
 pub lease_broken-opens : (key : Key) (lowered : State) (progress : Progress)
     → (lease_broken key lowered progress).server.opens ≡ progress.server.opens
-unfolding lease_broken
-lease_broken-opens key lowered progress = grind arith
+lease_broken-opens key lowered progress =
+    any_break key lowered progress (λ after. after.server.opens ≡ progress.server.opens)
+    (record { stays = λ not. refl; begins = λ whole needs. refl; lowers = λ whole light. refl })
 
 -- the opens that are left
 dropped-opens : (test : Open → Bool) (progress : Progress)
@@ -26,10 +28,10 @@ want_met-opens want progress = lease_broken-opens want.key want.lowered (opens_d
 -- an open that is there once wants are met was there before
 pub wants_met-were : (wants : List Want) (progress : Progress) (one : Open)
     → Among one (wants_met wants progress).server.opens → Among one progress.server.opens
-unfolding wants_met
-wants_met-were [] progress one a = a
-wants_met-were (want ∷ wants) progress one a = (among_filter (λ x. not (is_left_open want.key x)) one progress.server.opens
-    (subst (λ opens. Among one opens) (want_met-opens want progress) (wants_met-were wants (want_met want progress) one a))).0
+wants_met-were wants progress one =
+    any_wants (λ wants progress after. Among one after.server.opens → Among one progress.server.opens) (λ progress a. a)
+    (λ want wants progress after rest a. (among_filter (λ x. not (is_left_open want.key x)) one progress.server.opens
+    (subst (λ opens. Among one opens) (want_met-opens want progress) (rest a))).0) wants progress
 
 -- what is found is still found where all that pass are kept
 pub find_kept : {X : Type 0} (test keep : X → Bool) (xs : List X) → ((x : X) → test x ≡ true → keep x ≡ true)
@@ -56,7 +58,7 @@ want_met-found want progress client file_id =
 -- a connected open stays while wants are met
 pub wants_met-found : (wants : List Want) (progress : Progress) (client file_id : ℕ)
     → connected_open (wants_met wants progress).server client file_id ≡ connected_open progress.server client file_id
-unfolding wants_met
-wants_met-found [] progress client file_id = refl
-wants_met-found (want ∷ wants) progress client file_id = wants_met-found wants (want_met want progress) client file_id
-    ∙ want_met-found want progress client file_id
+wants_met-found wants progress client file_id = any_wants
+    (λ wants progress after. connected_open after.server client file_id ≡ connected_open progress.server client file_id)
+    (λ progress. refl)
+    (λ want wants progress after rest. rest ∙ want_met-found want progress client file_id) wants progress

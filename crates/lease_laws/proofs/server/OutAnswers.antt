@@ -8,7 +8,7 @@ use Rattle.lease_laws.proofs.Words.{[], after_first_try, all_wants, ap, append-n
 use Rattle.lease_laws.proofs.Words.{by_open, connected_open, false, file_asked, file_request_arrived, finding, has_own_key}
 use Rattle.lease_laws.proofs.Words.{held_of, holds_any, inl, inr, is_behind, is_other_on, is_ready, is_within_limit, key_of_open}
 use Rattle.lease_laws.proofs.Words.{lease_of, leaves_nothing, may_write, not, nothing_cached, receive, refl, refused}
-use Rattle.lease_laws.proofs.Words.{request_held, subst, sym, tried, true, write_finding}
+use Rattle.lease_laws.proofs.Words.{request_held, subst, sym, tried, true, write_finding, ⊤}
 use Rattle.lease_laws.proofs.server.Keys.{lease_by-key}
 use Rattle.lease_laws.proofs.server.EnoughRounds.{AllBreakToNone}
 use Rattle.lease_laws.proofs.server.KeyOrder.{wants_where-has}
@@ -19,6 +19,7 @@ use Rattle.lease_laws.proofs.server.OutSteps.{refused-answered}
 use Rattle.lease_laws.proofs.server.States.{rights}
 use Rattle.lease_laws.proofs.server.Tries.{tried_for-good}
 use Rattle.lease_laws.proofs.server.cases.Calls.{passes_by, receives}
+use Rattle.lease_laws.proofs.server.cases.Findings.{any_needs}
 
 -- breaks, and then an answer
 breaks_then : (middle after : List Out) → GoOn IsBreak [] middle → GoOn IsNoBreak middle after → AreBreaksFirst after
@@ -90,7 +91,7 @@ to_none : (broken_to : Option State) → leaves_nothing broken_to ≡ true → b
 to_none x1 e = grind arith
 
 -- where all that a write wants is breaking to nothing, each other key on its file is given up
-all_wants-given : (server : Server) (one : Open)
+pub all_wants-given : (server : Server) (one : Open)
     → AllBreakToNone server (all_wants server (key_of_open one) one.file) → CachesAlone server one
 unfolding is_other_on
 all_wants-given server one ready key other a f strange k =
@@ -105,44 +106,35 @@ all_wants-given server one ready key other a f strange k =
     (ap (λ l. holds_any l.state) (lease_by-key server key other.client other.lease_key k) ∙ held)) k))))
     (λ none. inl (state_none (server.leases key).state none))
 
--- a finding whose wants are all breaking to nothing
-abbrev pub AloneWhenReady : Server → Open → Finding → Type 0
-AloneWhenReady server one (Finding.Fails status) = Unit {0}
-AloneWhenReady server one (Finding.Needs wants) = AllBreakToNone server wants → CachesAlone server one
+-- a write by this open, whose wants are all breaking to nothing
+abbrev AloneWhenReady : Server → ℕ → FileRequest → List Want → Type 0
+AloneWhenReady server client (FileRequest.Write file_id number patch) wants = AllBreakToNone server wants
+    → (one : Open) → connected_open server client file_id ≡ Some one → CachesAlone server one
+AloneWhenReady server client request wants = ⊤
 
--- a write that finds such is alone
-pub write_finding-alone : (server : Server) (one : Open) (patch : Patch)
-    → AloneWhenReady server one (write_finding server one patch)
-write_finding-alone server one patch = if_cases (AloneWhenReady server one) (may_write one.access) _ _
-    (λ e. if_cases (AloneWhenReady server one) (is_within_limit patch) _ _
-    (λ i. all_wants-given server one) (λ i. tt))
-    (λ e. tt)
-
--- so it is by what is found
-pub found_alone : (server : Server) (one : Open) (found : Finding) (wants : List Want) → AloneWhenReady server one found
-    → found ≡ Finding.Needs wants → AllBreakToNone server wants → CachesAlone server one
-found_alone server one found wants alone e none = (subst (AloneWhenReady server one) e alone) none
-
--- a write is ready only where all that it wants is breaking to nothing
-pub write_ready-given : (file_id number : ℕ) (patch : Patch) (server : Server) (wants : List Want)
-    → is_ready (FileRequest.Write file_id number patch) server.leases wants ≡ true → AllBreakToNone server wants
-write_ready-given file_id number patch server wants e = e
-
--- what a write finds, by its open
-write_found : (server : Server) (client file_id number : ℕ) (patch : Patch) (one : Open)
-    → connected_open server client file_id ≡ Some one
-    → finding server client (FileRequest.Write file_id number patch) ≡ write_finding server one patch
-unfolding finding
-write_found server client file_id number patch one e = ap (λ o. by_open o (λ x. write_finding server x patch)) e
+-- a look finds it alone
+ready_alone : (server : Server) (client : ℕ) (request : FileRequest) (wants : List Want)
+    → finding server client request ≡ Finding.Needs wants → AloneWhenReady server client request wants
+ready_alone server client = any_needs server client (AloneWhenReady server client) (record {
+  conflicts = λ file access share ask at clash some. tt;
+  enters = λ file access share ask at calm. tt;
+  awaited = λ file access share ask file_id there again some. tt;
+  reads = λ file_id one own may. tt;
+  writes = λ file_id number patch one own may fits ready other found.
+      subst (CachesAlone server) (one_open one other (sym own.found ∙ found)) (all_wants-given server one ready);
+  closes = λ file_id one own. tt;
+})
+  where
+    one_open : (x y : Open) → Some x ≡ Some y → x ≡ y
+    one_open x y e = cc
 
 -- a write that is ready
 pub write_ready-alone : (client file_id number : ℕ) (patch : Patch) (progress : Progress) (one : Open) → IsSound progress.server
     → (tried client (FileRequest.Write file_id number patch) progress).outcome ≡ Outcome.Ready
     → connected_open (tried client (FileRequest.Write file_id number patch) progress).progress.server client file_id ≡ Some one
     → CachesAlone (tried client (FileRequest.Write file_id number patch) progress).progress.server one
-write_ready-alone client file_id number patch progress one s ready open_is =
-    let end = (tried client (FileRequest.Write file_id number patch) progress).progress in
-    let found = (tried_for-good 3 client (FileRequest.Write file_id number patch) progress s).found_ready ready in
-    found_alone end.server one (write_finding end.server one patch) found.wants (write_finding-alone end.server one patch)
-    (sym (write_found end.server client file_id number patch one open_is) ∙ found.found)
-    (write_ready-given file_id number patch end.server found.wants found.ready)
+write_ready-alone client file_id number patch progress one s ready =
+    let request = FileRequest.Write file_id number patch in
+    let end = (tried client request progress).progress in
+    let found = (tried_for-good 3 client request progress s).found_ready ready in
+    ready_alone end.server client request found.wants found.found found.ready one

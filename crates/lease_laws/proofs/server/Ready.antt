@@ -5,11 +5,12 @@ use Rattle.std.proofs.Common.{arith}
 use Rattle.lease_laws.proofs.Words.{Key, Lease, LeaseOf, List, None, Open, Option, Progress, Server, Share, Some, Status, Want, ℕ}
 use Rattle.lease_laws.proofs.Words.{ap, asked_finding, conflict, conflicts_on, create_finding, false, finding, handle_wants}
 use Rattle.lease_laws.proofs.Words.{has_file, has_key, has_own_key, is_empty, is_leased_elsewhere, is_other_on, is_ready}
-use Rattle.lease_laws.proofs.Words.{lease_of, list_any, not, own_key, sym, true, true≢false, without_write, write_wants}
+use Rattle.lease_laws.proofs.Words.{lease_of, list_any, not, own_key, subst, sym, true, true≢false, without_write, write_wants}
 use Rattle.lease_laws.proofs.server.Keys.{lease_by-key}
 use Rattle.lease_laws.proofs.server.Lists.{if_cases, clash, and_both, not_true, not_false, none_has}
 use Rattle.lease_laws.proofs.server.Tries.{IsFoundReady}
 use Rattle.lease_laws.proofs.server.Wants.{wants_where-none}
+use Rattle.lease_laws.proofs.server.cases.Findings.{IsAtHome, any_needs}
 
 -- files that are one are equal
 same_file : (one : Open) (file : ℕ) → one.file ≡ file → (one.file == file) ≡ true
@@ -45,27 +46,6 @@ unwritten_at server own file none key one a f other k = not_true (server.leases 
     (ap (λ l. l.state.write) (lease_by-key server key one.client one.lease_key k) ∙ w))
     (wants_where-none server (λ x. is_other_on own file x && (lease_of server x).state.write) without_write none key one a k))
 
--- a finding that leaves nothing wanted
-abbrev pub FreeWhenEmpty : Server → Option Key → ℕ → Access → Share → Finding → Type 0
-FreeWhenEmpty server own file access share (Finding.Fails status) = Unit {0}
-FreeWhenEmpty server own file access share (Finding.Needs wants) =
-    is_empty wants ≡ true → IsFree server.opens server.leases own file access share
-
--- a create that wants nothing is free
-create_finding-free : (server : Server) (own : Option Key) (file : ℕ) (access : Access) (share : Share)
-    → FreeWhenEmpty server own file access share (create_finding server own file access share)
-create_finding-free server own file access share =
-    if_cases (FreeWhenEmpty server own file access share) (is_leased_elsewhere server own file) _ _
-    (λ e. tt)
-    (λ home. if_cases (FreeWhenEmpty server own file access share) (list_any (conflicts_on file access share) server.opens) _ _
-    (λ c. if_cases (FreeWhenEmpty server own file access share) (is_empty (handle_wants server own file access share)) _ _
-    (λ n. tt) (λ n none. clash (is_empty (handle_wants server own file access share)) none n))
-    (λ peace none. record {
-      at_home = home_at server own file home;
-      peaceful = peaceful_at server file access share peace;
-      unwritten = unwritten_at server own file none;
-    }))
-
 -- what is known of a create with these contexts once it is ready
 abbrev pub CreateFree : Server → ℕ → ℕ → Access → Share → Option LeaseOf → Option ℕ → Type 0
 CreateFree server client file access share lease None = IsFree server.opens server.leases (own_key client lease) file access share
@@ -81,47 +61,32 @@ abbrev pub RequestFree : Server → ℕ → FileRequest → Type 0
 RequestFree server client (FileRequest.Create file access share contexts) = ContextsFree server client file access share contexts
 RequestFree server client request = Unit {0}
 
--- what is found with nothing wanted is free
-found_free : (server : Server) (own : Option Key) (file : ℕ) (access : Access) (share : Share)
-    (found : Finding) (wants : List Want)
-    → FreeWhenEmpty server own file access share found → found ≡ Finding.Needs wants → is_empty wants ≡ true
-    → IsFree server.opens server.leases own file access share
-found_free server own file access share x6 wants free e none = grind arith
-
--- so is a create, with a reconnect or without
-asked_free : (server : Server) (client file : ℕ) (access : Access) (share : Share) (lease : Option LeaseOf)
-    (again : Option ℕ) (wants : List Want)
-    → asked_finding server client file access share lease again ≡ Finding.Needs wants → is_empty wants ≡ true
-    → CreateFree server client file access share lease again
-asked_free server client file access share lease None wants e none = found_free server (own_key client lease) file access share
-    (create_finding server (own_key client lease) file access share) wants
-    (create_finding-free server (own_key client lease) file access share) e none
-asked_free server client file access share lease (Some file_id) wants e none = tt
-
--- what a create needs, by its contexts
-pub contexts_free : (server : Server) (client file : ℕ) (access : Access) (share : Share)
-    (contexts : Option CreateAsk) (wants : List Want)
-    → finding server client (FileRequest.Create file access share contexts) ≡ Finding.Needs wants → is_empty wants ≡ true
-    → ContextsFree server client file access share contexts
-unfolding finding
-contexts_free server client file access share None wants e none = tt
-contexts_free server client file access share (Some ask) wants e none = if_cases (λ found. found ≡ Finding.Needs wants
-    → CreateFree server client file access share ask.lease ask.reconnect)
-    (has_file server file) (asked_finding server client file access share ask.lease ask.reconnect)
-    (Finding.Fails Status.ObjectNameNotFound)
-    (λ t same. asked_free server client file access share ask.lease ask.reconnect wants same none)
-    (λ t same. absurd (cc)) e
-
--- a create is ready only where it wants nothing
-pub create_ready-empty : (file : ℕ) (access : Access) (share : Share) (contexts : Option CreateAsk)
-    (leases : Key → Lease) (wants : List Want)
-    → is_ready (FileRequest.Create file access share contexts) leases wants ≡ true → is_empty wants ≡ true
-create_ready-empty file access share contexts leases wants e = e
+-- a create that wants nothing is free
+pub enters_free : (server : Server) (client file : ℕ) (access : Access) (share : Share) (ask : CreateAsk)
+    → IsAtHome server client file ask → list_any (conflicts_on file access share) server.opens ≡ false
+    → is_empty (write_wants server (own_key client ask.lease) file) ≡ true
+    → IsFree server.opens server.leases (own_key client ask.lease) file access share
+enters_free server client file access share ask at calm none =
+    let own = own_key client ask.lease in record {
+      at_home = home_at server own file at.home;
+      peaceful = peaceful_at server file access share calm;
+      unwritten = unwritten_at server own file none;
+    }
 
 -- what is known of a request once it is ready
 pub ready-free : (client : ℕ) (request : FileRequest) (progress : Progress) → IsFoundReady client request progress
     → RequestFree progress.server client request
-ready-free client (FileRequest.Create file access share contexts) progress r = contexts_free progress.server
-    client file access share contexts
-    r.wants r.found (create_ready-empty file access share contexts progress.server.leases r.wants r.ready)
-ready-free client request progress r = tt
+ready-free client request progress r = any_needs progress.server client
+    (λ request wants. is_ready request progress.server.leases wants ≡ true → RequestFree progress.server client request)
+    (record {
+      conflicts = λ file access share ask at clash some ready.
+          absurd (true≢false (sym ready ∙ some));
+      enters = λ file access share ask at calm ready.
+          subst (CreateFree progress.server client file access share ask.lease) (sym at.anew)
+          (enters_free progress.server client file access share ask at calm ready);
+      awaited = λ file access share ask file_id there again some ready.
+          subst (CreateFree progress.server client file access share ask.lease) (sym again) tt;
+      reads = λ file_id one own may ready. tt;
+      writes = λ file_id number patch one own may fits ready. tt;
+      closes = λ file_id one own ready. tt;
+    }) request r.wants r.found r.ready

@@ -11,16 +11,18 @@ use Rattle.lease_laws.proofs.Words.{is_leased_elsewhere, is_left_open, is_ready,
 use Rattle.lease_laws.proofs.Words.{lease_broken, lease_lowered, list_any, may_read, may_write, must_wait, needs_acknowledgment}
 use Rattle.lease_laws.proofs.Words.{not, opens_dropped, own_count, own_key, read_finding, reconnect_finding, refl, step_taken}
 use Rattle.lease_laws.proofs.Words.{steps_taken, subst, suc, sym, tried, tried_for, true, want_met, wants_met}
-use Rattle.lease_laws.proofs.Words.{without, write_finding, write_wants, zero}
+use Rattle.lease_laws.proofs.Words.{put_key, true≢false, without, write_finding, write_wants, zero}
 use Rattle.lease_laws.proofs.server.Breaks.{left_present, wants_met-sound}
 use Rattle.lease_laws.proofs.server.EnoughTries.{tries_end}
 use Rattle.lease_laws.proofs.server.Keys.{put_key-cases, key_eq-same, key_eq-refl}
 use Rattle.lease_laws.proofs.server.Lists.{if_cases, clash, and_parts, not_parts, not_true, any_has, has_any, among_filter}
-use Rattle.lease_laws.proofs.server.OutAnswers.{found_alone, write_finding-alone, write_ready-given}
-use Rattle.lease_laws.proofs.server.Ready.{CreateFree, contexts_free, create_ready-empty}
+use Rattle.lease_laws.proofs.server.OutAnswers.{all_wants-given}
+use Rattle.lease_laws.proofs.server.Ready.{enters_free}
 use Rattle.lease_laws.proofs.server.Steps.{left_here}
 use Rattle.lease_laws.proofs.server.Wanted.{wants_where-exact, key_before-self}
-use Rattle.lease_laws.proofs.server.Wants.{FindingFits, finding-fits}
+use Rattle.lease_laws.proofs.server.Wants.{needs-fit}
+use Rattle.lease_laws.proofs.server.cases.Findings.{NamesOpen, any_finding, any_needs}
+use Rattle.lease_laws.proofs.server.cases.Tries.{IsWhole, any_break, any_rounds, any_wants}
 
 -- ---- lists of steps
 
@@ -103,20 +105,16 @@ dropped-lowers test progress want lowers there =
 -- so does the break of another key
 broken-lowers : (key : Key) (lowered : State) (progress : Progress) (want : Want) → key_eq want.key key ≡ false
     → Lowers progress.server want → Lowers (lease_broken key lowered progress).server want
-unfolding lease_broken
 broken-lowers key lowered progress want other lowers =
     let Stays : Lease → Type 0 = λ l. has_lease progress.server want.key ≡ true → IsLowered l.state want.lowered in
-    if_cases (λ p. Lowers p.server want) (has_lease progress.server key && not (is_breaking (progress.server.leases key)))
-    (if needs_acknowledgment (progress.server.leases key).state then break_begun key lowered progress
-    else lease_lowered key lowered progress) progress
-    (λ t. if_cases (λ p. Lowers p.server want) (needs_acknowledgment (progress.server.leases key).state)
-    (break_begun key lowered progress) (lease_lowered key lowered progress)
-    (λ n. put_key-cases Stays progress.server.leases key
-    (record { state = (progress.server.leases key).state; broken_to = Some lowered }) want.key
-    (λ same. clash (key_eq want.key key) (key_is want.key key same) other) (λ e. lowers))
-    (λ n. put_key-cases Stays progress.server.leases key (record { state = lowered; broken_to = None }) want.key
-    (λ same. clash (key_eq want.key key) (key_is want.key key same) other) (λ e. lowers)))
-    (λ t. lowers)
+    let elsewhere : (lease : Lease) → Stays (put_key progress.server.leases key lease want.key) =
+    λ lease. put_key-cases Stays progress.server.leases key lease want.key
+    (λ same. clash (key_eq want.key key) (key_is want.key key same) other) (λ e. lowers) in
+    any_break key lowered progress (λ after. Lowers after.server want) (record {
+      stays = λ not. lowers;
+      begins = λ whole needs. elsewhere (record { state = (progress.server.leases key).state; broken_to = Some lowered });
+      lowers = λ whole light. elsewhere (record { state = lowered; broken_to = None });
+    })
   where
     key_is : (one other : Key) → one ≡ other → key_eq one other ≡ true
     key_is one other same = subst (λ x. key_eq one x ≡ true) same (key_eq-refl one)
@@ -124,26 +122,21 @@ broken-lowers key lowered progress want other lowers =
 -- one want
 want_met-steps : (call : Call) (want : Want) (progress : Progress) → Lowers progress.server want
     → GoesBySteps call 0 progress (want_met want progress)
-unfolding lease_broken
 want_met-steps call want progress lowers =
     let dropped = opens_dropped (is_left_open want.key) progress in
-    steps_then call 0 0 progress dropped (lease_broken want.key want.lowered dropped)
-    (step_one call (SmallStep.Drop want.key) progress tt tt tt) (if_cases (GoesBySteps call 0 dropped)
-    (has_lease dropped.server want.key && not (is_breaking (dropped.server.leases want.key)))
-    (if needs_acknowledgment (dropped.server.leases want.key).state then break_begun want.key want.lowered dropped
-    else lease_lowered want.key want.lowered dropped) dropped
-    (λ t. let parts = and_parts (has_lease dropped.server want.key) (not (is_breaking (dropped.server.leases want.key))) t in
-    let may : MayLower dropped.server want.key want.lowered = record {
-      is_there = parts.0;
+    let may : IsWhole dropped.server want.key → MayLower dropped.server want.key want.lowered = λ whole. record {
+      is_there = whole.there;
       are_connected = left_present want.key progress;
-      is_settled = not_parts (is_breaking (dropped.server.leases want.key)) parts.1;
-      is_lowered = dropped-lowers (is_left_open want.key) progress want lowers parts.0;
+      is_settled = whole.settled;
+      is_lowered = dropped-lowers (is_left_open want.key) progress want lowers whole.there;
     } in
-    if_cases (GoesBySteps call 0 dropped) (needs_acknowledgment (dropped.server.leases want.key).state)
-    (break_begun want.key want.lowered dropped) (lease_lowered want.key want.lowered dropped)
-    (λ n. step_one call (SmallStep.Begin want.key want.lowered) dropped (may, n) tt tt)
-    (λ n. step_one call (SmallStep.Lower want.key want.lowered) dropped (may, n) tt tt))
-    (λ t. steps_none call dropped))
+    steps_then call 0 0 progress dropped (lease_broken want.key want.lowered dropped)
+    (step_one call (SmallStep.Drop want.key) progress tt tt tt)
+    (any_break want.key want.lowered dropped (GoesBySteps call 0 dropped) (record {
+      stays = λ not. steps_none call dropped;
+      begins = λ whole needs. step_one call (SmallStep.Begin want.key want.lowered) dropped (may whole, needs) tt tt;
+      lowers = λ whole light. step_one call (SmallStep.Lower want.key want.lowered) dropped (may whole, light) tt tt;
+    }))
 
 -- it leaves the others to be met
 want_met-lowers : (first other : Want) (progress : Progress) → key_eq other.key first.key ≡ false
@@ -159,100 +152,52 @@ before_apart one other before = not_true (key_eq other one) (λ same. clash (key
 -- wants that stand in order
 wants_met-steps : (call : Call) (wants : List Want) (progress : Progress) → AreInKeyOrder wants
     → ((want : Want) → Among want wants → Lowers progress.server want) → GoesBySteps call 0 progress (wants_met wants progress)
-unfolding wants_met
-wants_met-steps call [] progress order lowers = steps_none call progress
-wants_met-steps call (want ∷ wants) progress order lowers =
-    steps_then call 0 0 progress (want_met want progress) (wants_met wants (want_met want progress))
-    (want_met-steps call want progress (lowers want (inl refl))) (wants_met-steps call wants (want_met want progress) order.1
-    (λ other a. want_met-lowers want other progress (before_apart want.key other.key (order.0 other a)) (lowers other (inr a))))
+wants_met-steps call wants progress = any_wants
+    (λ wants progress after. AreInKeyOrder wants → ((want : Want) → Among want wants → Lowers progress.server want)
+    → GoesBySteps call 0 progress after) (λ progress order lowers. steps_none call progress)
+    (λ want wants progress after rest order lowers.
+    steps_then call 0 0 progress (want_met want progress) after
+    (want_met-steps call want progress (lowers want (inl refl))) (rest order.1
+    (λ other a. want_met-lowers want other progress (before_apart want.key other.key (order.0 other a)) (lowers other (inr a)))))
+    wants progress
 
 -- ---- what a look finds stands in order
 
-abbrev IsOrdered : Finding → Type 0
-IsOrdered (Finding.Fails status) = Unit {0}
-IsOrdered (Finding.Needs wants) = AreInKeyOrder wants
-
--- what a create finds
-create-ordered : (server : Server) (own : Option Key) (file : ℕ) (access : Access) (share : Share)
-    → IsOrdered (create_finding server own file access share)
-create-ordered server own file access share = if_cases IsOrdered (is_leased_elsewhere server own file) _ _ (λ e. tt)
-    (λ e. if_cases IsOrdered (list_any (conflicts_on file access share) server.opens) _ _
-    (λ c. if_cases IsOrdered (is_empty (handle_wants server own file access share)) _ _
-    (λ n. tt) (λ n. (wants_where-exact server _ _).in_order))
-    (λ c. (wants_where-exact server _ _).in_order))
-
--- with a reconnect or without
-asked-ordered : (server : Server) (client file : ℕ) (access : Access) (share : Share) (lease : Option LeaseOf)
-    (again : Option ℕ) → IsOrdered (asked_finding server client file access share lease again)
-asked-ordered server client file access share lease None = create-ordered server (own_key client lease) file access share
-asked-ordered server client file access share lease (Some file_id) =
-    if_cases IsOrdered (list_any (awaits client file (own_key client lease) file_id) server.opens)
-    (Finding.Needs []) (Finding.Fails Status.ObjectNameNotFound) (λ e. tt) (λ e. tt)
-
--- by contexts
-contexts-ordered : (server : Server) (client file : ℕ) (access : Access) (share : Share) (contexts : Option CreateAsk)
-    → IsOrdered (finding server client (FileRequest.Create file access share contexts))
-unfolding finding
-contexts-ordered server client file access share None = tt
-contexts-ordered server client file access share (Some ask) =
-    if_cases IsOrdered (has_file server file) (asked_finding server client file access share ask.lease ask.reconnect)
-    (Finding.Fails Status.ObjectNameNotFound)
-    (λ e. asked-ordered server client file access share ask.lease ask.reconnect) (λ e. tt)
-
--- by an open
-by_open-ordered : (one : Option Open) (found : Open → Finding) → ((x : Open) → IsOrdered (found x))
-    → IsOrdered (by_open one found)
-by_open-ordered x1 found each = grind arith
-
--- a write
-write-ordered : (server : Server) (patch : Patch) (one : Open) → IsOrdered (write_finding server one patch)
-write-ordered server patch one = if_cases IsOrdered (may_write one.access) _ _
-    (λ e. if_cases IsOrdered (is_within_limit patch) _ _
-    (λ i. (wants_where-exact server _ _).in_order) (λ i. tt)) (λ e. tt)
-
--- a read
-read-ordered : (one : Open) → IsOrdered (read_finding one)
-read-ordered one = grind arith
-
--- any request
-finding-ordered : (server : Server) (client : ℕ) (request : FileRequest) → IsOrdered (finding server client request)
-unfolding finding
-finding-ordered server client (FileRequest.Create file access share contexts) =
-    contexts-ordered server client file access share contexts
-finding-ordered server client (FileRequest.Read file_id) =
-    by_open-ordered (connected_open server client file_id) read_finding read-ordered
-finding-ordered server client (FileRequest.Write file_id number patch) =
-    by_open-ordered (connected_open server client file_id) (λ one. write_finding server one patch) (write-ordered server patch)
-finding-ordered server client (FileRequest.Close file_id) =
-    by_open-ordered (connected_open server client file_id) (λ one. Finding.Needs []) (λ one. tt)
+needs-ordered : (server : Server) (client : ℕ) (request : FileRequest) (wants : List Want)
+    → finding server client request ≡ Finding.Needs wants → AreInKeyOrder wants
+needs-ordered server client = any_needs server client (λ request. AreInKeyOrder) (record {
+  conflicts = λ file access share ask at clash some. (wants_where-exact server _ _).in_order;
+  enters = λ file access share ask at calm. (wants_where-exact server _ _).in_order;
+  awaited = λ file access share ask file_id there again some. tt;
+  reads = λ file_id one own may. tt;
+  writes = λ file_id number patch one own may fits. (wants_where-exact server _ _).in_order;
+  closes = λ file_id one own. tt;
+})
 
 -- ---- tries
 
 -- a round
-after_finding-steps : (call : Call) (again : Progress → Tried) (request : FileRequest) (progress : Progress) (found : Finding)
-    → FindingFits progress.server found → IsOrdered found → IsSound progress.server
-    → ((next : Progress) → IsSound next.server → GoesBySteps call 0 next (again next).progress)
-    → GoesBySteps call 0 progress (after_finding again request progress found).progress
-after_finding-steps call again request progress (Finding.Fails status) fits order s more = steps_none call progress
-after_finding-steps call again request progress (Finding.Needs wants) fits order s more =
-    let met = wants_met wants progress in
-    let go = wants_met-steps call wants progress order (λ want a there. (fits want a).can_lower) in
-    if_cases (λ t. GoesBySteps call 0 progress t.progress) (is_ready request progress.server.leases wants)
-    (ended progress Outcome.Ready) (after_breaks again request wants met)
-    (λ r. steps_none call progress)
-    (λ r. if_cases (λ t. GoesBySteps call 0 progress t.progress) (must_wait request met wants)
-    (ended met Outcome.Waits) (again met) (λ w. go)
-    (λ w. steps_then call 0 0 progress met (again met).progress go (more met (wants_met-sound wants progress s fits))))
+round-steps : (call : Call) (client : ℕ) (request : FileRequest) (progress : Progress) (wants : List Want)
+    → IsSound progress.server → finding progress.server client request ≡ Finding.Needs wants
+    → GoesBySteps call 0 progress (wants_met wants progress)
+round-steps call client request progress wants s found = wants_met-steps call wants progress
+    (needs-ordered progress.server client request wants found)
+    (λ want a there. (needs-fit progress.server client request wants s found want a).can_lower)
 
 -- so many rounds
 tried_for-steps : (call : Call) (rounds client : ℕ) (request : FileRequest) (progress : Progress) → IsSound progress.server
     → GoesBySteps call 0 progress (tried_for rounds client request progress).progress
-unfolding tried_for
-tried_for-steps call zero client request progress s = steps_none call progress
-tried_for-steps call (suc rounds) client request progress s = after_finding-steps call (tried_for rounds client request)
-    request progress (finding progress.server client request) (finding-fits progress.server client request s)
-    (finding-ordered progress.server client request) s
-    (λ next n. tried_for-steps call rounds client request next n)
+tried_for-steps call rounds client request = any_rounds client request
+    (λ rounds progress tried. IsSound progress.server → GoesBySteps call 0 progress tried.progress) (record {
+      out = λ progress s. steps_none call progress;
+      fails = λ rounds progress status is s. steps_none call progress;
+      ready = λ rounds progress wants found ready s. steps_none call progress;
+      waits = λ rounds progress wants needs wait s. round-steps call client request progress wants s needs.found;
+      again = λ rounds progress wants tried needs goes rest s.
+          steps_then call 0 0 progress (wants_met wants progress) tried.progress
+          (round-steps call client request progress wants s needs.found)
+          (rest (wants_met-sound wants progress s (needs-fit progress.server client request wants s needs.found)));
+    }) rounds
 
 -- a try
 pub tried-steps : (call : Call) (client : ℕ) (request : FileRequest) (progress : Progress) → IsSound progress.server
@@ -261,82 +206,65 @@ tried-steps call client request progress s = tried_for-steps call 3 client reque
 
 -- ---- the end of a try is guarded
 
--- a refused request
+-- a request by an open is refused as gone only where it is
+abbrev RefusedBy : Server → ℕ → FileRequest → Finding → Type 0
+RefusedBy server client request (Finding.Fails status) = MayRefuse server client request status
+RefusedBy server client request (Finding.Needs wants) = ⊤
+
+refused_gone : (server : Server) (client : ℕ) (request : FileRequest) (file_id : ℕ) → NamesOpen request file_id
+    → connected_open server client file_id ≡ None → MayRefuse server client request Status.FileClosed
+refused_gone server client (FileRequest.Create file access share contexts) file_id names none = tt
+refused_gone server client (FileRequest.Read named) file_id names none = λ e. rw (names) none
+refused_gone server client (FileRequest.Write named number patch) file_id names none = λ e. rw (names) none
+refused_gone server client (FileRequest.Close named) file_id names none = rw (names) none
+
 finding-refuses : (server : Server) (client : ℕ) (request : FileRequest) (status : Status)
     → finding server client request ≡ Finding.Fails status → MayRefuse server client request status
-unfolding finding
-finding-refuses server client x3 status same = grind arith
-
--- a request by an open that is found
-open_by : (server : Server) (client file_id : ℕ) (found : Open → Finding) (may : Open → Type 0) (wants : List Want)
-    → ((x : Open) → found x ≡ Finding.Needs wants → may x) → (one : Option Open) → connected_open server client file_id ≡ one
-    → by_open one found ≡ Finding.Needs wants → HasOpen server client file_id may
-open_by server client file_id found may wants each x8 e same = grind arith
-
--- a reconnect finds its open
-reconnect_at : (server : Server) (client file : ℕ) (own : Option Key) (file_id : ℕ) (wants : List Want)
-    → reconnect_finding server client file own file_id ≡ Finding.Needs wants → IsAwaitedAt server client file own file_id
-reconnect_at server client file own file_id wants =
-    if_cases (λ found. found ≡ Finding.Needs wants → IsAwaitedAt server client file own file_id)
-    (list_any (awaits client file own file_id) server.opens) (Finding.Needs []) (Finding.Fails Status.ObjectNameNotFound)
-    (λ e same. let x = any_has (awaits client file own file_id) server.opens e in
-    record { one = x.0; is_there = x.1; waits = x.2 })
-    (λ e never. absurd (cc))
-
--- a create that is ready
-create_may : (server : Server) (client file : ℕ) (access : Access) (share : Share) (ask : CreateAsk) (wants : List Want)
-    → finding server client (FileRequest.Create file access share (Some ask)) ≡ Finding.Needs wants → is_empty wants ≡ true
-    → (has_file server file ≡ true) × MayCreate server client file access share ask.lease ask.reconnect
-unfolding finding
-create_may server client file access share ask wants same none = if_cases (λ found. found ≡ Finding.Needs wants
-    → (has_file server file ≡ true) × MayCreate server client file access share ask.lease ask.reconnect)
-    (has_file server file) (asked_finding server client file access share ask.lease ask.reconnect)
-    (Finding.Fails Status.ObjectNameNotFound)
-    (λ there e. (
-      there,
-      free ask.lease ask.reconnect e (contexts_free server client file access share (Some ask) wants same none),
-    ))
-    (λ gone never. absurd (cc)) same
-  where
-    free : (lease : Option LeaseOf) (again : Option ℕ)
-        → asked_finding server client file access share lease again ≡ Finding.Needs wants
-        → CreateFree server client file access share lease again → MayCreate server client file access share lease again
-    free lease None e f = f
-    free lease (Some file_id) e f = reconnect_at server client file (own_key client lease) file_id wants e
-
--- a write that finds all other keys given up may change the file
-write_allowed : (server : Server) (patch : Patch) (one : Open) (wants : List Want) → CachesAlone server one
-    → write_finding server one patch ≡ Finding.Needs wants → MayChange server patch one
-write_allowed server patch one wants alone = grind arith
-
--- so does one that is ready
-write_may : (server : Server) (file_id number : ℕ) (patch : Patch) (one : Open) (wants : List Want)
-    → is_ready (FileRequest.Write file_id number patch) server.leases wants ≡ true
-    → write_finding server one patch ≡ Finding.Needs wants → MayChange server patch one
-write_may server file_id number patch one wants ready same = write_allowed server patch one wants
-    (found_alone server one (write_finding server one patch) wants (write_finding-alone server one patch) same
-    (write_ready-given file_id number patch server wants ready)) same
+finding-refuses server client request status is = subst (RefusedBy server client request) is
+    (any_finding server client (RefusedBy server client) (record {
+      malformed = λ file access share. tt;
+      nowhere = λ file access share ask away. tt;
+      elsewhere = λ file access share ask there anew away. tt;
+      violates = λ file access share ask at clash none. tt;
+      conflicts = λ file access share ask at clash some. tt;
+      enters = λ file access share ask at calm. tt;
+      awaited = λ file access share ask file_id there again some. tt;
+      forgotten = λ file access share ask file_id there again none. tt;
+      gone = refused_gone server client;
+      unread = λ file_id one own not never. absurd (cc);
+      reads = λ file_id one own may. tt;
+      unwritten = λ file_id number patch one own not never. absurd (cc);
+      too_long = λ file_id number patch one own may long never. absurd (cc);
+      writes = λ file_id number patch one own may fits. tt;
+      closes = λ file_id one own. tt;
+    }) request)
 
 -- a request that is ready may be served
 finding-serves : (server : Server) (client : ℕ) (request : FileRequest) (wants : List Want)
     → finding server client request ≡ Finding.Needs wants → is_ready request server.leases wants ≡ true
     → MayServe server client request
-unfolding finding
-finding-serves server client (FileRequest.Create file access share None) wants never ready = absurd (cc)
-finding-serves server client (FileRequest.Create file access share (Some ask)) wants same ready =
-    create_may server client file access share ask wants same
-    (create_ready-empty file access share (Some ask) server.leases wants ready)
-finding-serves server client (FileRequest.Read file_id) wants same ready =
-    open_by server client file_id read_finding (λ one. may_read one.access ≡ true) wants
-    (λ one. if_cases (λ f. f ≡ Finding.Needs wants → may_read one.access ≡ true) (may_read one.access)
-    (Finding.Needs []) (Finding.Fails Status.AccessDenied) (λ may e. may) (λ denied never. absurd (cc)))
-    (connected_open server client file_id) refl same
-finding-serves server client (FileRequest.Write file_id number patch) wants same ready =
-    open_by server client file_id (λ one. write_finding server one patch) (MayChange server patch) wants
-    (λ one e. write_may server file_id number patch one wants ready e) (connected_open server client file_id) refl same
-finding-serves server client (FileRequest.Close file_id) wants same ready =
-    open_by server client file_id (λ one. Finding.Needs []) (λ one. ⊤) wants (λ one e. tt)
-    (connected_open server client file_id) refl same
+finding-serves server client = any_needs server client
+    (λ request wants. is_ready request server.leases wants ≡ true → MayServe server client request) (record {
+      conflicts = λ file access share ask at clash some ready. absurd (true≢false (sym ready ∙ some));
+      enters = λ file access share ask at calm ready. (
+        at.there,
+        subst (MayCreate server client file access share ask.lease) (sym at.anew)
+            (enters_free server client file access share ask at calm ready),
+      );
+      awaited = λ file access share ask file_id there again some ready.
+          let x = any_has (awaits client file (own_key client ask.lease) file_id) server.opens some in (
+            there,
+            subst (MayCreate server client file access share ask.lease) (sym again)
+                (record { one = x.0; is_there = x.1; waits = x.2 }),
+          );
+      reads = λ file_id one own may ready. record { one = one; found = own.found; allowed = may };
+      writes = λ file_id number patch one own may fits ready. record {
+        one = one;
+        found = own.found;
+        allowed = record { may = may; fits = fits; alone = all_wants-given server one ready };
+      };
+      closes = λ file_id one own ready. record { one = one; found = own.found; allowed = tt };
+    })
 
 -- what ends a try guards its end
 reason_guards : (client : ℕ) (request : FileRequest) (progress : Progress) (outcome : Outcome)

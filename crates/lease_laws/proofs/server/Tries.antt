@@ -4,7 +4,8 @@ use Rattle.lease_laws.proofs.Words.{after_finding, ended, finding, is_ready, mus
 use Rattle.lease_laws.proofs.Words.{zero}
 use Rattle.lease_laws.proofs.server.Breaks.{wants_met-sound}
 use Rattle.lease_laws.proofs.server.Lists.{if_cases}
-use Rattle.lease_laws.proofs.server.Wants.{FindingFits, finding-fits}
+use Rattle.lease_laws.proofs.server.Wants.{needs-fit}
+use Rattle.lease_laws.proofs.server.cases.Tries.{any_rounds}
 
 -- a look at the request finds wants that leave it ready
 pub record IsFoundReady (client : ℕ) (request : FileRequest) (progress : Progress) : Type 0 where
@@ -17,28 +18,19 @@ pub record IsGoodTry (client : ℕ) (request : FileRequest) (tried : Tried) : Ty
   pub sound : IsSound tried.progress.server
   pub found_ready : tried.outcome ≡ Outcome.Ready → IsFoundReady client request tried.progress
 
--- a round of a good try
-after_finding-good : (again : Progress → Tried) (client : ℕ) (request : FileRequest) (progress : Progress) (found : Finding)
-    → finding progress.server client request ≡ found → FindingFits progress.server found → IsSound progress.server
-    → ((next : Progress) → IsSound next.server → IsGoodTry client request (again next))
-    → IsGoodTry client request (after_finding again request progress found)
-after_finding-good again client request progress (Finding.Fails status) e fits s good =
-    record { sound = s; found_ready = λ r. absurd (cc) }
-after_finding-good again client request progress (Finding.Needs wants) e fits s good =
-    if_cases (IsGoodTry client request) (is_ready request progress.server.leases wants)
-    (ended progress Outcome.Ready) (after_breaks again request wants (wants_met wants progress))
-    (λ r. record { sound = s; found_ready = λ same. record { wants = wants; found = e; ready = r } })
-    (λ n. let next = wants_met-sound wants progress s fits in
-    if_cases (IsGoodTry client request) (must_wait request (wants_met wants progress) wants)
-    (ended (wants_met wants progress) Outcome.Waits) (again (wants_met wants progress))
-    (λ w. record { sound = next; found_ready = λ same. absurd (cc) })
-    (λ w. good (wants_met wants progress) next))
-
 -- a try of so many rounds
 pub tried_for-good : (rounds client : ℕ) (request : FileRequest) (progress : Progress) → IsSound progress.server
     → IsGoodTry client request (tried_for rounds client request progress)
-unfolding tried_for
-tried_for-good zero client request progress s = record { sound = s; found_ready = λ same. absurd (cc) }
-tried_for-good (suc rounds) client request progress s = after_finding-good (tried_for rounds client request)
-    client request progress (finding progress.server client request) refl (finding-fits progress.server client request s) s
-    (λ next n. tried_for-good rounds client request next n)
+tried_for-good rounds client request = any_rounds client request
+    (λ rounds progress tried. IsSound progress.server → IsGoodTry client request tried) (record {
+      out = λ progress s. record { sound = s; found_ready = λ same. absurd (cc) };
+      fails = λ rounds progress status is s. record { sound = s; found_ready = λ same. absurd (cc) };
+      ready = λ rounds progress wants found ready s.
+          record { sound = s; found_ready = λ same. record { wants = wants; found = found; ready = ready } };
+      waits = λ rounds progress wants needs wait s. record {
+        sound = wants_met-sound wants progress s (needs-fit progress.server client request wants s needs.found);
+        found_ready = λ same. absurd (cc);
+      };
+      again = λ rounds progress wants tried needs goes rest s.
+          rest (wants_met-sound wants progress s (needs-fit progress.server client request wants s needs.found));
+    }) rounds

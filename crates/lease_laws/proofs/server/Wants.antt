@@ -12,6 +12,7 @@ use Rattle.lease_laws.proofs.Words.{without_handle, without_write, write_finding
 use Rattle.lease_laws.proofs.server.Keys.{is_key-refl, lease_by-key}
 use Rattle.lease_laws.proofs.server.Lists.{if_cases, clash, and_parts, not_true, among_filter, among_filtered, among_map}
 use Rattle.lease_laws.proofs.server.States.{without_write-lowered, without_handle-lowered, nothing-lowered}
+use Rattle.lease_laws.proofs.server.cases.Findings.{any_needs}
 
 -- a key among the keys with one more is that one, or was among them
 key_added-has : (key new : Key) (keys : List Key) → Among key (key_added new keys) → (key ≡ new) ⊎ Among key keys
@@ -155,68 +156,15 @@ all_wants-fit server own file s = wants_where-fit server
       nothing-lowered (lease_of server one).state holds,
     ))
 
--- all that a finding wants fits
-abbrev pub FindingFits : Server → Finding → Type 0
-FindingFits server (Finding.Fails status) = Unit {0}
-FindingFits server (Finding.Needs wants) = AllFit server wants
-
--- what a create finds fits
-pub create_finding-fits : (server : Server) (own : Option Key) (file : ℕ) (access : Access) (share : Share)
-    → IsSound server → FindingFits server (create_finding server own file access share)
-create_finding-fits server own file access share s = if_cases (FindingFits server) (is_leased_elsewhere server own file) _ _
-    (λ e. tt)
-    (λ e. if_cases (FindingFits server) (list_any (conflicts_on file access share) server.opens) _ _
-    (λ c. if_cases (FindingFits server) (is_empty (handle_wants server own file access share)) _ _
-    (λ n. tt) (λ n. handle_wants-fit server own file access share s))
-    (λ c. write_wants-fit server own file s))
-
--- what a reconnect finds fits
-pub reconnect_finding-fits : (server : Server) (client file : ℕ) (own : Option Key) (file_id : ℕ)
-    → FindingFits server (reconnect_finding server client file own file_id)
-reconnect_finding-fits server client file own file_id = grind arith
-
--- what a write finds fits
-pub write_finding-fits : (server : Server) (one : Open) (patch : Patch) → IsSound server
-    → FindingFits server (write_finding server one patch)
-write_finding-fits server one patch s = if_cases (FindingFits server) (may_write one.access) _ _
-    (λ e. if_cases (FindingFits server) (is_within_limit patch) _ _
-    (λ i. all_wants-fit server (key_of_open one) one.file s) (λ i. tt))
-    (λ e. tt)
-
--- what a create finds fits, with a reconnect or without
-asked_finding-fits : (server : Server) (client file : ℕ) (access : Access) (share : Share)
-    (lease : Option LeaseOf) (again : Option ℕ)
-    → IsSound server → FindingFits server (asked_finding server client file access share lease again)
-asked_finding-fits server client file access share lease None s = create_finding-fits server
-    (own_key client lease) file access share s
-asked_finding-fits server client file access share lease (Some file_id) s = reconnect_finding-fits server
-    client file (own_key client lease) file_id
-
--- what is found by an open fits
-by_open-fits : (server : Server) (one : Option Open) (found : Open → Finding) → ((x : Open) → FindingFits server (found x))
-    → FindingFits server (by_open one found)
-by_open-fits server x2 found fits = grind arith
-
--- what is found by contexts fits
-by_contexts-fits : (server : Server) (ask : Option CreateAsk) (found : CreateAsk → Finding)
-    → ((x : CreateAsk) → FindingFits server (found x)) → FindingFits server (by_contexts ask found)
-by_contexts-fits server x2 found fits = grind arith
-
--- what a read finds fits
-read_finding-fits : (server : Server) (one : Open) → FindingFits server (read_finding one)
-read_finding-fits server one = grind arith
-
 -- all that a look at a request wants fits
-pub finding-fits : (server : Server) (client : ℕ) (request : FileRequest) → IsSound server
-    → FindingFits server (finding server client request)
-unfolding finding
-finding-fits server client (FileRequest.Create file access share contexts) s = by_contexts-fits server contexts _
-    (λ ask. if_cases (FindingFits server) (has_file server file) _ _
-    (λ e. asked_finding-fits server client file access share ask.lease ask.reconnect s) (λ e. tt))
-finding-fits server client (FileRequest.Read file_id) s = by_open-fits server
-    (connected_open server client file_id) _ (read_finding-fits server)
-finding-fits server client (FileRequest.Write file_id number patch) s = by_open-fits server
-    (connected_open server client file_id) _
-    (λ one. write_finding-fits server one patch s)
-finding-fits server client (FileRequest.Close file_id) s = by_open-fits server
-    (connected_open server client file_id) _ (λ one want a. absurd a)
+pub needs-fit : (server : Server) (client : ℕ) (request : FileRequest) (wants : List Want) → IsSound server
+    → finding server client request ≡ Finding.Needs wants → AllFit server wants
+needs-fit server client request wants s = any_needs server client (λ request. AllFit server) (record {
+  conflicts = λ file access share ask at clash some.
+      handle_wants-fit server (own_key client ask.lease) file access share s;
+  enters = λ file access share ask at calm. write_wants-fit server (own_key client ask.lease) file s;
+  awaited = λ file access share ask file_id there again some want a. absurd a;
+  reads = λ file_id one own may want a. absurd a;
+  writes = λ file_id number patch one own may fits. all_wants-fit server (key_of_open one) one.file s;
+  closes = λ file_id one own want a. absurd a;
+}) request wants

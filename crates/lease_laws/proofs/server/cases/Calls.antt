@@ -88,3 +88,12 @@ pub passes_by : (server : Server) (client : ℕ) (request : Request) → server.
     → receive server client request ≡ begun server
 unfolding receive
 passes_by server client request e = rw (e) refl
+
+pub cuts : (server : Server) (client : ℕ) → server.present client ≡ true
+    → cut server client ≡ all_passes (links_lost server client)
+unfolding cut
+cuts server client e = rw (e) refl
+
+pub cuts_nothing : (server : Server) (client : ℕ) → server.present client ≡ false → cut server client ≡ begun server
+unfolding cut
+cuts_nothing server client e = rw (e) refl

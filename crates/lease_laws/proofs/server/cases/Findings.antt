@@ -2,7 +2,8 @@
 use Rattle.lease_laws.proofs.Words.{◌&&◌, ◌==◌, ◌≡◌, Access, CreateAsk, FileRequest, Finding, None, Open, Option, Patch, Server}
 use Rattle.lease_laws.proofs.Words.{Share, Some, Status, ℕ, [], all_wants, awaits, by_open, connected_open, conflicts_on, false}
 use Rattle.lease_laws.proofs.Words.{finding, handle_wants, has_file, is_empty, is_leased_elsewhere, is_within_limit}
-use Rattle.lease_laws.proofs.Words.{key_of_open, list_any, may_read, may_write, own_key, refl, subst, sym, true, write_wants}
+use Rattle.lease_laws.proofs.Words.{List, key_of_open, list_any, may_read, may_write, own_key, refl, subst, sym, true}
+use Rattle.lease_laws.proofs.Words.{Want, write_wants, ⊤}
 use Rattle.lease_laws.proofs.server.Lists.{either}
 use Rattle.lease_laws.proofs.server.cases.Ends.{IsFoundOpen, found_open}
 
@@ -249,3 +250,48 @@ any_finding server client P h (FileRequest.Close file_id) = named_found server c
     (connected_open server client file_id) refl
     (λ one is. subst (P (FileRequest.Close file_id)) (sym (finds_close server client file_id one is))
     (h.closes file_id (one) (found_open server client file_id one is)))
+
+-- ---- what is wanted, where the request isn't refused
+
+pub record HasNeeds (server : Server) (client : ℕ) (P : FileRequest → List Want → Type 0) : Type 0 where
+  pub conflicts : (file : ℕ) (access : Access) (share : Share) (ask : CreateAsk) → IsAtHome server client file ask
+      → list_any (conflicts_on file access share) server.opens ≡ true
+      → is_empty (handle_wants server (own_key client ask.lease) file access share) ≡ false
+      → P (FileRequest.Create file access share (Some ask)) (handle_wants server (own_key client ask.lease) file access share)
+  pub enters : (file : ℕ) (access : Access) (share : Share) (ask : CreateAsk) → IsAtHome server client file ask
+      → list_any (conflicts_on file access share) server.opens ≡ false
+      → P (FileRequest.Create file access share (Some ask)) (write_wants server (own_key client ask.lease) file)
+  pub awaited : (file : ℕ) (access : Access) (share : Share) (ask : CreateAsk) (file_id : ℕ) → has_file server file ≡ true
+      → ask.reconnect ≡ Some file_id
+      → list_any (awaits client file (own_key client ask.lease) file_id) server.opens ≡ true
+      → P (FileRequest.Create file access share (Some ask)) []
+  pub reads : (file_id : ℕ) (one : Open) → IsFoundOpen server client file_id one → may_read one.access ≡ true
+      → P (FileRequest.Read file_id) []
+  pub writes : (file_id number : ℕ) (patch : Patch) (one : Open) → IsFoundOpen server client file_id one
+      → may_write one.access ≡ true → is_within_limit patch ≡ true
+      → P (FileRequest.Write file_id number patch) (all_wants server (key_of_open one) one.file)
+  pub closes : (file_id : ℕ) (one : Open) → IsFoundOpen server client file_id one → P (FileRequest.Close file_id) []
+
+abbrev Wanted : (FileRequest → List Want → Type 0) → FileRequest → Finding → Type 0
+Wanted P request (Finding.Fails status) = ⊤
+Wanted P request (Finding.Needs wants) = P request wants
+
+pub any_needs : (server : Server) (client : ℕ) (P : FileRequest → List Want → Type 0) → HasNeeds server client P
+    → (request : FileRequest) (wants : List Want) → finding server client request ≡ Finding.Needs wants → P request wants
+any_needs server client P h request wants is = subst (Wanted P request) is (any_finding server client (Wanted P) (record {
+  malformed = λ file access share. tt;
+  nowhere = λ file access share ask away. tt;
+  elsewhere = λ file access share ask there anew away. tt;
+  violates = λ file access share ask at clash none. tt;
+  conflicts = h.conflicts;
+  enters = h.enters;
+  awaited = h.awaited;
+  forgotten = λ file access share ask file_id there again none. tt;
+  gone = λ request file_id names none. tt;
+  unread = λ file_id one own not. tt;
+  reads = h.reads;
+  unwritten = λ file_id number patch one own not. tt;
+  too_long = λ file_id number patch one own may long. tt;
+  writes = h.writes;
+  closes = h.closes;
+}) request)
