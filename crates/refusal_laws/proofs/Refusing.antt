@@ -13,6 +13,7 @@ use Rattle.lease_laws.proofs.server.Lists.{if_cases, either, and_parts, not_part
 use Rattle.lease_laws.proofs.server.Met.{lease_broken-opens}
 use Rattle.lease_laws.proofs.server.cases.Calls.{judges, receives}
 use Rattle.lease_laws.proofs.server.cases.Judgements.{any_judgement}
+use Rattle.lease_laws.proofs.server.cases.Tries.{NeedsBreaks, any_break, any_rounds, any_wants}
 use Rattle.lease_model.specs.server.Calls.{first_tried}
 use Rattle.refusal_laws.specs.Refusals.{NeedsRound, IsClosedByBreak, IsLeftAlone, RefusedAsTheyCome, RefusedOnceTried}
 use Rattle.refusal_laws.specs.Refusals.{ClosesAreRefusedAsTheyCome, RefusedAcknowledgments, passes_behind, CallsRefusedAsTheyCome}
@@ -41,8 +42,9 @@ dropped_alone key progress = record {
 
 broken_contents : (key : Key) (lowered : State) (progress : Progress)
     → (lease_broken key lowered progress).server.contents ≡ progress.server.contents
-unfolding lease_broken
-broken_contents key lowered progress = grind arith
+broken_contents key lowered progress =
+    any_break key lowered progress (λ after. after.server.contents ≡ progress.server.contents)
+    (record { stays = λ not. refl; begins = λ whole needs. refl; lowers = λ whole light. refl })
 
 met_alone : (want : Want) (progress : Progress)
     → IsLeftAlone (λ one. (has_key want.key one ≡ true) × (one.connected ≡ false)) progress.server (want_met want progress).server
@@ -57,11 +59,9 @@ met_alone want progress =
 
 all_met_alone : (wants : List Want) (progress : Progress)
     → IsLeftAlone (IsOfWant wants) progress.server (wants_met wants progress).server
-unfolding wants_met
-all_met_alone [] progress = record { contents = refl; were = λ one a. a; stay = λ one a. inl a }
-all_met_alone (want ∷ wants) progress =
-    let first = met_alone want progress in
-    let rest = all_met_alone wants (want_met want progress) in record {
+all_met_alone = any_wants (λ wants progress after. IsLeftAlone (IsOfWant wants) progress.server after.server)
+    (λ progress. record { contents = refl; were = λ one a. a; stay = λ one a. inl a })
+    (λ want wants progress after rest. let first = met_alone want progress in record {
       contents = rest.contents ∙ first.contents;
       were = λ one a. first.were one (rest.were one a);
       stay = λ one a. ⊎_elim
@@ -72,7 +72,7 @@ all_met_alone (want ∷ wants) progress =
             is_left = w.is_left;
           })) (rest.stay one there))
           (λ goes. inr (record { want = want; is_wanted = inl refl; has_the_key = goes.0; is_left = goes.1 })) (first.stay one a);
-    }
+    })
 
 -- ---- tries
 
@@ -123,32 +123,24 @@ then_alone client request progress wants after needs goes rest =
           (λ w. inr w) (first.stay one a);
     }
 
-found_alone : (again : Progress → Tried) (client : ℕ) (request : FileRequest) (progress : Progress) (found : Finding)
-    → finding progress.server client request ≡ found
-    → ((next : Progress) → IsLeftAlone (IsClosedByBreak client request next) next.server (again next).progress.server)
-    → IsLeftAlone (IsClosedByBreak client request progress) progress.server
-    (after_finding again request progress found).progress.server
-found_alone again client request progress (Finding.Fails status) is more =
-    same_alone (IsClosedByBreak client request progress) progress.server
-found_alone again client request progress (Finding.Needs wants) is more =
-    let next = wants_met wants progress in
-    if_cases (λ (t : Tried). IsLeftAlone (IsClosedByBreak client request progress) progress.server t.progress.server)
-    (is_ready request progress.server.leases wants) (ended progress Outcome.Ready) (after_breaks again request wants next)
-    (λ ready. same_alone (IsClosedByBreak client request progress) progress.server)
-    (λ not_ready. let needs : NeedsRound client request progress wants = record { found = is; not_ready = not_ready } in
-    if_cases (λ (t : Tried). IsLeftAlone (IsClosedByBreak client request progress) progress.server t.progress.server)
-    (must_wait request next wants) (ended next Outcome.Waits) (again next)
-    (λ waits. round_alone client request progress wants needs)
-    (λ goes. then_alone client request progress wants (again next).progress.server needs goes (more next)))
+needs_round : (client : ℕ) (request : FileRequest) (progress : Progress) (wants : List Want)
+    → NeedsBreaks client request progress wants → NeedsRound client request progress wants
+needs_round client request progress wants needs = record { found = needs.found; not_ready = needs.unready }
 
 pub tried_alone : (rounds client : ℕ) (request : FileRequest) (progress : Progress)
     → IsLeftAlone (IsClosedByBreak client request progress) progress.server
     (tried_for rounds client request progress).progress.server
-unfolding tried_for
-tried_alone zero client request progress = same_alone (IsClosedByBreak client request progress) progress.server
-tried_alone (suc rounds) client request progress =
-    found_alone (tried_for rounds client request) client request progress (finding progress.server client request) refl
-    (λ next. tried_alone rounds client request next)
+tried_alone rounds client request = any_rounds client request
+    (λ rounds progress done. IsLeftAlone (IsClosedByBreak client request progress) progress.server done.progress.server)
+    (record {
+      out = λ progress. same_alone (IsClosedByBreak client request progress) progress.server;
+      fails = λ rounds progress status is. same_alone (IsClosedByBreak client request progress) progress.server;
+      ready = λ rounds progress wants found ready. same_alone (IsClosedByBreak client request progress) progress.server;
+      waits = λ rounds progress wants needs wait.
+          round_alone client request progress wants (needs_round client request progress wants needs);
+      again = λ rounds progress wants done needs goes rest. then_alone client request progress wants done.progress.server
+          (needs_round client request progress wants needs) goes rest;
+    }) rounds
 
 pub refused_once_tried : RefusedOnceTried
 refused_once_tried client request progress status is = tried_alone 3 client request progress

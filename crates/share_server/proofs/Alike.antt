@@ -3,6 +3,8 @@ use Rattle.lease_laws.proofs.Words.{◌∙◌, ◌≡◌, Bool, FileRequest, Fin
 use Rattle.lease_laws.proofs.Words.{after_finding, all_wants, ap, arith, by_open, connected_open, false, finding, if◌then◌else◌}
 use Rattle.lease_laws.proofs.Words.{is_ready, is_within_limit, key_of_open, may_write, refl, suc, sym, tried, tried_for, true}
 use Rattle.lease_laws.proofs.Words.{waits_for, wants_met, write_finding, zero}
+use Rattle.lease_laws.proofs.server.cases.Findings.{look_for_write}
+use Rattle.lease_laws.proofs.server.cases.Tries.{any_rounds, no_round, round_ends, round_fails, round_goes_on, round_waits}
 use Rattle.share_server.specs.Requests.{patch_like}
 use Rattle.share_server.specs.StillWaiting.{HasOnlyToWait}
 
@@ -15,8 +17,7 @@ found_for server one fits = by_open one (λ one. if may_write one.access
 write_found : (server : Server) (client file_id number : ℕ) (patch : Patch)
     → finding server client (FileRequest.Write file_id number patch)
     ≡ found_for server (connected_open server client file_id) (is_within_limit patch)
-unfolding finding
-write_found server client file_id number patch = refl
+write_found server client file_id number patch = look_for_write server client file_id number patch
 
 -- two writes on one open
 found_alike : (server : Server) (client file_id number other : ℕ) (patch like : Patch)
@@ -25,23 +26,24 @@ found_alike : (server : Server) (client file_id number other : ℕ) (patch like 
 found_alike server client file_id number other patch like same = write_found server client file_id number patch
     ∙ (ap (found_for server (connected_open server client file_id)) same ∙ sym (write_found server client file_id other like))
 
-after_alike : (again more : Progress → Tried) (file_id number other : ℕ) (patch like : Patch) (progress : Progress)
-    (found : Finding) → ((next : Progress) → again next ≡ more next)
-    → after_finding again (FileRequest.Write file_id number patch) progress found
-    ≡ after_finding more (FileRequest.Write file_id other like) progress found
-after_alike again more file_id number other patch like progress x9 same = grind arith
-
+-- its breaks, and so its rounds, are the same
 tried_alike : (rounds client file_id number other : ℕ) (patch like : Patch) (progress : Progress)
     → is_within_limit patch ≡ is_within_limit like → tried_for rounds client (FileRequest.Write file_id number patch) progress
     ≡ tried_for rounds client (FileRequest.Write file_id other like) progress
-unfolding tried_for
-tried_alike zero client file_id number other patch like progress same = refl
-tried_alike (suc rounds) client file_id number other patch like progress same =
-    let found = found_alike progress.server client file_id number other patch like same in
-    rw found (after_alike (tried_for rounds client (FileRequest.Write file_id number patch))
-    (tried_for rounds client (FileRequest.Write file_id other like)) file_id number other patch like progress
-    (finding progress.server client (FileRequest.Write file_id other like))
-    (λ next. tried_alike rounds client file_id number other patch like next same))
+tried_alike rounds client file_id number other patch like progress same =
+    let one = FileRequest.Write file_id number patch in
+    let two = FileRequest.Write file_id other like in
+    let found : (p : Progress) → finding p.server client one ≡ finding p.server client two =
+    λ p. found_alike p.server client file_id number other patch like same in
+    any_rounds client two (λ rounds p done. tried_for rounds client one p ≡ done) (record {
+      out = λ p. no_round client one p;
+      fails = λ rounds p status is. round_fails rounds client one p status (found p ∙ is);
+      ready = λ rounds p wants is ready. round_ends rounds client one p wants (found p ∙ is) ready;
+      waits = λ rounds p wants needs wait. round_waits rounds client one p wants
+          (record { found = found p ∙ needs.found; unready = needs.unready }) wait;
+      again = λ rounds p wants done needs goes rest. round_goes_on rounds client one p wants
+          (record { found = found p ∙ needs.found; unready = needs.unready }) goes ∙ rest;
+    }) rounds progress
 
 limit_like : (fits : Bool) → is_within_limit (patch_like fits) ≡ fits
 limit_like x1 = grind arith

@@ -6,6 +6,7 @@ use Rattle.lease_laws.proofs.Words.{needs_acknowledgment, not, opens_dropped, re
 use Rattle.lease_laws.proofs.Words.{without}
 use Rattle.lease_model.specs.server.Progress.{stepped}
 use Rattle.lease_laws.proofs.server.Lists.{if_cases, clash, not_parts, and_parts}
+use Rattle.lease_laws.proofs.server.cases.Tries.{breaks_whole, isnt_broken}
 use Rattle.share_server.specs.Outs.{progress_of}
 use Rattle.share_server.specs.Table.{Table, server_of}
 use Rattle.share_server.specs.Wishes.{broken_so}
@@ -26,15 +27,14 @@ dropped table after outs test is = silent table after outs _ is
 pub not_broken : (progress : Progress) (key : Key) (lowered : State)
     → (has_lease progress.server key ≡ false) ⊎ (is_breaking (progress.server.leases key) ≡ true)
     → progress ≡ lease_broken key lowered progress
-unfolding lease_broken
-not_broken progress key lowered x4 = grind arith
+not_broken progress key lowered either_of = sym (isnt_broken key lowered progress
+    (neither (has_lease progress.server key) (is_breaking (progress.server.leases key)) either_of))
+  where
+    neither : (there breaking : Bool) → (there ≡ false) ⊎ (breaking ≡ true) → (there && not breaking) ≡ false
+    neither there breaking is = grind arith
 
 at_both : (a b : Server) (given told : List Out) → a ≡ b → given ≡ told → at_step given a ≡ at_step told b
 at_both a b given told x y = ap (at_step given) x ∙ ap (λ outs. at_step outs b) y
-
-chosen : {X : Type 0} (there breaking : Bool) (x y : X) → there ≡ true → breaking ≡ false
-    → (if there && not breaking then x else y) ≡ x
-chosen there breaking x y a b = rw (a, b) refl
 
 begun_or_lowered : (table after : Table) (outs given : List Out) (key : Key) (lowered : State) → server_of after
     ≡ with_lease (server_of table) key (broken_so ((server_of table).leases key).state lowered)
@@ -48,13 +48,12 @@ pub is_broken : (table after : Table) (outs given : List Out) (key : Key) (lower
     → server_of after ≡ with_lease (server_of table) key (broken_so lease.state lowered)
     → given ≡ outs ++ Out.Sent key.client (break_notice key lease.state lowered) ∷ []
     → progress_of after given ≡ lease_broken key lowered (progress_of table outs)
-unfolding lease_broken
 is_broken table after outs given key lowered lease same there settled is told =
     begun_or_lowered table after outs given key lowered
     (is ∙ ap (λ (l : Lease). with_lease (server_of table) key (broken_so l.state lowered)) same)
     (told ∙ ap (λ (l : Lease). outs ++ Out.Sent key.client (break_notice key l.state lowered) ∷ []) same)
-    ∙ sym (chosen (has_lease (server_of table) key) (is_breaking ((server_of table).leases key)) _ _ there
-    (ap is_breaking (sym same) ∙ settled))
+    ∙ sym (breaks_whole key lowered (progress_of table outs)
+    (record { there = there; settled = ap is_breaking (sym same) ∙ settled }))
 
 -- opens are closed, and a reply is sent
 pub dropped_and_told : (table after : Table) (outs given : List Out) (test : Open → Bool) (client : ℕ) (reply : Reply)

@@ -8,6 +8,8 @@ use Rattle.lease_laws.proofs.Words.{tried, tried_for, true, wants_met, write_fin
 use Rattle.lease_laws.proofs.server.Lists.{if_cases, either, has_none}
 use Rattle.lease_laws.proofs.server.Ready.{RequestFree, CreateFree, ready-free}
 use Rattle.lease_laws.proofs.server.Tries.{IsFoundReady}
+use Rattle.lease_laws.proofs.server.cases.Findings.{any_needs}
+use Rattle.lease_laws.proofs.server.cases.Tries.{any_rounds}
 use Rattle.share_server.specs.Kept.{CanBeAnswered, IsCreateAtHome}
 use Rattle.share_server.specs.Looks.{is_elsewhere}
 use Rattle.share_server.specs.Summaries.{IsAtHome, RecordFits}
@@ -17,18 +19,15 @@ use Rattle.share_server.specs.declared.summaries.LeaseRecord.{LeaseRecord}
 abbrev EndsReady : ℕ → FileRequest → Tried → Type 0
 EndsReady client request done = done.outcome ≡ Outcome.Ready → IsFoundReady client request done.progress
 
-finding_ready : (again : Progress → Tried) (client : ℕ) (request : FileRequest) (progress : Progress) (found : Finding)
-    → finding progress.server client request ≡ found → ((next : Progress) → EndsReady client request (again next))
-    → EndsReady client request (after_finding again request progress found)
-finding_ready again client request progress x5 e good = grind arith
-
 tried_ready : (rounds client : ℕ) (request : FileRequest) (progress : Progress)
     → EndsReady client request (tried_for rounds client request progress)
-unfolding tried_for
-tried_ready zero client request progress = λ same. absurd (cc)
-tried_ready (suc rounds) client request progress =
-    finding_ready (tried_for rounds client request) client request progress (finding progress.server client request) refl
-    (λ next. tried_ready rounds client request next)
+tried_ready rounds client request = any_rounds client request (λ rounds progress done. EndsReady client request done) (record {
+  out = λ progress same. absurd (cc);
+  fails = λ rounds progress status is same. absurd (cc);
+  ready = λ rounds progress wants found ready same. record { wants = wants; found = found; ready = ready };
+  waits = λ rounds progress wants needs wait same. absurd (cc);
+  again = λ rounds progress wants done needs goes rest. rest;
+}) rounds
 
 home_free : (server : Server) (own : Option Key) (file : ℕ) (access : Access) (share : Share)
     → IsFree server.opens server.leases own file access share → is_leased_elsewhere server own file ≡ false
@@ -38,34 +37,27 @@ home_free server (Some key) file access share free =
     (λ has. rw (has, (Decides-eqb one.file file).1 (free.at_home one a has)) refl)
     (λ has. rw has refl))
 
-write_fits : (found : Option Open) (server : Server) (patch : Patch) (wants : List Want)
-    → by_open found (λ one. write_finding server one patch) ≡ Finding.Needs wants → is_within_limit patch ≡ true
-write_fits x1 server patch wants e = grind arith
-
 at_home : (server : Server) (client : ℕ) (request : FileRequest) (wants : List Want)
-    → finding server client request ≡ Finding.Needs wants → RequestFree server client request
-    → CanBeAnswered client request server
-unfolding finding
-at_home server client (FileRequest.Create file access share None) wants found free = tt
-at_home server client (FileRequest.Create file access share (Some ask)) wants found free = contexts ask.reconnect free
-  where
-    contexts : (again : Option ℕ) → CreateFree server client file access share ask.lease again
-        → IsCreateAtHome (own_key client ask.lease) file again server
-    contexts None f = home_free server (own_key client ask.lease) file access share f
-    contexts (Some file_id) f = tt
-at_home server client (FileRequest.Read file_id) wants found free = tt
-at_home server client (FileRequest.Write file_id number patch) wants found free =
-    write_fits (connected_open server client file_id) server patch wants found
-at_home server client (FileRequest.Close file_id) wants found free = tt
+    → finding server client request ≡ Finding.Needs wants → CanBeAnswered client request server
+at_home server client = any_needs server client (λ request wants. CanBeAnswered client request server) (record {
+  conflicts = λ file access share ask at clash some.
+      subst (λ again. IsCreateAtHome (own_key client ask.lease) file again server) (sym at.anew) at.home;
+  enters = λ file access share ask at calm.
+      subst (λ again. IsCreateAtHome (own_key client ask.lease) file again server) (sym at.anew) at.home;
+  awaited = λ file access share ask file_id there again some.
+      subst (λ again. IsCreateAtHome (own_key client ask.lease) file again server) (sym again) tt;
+  reads = λ file_id one own may. tt;
+  writes = λ file_id number patch one own may fits. fits;
+  closes = λ file_id one own. tt;
+})
 
 pub ready_at_home : (client : ℕ) (request : FileRequest) (before after : Progress) (outcome : Outcome)
     → ended after outcome ≡ tried client request before → outcome ≡ Outcome.Ready → CanBeAnswered client request after.server
 ready_at_home client request before after outcome end ready =
     let is : (tried client request before).outcome ≡ Outcome.Ready = ap (λ (t : Tried). t.outcome) (sym end) ∙ ready in
     let looked = tried_ready 3 client request before is in
-    let free = ready-free client request (tried client request before).progress looked in
     subst (λ (p : Progress). CanBeAnswered client request p.server) (ap (λ (t : Tried). t.progress) (sym end))
-    (at_home (tried client request before).progress.server client request looked.wants looked.found free)
+    (at_home (tried client request before).progress.server client request looked.wants looked.found)
 
 pub elsewhere_same : (a b : Server) (own : Option Key) (file : ℕ) → a.opens ≡ b.opens
     → is_leased_elsewhere a own file ≡ is_leased_elsewhere b own file

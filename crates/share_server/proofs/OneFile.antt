@@ -12,6 +12,7 @@ use Rattle.lease_laws.proofs.server.Keys.{is_key-refl}
 use Rattle.lease_laws.proofs.server.Lists.{either, clash, and_parts, and_both, not_parts, not_true, among_filter, among_filtered}
 use Rattle.lease_laws.proofs.server.Lists.{any_has, has_any, has_none, none_has, each_all, all_each}
 use Rattle.lease_laws.proofs.server.Wants.{keys_of-has}
+use Rattle.lease_laws.proofs.server.cases.Findings.{look_for_create, look_for_write}
 use Rattle.share_server.specs.OneFile.{on_file, local, IsOnlyAbout}
 use Rattle.share_server.specs.StillWaiting.{is_under_way, HasOnlyToWait}
 use Rattle.share_server.specs.Looks.{is_elsewhere}
@@ -130,9 +131,9 @@ create_file : (file : ℕ) (server : Server) (client : ℕ) (access : Access) (s
     → is_leased_elsewhere server (own_key client ask.lease) file ≡ false
     → finding (local file server) client (FileRequest.Create file access share (Some ask))
     ≡ finding server client (FileRequest.Create file access share (Some ask))
-unfolding finding
-create_file file server client access share ask home =
-    ap (λ found. if has_file server file then found else Finding.Fails Status.ObjectNameNotFound) (asked_on ask.reconnect)
+create_file file server client access share ask home = look_for_create (local file server) client file access share ask
+    ∙ ap (λ found. if has_file server file then found else Finding.Fails Status.ObjectNameNotFound) (asked_on ask.reconnect)
+    ∙ sym (look_for_create server client file access share ask)
   where
     asked_on : (again : Option ℕ) → asked_finding (local file server) client file access share ask.lease again
         ≡ asked_finding server client file access share ask.lease again
@@ -169,8 +170,8 @@ write_on : (file : ℕ) (server : Server) (client file_id number : ℕ) (patch :
     → option_map (λ one. one.file) (connected_open server client file_id) ≡ Some file
     → finding (local file server) client (FileRequest.Write file_id number patch)
     ≡ finding server client (FileRequest.Write file_id number patch)
-unfolding finding
-write_on file server client file_id number patch about = go (connected_open server client file_id) refl about
+write_on file server client file_id number patch about = look_for_write (local file server) client file_id number patch
+    ∙ go (connected_open server client file_id) refl about ∙ sym (look_for_write server client file_id number patch)
   where
     go : (found : Option Open) → connected_open server client file_id ≡ found → option_map (λ one. one.file) found ≡ Some file
         → by_open (connected_open (local file server) client file_id) (λ one. write_finding (local file server) one patch)

@@ -3,6 +3,7 @@ use Rattle.lease_laws.proofs.Words.{◌+◌, ◌-◌, ◌<◌, ◌∙◌, ◌≡
 use Rattle.lease_laws.proofs.Words.{Want, ℕ, after_breaks, after_finding, ap, arith, ended, false, finding, if◌then◌else◌}
 use Rattle.lease_laws.proofs.Words.{is_ready, must_wait, refl, suc, sym, tried_for, true, wants_met}
 use Rattle.lease_laws.proofs.server.Lists.{either}
+use Rattle.lease_laws.proofs.server.cases.Tries.{no_round, one_round}
 use Rattle.share_server.specs.Findings.{Look, looked}
 
 -- a round by what the look at its start comes to
@@ -18,8 +19,13 @@ look_at client request progress =
 pub looks : (rounds client : ℕ) (request : FileRequest) (progress : Progress) (look : Look)
     → look ≡ look_at client request progress → tried_for (suc rounds) client request progress
     ≡ after_look (tried_for rounds client request) request progress look
-unfolding tried_for
-looks rounds client request progress look is = grind arith
+looks rounds client request progress look is = one_round rounds client request progress
+    ∙ by_look (finding progress.server client request) look is
+  where
+    by_look : (found : Finding) (look : Look) → look ≡ looked (λ wants. is_ready request progress.server.leases wants) found
+        → after_finding (tried_for rounds client request) request progress found
+        ≡ after_look (tried_for rounds client request) request progress look
+    by_look found look is = grind arith
 
 breaks : (rounds client : ℕ) (request : FileRequest) (progress after : Progress) (wants : List Want)
     → Look.Needs wants ≡ look_at client request progress → after ≡ wants_met wants progress
@@ -58,8 +64,9 @@ the_last i client request before done whole less step so_far =
 
 pub none_left : (i client : ℕ) (request : FileRequest) (now : Progress) (whole : Tried) → 3 ≤ i
     → tried_for (3 - i) client request now ≡ whole → ended now Outcome.Waits ≡ whole
-unfolding tried_for
-none_left i client request now whole over so_far = grind arith
+none_left i client request now whole over so_far =
+    let e : 3 - i ≡ 0 = omega arith in
+    sym (no_round client request now) ∙ ap (λ n. tried_for n client request now) (sym e) ∙ so_far
 
 -- where a look finds wants, these are the finding's, and the request can't be answered
 pub needs_unready : (is_ready : List Want → Bool) (found : Finding) (wants : List Want) → Look.Needs wants ≡ looked is_ready found

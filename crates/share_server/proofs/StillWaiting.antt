@@ -9,6 +9,8 @@ use Rattle.lease_laws.proofs.Words.{reconnect_finding, refl, subst, suc, sym, ta
 use Rattle.lease_laws.proofs.Words.{with_opens, without, write_finding, write_wants, zero}
 use Rattle.std.specs.List.{slice_get}
 use Rattle.lease_laws.proofs.server.Lists.{either, clash, and_parts, not_parts}
+use Rattle.lease_laws.proofs.server.cases.Findings.{finds_malformed, look_for_close, look_for_create, look_for_read, look_for_write}
+use Rattle.lease_laws.proofs.server.cases.Tries.{met_in_order, nothing_met}
 use Rattle.share_server.specs.Passing.{pass_at}
 use Rattle.share_server.specs.Summaries.{file_order}
 use Rattle.share_server.specs.declared.waiting.Waiting.{Waiting}
@@ -59,11 +61,12 @@ want_met_already server file want outs spare is =
 met_already : (server : Server) (file : ℕ) (wants : List Want) (outs : List Out) → HasNoSpare server
     → list_all (λ want. is_under_way server file want.key) wants ≡ true
     → wants_met wants (at_call server outs) ≡ at_call server outs
-unfolding wants_met
-met_already server file [] outs spare all = refl
+met_already server file [] outs spare all = nothing_met (at_call server outs)
 met_already server file (want ∷ wants) outs spare all =
     let parts = and_parts (is_under_way server file want.key) _ all in
-    ap (wants_met wants) (want_met_already server file want outs spare parts.0) ∙ met_already server file wants outs spare parts.1
+    met_in_order want wants (at_call server outs)
+    ∙ ap (wants_met wants) (want_met_already server file want outs spare parts.0)
+    ∙ met_already server file wants outs spare parts.1
 
 pub in_vain : (server : Server) (file client : ℕ) (request : FileRequest) → HasNoSpare server
     → HasOnlyToWait server file client request → IsTriedInVain server client request
@@ -78,12 +81,23 @@ decider server = deciding server.files server.opens server.leases
 
 pub decided : (server : Server) (client : ℕ) (request : FileRequest)
     → finding (decider server) client request ≡ finding server client request
-unfolding finding wants_where
-decided server client (FileRequest.Create file access share None) = refl
-decided server client (FileRequest.Create file access share (Some ask)) = grind arith
-decided server client (FileRequest.Read file_id) = refl
-decided server client (FileRequest.Write file_id number patch) = refl
-decided server client (FileRequest.Close file_id) = refl
+unfolding wants_where
+decided server client (FileRequest.Create file access share None) =
+    finds_malformed (decider server) client file access share ∙ sym (finds_malformed server client file access share)
+decided server client (FileRequest.Create file access share (Some ask)) =
+    look_for_create (decider server) client file access share ask
+    ∙ ap (λ found. if has_file server file then found else Finding.Fails Status.ObjectNameNotFound) (asked ask.reconnect)
+    ∙ sym (look_for_create server client file access share ask)
+  where
+    asked : (again : Option ℕ) → asked_finding (decider server) client file access share ask.lease again
+        ≡ asked_finding server client file access share ask.lease again
+    asked again = grind arith
+decided server client (FileRequest.Read file_id) =
+    look_for_read (decider server) client file_id ∙ sym (look_for_read server client file_id)
+decided server client (FileRequest.Write file_id number patch) =
+    look_for_write (decider server) client file_id number patch ∙ sym (look_for_write server client file_id number patch)
+decided server client (FileRequest.Close file_id) =
+    look_for_close (decider server) client file_id ∙ sym (look_for_close server client file_id)
 
 pub waits_decided : (server : Server) (file client : ℕ) (request : FileRequest)
     → HasOnlyToWait server file client request → HasOnlyToWait (decider server) file client request

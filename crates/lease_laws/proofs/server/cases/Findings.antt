@@ -3,7 +3,7 @@ use Rattle.lease_laws.proofs.Words.{◌&&◌, ◌==◌, ◌≡◌, Access, Creat
 use Rattle.lease_laws.proofs.Words.{Share, Some, Status, ℕ, [], all_wants, awaits, by_open, connected_open, conflicts_on, false}
 use Rattle.lease_laws.proofs.Words.{finding, handle_wants, has_file, is_empty, is_leased_elsewhere, is_within_limit}
 use Rattle.lease_laws.proofs.Words.{List, key_of_open, list_any, may_read, may_write, own_key, refl, subst, sym, true}
-use Rattle.lease_laws.proofs.Words.{Want, write_wants, ⊤}
+use Rattle.lease_laws.proofs.Words.{Want, asked_finding, if◌then◌else◌, read_finding, write_finding, write_wants, ⊤}
 use Rattle.lease_laws.proofs.server.Lists.{either}
 use Rattle.lease_laws.proofs.server.cases.Ends.{IsFoundOpen, found_open}
 
@@ -65,6 +65,30 @@ pub record HasFindings (server : Server) (client : ℕ) (P : FileRequest → Fin
       → P (FileRequest.Write file_id number patch) (Finding.Needs (all_wants server (key_of_open one) one.file))
   pub closes : (file_id : ℕ) (one : Open) → IsFoundOpen server client file_id one
       → P (FileRequest.Close file_id) (Finding.Needs [])
+
+-- ---- a look, by the request
+
+pub look_for_create : (server : Server) (client file : ℕ) (access : Access) (share : Share) (ask : CreateAsk)
+    → finding server client (FileRequest.Create file access share (Some ask)) ≡ (if has_file server file
+    then asked_finding server client file access share ask.lease ask.reconnect else Finding.Fails Status.ObjectNameNotFound)
+unfolding finding
+look_for_create server client file access share ask = refl
+
+pub look_for_read : (server : Server) (client file_id : ℕ)
+    → finding server client (FileRequest.Read file_id) ≡ by_open (connected_open server client file_id) read_finding
+unfolding finding
+look_for_read server client file_id = refl
+
+pub look_for_write : (server : Server) (client file_id number : ℕ) (patch : Patch)
+    → finding server client (FileRequest.Write file_id number patch)
+    ≡ by_open (connected_open server client file_id) (λ one. write_finding server one patch)
+unfolding finding
+look_for_write server client file_id number patch = refl
+
+pub look_for_close : (server : Server) (client file_id : ℕ) → finding server client (FileRequest.Close file_id)
+    ≡ by_open (connected_open server client file_id) (λ one. Finding.Needs [])
+unfolding finding
+look_for_close server client file_id = refl
 
 -- ---- each of them is found
 

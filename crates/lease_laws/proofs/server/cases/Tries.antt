@@ -4,8 +4,8 @@ use Rattle.lease_laws.proofs.Words.{◌&&◌, ◌∷◌, ◌≡◌, FileRequest,
 use Rattle.lease_laws.proofs.Words.{Want, ℕ, [], after_breaks, after_finding, ap, break_begun, ended, false, finding}
 use Rattle.lease_laws.proofs.Words.{has_lease, is_breaking, is_left_open, is_ready, lease_broken, lease_lowered, must_wait}
 use Rattle.lease_laws.proofs.Words.{needs_acknowledgment, not, opens_dropped, refl, subst, suc, sym, tried_for, true}
-use Rattle.lease_laws.proofs.Words.{Status, want_met, wants_met, zero}
-use Rattle.lease_laws.proofs.server.Lists.{and_parts, either, not_parts}
+use Rattle.lease_laws.proofs.Words.{Status, if◌then◌else◌, want_met, wants_met, zero, ◌∙◌}
+use Rattle.lease_laws.proofs.server.Lists.{and_parts, either, if_cases, not_parts}
 
 -- ---- a lease is broken
 
@@ -28,17 +28,11 @@ pub isnt_broken : (key : Key) (lowered : State) (progress : Progress)
 unfolding lease_broken
 isnt_broken key lowered progress not = rw (not) refl
 
-pub begins_break : (key : Key) (lowered : State) (progress : Progress) → IsWhole progress.server key
-    → needs_acknowledgment (progress.server.leases key).state ≡ true
-    → lease_broken key lowered progress ≡ break_begun key lowered progress
+pub breaks_whole : (key : Key) (lowered : State) (progress : Progress) → IsWhole progress.server key
+    → lease_broken key lowered progress ≡ (if needs_acknowledgment (progress.server.leases key).state
+    then break_begun key lowered progress else lease_lowered key lowered progress)
 unfolding lease_broken
-begins_break key lowered progress whole needs = rw (whole.there, whole.settled, needs) refl
-
-pub is_lowered : (key : Key) (lowered : State) (progress : Progress) → IsWhole progress.server key
-    → needs_acknowledgment (progress.server.leases key).state ≡ false
-    → lease_broken key lowered progress ≡ lease_lowered key lowered progress
-unfolding lease_broken
-is_lowered key lowered progress whole light = rw (whole.there, whole.settled, light) refl
+breaks_whole key lowered progress whole = rw (whole.there, whole.settled) refl
 
 pub any_break : (key : Key) (lowered : State) (progress : Progress) (P : Progress → Type 0)
     → HasBreaks key lowered progress P → P (lease_broken key lowered progress)
@@ -48,9 +42,8 @@ any_break key lowered progress P h =
     either (there && not breaking)
     (λ both. let parts = and_parts there (not breaking) both in
     let whole : IsWhole progress.server key = record { there = parts.0; settled = not_parts breaking parts.1 } in
-    either (needs_acknowledgment (progress.server.leases key).state)
-    (λ needs. subst P (sym (begins_break key lowered progress whole needs)) (h.begins whole needs))
-    (λ light. subst P (sym (is_lowered key lowered progress whole light)) (h.lowers whole light)))
+    subst P (sym (breaks_whole key lowered progress whole))
+    (if_cases P (needs_acknowledgment (progress.server.leases key).state) _ _ (h.begins whole) (h.lowers whole)))
     (λ not. subst P (sym (isnt_broken key lowered progress not)) (h.stays not))
 
 -- ---- wants are met
@@ -90,6 +83,29 @@ pub record NeedsBreaks (client : ℕ) (request : FileRequest) (progress : Progre
   pub found : finding progress.server client request ≡ Finding.Needs wants
   pub unready : is_ready request progress.server.leases wants ≡ false
 
+pub round_fails : (rounds client : ℕ) (request : FileRequest) (progress : Progress) (status : Status)
+    → finding progress.server client request ≡ Finding.Fails status
+    → tried_for (suc rounds) client request progress ≡ ended progress (Outcome.Refused status)
+round_fails rounds client request progress status is = one_round rounds client request progress
+    ∙ ap (after_finding (tried_for rounds client request) request progress) is
+
+pub round_ends : (rounds client : ℕ) (request : FileRequest) (progress : Progress) (wants : List Want)
+    → finding progress.server client request ≡ Finding.Needs wants → is_ready request progress.server.leases wants ≡ true
+    → tried_for (suc rounds) client request progress ≡ ended progress Outcome.Ready
+round_ends rounds client request progress wants is ready = one_round rounds client request progress ∙ rw (is, ready) refl
+
+pub round_waits : (rounds client : ℕ) (request : FileRequest) (progress : Progress) (wants : List Want)
+    → NeedsBreaks client request progress wants → must_wait request (wants_met wants progress) wants ≡ true
+    → tried_for (suc rounds) client request progress ≡ ended (wants_met wants progress) Outcome.Waits
+round_waits rounds client request progress wants needs wait =
+    one_round rounds client request progress ∙ rw (needs.found, needs.unready, wait) refl
+
+pub round_goes_on : (rounds client : ℕ) (request : FileRequest) (progress : Progress) (wants : List Want)
+    → NeedsBreaks client request progress wants → must_wait request (wants_met wants progress) wants ≡ false
+    → tried_for (suc rounds) client request progress ≡ tried_for rounds client request (wants_met wants progress)
+round_goes_on rounds client request progress wants needs goes =
+    one_round rounds client request progress ∙ rw (needs.found, needs.unready, goes) refl
+
 -- of so many rounds, of the call before them, and of what they come to
 pub record HasRounds (client : ℕ) (request : FileRequest) (P : ℕ → Progress → Tried → Type 0) : Type 0 where
   pub out : (progress : Progress) → P 0 progress (ended progress Outcome.Waits)
@@ -110,26 +126,28 @@ any_round : (client : ℕ) (request : FileRequest) (P : ℕ → Progress → Tri
     → (rounds : ℕ) (progress : Progress)
     → ((next : Progress) → P rounds next (tried_for rounds client request next))
     → (found : Finding) → finding progress.server client request ≡ found
-    → P (suc rounds) progress (after_finding (tried_for rounds client request) request progress found)
-any_round client request P h rounds progress more (Finding.Fails status) is = h.fails rounds progress status is
+    → P (suc rounds) progress (tried_for (suc rounds) client request progress)
+any_round client request P h rounds progress more (Finding.Fails status) is =
+    subst (P (suc rounds) progress) (sym (round_fails rounds client request progress status is))
+    (h.fails rounds progress status is)
 any_round client request P h rounds progress more (Finding.Needs wants) is =
     let met = wants_met wants progress in
-    let whole : Progress → Tried = tried_for rounds client request in
     either (is_ready request progress.server.leases wants)
-    (λ ready. rw (ready) (h.ready rounds progress wants is ready))
+    (λ ready. subst (P (suc rounds) progress) (sym (round_ends rounds client request progress wants is ready))
+    (h.ready rounds progress wants is ready))
     (λ unready. let needs : NeedsBreaks client request progress wants = record { found = is; unready = unready } in
     either (must_wait request met wants)
-    (λ wait. rw (unready, wait) (h.waits rounds progress wants needs wait))
-    (λ goes. rw (unready, goes) (h.again rounds progress wants (whole met) needs goes (more met))))
+    (λ wait. subst (P (suc rounds) progress) (sym (round_waits rounds client request progress wants needs wait))
+    (h.waits rounds progress wants needs wait))
+    (λ goes. subst (P (suc rounds) progress) (sym (round_goes_on rounds client request progress wants needs goes))
+    (h.again rounds progress wants (tried_for rounds client request met) needs goes (more met))))
 
 pub any_rounds : (client : ℕ) (request : FileRequest) (P : ℕ → Progress → Tried → Type 0) → HasRounds client request P
     → (rounds : ℕ) (progress : Progress) → P rounds progress (tried_for rounds client request progress)
 any_rounds client request P h zero progress =
     subst (P 0 progress) (sym (no_round client request progress)) (h.out progress)
-any_rounds client request P h (suc rounds) progress =
-    subst (P (suc rounds) progress) (sym (one_round rounds client request progress))
-    (any_round client request P h rounds progress (any_rounds client request P h rounds)
-    (finding progress.server client request) refl)
+any_rounds client request P h (suc rounds) progress = any_round client request P h rounds progress
+    (any_rounds client request P h rounds) (finding progress.server client request) refl
 
 -- ---- what each break keeps
 
