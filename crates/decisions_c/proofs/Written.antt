@@ -10,6 +10,7 @@ use Rattle.lease_model.specs.server.State.{Server, Lease}
 use Rattle.lease_model.specs.values.Keys.{Key}
 use Rattle.decisions_c.specs.Judged.{acknowledged_status, lease_acknowledged, status_out, IsAnswered, IsAnsweredByAll}
 use Rattle.decisions_c.specs.Tables.{lease_held, entry_fields}
+use Rattle.lease_laws.proofs.server.cases.Judgements.{is_judged}
 
 pub state_held : (s : State) → state_of_bits (bits_of_state s) ≡ s
 state_held s = grind arith
@@ -36,10 +37,11 @@ judged_lease key state (Some lowered) server = either (is_state_within state low
 
 pub answered_by_all : (key : Key) (state : State) (lease : Lease)
     → IsAnsweredByAll key state lease (acknowledged_status state lease.broken_to) (lease_acknowledged state lease lease.broken_to)
-unfolding acknowledged
 answered_by_all key state lease server has same =
+    let given : LeaseOf = record { key = key.bytes; state = state } in
+    let judged = is_judged key.client given (begun server) has in
     subst (λ (l : Lease). IsAnswered key state l (acknowledged_status state l.broken_to) (lease_acknowledged state l l.broken_to)
     server) same (record {
-      answer = rw has (judged_status key state (server.leases key).broken_to server);
-      leaves = rw has (judged_lease key state (server.leases key).broken_to server);
+      answer = ap (λ p. status_out p.outs) judged ∙ judged_status key state (server.leases key).broken_to server;
+      leaves = ap (λ p. p.server.leases key) judged ∙ judged_lease key state (server.leases key).broken_to server;
     })

@@ -26,7 +26,7 @@ impl Lease {
 
 impl<'a> Tables<'a> {
     // What may be granted to a key, or to none.
-    #[tactic(auto, unfolding(lease_model::specs::server::Allowed::allowed))]
+    #[tactic(auto)]
     fn allowed(&self, own: &Option<Key>, want: LeaseState) -> LeaseState
         ensures { state_of result ≡ allowed (server_of self.now) own.now 1 (state_of want) }
     {
@@ -38,7 +38,7 @@ impl<'a> Tables<'a> {
     }
 
     // What a key is offered: nothing where its timer ran out (profile).
-    #[tactic(auto, unfolding(lease_model::specs::server::Grant::offered))]
+    #[tactic(auto)]
     fn offered(&self, key: Key, want: LeaseState) -> LeaseState
         ensures { state_of result ≡ rules.offered (server_of self.now) key 1 (state_of want) }
     {
@@ -51,7 +51,7 @@ impl<'a> Tables<'a> {
 
     // One that is breaking stays; one within the granted form of the want becomes what is offered,
     // as a new one does; any other stays (profile).
-    #[tactic(auto, unfolding(lease_model::specs::server::Grant::lease_granted))]
+    #[tactic(auto)]
     fn lease_granted(&self, key: Key, want: LeaseState) -> Lease
         ensures { lease_of result ≡ rules.lease_granted (server_of self.now) key 1 (state_of want) }
     {

@@ -106,7 +106,7 @@ impl Open {
     }
 
     // Whether the open has another key than the request.
-    #[tactic(auto, unfolding(lease_model::specs::server::Allowed::is_other_on))]
+    #[tactic(auto)]
     fn is_other(&self, own: &Option<Key>) -> bool
         ensures { result ≡ is_other_on own.now 1 self.now }
     {
@@ -119,7 +119,7 @@ impl Open {
     }
 
     // Whether the open conflicts with this access and share.
-    #[tactic(auto, unfolding(lease_model::specs::server::Allowed::conflicts_on))]
+    #[tactic(auto)]
     fn conflicts(&self, access: Access, share: Share) -> bool
         ensures { result ≡ conflicts_on 1 access share self.now }
     {

@@ -86,24 +86,23 @@ unfoldable pub use Rattle.lease_model.specs.records.Verdict.{believers, flaw_at,
 unfoldable pub use Rattle.lease_model.specs.records.Verdict.{is_stale_read, verdict_from}
 pub use Rattle.lease_model.specs.server.Acknowledge.{break_ended, judged}
 unfoldable pub use Rattle.lease_model.specs.server.Acknowledge.{acknowledged}
-unfoldable pub use Rattle.lease_model.specs.server.Allowed.{allowed, conflicts_on, is_other_on}
+pub use Rattle.lease_model.specs.server.Allowed.{allowed, conflicts_on, is_other_on}
 pub use Rattle.lease_model.specs.server.Answers.{changed, closed, concluded, created, on_contexts, on_open, read_done}
 unfoldable pub use Rattle.lease_model.specs.server.Answers.{answered}
 pub use Rattle.lease_model.specs.server.Attempt.{Outcome, Tried, after_breaks, after_finding, ended, is_left_open, must_wait}
 pub use Rattle.lease_model.specs.server.Attempt.{tried, want_met}
 unfoldable pub use Rattle.lease_model.specs.server.Attempt.{lease_broken, tried_for, wants_met}
 pub use Rattle.lease_model.specs.server.Calls.{Call, after_first_try, arrived_on, called, client_forgotten, disconnected}
-pub use Rattle.lease_model.specs.server.Calls.{file_of_create, file_of_open, file_request_arrived, held_of, is_left_behind}
-pub use Rattle.lease_model.specs.server.Calls.{is_lost, joined, key_expired, opens_disconnected}
-unfoldable pub use Rattle.lease_model.specs.server.Calls.{arrived, cut, expire, file_asked, join, outlives_connection}
-unfoldable pub use Rattle.lease_model.specs.server.Calls.{receive, scavenge}
+pub use Rattle.lease_model.specs.server.Calls.{file_asked, file_of_create, file_of_open, file_request_arrived, held_of}
+pub use Rattle.lease_model.specs.server.Calls.{is_left_behind, is_lost, joined, key_expired, opens_disconnected}
+pub use Rattle.lease_model.specs.server.Calls.{outlives_connection}
+unfoldable pub use Rattle.lease_model.specs.server.Calls.{arrived, cut, expire, join, receive, scavenge}
 pub use Rattle.lease_model.specs.server.Findings.{Finding, asked_finding, awaits, by_contexts, by_open, connected_open}
 pub use Rattle.lease_model.specs.server.Findings.{create_finding, is_leased_elsewhere, read_finding, reconnect_finding}
 pub use Rattle.lease_model.specs.server.Findings.{write_finding}
 unfoldable pub use Rattle.lease_model.specs.server.Findings.{finding}
-pub use Rattle.lease_model.specs.server.Grant.{asked_key, connected_again, granted_with, lease_after, lease_given, lease_put}
-pub use Rattle.lease_model.specs.server.Grant.{new_open, reconnected, standing_lease}
-unfoldable pub use Rattle.lease_model.specs.server.Grant.{granted, lease_granted, offered}
+pub use Rattle.lease_model.specs.server.Grant.{asked_key, connected_again, granted, granted_with, lease_after, lease_given}
+pub use Rattle.lease_model.specs.server.Grant.{lease_granted, lease_put, new_open, offered, reconnected, standing_lease}
 pub use Rattle.lease_model.specs.server.KeyOrder.{open_key_added}
 unfoldable pub use Rattle.lease_model.specs.server.KeyOrder.{key_added, keys_of}
 pub use Rattle.lease_model.specs.server.Naming.{key_of, key_of_open, key_under, lease_by, lease_of, own_key}
@@ -118,8 +117,7 @@ pub use Rattle.lease_model.specs.server.Ready.{waits_for}
 pub use Rattle.lease_model.specs.server.State.{Held, Lease, Open, Server, has_file, has_key, has_lease, has_own_key, is_breaking}
 pub use Rattle.lease_model.specs.server.State.{is_key, no_lease, with_number}
 unfoldable pub use Rattle.lease_model.specs.server.State.{new_server}
-pub use Rattle.lease_model.specs.server.Wants.{Want, all_wants, handle_wants, write_wants}
-unfoldable pub use Rattle.lease_model.specs.server.Wants.{wants_where}
+pub use Rattle.lease_model.specs.server.Wants.{Want, all_wants, handle_wants, wants_where, write_wants}
 pub use Rattle.lease_model.specs.values.Keys.{Key}
 unfoldable pub use Rattle.lease_model.specs.values.Keys.{bytes_before, key_before, key_eq}
 pub use Rattle.lease_model.specs.values.LeaseStates.{holds_any, meet, same_state, without_handle, without_write}

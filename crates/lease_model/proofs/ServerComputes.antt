@@ -20,7 +20,6 @@ use Rattle.lease_model.specs.worked.ServerWords.{server_after, outs_along}
 use Rattle.lease_model.proofs.ValuesCompute.{the_values}
 
 unfoldable pub the_server : ⊤
-unfolding the_values acknowledged is_other_on allowed conflicts_on answered lease_broken wants_met tried_for file_asked
-    arrived receive join outlives_connection cut expire scavenge finding offered lease_granted granted key_added keys_of
-    tried_again pass_over passes_for passes_over all_passes new_server wants_where server_after outs_along
+unfolding the_values acknowledged answered lease_broken wants_met tried_for arrived receive join cut expire scavenge finding
+    key_added keys_of tried_again pass_over passes_for passes_over all_passes new_server server_after outs_along
 the_server = tt

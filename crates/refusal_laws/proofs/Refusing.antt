@@ -1,19 +1,20 @@
 -- A try changes no content, and closes only opens that aren't connected, of keys that it wants.
 use Rattle.lease_laws.proofs.Words.{◌++◌, ◌∙◌, ◌∷◌, ◌≡◌, Among, Err, FileRequest, Finding, Key, List, Ok, Open}
 use Rattle.lease_laws.proofs.Words.{Option, Out, Outcome, Progress, Reply, Server, State, Status, Tried}
-use Rattle.lease_laws.proofs.Words.{Want, ℕ, ⊎_elim, [], acknowledged, after_breaks, after_finding, all_passes}
+use Rattle.lease_laws.proofs.Words.{None, Some, Want, ℕ, ⊎_elim, [], acknowledged, after_breaks, after_finding, all_passes}
 use Rattle.lease_laws.proofs.Words.{ap, arith, arrived_on, begun, concluded}
 use Rattle.lease_laws.proofs.Words.{ended, false, file_asked, finding, has_key}
 use Rattle.lease_laws.proofs.Words.{inl, inr, is_behind, is_left_open, is_ready}
 use Rattle.lease_laws.proofs.Words.{lease_broken, must_wait}
 use Rattle.lease_laws.proofs.Words.{not, opens_dropped, refl, refusal_of, replied, subst, suc, sym, tried}
 use Rattle.lease_laws.proofs.Words.{LeaseOf, file_request_arrived, tried_for, true, want_met, wants_met}
-use Rattle.lease_laws.proofs.Words.{zero}
+use Rattle.lease_laws.proofs.Words.{connected_open, file_of_open, zero}
 use Rattle.lease_laws.proofs.server.Lists.{if_cases, either, and_parts, not_parts, among_filter, among_filtered}
 use Rattle.lease_laws.proofs.server.Met.{lease_broken-opens}
 use Rattle.lease_laws.proofs.server.cases.Calls.{judges, receives}
 use Rattle.lease_laws.proofs.server.cases.Judgements.{any_judgement}
-use Rattle.lease_laws.proofs.server.cases.Tries.{NeedsBreaks, any_break, any_rounds, any_wants}
+use Rattle.lease_laws.proofs.server.cases.Tries.{NeedsBreaks, any_break, any_rounds, any_wants, round_ends, round_fails}
+use Rattle.lease_laws.proofs.server.cases.Findings.{finds_close, finds_gone}
 use Rattle.lease_model.specs.server.Calls.{first_tried}
 use Rattle.refusal_laws.specs.Refusals.{NeedsRound, IsClosedByBreak, IsLeftAlone, RefusedAsTheyCome, RefusedOnceTried}
 use Rattle.refusal_laws.specs.Refusals.{ClosesAreRefusedAsTheyCome, RefusedAcknowledgments, passes_behind, CallsRefusedAsTheyCome}
@@ -151,8 +152,20 @@ refused_as_they_come client request progress status is = grind arith
 -- ---- closes
 
 pub closes_are_refused_as_they_come : ClosesAreRefusedAsTheyCome
-unfolding file_asked tried_for finding
-closes_are_refused_as_they_come client file_id progress status is = grind arith
+closes_are_refused_as_they_come client file_id progress status is = by (connected_open progress.server client file_id) refl
+  where
+    refused_so : (a b : Status) → Outcome.Refused a ≡ Outcome.Refused b → a ≡ b
+    refused_so a b e = cc
+
+    never : Outcome.Ready ≡ Outcome.Refused status → ⊥
+    never e = cc
+
+    by : (found : Option Open) → connected_open progress.server client file_id ≡ found → file_of_open found ≡ Err status
+    by None none = ap Err (refused_so Status.FileClosed status
+        (ap (λ (t : Tried). t.outcome) (sym (round_fails 2 client (FileRequest.Close file_id) progress Status.FileClosed
+        (finds_gone progress.server client (FileRequest.Close file_id) file_id refl none))) ∙ is))
+    by (Some one) found = absurd (never (ap (λ (t : Tried). t.outcome) (sym (round_ends 2 client (FileRequest.Close file_id)
+        progress [] (finds_close progress.server client file_id one found) refl)) ∙ is))
 
 -- ---- acknowledgments
 
@@ -177,7 +190,7 @@ refused_acknowledgments client given progress status = any_judgement client prog
     (λ given after. after.outs ≡ progress.outs ++ Out.Sent client (Reply.AckFailed status) ∷ []
     → after.server ≡ progress.server)
     (record {
-      failed = λ given why because e. refl;
+      failed = λ given why e. refl;
       ended = λ told lowered there breaks within e. absurd (not_both progress.outs client _ status e);
     }) given
 

@@ -10,6 +10,7 @@ use Rattle.lease_laws.proofs.client.Thin.{put_same, put_other}
 use Rattle.lease_laws.proofs.server.Held.{concluded-held, tried_for-held}
 use Rattle.lease_laws.proofs.server.Lists.{if_cases, either, clash, among_append, among_before, among_behind, among_filtered}
 use Rattle.lease_laws.proofs.server.cases.Passes.{HasPasses, any_passes, any_try_again}
+use Rattle.lease_laws.proofs.server.cases.Ends.{any_end}
 use Rattle.lease_state.specs.Content.{patch as patched}
 use Rattle.refusal_laws.proofs.Refusing.{tried_alone}
 use Rattle.refusal_laws.specs.Refusals.{IsSameOpen, IsTakenByHeld, IsLeftToHeld, PassesAreOfHeld}
@@ -86,25 +87,6 @@ mapped f x (y ∷ xs) a = ⊎_elim (λ same. inl (ap f same)) (λ later. inr (ma
 again_same : (file_id : ℕ) (one : Open) → IsSameOpen one (connected_again file_id one)
 again_same file_id one = grind arith
 
-created_left : (requests : ℕ → List Held) (client file : ℕ) (access : Access) (share : Share) (asked : Option LeaseOf)
-    (durable : Bool) (again : Option ℕ) (progress : Progress)
-    → IsLeftToHeld requests progress.server (created client file access share asked durable again progress).server
-unfolding granted
-created_left requests client file access share asked durable None progress = if_cases
-    (λ (p : Progress). IsLeftToHeld requests progress.server p.server) (progress.server.last_id == last_file_id)
-    (replied client _ progress)
-    (granted_with client file access share asked durable (lease_after progress.server client file asked) progress)
-    (λ full. same_left requests progress.server)
-    (λ free. kept_opens requests progress.server _
-    (put_contents progress.server client asked (lease_after progress.server client file asked))
-    (λ one there. (one, itself one, among_before one progress.server.opens (_ ∷ []) there)))
-created_left requests client file access share asked durable (Some file_id) progress = kept_opens requests progress.server _
-    refl (λ one there. (
-      connected_again file_id one,
-      again_same file_id one,
-      mapped (connected_again file_id) one progress.server.opens there,
-    ))
-
 closed_left : (requests : ℕ → List Held) (at : ℕ) (held : Held) (file file_id : ℕ) (progress : Progress)
     → Among held (requests at) → held.request ≡ FileRequest.Close file_id
     → IsLeftToHeld requests progress.server (closed held.client file_id progress).server
@@ -127,53 +109,41 @@ closed_left requests at held file file_id progress was is = record {
 concluded_left : (requests : ℕ → List Held) (at : ℕ) (held : Held) (request : FileRequest) (progress : Progress)
     (outcome : Outcome) → Among held (requests at) → held.request ≡ request
     → IsLeftToHeld requests progress.server (concluded held.client request progress outcome).server
-unfolding answered
-concluded_left requests at held request progress (Outcome.Refused status) was is = same_left requests progress.server
-concluded_left requests at held request progress Outcome.Waits was is = same_left requests progress.server
-concluded_left requests at held (FileRequest.Create file access share None) progress Outcome.Ready was is =
-    same_left requests progress.server
-concluded_left requests at held (FileRequest.Create file access share (Some ask)) progress Outcome.Ready was is =
-    created_left requests held.client file access share ask.lease ask.durable ask.reconnect progress
-concluded_left requests at held (FileRequest.Read file_id) progress Outcome.Ready was is =
-    by_open (connected_open progress.server held.client file_id)
-  where
-    by_open : (found : Option Open) → IsLeftToHeld requests progress.server
-        (on_open found (λ file. read_done held.client file file_id) progress).server
-    by_open None = same_left requests progress.server
-    by_open (Some one) = same_left requests progress.server
-concluded_left requests at held (FileRequest.Write file_id number patch) progress Outcome.Ready was is =
-    by_open (connected_open progress.server held.client file_id) refl
-  where
-    by_open : (found : Option Open) → connected_open progress.server held.client file_id ≡ found
-        → IsLeftToHeld requests progress.server
-        (on_open found (λ file. changed held.client file file_id number patch) progress).server
-    by_open None e = same_left requests progress.server
-    by_open (Some one) e = record {
-      contents = λ file. either (file == one.file)
-          (λ here. inr (record {
-            held_on = at;
-            held = held;
-            was_held = was;
-            file_id = file_id;
-            number = number;
-            patch = patch;
-            is_write = is;
-            at = progress;
-            one = one;
-            found = e;
-            is_on = sym (eqb-true file one.file here);
-          }))
-          (λ apart. inl (put_other progress.server.contents one.file (patched (progress.server.contents one.file) patch) file
-          (λ same. clash (file == one.file) (eq-eqb file one.file same) apart)));
-      stay = λ x there. inl (x, itself x, there);
-    }
-concluded_left requests at held (FileRequest.Close file_id) progress Outcome.Ready was is =
-    by_open (connected_open progress.server held.client file_id)
-  where
-    by_open : (found : Option Open) → IsLeftToHeld requests progress.server
-        (on_open found (λ file. closed held.client file_id) progress).server
-    by_open None = same_left requests progress.server
-    by_open (Some one) = closed_left requests at held one.file file_id progress was is
+concluded_left requests at held request progress outcome was = any_end held.client progress
+    (λ request outcome after. held.request ≡ request → IsLeftToHeld requests progress.server after.server) (record {
+      refused = λ request status is. same_left requests progress.server;
+      left = λ request outcome why is. same_left requests progress.server;
+      full = λ file access share ask none out is. same_left requests progress.server;
+      granted = λ file access share ask none room is. kept_opens requests progress.server _
+          (put_contents progress.server held.client ask.lease (lease_after progress.server held.client file ask.lease))
+          (λ one there. (one, itself one, among_before one progress.server.opens (_ ∷ []) there));
+      again = λ file access share ask file_id some is. kept_opens requests progress.server _ refl (λ one there. (
+        connected_again file_id one,
+        again_same file_id one,
+        mapped (connected_again file_id) one progress.server.opens there,
+      ));
+      read = λ file_id one own is. same_left requests progress.server;
+      changed = λ file_id number patch one own is. record {
+        contents = λ file. either (file == one.file)
+            (λ here. inr (record {
+              held_on = at;
+              held = held;
+              was_held = was;
+              file_id = file_id;
+              number = number;
+              patch = patch;
+              is_write = is;
+              at = progress;
+              one = one;
+              found = own.found;
+              is_on = sym (eqb-true file one.file here);
+            }))
+            (λ apart. inl (put_other progress.server.contents one.file (patched (progress.server.contents one.file) patch) file
+            (λ same. clash (file == one.file) (eq-eqb file one.file same) apart)));
+        stay = λ x there. inl (x, itself x, there);
+      };
+      closed = λ file_id one own is. closed_left requests at held one.file file_id progress was is;
+    }) request outcome
 
 -- ---- passes
 

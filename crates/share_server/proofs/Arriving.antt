@@ -45,5 +45,4 @@ pub faulty_create : (table : Table) (outs more : List Out) (client file : ℕ) (
     (fault : WireFault) (found : Result CreateView WireFault) → Err fault ≡ found
     → more ≡ outs ++ Out.Sent client (Reply.CreateFailed file Status.InvalidParameter) ∷ [] → progress_of table more
     ≡ first_tried client (FileRequest.Create file access share (ask_found found)) (progress_of table outs)
-unfolding file_asked
 faulty_create table outs more client file access share fault found is told = grind arith

@@ -34,7 +34,6 @@ elsewhere_none key file opens known none fits =
 pub conflict_known : (file : ℕ) (access : Access) (share : Share) (opens : List Open) (leases : Key → Lease)
     (known : Option FileSummary) (is : FileSummary) → known ≡ Some is → SummaryFits file opens leases known
     → tally_conflicts access share is.tally ≡ list_any (conflicts_on file access share) opens
-unfolding conflicts_on
 conflict_known file access share opens leases known is same fits =
     let there : IsSummary file opens leases is = subst (SummaryFits file opens leases) same fits in
     rw there.sums_up.tally (conflicts_are access share (is_on file) opens)
@@ -42,13 +41,11 @@ conflict_known file access share opens leases known is same fits =
 pub conflict_none : (file : ℕ) (access : Access) (share : Share) (opens : List Open) (leases : Key → Lease)
     (known : Option FileSummary) → known ≡ None → SummaryFits file opens leases known
     → false ≡ list_any (conflicts_on file access share) opens
-unfolding conflicts_on
 conflict_none file access share opens leases known none fits =
     sym (none_both (is_on file) (λ one. conflict access share one.access one.share) opens
     (subst (SummaryFits file opens leases) none fits))
 
 pub other_none : (own : Option Key) (file : ℕ) (opens : List Open) (leases : Key → Lease) (known : Option FileSummary)
     → known ≡ None → SummaryFits file opens leases known → false ≡ list_any (is_other_on own file) opens
-unfolding is_other_on
 other_none own file opens leases known none fits =
     sym (none_both (is_on file) (λ one. not (has_own_key own one)) opens (subst (SummaryFits file opens leases) none fits))

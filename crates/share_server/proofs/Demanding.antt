@@ -67,7 +67,6 @@ wants_ordered lowering (key ∷ keys) ordered = (
 )
 
 pub keys_ordered : (server : Server) (test : Open → Bool) → AreOrdered (keys_of (filter test server.opens))
-unfolding wants_where
 keys_ordered server test = wants_ordered (λ key. (server.leases key).state) (keys_of (filter test server.opens))
     (wants_where-exact server test (λ state. state)).in_order
 
@@ -157,7 +156,6 @@ keyless_own x1 one none = grind arith
 
 pub other_keyless : (own : Option Key) (file : ℕ) (opens : List Open) → list_any (is_keyless_on file) opens ≡ true
     → list_any (is_other_on own file) opens ≡ true
-unfolding is_other_on
 other_keyless own file opens some =
     let one = any_has (is_keyless_on file) opens some in
     let parts = and_parts (is_on file one.0) (not (is_some (one.0).lease_key)) one.2 in
@@ -169,7 +167,6 @@ pub others_are : (own : Option Key) (file : ℕ) (opens : List Open) (keys : BTr
     → ((key : Key) → contains key_order keys key ≡ list_any (has_key_on file key) opens)
     → list_any (is_keyless_on file) opens ≡ false
     → list_any (λ key. not (is_own_key own key)) keys.keys ≡ list_any (is_other_on own file) opens
-unfolding is_other_on
 others_are own file opens keys are keyless = both_so _ _
     (λ some.
     let key = any_has (λ k. not (is_own_key own k)) keys.keys some in
@@ -224,25 +221,21 @@ lease_known summaries server key one known stand is has =
 -- an open on the file that has the key, whose lease passes
 pub other_on : (own : Option Key) (file : ℕ) (key : Key) (one : Open) → is_on file one ≡ true → has_key key one ≡ true
     → not (is_own_key own key) ≡ true → is_other_on own file one ≡ true
-unfolding is_other_on
 other_on own file key one on has apart =
     and_both (one.file == file) (not (has_own_key own one)) on (ap not (own_alike own key one has) ∙ apart)
 
 pub on_other : (own : Option Key) (file : ℕ) (key : Key) (one : Open) → is_other_on own file one ≡ true → has_key key one ≡ true
     → (has_key_on file key one ≡ true) × (not (is_own_key own key) ≡ true)
-unfolding is_other_on
 on_other own file key one other has =
     let parts = and_parts (one.file == file) (not (has_own_key own one)) other in
     (and_both (one.file == file) (has_key key one) parts.0 has, ap not (sym (own_alike own key one has)) ∙ parts.1)
 
 conflicting : (file : ℕ) (access : Access) (share : Share) (one : Open) → is_on file one ≡ true
     → conflict access share one.access one.share ≡ true → conflicts_on file access share one ≡ true
-unfolding conflicts_on
 conflicting file access share one on both = and_both (one.file == file) (conflict access share one.access one.share) on both
 
 conflicted : (file : ℕ) (access : Access) (share : Share) (one : Open) → conflicts_on file access share one ≡ true
     → conflict access share one.access one.share ≡ true
-unfolding conflicts_on
 conflicted file access share one c = (and_parts (one.file == file) (conflict access share one.access one.share) c).1
 
 -- an open of the key is on the key's file
@@ -381,7 +374,6 @@ wanted_are demand summaries server summary stand s sorted =
 
 -- where nothing is open nothing is wanted
 pub other_here : (own : Option Key) (file : ℕ) (one : Open) → is_other_on own file one ≡ true → is_on file one ≡ true
-unfolding is_other_on
 other_here own file one o = (and_parts (one.file == file) (not (has_own_key own one)) o).0
 
 on_file : (wish : Wish) (server : Server) (own : Option Key) (file : ℕ) (one : Open)

@@ -201,7 +201,6 @@ want_at key = record { key = key; lowered = nothing_cached }
 -- each lease that a write wants breaks to nothing where none hinders the write
 unhindered_ready : (server : Server) (own : Option Key) (file : ℕ) → list_any (is_hinderer server own file) server.opens ≡ false
     → list_all (λ want. breaks_to_none (server.leases want.key)) (all_wants server own file) ≡ true
-unfolding wants_where
 unhindered_ready server own file none =
     each_all (λ want. breaks_to_none (server.leases want.key)) (all_wants server own file) (λ want a.
     let key = among_map want_at want (keys_of (filter (is_wanted_of server own file) server.opens)) a in
@@ -217,7 +216,6 @@ unhindered_ready server own file none =
 -- and where one hinders it, that one doesn't
 hindered_unready : (server : Server) (own : Option Key) (file : ℕ) → list_any (is_hinderer server own file) server.opens ≡ true
     → list_all (λ want. breaks_to_none (server.leases want.key)) (all_wants server own file) ≡ false
-unfolding wants_where
 hindered_unready server own file some =
     let one = any_has (is_hinderer server own file) server.opens some in
     let parts = and_parts (is_other_on own file one.0) (hinders_writes (lease_of server one.0)) one.2 in

@@ -10,7 +10,6 @@ same_lease server client x3 = grind arith
 
 lost_one : (server : Server) (client : ClientNo) (one : Open)
     → closes (LostBy client) server.leases one ≡ is_lost server client.0 one
-unfolding outlives_connection
 lost_one server client one = grind arith
 
 pub lost_are : (server : Server) (client : ClientNo) → closes (LostBy client) server.leases ≡ is_lost server client.0

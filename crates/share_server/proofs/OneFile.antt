@@ -7,7 +7,7 @@ use Rattle.lease_laws.proofs.Words.{has_file, has_key, holds_any, if◌then◌el
 use Rattle.lease_laws.proofs.Words.{is_leased_elsewhere, is_left_open, is_other_on, is_ready, is_within_limit, key_of}
 use Rattle.lease_laws.proofs.Words.{key_of_open, keys_of, lease_by, lease_of, list_all, list_any, map, may_write, not, option_map}
 use Rattle.lease_laws.proofs.Words.{own_key, reconnect_finding, refl, subst, sym, true, waits_for, wants_where, write_finding}
-use Rattle.lease_laws.proofs.Words.{write_wants}
+use Rattle.lease_laws.proofs.Words.{nothing_cached, without_handle, without_write, write_wants}
 use Rattle.lease_laws.proofs.server.Keys.{is_key-refl}
 use Rattle.lease_laws.proofs.server.Lists.{either, clash, and_parts, and_both, not_parts, not_true, among_filter, among_filtered}
 use Rattle.lease_laws.proofs.server.Lists.{any_has, has_any, has_none, none_has, each_all, all_each}
@@ -61,7 +61,6 @@ want_so server lowering key = record { key = key; lowered = lowering (server.lea
 wants_on : (file : ℕ) (server : Server) (here there : Open → Bool) (lowering : State → State) → IsFor file there
     → ((one : Open) → Among one server.opens → is_on file one ≡ true → here one ≡ there one)
     → wants_where (local file server) here lowering ≡ wants_where server there lowering
-unfolding wants_where
 wants_on file server here there lowering only same = ap (λ opens. map (want_so (local file server) lowering) (keys_of opens))
     (filter_on file here there server.opens only same)
     ∙ map_keys (want_so (local file server) lowering) (want_so server lowering) (keys_of (filter there server.opens))
@@ -72,16 +71,14 @@ wants_on file server here there lowering only same = ap (λ opens. map (want_so 
     (lease_here file server key known.0 was.0 (only known.0 was.1) known.2))
 
 conflicts_for : (file : ℕ) (access : Access) (share : Share) → IsFor file (conflicts_on file access share)
-unfolding conflicts_on
 conflicts_for file access share one is = (and_parts (is_on file one) _ is).0
 
 other_for : (own : Option Key) (file : ℕ) → IsFor file (is_other_on own file)
-unfolding is_other_on
 other_for own file one is = (and_parts (is_on file one) _ is).0
 
 pub handles_on : (file : ℕ) (server : Server) (own : Option Key) (access : Access) (share : Share)
     → handle_wants (local file server) own file access share ≡ handle_wants server own file access share
-handles_on file server own access share = wants_on file server _ _ _
+handles_on file server own access share = wants_on file server _ _ without_handle
     (λ one is.
     let both = (and_parts (conflicts_on file access share one && is_other_on own file one) _ is).0 in
     conflicts_for file access share one (and_parts (conflicts_on file access share one) _ both).0)
@@ -90,12 +87,12 @@ handles_on file server own access share = wants_on file server _ _ _
 
 pub writes_on : (file : ℕ) (server : Server) (own : Option Key)
     → write_wants (local file server) own file ≡ write_wants server own file
-writes_on file server own = wants_on file server _ _ _
+writes_on file server own = wants_on file server _ _ without_write
     (λ one is. other_for own file one (and_parts (is_other_on own file one) _ is).0)
     (λ one there on. ap (λ (lease : Lease). is_other_on own file one && lease.state.write) (lease_on file server one there on))
 
 pub all_on : (file : ℕ) (server : Server) (own : Option Key) → all_wants (local file server) own file ≡ all_wants server own file
-all_on file server own = wants_on file server _ _ _
+all_on file server own = wants_on file server _ _ (λ state. nothing_cached)
     (λ one is. other_for own file one (and_parts (is_other_on own file one) _ is).0)
     (λ one there on.
     ap (λ (lease : Lease). is_other_on own file one && holds_any lease.state) (lease_on file server one there on))

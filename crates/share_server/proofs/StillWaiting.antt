@@ -6,7 +6,8 @@ use Rattle.lease_laws.proofs.Words.{fun_ext, get_or, handle_wants, has_key, if�
 use Rattle.lease_laws.proofs.Words.{is_breaking, is_leased_elsewhere, is_left_open, is_ready, lease_broken, length, list_all}
 use Rattle.lease_laws.proofs.Words.{list_any, nat_tests, no_lease, not, one_pass, opens_dropped, option_map, own_key}
 use Rattle.lease_laws.proofs.Words.{reconnect_finding, refl, subst, suc, sym, take, true, want_met, wants_met, wants_where}
-use Rattle.lease_laws.proofs.Words.{with_opens, without, write_finding, write_wants, zero}
+use Rattle.lease_laws.proofs.Words.{Finding, Status, asked_finding, has_file, with_opens, without, write_finding, write_wants}
+use Rattle.lease_laws.proofs.Words.{zero}
 use Rattle.std.specs.List.{slice_get}
 use Rattle.lease_laws.proofs.server.Lists.{either, clash, and_parts, not_parts}
 use Rattle.lease_laws.proofs.server.cases.Findings.{finds_malformed, look_for_close, look_for_create, look_for_read, look_for_write}
@@ -81,7 +82,6 @@ decider server = deciding server.files server.opens server.leases
 
 pub decided : (server : Server) (client : ℕ) (request : FileRequest)
     → finding (decider server) client request ≡ finding server client request
-unfolding wants_where
 decided server client (FileRequest.Create file access share None) =
     finds_malformed (decider server) client file access share ∙ sym (finds_malformed server client file access share)
 decided server client (FileRequest.Create file access share (Some ask)) =

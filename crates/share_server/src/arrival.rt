@@ -120,7 +120,7 @@ fn first_try(
 }
 
 // The file that the request is about, or the status that refuses it as it comes.
-#[tactic(auto, unfolding(lease_model::specs::server::Calls::file_asked))]
+#[tactic(auto)]
 fn file_asked(tables: &Tables, client: ClientNo, request: &FileRequest) -> Result<FileNo, Status>
     ensures { file_result result
         ≡ rules.file_asked (server_of tables.now) client.0 (file_request_of request.now) }

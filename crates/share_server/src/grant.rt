@@ -34,7 +34,7 @@ pub struct Opening {
 /// # Errors
 ///
 /// `Memory` where there is none left.
-#[tactic(auto, unfolding(lease_model::specs::server::Grant::granted, lease_model::specs::values::Limits::last_file_id))]
+#[tactic(auto, unfolding(lease_model::specs::values::Limits::last_file_id))]
 pub fn grant(tables: &mut Tables, outs: &mut Outs, opening: Opening) -> Result<(), Memory>
     requires { is_leased_elsewhere (server_of tables.old)
         (own_key opening.client.0 (option_map lease_asked opening.ask.lease)) opening.file.0 ≡ false }
@@ -134,7 +134,7 @@ fn lease_after(
 
 // One that is breaking stays; one within the granted form of the want becomes what is offered, as a
 // new one does; any other stays (profile).
-#[tactic(auto, unfolding(lease_model::specs::server::Grant::lease_granted))]
+#[tactic(auto)]
 fn lease_granted(tables: &Tables, key: Key, file: FileNo, want: LeaseState) -> Lease
     ensures { lease_of result ≡ rules.lease_granted (server_of tables.now) key file.0 (state_of want) }
 {
@@ -149,7 +149,7 @@ fn lease_granted(tables: &Tables, key: Key, file: FileNo, want: LeaseState) -> L
 }
 
 // What a key is offered: nothing where its timer ran out (profile).
-#[tactic(auto, unfolding(lease_model::specs::server::Grant::offered))]
+#[tactic(auto)]
 fn offered(tables: &Tables, key: Key, file: FileNo, want: LeaseState) -> LeaseState
     ensures { state_of result ≡ rules.offered (server_of tables.now) key file.0 (state_of want) }
 {

@@ -278,7 +278,7 @@ impl Tables {
     }
 
     /// What may be granted of a wanted state.
-    #[tactic(auto, unfolding(lease_model::specs::server::Allowed::allowed))]
+    #[tactic(auto)]
     pub fn allowed(&self, own: Option<Key>, file: FileNo, want: LeaseState) -> LeaseState
         ensures { state_of result ≡ allowed.allowed (server_of self.now) own file.0 (state_of want) }
     {

@@ -37,7 +37,6 @@ given_none key asked lease breaks = if_cases GivesNothing (bytes_eq asked key &&
 pub grant_reads : (server : Server) (key : Key) (file : ℕ) (want : State)
     → granted_form_of (server.leases key).state ≡ (server.leases key).state
     → (lease_granted server key file want).state.write ≡ true → (lease_granted server key file want).state.read ≡ true
-unfolding lease_granted offered allowed
 grant_reads server key file want form = let T : Lease → Type 0 = λ l. l.state.write ≡ true → l.state.read ≡ true in
     let U : State → Type 0 = λ s. s.write ≡ true → s.read ≡ true in
     if_cases T (is_breaking (server.leases key)) _ _ (λ breaks. writes_read (server.leases key).state form)
@@ -49,7 +48,6 @@ grant_reads server key file want form = let T : Lease → Type 0 = λ l. l.state
 
 pub grant_settled : (server : Server) (key : Key) (file : ℕ) (want : State)
     → is_breaking (server.leases key) ≡ false → is_breaking (lease_granted server key file want) ≡ false
-unfolding lease_granted
 grant_settled server key file want settled = if_cases (λ (l : Lease). is_breaking l ≡ false)
     (is_breaking (server.leases key)) _ _ (λ breaks. settled)
     (λ other. if_cases (λ (l : Lease). is_breaking l ≡ false)
@@ -57,7 +55,6 @@ grant_settled server key file want settled = if_cases (λ (l : Lease). is_breaki
 
 pub grant_breaking : (server : Server) (key : Key) (file : ℕ) (want : State)
     → is_breaking (server.leases key) ≡ true → lease_granted server key file want ≡ server.leases key
-unfolding lease_granted
 grant_breaking server key file want breaks = if_cases (λ (l : Lease). l ≡ server.leases key)
     (is_breaking (server.leases key)) _ _ (λ so. refl) (λ settled. clash (is_breaking (server.leases key)) breaks settled)
 
@@ -65,7 +62,6 @@ grant_breaking server key file want breaks = if_cases (λ (l : Lease). l ≡ ser
 alone_on : (server : Server) (key : Key) (file : ℕ) (access : Access) (share : Share) → IsSound server
     → IsFree server.opens server.leases (Some key) file access share → (server.leases key).state.write ≡ true
     → list_any (is_other_on (Some key) file) server.opens ≡ true → ⊥
-unfolding is_other_on
 alone_on server key file access share sound free w some = either (list_any (has_key key) server.opens)
     (λ there. let mine = any_has (has_key key) server.opens there in
     let other = any_has (is_other_on (Some key) file) server.opens some in
@@ -77,7 +73,6 @@ alone_on server key file access share sound free w some = either (list_any (has_
 pub grant_keeps : (server : Server) (key : Key) (file : ℕ) (want : State) (access : Access) (share : Share)
     → IsSound server → IsFree server.opens server.leases (Some key) file access share → server.expired key ≡ false
     → (server.leases key).state.write ≡ true → (lease_granted server key file want).state.write ≡ true
-unfolding lease_granted offered allowed
 grant_keeps server key file want access share sound free fresh w =
     let T : Lease → Type 0 = λ l. l.state.write ≡ true in
     let U : State → Type 0 = λ s. s.write ≡ true in

@@ -131,7 +131,6 @@ leased_covered off key lease request reply none fails h =
 pub own_place : (server : Server) (c at : ℕ) (request : FileRequest) (x : Open) → (g : (one other : Open)
     → Among one server.opens → Among other server.opens → one.file_id ≡ other.file_id → one ≡ other)
     → Among x server.opens → file_asked server c request ≡ Ok at → x.file ≢ at → IsNoClose x.file_id (Request.OnFile request)
-unfolding file_asked
 own_place server c at (FileRequest.Create file access share contexts) x g there asked ne = tt
 own_place server c at (FileRequest.Read id) x g there asked ne = tt
 own_place server c at (FileRequest.Write id number patch) x g there asked ne = tt

@@ -179,7 +179,6 @@ ack_off world c given oldest file =
 hold_at : (world : World) (file : ℕ) (one : Held) → IsOldest world one.client (Request.OnFile one.request)
     → IsInTurn (SmallStep.Hold file one) world.server → IsCountedAt world one.client
     → IsCountedAt (held_in (popped world one.client) file one) one.client
-unfolding file_asked
 hold_at world at one oldest turn a = same_counts world (held_in (popped world one.client) at one) one.client refl refl
     (λ file. either (file == at)
     (λ here. omega (

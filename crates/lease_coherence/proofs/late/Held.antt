@@ -70,7 +70,6 @@ held_plain : (world : World) (at : ℕ) (one : Held) → MayHold world.server at
     → IsInTurn (SmallStep.Hold at one) world.server → IsSound world.server → KnowsIds world one.client
     → IsNamedAt world one.client → IsNamedOnFile one.client (world.clients one.client).guid world.past one.request
     → WriteSafe world one.client (Request.OnFile one.request) → HeldPlain world one.client (Request.OnFile one.request)
-unfolding file_asked
 held_plain world at one may turn sound ids n named safe = by_request one.request refl
   where
     c : ℕ

@@ -295,7 +295,6 @@ sent_clean world c u once stands n k file known fresh write a none =
 pub expired_nothing : (server : Server) (key : Key) (file : ℕ) (want : State) → IsSound server
     → server.expired key ≡ true → (is_breaking (lease_granted server key file want) ≡ false)
     × ((lease_granted server key file want).state.write ≡ false)
-unfolding lease_granted offered allowed
 expired_nothing server key file want sound out =
     let none = sound.timed_out key out in
     let T : Lease → Type 0 = λ l. (is_breaking l ≡ false) × (l.state.write ≡ false) in

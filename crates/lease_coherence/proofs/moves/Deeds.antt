@@ -10,11 +10,12 @@ use Rattle.lease_laws.proofs.Words.{granted_form_of, granted_with, has_file, has
 use Rattle.lease_laws.proofs.Words.{inr, is_behind, is_left_open, is_state_within, key_of, last_file_id, lease_after, lease_given}
 use Rattle.lease_laws.proofs.Words.{lease_lowered, lease_put, map, may_read, needs_acknowledgment, new_open, on_open}
 use Rattle.lease_laws.proofs.Words.{opens_dropped, own_key, put, read_done, reconnected, refl, refusal_of, refused, request_held}
-use Rattle.lease_laws.proofs.Words.{served, standing_lease, subst, sym, true, with_lease, with_opens, without}
+use Rattle.lease_laws.proofs.Words.{HasOpen, served, standing_lease, subst, sym, true, with_lease, with_opens, without, ◌∙◌}
 use Rattle.lease_state.specs.Content.{patch as patched}
 use Rattle.lease_coherence.proofs.moves.Moves.{IsNext, IsOldest, popped, moved}
-use Rattle.lease_laws.proofs.server.cases.Judgements.{IsRefusedAck, any_judgement}
+use Rattle.lease_laws.proofs.server.cases.Judgements.{IsRefusedAck, ack_fault, any_judgement}
 use Rattle.lease_laws.proofs.server.StepLeases.{held_left-serves}
+use Rattle.lease_laws.proofs.server.cases.Ends.{IsLeft, any_end}
 
 -- ---- where a request that is answered comes from
 
@@ -166,54 +167,54 @@ pub record HasDeeds (world : World) (P : World → Type 0) : Type 0 where
 
 -- ---- every step has one of them
 
-create_deed : (world off : World) (P : World → Type 0) → HasDeeds world P → (client file : ℕ) (access : Access)
-    (share : Share) (ask : CreateAsk) (again : Option ℕ) → ask.reconnect ≡ again
-    → IsSource world off client (FileRequest.Create file access share (Some ask))
-    → has_file off.server file ≡ true → MayCreate off.server client file access share ask.lease again
-    → P (served off (created client file access share ask.lease ask.durable again (begun off.server)))
-unfolding granted served all_delivered delivered
-create_deed world off P h client file access share ask None e source on may = if_both (off.server.last_id == last_file_id) _ _
-    (h.full off client file access share ask source) (h.granted off client file access share ask source e on may)
+-- a request that is refused or served isn't left
+never_left : (server : Server) (client : ℕ) (request : FileRequest) (outcome : Outcome) → IsLeft server client request outcome
+    → MayEnd server client request outcome → ⊥
+never_left server client request (Outcome.Refused status) why may = why
+never_left server client request Outcome.Waits why may = may
+never_left server client (FileRequest.Create file access share None) Outcome.Ready why may = may.1
+never_left server client (FileRequest.Create file access share (Some ask)) Outcome.Ready why may = cc
+never_left server client (FileRequest.Read file_id) Outcome.Ready why may = no_open _ _ why may.1.found
   where
-    if_both : (b : Bool) (x y : Progress) → P (served off x) → P (served off y) → P (served off (if b then x else y))
-    if_both true x y p q = p
-    if_both false x y p q = q
-create_deed world off P h client file access share ask (Some file_id) e source on may =
-    h.reconnected off client file access share ask file_id source e on may
+    no_open : (found : Option Open) (one : Open) → found ≡ None → found ≡ Some one → ⊥
+    no_open found one none some = cc
+never_left server client (FileRequest.Write file_id number patch) Outcome.Ready why may = no_open _ _ why may.1.found
+  where
+    no_open : (found : Option Open) (one : Open) → found ≡ None → found ≡ Some one → ⊥
+    no_open found one none some = cc
+never_left server client (FileRequest.Close file_id) Outcome.Ready why may = no_open _ _ why may.1.found
+  where
+    no_open : (found : Option Open) (one : Open) → found ≡ None → found ≡ Some one → ⊥
+    no_open found one none some = cc
 
-contexts_deed : (world off : World) (P : World → Type 0) → HasDeeds world P → (client file : ℕ) (access : Access)
-    (share : Share) (contexts : Option CreateAsk) → IsSource world off client (FileRequest.Create file access share contexts)
-    → MayServe off.server client (FileRequest.Create file access share contexts)
-    → P (served off (concluded client (FileRequest.Create file access share contexts) (begun off.server) Outcome.Ready))
-unfolding answered
-contexts_deed world off P h client file access share None source may = absurd may
-contexts_deed world off P h client file access share (Some ask) source may =
-    create_deed world off P h client file access share ask ask.reconnect refl source may.0 may.1
-
--- by the open that was found
-open_found : (off : World) (P : World → Type 0) (found : Option Open) (one : Open) (done : ℕ → Progress → Progress)
-    → found ≡ Some one → P (served off (done one.file (begun off.server)))
-    → P (served off (on_open found done (begun off.server)))
-open_found off P found one done e p = subst (λ o. P (served off (on_open o done (begun off.server)))) (sym e) p
+-- what is known of the open that was found is known of the one that is named
+of_found : (server : Server) (client file_id : ℕ) (may : Open → Type 0) (one : Open) → HasOpen server client file_id may
+    → connected_open server client file_id ≡ Some one → may one
+of_found server client file_id may one has found = subst may (same has.one one (sym has.found ∙ found)) has.allowed
+  where
+    same : (x y : Open) → Some x ≡ Some y → x ≡ y
+    same x y e = cc
 
 request_deed : (world off : World) (P : World → Type 0) → HasDeeds world P → (client : ℕ) (request : FileRequest)
     (outcome : Outcome) → IsSource world off client request → MayEnd off.server client request outcome
     → P (served off (concluded client request (begun off.server) outcome))
-unfolding answered served all_delivered delivered
-request_deed world off P h client request (Outcome.Refused status) source may = h.refused off client request status source may.1
-request_deed world off P h client request Outcome.Waits source may = absurd may
-request_deed world off P h client (FileRequest.Create file access share contexts) Outcome.Ready source may =
-    contexts_deed world off P h client file access share contexts source may.1
-request_deed world off P h client (FileRequest.Read file_id) Outcome.Ready source may =
-    let has = may.1 in open_found off P (connected_open off.server client file_id) has.one
-    (λ file. read_done client file file_id) has.found (h.read off client file_id has.one source has.found has.allowed)
-request_deed world off P h client (FileRequest.Write file_id number patch) Outcome.Ready source may =
-    let has = may.1 in open_found off P (connected_open off.server client file_id) has.one
-    (λ file. changed client file file_id number patch) has.found
-    (h.changed off client file_id number patch has.one source has.found has.allowed)
-request_deed world off P h client (FileRequest.Close file_id) Outcome.Ready source may =
-    let has = may.1 in open_found off P (connected_open off.server client file_id) has.one
-    (λ file. closed client file_id) has.found (h.closed off client file_id has.one source has.found)
+unfolding served all_delivered delivered
+request_deed world off P h client request outcome = any_end client (begun off.server)
+    (λ request outcome after. IsSource world off client request → MayEnd off.server client request outcome → P (served off after))
+    (record {
+      refused = λ request status source may. h.refused off client request status source may.1;
+      left = λ request outcome why source may. absurd (never_left off.server client request outcome why may);
+      full = λ file access share ask none out source may. h.full off client file access share ask source;
+      granted = λ file access share ask none room source may. h.granted off client file access share ask source none may.1.0
+          (subst (MayCreate off.server client file access share ask.lease) none may.1.1);
+      again = λ file access share ask file_id some source may. h.reconnected off client file access share ask file_id source some
+          may.1.0 (subst (MayCreate off.server client file access share ask.lease) some may.1.1);
+      read = λ file_id one own source may. h.read off client file_id one source own.found
+          (of_found off.server client file_id (λ o. may_read o.access ≡ true) one may.1 own.found);
+      changed = λ file_id number patch one own source may. h.changed off client file_id number patch one source own.found
+          (of_found off.server client file_id (MayChange off.server patch) one may.1 own.found);
+      closed = λ file_id one own source may. h.closed off client file_id one source own.found;
+    }) request outcome
 
 -- an acknowledgment is judged
 acknowledged_deed : (world : World) (P : World → Type 0) → HasDeeds world P → (client : ℕ) (given : Option LeaseOf)
@@ -222,7 +223,7 @@ acknowledged_deed : (world : World) (P : World → Type 0) → HasDeeds world P 
 unfolding served all_delivered delivered
 acknowledged_deed world P h client given oldest up = any_judgement client (begun world.server)
     (λ given after. IsOldest world client (Request.Acknowledge given) → P (served (popped world client) after)) (record {
-      failed = λ given status why oldest. h.ack_failed client given status oldest up why;
+      failed = λ given why oldest. h.ack_failed client given (ack_fault world.server client given) oldest up why;
       ended = λ given lowered there breaks within oldest. h.ack_done client given lowered oldest up there breaks within;
     }) given oldest
 

@@ -47,7 +47,6 @@ use Rattle.lease_laws.proofs.server.cases.Ends.{found_open}
 -- no write of it is left
 left_writes : (world off : World) (c file_id : ℕ) (one : Open) → IsSource world off c (FileRequest.Close file_id)
     → Ground world → connected_open off.server c file_id ≡ Some one → IsInOrder world c → AllAsked (IsNoWrite file_id) off c
-unfolding file_asked
 left_writes world off c file_id one source g found o = ⊎_elim arrived was_held source.from
   where
     there : Among one off.server.opens

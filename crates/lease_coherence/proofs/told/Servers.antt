@@ -141,7 +141,6 @@ timer_told world c file t =
 create_first : (world off : World) (c file : ℕ) (access : Access) (share : Share) (ask : CreateAsk)
     → IsSource world off c (FileRequest.Create file access share (Some ask)) → Ground world
     → has_file world.server file ≡ true → (id : ℕ) → ClosedBefore file id (asked_of world c file) → ⊥
-unfolding file_asked
 create_first world off c file access share ask source g on id closed =
     first (first_asked world off c file (FileRequest.Create file access share (Some ask)) source asked
     (λ h. sym (g.fine.orderly.held_about h.file (held_of c (FileRequest.Create file access share (Some ask)))

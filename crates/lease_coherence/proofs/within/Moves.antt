@@ -167,7 +167,6 @@ given_within key asked lease reads = if_cases (IsWithin key lease.state []) (byt
 grant_handles : (server : Server) (key : Key) (file : ℕ) (want : State)
     → granted_form_of (server.leases key).state ≡ (server.leases key).state
     → (lease_granted server key file want).state.handle ≡ true → (lease_granted server key file want).state.read ≡ true
-unfolding lease_granted offered allowed
 grant_handles server key file want form = let T : Lease → Type 0 = λ l. l.state.handle ≡ true → l.state.read ≡ true in
     let U : State → Type 0 = λ s. s.handle ≡ true → s.read ≡ true in
     if_cases T (is_breaking (server.leases key)) _ _ (λ breaks. handles_read (server.leases key).state form)
@@ -183,7 +182,6 @@ part_of false q e h = absurd (true≢false (sym h))
 
 grant_keeps_reads : (server : Server) (key : Key) (file : ℕ) (want : State) → server.expired key ≡ false
     → (server.leases key).state.read ≡ true → (lease_granted server key file want).state.read ≡ true
-unfolding lease_granted offered allowed
 grant_keeps_reads server key file want fresh r =
     let T : Lease → Type 0 = λ l. l.state.read ≡ true in
     let U : State → Type 0 = λ s. s.read ≡ true in
@@ -198,7 +196,6 @@ grant_keeps_reads server key file want fresh r =
 
 grant_keeps_handles : (server : Server) (key : Key) (file : ℕ) (want : State) → server.expired key ≡ false
     → (server.leases key).state.handle ≡ true → (lease_granted server key file want).state.handle ≡ true
-unfolding lease_granted offered allowed
 grant_keeps_handles server key file want fresh h =
     let T : Lease → Type 0 = λ l. l.state.handle ≡ true in
     let U : State → Type 0 = λ s. s.handle ≡ true in

@@ -54,7 +54,6 @@ asked_on : (world : World) (c at : ℕ) (request : FileRequest) → Ground world
     → IsNamedOnFile c (world.clients c).guid world.past request → file_asked world.server c request ≡ Ok at
     → (file_id number : ℕ) (patch : Patch) → request ≡ FileRequest.Write file_id number patch
     → has_written c at number patch world.past ≡ true
-unfolding file_asked
 asked_on world c at request g named asked file_id number patch is = by_open
     (subst (IsNamedOnFile c (world.clients c).guid world.past) is named)
     (connected_open world.server c file_id) refl (subst (λ r. file_asked world.server c r ≡ Ok at) is asked)

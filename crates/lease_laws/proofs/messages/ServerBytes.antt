@@ -97,9 +97,9 @@ ends_full : (client : ℕ) (progress : Progress) → HaveFullKeys progress.serve
     → HasEnds client progress (λ request outcome after. HasFullKey request → IsFull progress after)
 ends_full client progress full = record {
   refused = λ request status h. replied_full client (refusal_of request status) progress (refusal_bytes request status) full;
-  left = λ request outcome h. record { outs = go_on-same OutHasBytes progress.outs; keys = full };
-  full = λ file access share ask none h. replied_full client _ progress tt full;
-  granted = λ file access share ask none h. granted_full client file access share ask.lease ask.durable progress h full;
+  left = λ request outcome why h. record { outs = go_on-same OutHasBytes progress.outs; keys = full };
+  full = λ file access share ask none out h. replied_full client _ progress tt full;
+  granted = λ file access share ask none room h. granted_full client file access share ask.lease ask.durable progress h full;
   again = λ file access share ask file_id some h. record {
     outs = record {
       more = _;
@@ -136,7 +136,7 @@ concluded_full client request progress outcome h full =
 acknowledged_full : (client : ℕ) (given : Option LeaseOf) (progress : Progress) → HaveFullKeys progress.server
     → IsFull progress (acknowledged client given progress)
 acknowledged_full client given progress full = any_judgement client progress (λ given. IsFull progress) (record {
-  failed = λ given status why. replied_full client (Reply.AckFailed status) progress tt full;
+  failed = λ given why. replied_full client _ progress tt full;
   ended = λ g lowered there breaks within. record {
     outs = record {
       more = _;

@@ -54,9 +54,9 @@ ends_sound : (client : ℕ) (progress : Progress) → IsSound progress.server
     → RequestFree progress.server client request) → IsSound after.server)
 ends_sound client progress s = record {
   refused = λ request status free. s;
-  left = λ request outcome free. s;
-  full = λ file access share ask none free. s;
-  granted = λ file access share ask none free. granted_with-sound client file access share ask.lease ask.durable
+  left = λ request outcome why free. s;
+  full = λ file access share ask none out free. s;
+  granted = λ file access share ask none room free. granted_with-sound client file access share ask.lease ask.durable
       progress s (subst (CreateFree progress.server client file access share ask.lease) none (free refl));
   again = λ file access share ask file_id some free. reconnected-sound client file ask.lease file_id progress s;
   read = λ file_id one own free. s;
@@ -105,6 +105,6 @@ break_ended-sound key state lowered progress s there broken part =
 pub acknowledged-sound : (client : ℕ) (given : Option LeaseOf) (progress : Progress) → IsSound progress.server
     → IsSound (acknowledged client given progress).server
 acknowledged-sound client given progress s = any_judgement client progress (λ given after. IsSound after.server) (record {
-  failed = λ given status why. s;
+  failed = λ given why. s;
   ended = λ g lowered there breaks within. break_ended-sound (key_of client g.key) g.state lowered progress s there breaks within;
 }) given

@@ -56,7 +56,6 @@ create_file server at file x4 never = grind arith
 -- the file of a request is one of the server, and the request is about it
 asked_file : (server : Server) (client file : ℕ) (request : FileRequest) → IsSound server → IsOrderly server
     → file_asked server client request ≡ Ok file → (has_file server file ≡ true) × IsAbout server file request
-unfolding file_asked
 asked_file server client file (FileRequest.Create at access share contexts) s o e = create_file server at file contexts e
 asked_file server client file (FileRequest.Read file_id) s o e = open_file server client file_id file
     (connected_open server client file_id) s o refl e
@@ -245,7 +244,7 @@ asked_well client request progress f up file e =
 pub acknowledged-held : (client : ℕ) (given : Option LeaseOf) (progress : Progress)
     → SameHeld progress (acknowledged client given progress)
 acknowledged-held client given progress = any_judgement client progress (λ given. SameHeld progress)
-    (record { failed = λ given status why. refl; ended = λ g lowered there breaks within. refl }) given
+    (record { failed = λ given why. refl; ended = λ g lowered there breaks within. refl }) given
 
 -- opens that go on keep the laws and the order
 pub fine_goes : (before after : Progress) → IsFine before.server → IsSound after.server → Goes before after

@@ -33,7 +33,6 @@ AreOtherKeys server own file wants = (want : Want) → Among want wants → IsOt
 where_other : (server : Server) (own : Option Key) (file : ℕ) (test : Open → Bool) (lowering : State → State)
     → ((one : Open) → test one ≡ true → is_other_on own file one ≡ true)
     → AreOtherKeys server own file (wants_where server test lowering)
-unfolding wants_where is_other_on
 where_other server own file test lowering other want a =
     let x = among_map (λ key. record { key = key; lowered = lowering (server.leases key).state }) want
     (keys_of (filter test server.opens)) a in

@@ -91,7 +91,6 @@ handle_key server client (Some bytes) h = (key_of client bytes, is_key-refl clie
 
 -- an open that is kept outlives its connection
 pub kept_lasting : (server : Server) (one : Open) → outlives_connection server one ≡ true → IsLasting server.leases one
-unfolding outlives_connection
 kept_lasting server one kept =
     let outer = and_parts (one.durable && (lease_of server one).state.handle) (not (is_breaking (lease_of server one))) kept in
     let inner = and_parts one.durable (lease_of server one).state.handle outer.0 in

@@ -8,7 +8,7 @@ use Rattle.lease_laws.proofs.Words.{Some, State, Status, StaysOrRises, WaitsWell
 use Rattle.lease_laws.proofs.Words.{append-nil, append_assoc, break_notice, call_begun, called, changed, concluded}
 use Rattle.lease_laws.proofs.Words.{connected_open, false, granted_form_of, has_lease, held_left, inl, inr, is_breaking}
 use Rattle.lease_laws.proofs.Words.{is_left_open, is_some, key_of, nothing_cached, on_open, refl}
-use Rattle.lease_laws.proofs.Words.{refusal_of, refused, step_taken, steps_taken, subst, sym}
+use Rattle.lease_laws.proofs.Words.{MayServe, refusal_of, refused, step_taken, steps_taken, subst, sym}
 use Rattle.lease_laws.proofs.server.Keys.{put_key-cases}
 use Rattle.lease_laws.proofs.server.Lists.{clash, and_parts, among_behind, find_has}
 use Rattle.lease_laws.proofs.server.OutCalls.{request_held-outs, held_left-outs}
@@ -19,6 +19,7 @@ use Rattle.lease_laws.proofs.server.StepKeeps.{step-sound}
 use Rattle.lease_laws.proofs.server.StepLeases.{step-leases, held_left-serves}
 use Rattle.lease_laws.proofs.server.StepOuts.{IsOfRequest, IsSentTo, concluded-out, acknowledged-out, step-tells}
 use Rattle.lease_laws.proofs.server.cases.Judgements.{any_judgement}
+use Rattle.lease_laws.proofs.server.cases.Ends.{ends_changed}
 
 -- ---- lists
 
@@ -135,41 +136,31 @@ refused_first client request status progress more before behind file by n p e at
     (Out.Changed file by n p)
     (record { more = Out.Sent client (refusal_of request status) ∷ []; are_more = refl; each = (refl, tt) }) e at
 
+-- a write that is served
+served_first : (client file_id number : ℕ) (patch : Patch) (progress : Progress)
+    → MayServe progress.server client (FileRequest.Write file_id number patch) → (more before behind : List Out)
+    (file by n : ℕ) (p : Patch)
+    → (concluded client (FileRequest.Write file_id number patch) progress Outcome.Ready).outs ≡ progress.outs ++ more
+    → more ≡ before ++ Out.Changed file by n p ∷ behind → IsFirst progress.server file by before
+served_first client file_id number patch progress may more before behind file by n p e at =
+    written_first client file_id number patch progress.server may.one may.found may.allowed.alone before behind file by n p
+    (append_same progress.outs _ more
+    (sym (ap (λ q. q.outs) (ends_changed client file_id number patch may.one progress may.found)) ∙ e) ∙ at)
+
 -- the end of a request
 concluded_first : (client : ℕ) (request : FileRequest) (progress : Progress) (outcome : Outcome)
     → MayEnd progress.server client request outcome → (more before behind : List Out) (file by n : ℕ) (p : Patch)
     → (concluded client request progress outcome).outs ≡ progress.outs ++ more
     → more ≡ before ++ Out.Changed file by n p ∷ behind → IsFirst progress.server file by before
-unfolding answered
 concluded_first client request progress (Outcome.Refused status) may more before behind file by n p e at =
     absurd (refused_first client request status progress more before behind file by n p e at)
 concluded_first client request progress Outcome.Waits may more before behind file by n p e at = absurd may
-concluded_first client (FileRequest.Create f access share asks) progress Outcome.Ready may more before behind file by n p e at =
-    let w = go_at (IsOfRequest client (FileRequest.Create f access share asks)) progress.outs _ more before behind
-    (Out.Changed file by n p) (concluded-out client (FileRequest.Create f access share asks) progress Outcome.Ready) e at in
-    absurd (never w.0 w.1)
-  where
-    never : (id : ℕ) → FileRequest.Create f access share asks ≡ FileRequest.Write id n p → ⊥
-    never id e = cc
-concluded_first client (FileRequest.Read f) progress Outcome.Ready may more before behind file by n p e at =
-    let w = go_at (IsOfRequest client (FileRequest.Read f)) progress.outs _ more before behind
-    (Out.Changed file by n p) (concluded-out client (FileRequest.Read f) progress Outcome.Ready) e at in
-    absurd (never w.0 w.1)
-  where
-    never : (id : ℕ) → FileRequest.Read f ≡ FileRequest.Write id n p → ⊥
-    never id e = cc
-concluded_first client (FileRequest.Close f) progress Outcome.Ready may more before behind file by n p e at =
-    let w = go_at (IsOfRequest client (FileRequest.Close f)) progress.outs _ more before behind
-    (Out.Changed file by n p) (concluded-out client (FileRequest.Close f) progress Outcome.Ready) e at in
-    absurd (never w.0 w.1)
-  where
-    never : (id : ℕ) → FileRequest.Close f ≡ FileRequest.Write id n p → ⊥
-    never id e = cc
-concluded_first client (FileRequest.Write file_id number patch) progress Outcome.Ready may more before behind file by n p e at =
-    let one = may.1.one in
-    written_first client file_id number patch progress.server one may.1.found may.1.allowed.alone before behind file by n p
-    (append_same progress.outs _ more
-    (sym (ap (λ o. (on_open o (λ at. changed client at file_id number patch) progress).outs) may.1.found) ∙ e) ∙ at)
+concluded_first client request progress Outcome.Ready may more before behind file by n p e at =
+    let write = go_at (IsOfRequest client request) progress.outs _ more before behind (Out.Changed file by n p)
+    (concluded-out client request progress Outcome.Ready) e at in
+    subst (λ r. MayServe progress.server client r → (concluded client r progress Outcome.Ready).outs ≡ progress.outs ++ more
+    → IsFirst progress.server file by before) (sym write.1)
+    (λ m x. served_first client write.0 n p progress m more before behind file by n p x at) may.1 e
 
 -- any step
 step_first : (step : SmallStep) (progress : Progress) → IsGuarded step progress.server
@@ -294,7 +285,7 @@ acked_leaves : (client : ℕ) (given : Option LeaseOf) (progress : Progress) (ke
 acked_leaves client given progress key = any_judgement client progress
     (λ given after. (after.server.leases key ≡ progress.server.leases key) ⊎ IsAckOf client given key (after.server.leases key))
     (record {
-      failed = λ given status why. inl refl;
+      failed = λ given why. inl refl;
       ended = λ told lowered there breaks within.
           put_key-cases (λ l. (l ≡ progress.server.leases key) ⊎ IsAckOf client (Some told) key l) progress.server.leases
           (key_of client told.key) (record { state = granted_form_of told.state; broken_to = None }) key

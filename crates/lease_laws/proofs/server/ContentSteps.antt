@@ -73,9 +73,9 @@ refusal_leaves client x2 status progress = grind arith
 ends_content : (client : ℕ) (progress : Progress) → HasEnds client progress (λ request outcome. ContentStep progress)
 ends_content client progress = record {
   refused = λ request status. ContentStep.Leaves (refusal_leaves client request status progress);
-  left = λ request outcome. ContentStep.Leaves (same_leaves progress);
-  full = λ file access share ask none. ContentStep.Leaves (reply_leaves client _ progress tt);
-  granted = λ file access share ask none. ContentStep.Leaves (granted_leaves client file access share ask.lease
+  left = λ request outcome why. ContentStep.Leaves (same_leaves progress);
+  full = λ file access share ask none out. ContentStep.Leaves (reply_leaves client _ progress tt);
+  granted = λ file access share ask none room. ContentStep.Leaves (granted_leaves client file access share ask.lease
       ask.durable (lease_after progress.server client file ask.lease) progress);
   again = λ file access share ask file_id some. ContentStep.Leaves
       (record { contents = refl; outs = record { more = _; are_more = refl; each = (tt, tt) } });
@@ -108,7 +108,7 @@ concluded_step client request progress = any_end client progress _ (ends_content
 acknowledged_leaves : (client : ℕ) (given : Option LeaseOf) (progress : Progress)
     → LeavesContents progress (acknowledged client given progress)
 acknowledged_leaves client given progress = any_judgement client progress (λ given. LeavesContents progress) (record {
-  failed = λ given status why. reply_leaves client _ progress tt;
+  failed = λ given why. reply_leaves client _ progress tt;
   ended = λ g lowered there breaks within.
       record { contents = refl; outs = record { more = _; are_more = refl; each = (tt, tt) } };
 }) given

@@ -276,7 +276,6 @@ wanted holds base lowering server = wants_where server (is_wanted holds base ser
 wanted_low : (holds : State → Bool) (base : Open → Bool) (lowering : State → State) (server : Server)
     → ((state : State) → holds (lowering state) ≡ false)
     → (want : Want) → Among want (wanted holds base lowering server) → holds want.lowered ≡ false
-unfolding wants_where
 wanted_low holds base lowering server low want a =
     let found = among_map (λ key. record { key = key; lowered = lowering (server.leases key).state }) want
     (keys_of (filter (is_wanted holds base server) server.opens)) a in
@@ -289,7 +288,6 @@ wanted_has : (holds : State → Bool) (base : Open → Bool) (lowering : State �
       key = key_of one.client bytes;
       lowered = lowering (server.leases (key_of one.client bytes)).state;
     }) (wanted holds base lowering server)
-unfolding wants_where
 wanted_has holds base lowering server one bytes a e b h =
     among_mapped (λ key. record { key = key; lowered = lowering (server.leases key).state }) (key_of one.client bytes)
     (keys_of (filter (is_wanted holds base server) server.opens))
@@ -352,7 +350,7 @@ left_met holds base lowering before after one (Some bytes) e nothing round ready
 -- where no open's lease has anything to give up, nothing is wanted
 pub nothing_wanted : (holds : State → Bool) (base : Open → Bool) (lowering : State → State) (server : Server)
     → ((one : Open) → Among one server.opens → is_wanted holds base server one ≡ false) → wanted holds base lowering server ≡ []
-unfolding wants_where keys_of
+unfolding keys_of
 nothing_wanted holds base lowering server none =
     ap (λ (opens : List Open). map (λ key. record { key = key; lowered = lowering (server.leases key).state }) (keys_of opens))
     (filter_none (is_wanted holds base server) server.opens none)
@@ -408,7 +406,6 @@ pub round_broken : (holds : State → Bool) (base : Open → Bool) (lowering : S
     → NoneIs (λ lease. breaks_to_some lease) (wants_met (wanted holds base lowering progress.server) progress).server
     (wanted holds base lowering progress.server) → IsRoundBroken holds base lowering progress.server
     (wants_met (wanted holds base lowering progress.server) progress).server
-unfolding wants_where
 round_broken holds base lowering progress nothing low ready =
     let wants : List Want = wanted holds base lowering progress.server in
     let after : Server = (wants_met wants progress).server in

@@ -25,7 +25,7 @@ concluded_expired client request progress = any_end client progress _ (ends_expi
 acknowledged_expired : (client : ℕ) (given : Option LeaseOf) (progress : Progress)
     → SameExpired progress (acknowledged client given progress)
 acknowledged_expired client given progress = any_judgement client progress (λ given. SameExpired progress)
-    (record { failed = λ given status why. refl; ended = λ g lowered there breaks within. refl }) given
+    (record { failed = λ given why. refl; ended = λ g lowered there breaks within. refl }) given
 
 step_expired : (step : SmallStep) (progress : Progress) → SameExpired progress (step_taken step progress)
 step_expired (SmallStep.Answer client request outcome) progress = concluded_expired client request progress outcome

@@ -182,9 +182,9 @@ ends_go : (client : ℕ) (progress : Progress) → IsSound progress.server → p
     → FileReady progress.server client request) → Goes progress after)
 ends_go client progress s up = record {
   refused = λ request status ready. goes-same progress.server;
-  left = λ request outcome ready. goes-same progress.server;
-  full = λ file access share ask none ready. goes-same progress.server;
-  granted = λ file access share ask none ready. granted_with-goes client file access share ask.lease ask.durable
+  left = λ request outcome why ready. goes-same progress.server;
+  full = λ file access share ask none out ready. goes-same progress.server;
+  granted = λ file access share ask none room ready. granted_with-goes client file access share ask.lease ask.durable
       (lease_after progress.server client file ask.lease) progress up (ready refl).0;
   again = λ file access share ask file_id some ready. reconnected-goes client file ask.lease file_id progress s
       (subst (AgainReady progress.server client) some (ready refl).1) up;
@@ -203,6 +203,6 @@ concluded-goes client request progress outcome s up = any_end client progress _ 
 pub acknowledged-goes : (client : ℕ) (given : Option LeaseOf) (progress : Progress)
     → Goes progress (acknowledged client given progress)
 acknowledged-goes client given progress = any_judgement client progress (λ given. Goes progress) (record {
-  failed = λ given status why. goes-same progress.server;
+  failed = λ given why. goes-same progress.server;
   ended = λ g lowered there breaks within. stay-goes progress.server _ refl refl refl refl;
 }) given

@@ -15,26 +15,22 @@ use Rattle.lease_laws.proofs.server.States.{settled-lawful, handle_of_part}
 -- what is allowed is a granted form
 allowed-form : (server : Server) (own : Option Key) (file : ℕ) (want : State)
     → granted_form_of (allowed server own file want) ≡ allowed server own file want
-unfolding allowed
 allowed-form server own file want = grind arith
 
 -- what is offered is a granted form
 offered-form : (server : Server) (key : Key) (file : ℕ) (want : State)
     → granted_form_of (offered server key file want) ≡ offered server key file want
-unfolding offered
 offered-form server key file want = if_cases (λ s. granted_form_of s ≡ s) (server.expired key) nothing_cached
     (allowed server (Some key) file want) (λ e. refl) (λ e. allowed-form server (Some key) file want)
 
 -- what is allowed holds H where the want does
 allowed-handle : (server : Server) (own : Option Key) (file : ℕ) (want : State)
     → (granted_form_of want).handle ≡ true → (allowed server own file want).handle ≡ true
-unfolding allowed
 allowed-handle server own file want h = grind arith
 
 -- what is offered holds H where the want does
 offered-handle : (server : Server) (key : Key) (file : ℕ) (want : State) → server.expired key ≡ false
     → (granted_form_of want).handle ≡ true → (offered server key file want).handle ≡ true
-unfolding offered
 offered-handle server key file want e h = if_cases (λ s. s.handle ≡ true) (server.expired key) nothing_cached
     (allowed server (Some key) file want) (λ t. clash (server.expired key) t e)
     (λ t. allowed-handle server (Some key) file want h)
@@ -42,7 +38,6 @@ offered-handle server key file want e h = if_cases (λ s. s.handle ≡ true) (se
 -- W is allowed only where no open on the file has another key
 allowed-alone : (server : Server) (own : Option Key) (file : ℕ) (want : State) → (allowed server own file want).write ≡ true
     → (one : Open) → Among one server.opens → one.file ≡ file → has_own_key own one ≡ true
-unfolding allowed is_other_on
 allowed-alone server own file want w one a f =
     let go : (allowed server own file want).write ≡ true → has_own_key own one ≡ true =
     if_cases (λ s. s.write ≡ true → has_own_key own one ≡ true) (list_any (is_other_on own file) server.opens)
@@ -56,7 +51,6 @@ allowed-alone server own file want w one a f =
 -- W is offered only where no open on the file has another key
 offered-alone : (server : Server) (key : Key) (file : ℕ) (want : State) → (offered server key file want).write ≡ true
     → (one : Open) → Among one server.opens → one.file ≡ file → has_key key one ≡ true
-unfolding offered
 offered-alone server key file want w one a f =
     let go : (offered server key file want).write ≡ true → has_key key one ≡ true =
     if_cases (λ s. s.write ≡ true → has_key key one ≡ true) (server.expired key) nothing_cached
@@ -144,7 +138,6 @@ granted_may : (server : Server) (client file : ℕ) (asked : LeaseOf) (new : Ope
     → ((one : Open) → Among one server.opens → has_key (key_of client asked.key) one ≡ true → one.file ≡ file)
     → MayBecome (server.opens ++ new ∷ []) (key_of client asked.key)
     (lease_granted server (key_of client asked.key) file asked.state)
-unfolding lease_granted
 granted_may server client file asked new s more new_file new_up new_key home =
     let key : Key = key_of client asked.key in
     let keep = keep_may (server.opens ++ new ∷ []) server.leases server.expired (server.last_id + 1) key more in
@@ -162,7 +155,6 @@ settled state = record { state = state; broken_to = None }
 -- a key whose timer ran out is given nothing
 granted_late : (server : Server) (key : Key) (file : ℕ) (want : State) → IsSound server → server.expired key ≡ true
     → lease_granted server key file want ≡ no_lease
-unfolding lease_granted offered
 granted_late server key file want s out = grind arith
 
 -- a grant keeps the laws

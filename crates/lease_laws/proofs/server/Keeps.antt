@@ -148,7 +148,6 @@ find_append test (y ∷ xs) ys x e =
 -- a grant leaves a breaking lease as it is
 granted-stays : (server : Server) (key : Key) (file : ℕ) (want : State) → is_breaking (server.leases key) ≡ true
     → lease_granted server key file want ≡ server.leases key
-unfolding lease_granted
 granted-stays server key file want b = grind arith
 
 -- a grant lets wait what has to wait
@@ -265,9 +264,9 @@ ends_keep : (client : ℕ) (progress : Progress) → IsSound progress.server
     → HasEnds client progress (λ request outcome after. IsKeptBy progress.server request after.server)
 ends_keep client progress s = record {
   refused = λ request status. kept_everywhere request progress.server _ (keeps-same Anywhere progress.server);
-  left = λ request outcome. kept_everywhere request progress.server _ (keeps-same Anywhere progress.server);
-  full = λ file access share ask none. kept_everywhere _ progress.server _ (keeps-same Anywhere progress.server);
-  granted = λ file access share ask none. kept_everywhere _ progress.server _
+  left = λ request outcome why. kept_everywhere request progress.server _ (keeps-same Anywhere progress.server);
+  full = λ file access share ask none out. kept_everywhere _ progress.server _ (keeps-same Anywhere progress.server);
+  granted = λ file access share ask none room. kept_everywhere _ progress.server _
       (granted_with-kept client file access share ask.lease ask.durable progress);
   again = λ file access share ask file_id some. kept_everywhere _ progress.server _
       (reconnected-kept client file ask.lease file_id progress s);

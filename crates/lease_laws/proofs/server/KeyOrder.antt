@@ -59,7 +59,6 @@ among_mapped f x (y ∷ xs) (inr a) = inr (among_mapped f x xs a)
 pub wants_where-has : (server : Server) (test : Open → Bool) (lowering : State → State) (key : Key) (one : Open)
     → Among one server.opens → test one ≡ true → has_key key one ≡ true
     → Among (record { key = key; lowered = lowering (server.leases key).state }) (wants_where server test lowering)
-unfolding wants_where
 wants_where-has server test lowering key one a t k =
     among_mapped (λ key. record { key = key; lowered = lowering (server.leases key).state }) key
     (keys_of (filter test server.opens))

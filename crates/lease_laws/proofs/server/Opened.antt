@@ -71,9 +71,9 @@ granted_told client file access share asked durable lease progress = record {
 ends_told : (client : ℕ) (progress : Progress) → HasEnds client progress (λ request outcome. IsTold progress)
 ends_told client progress = record {
   refused = λ request status. inl (reply_quiet client _ progress);
-  left = λ request outcome. inl (same_quiet progress);
-  full = λ file access share ask none. inl (reply_quiet client _ progress);
-  granted = λ file access share ask none. inr (granted_told client file access share ask.lease ask.durable
+  left = λ request outcome why. inl (same_quiet progress);
+  full = λ file access share ask none out. inl (reply_quiet client _ progress);
+  granted = λ file access share ask none room. inr (granted_told client file access share ask.lease ask.durable
       (lease_after progress.server client file ask.lease) progress);
   again = λ file access share ask file_id some.
       inl (record { last = refl; outs = record { more = _; are_more = refl; each = (tt, tt) } });
@@ -99,7 +99,7 @@ concluded-told client request progress = any_end client progress _ (ends_told cl
 acknowledged_quiet : (client : ℕ) (given : Option LeaseOf) (progress : Progress)
     → IsQuiet progress (acknowledged client given progress)
 acknowledged_quiet client given progress = any_judgement client progress (λ given. IsQuiet progress) (record {
-  failed = λ given status why. reply_quiet client _ progress;
+  failed = λ given why. reply_quiet client _ progress;
   ended = λ g lowered there breaks within.
       record { last = refl; outs = record { more = _; are_more = refl; each = (tt, tt) } };
 }) given

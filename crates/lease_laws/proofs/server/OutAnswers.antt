@@ -93,7 +93,6 @@ to_none x1 e = grind arith
 -- where all that a write wants is breaking to nothing, each other key on its file is given up
 pub all_wants-given : (server : Server) (one : Open)
     → AllBreakToNone server (all_wants server (key_of_open one) one.file) → CachesAlone server one
-unfolding is_other_on
 all_wants-given server one ready key other a f strange k =
     let test : Open → Bool = λ x. is_other_on (key_of_open one) one.file x && holds_any (lease_of server x).state in
     either (holds_any (server.leases key).state)

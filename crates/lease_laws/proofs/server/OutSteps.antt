@@ -65,9 +65,9 @@ refused-answered client request status progress = grind arith
 ends_answer : (client : ℕ) (progress : Progress) → HasEnds client progress (λ request outcome. Answered progress)
 ends_answer client progress = record {
   refused = λ request status. replied-answered client (refusal_of request status) progress (refusal_of-plain request status);
-  left = λ request outcome. answered_nothing progress.outs;
-  full = λ file access share ask none. replied-answered client _ progress tt;
-  granted = λ file access share ask none. record {
+  left = λ request outcome why. answered_nothing progress.outs;
+  full = λ file access share ask none out. replied-answered client _ progress tt;
+  granted = λ file access share ask none room. record {
     more = _;
     are_more = refl;
     each = (tt, (tt, tt));
@@ -96,7 +96,7 @@ concluded-answered client request progress = any_end client progress _ (ends_ans
 pub acknowledged-answered : (client : ℕ) (given : Option LeaseOf) (progress : Progress)
     → Answered progress (acknowledged client given progress)
 acknowledged-answered client given progress = any_judgement client progress (λ given. Answered progress) (record {
-  failed = λ given status why. replied-answered client (Reply.AckFailed status) progress tt;
+  failed = λ given why. replied-answered client _ progress tt;
   ended = λ g lowered there breaks within. record {
     more = _;
     are_more = refl;

@@ -28,7 +28,6 @@ home_at server (Some key) file e one a k = (Decides-eqb one.file file).0 (not_fa
 peaceful_at : (server : Server) (file : ℕ) (access : Access) (share : Share)
     → list_any (conflicts_on file access share) server.opens ≡ false
     → (one : Open) → Among one server.opens → one.file ≡ file → conflict access share one.access one.share ≡ false
-unfolding conflicts_on
 peaceful_at server file access share e one a f = not_true (conflict access share one.access one.share) (λ c.
     clash (one.file == file && conflict access share one.access one.share)
     (and_both (one.file == file) (conflict access share one.access one.share) (same_file one file f) c)
@@ -38,7 +37,6 @@ peaceful_at server file access share e one a f = not_true (conflict access share
 unwritten_at : (server : Server) (own : Option Key) (file : ℕ) → is_empty (write_wants server own file) ≡ true
     → (key : Key) (one : Open) → Among one server.opens → one.file ≡ file → has_own_key own one ≡ false
     → has_key key one ≡ true → (server.leases key).state.write ≡ false
-unfolding is_other_on
 unwritten_at server own file none key one a f other k = not_true (server.leases key).state.write (λ w.
     clash (is_other_on own file one && (lease_of server one).state.write)
     (and_both (is_other_on own file one) (lease_of server one).state.write

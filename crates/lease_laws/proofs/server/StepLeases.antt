@@ -36,7 +36,6 @@ part_without old whole w part = grind arith
 -- an open of another key, on the file
 other_there : (key : Key) (file : ℕ) (one : Open) → is_other_on (Some key) file one ≡ true
     → (one.file ≡ file) × (has_key key one ≡ false)
-unfolding is_other_on
 other_there key file one other = grind arith
 
 -- a key that holds W has an open
@@ -60,7 +59,6 @@ offered_more : (server : Server) (key : Key) (file : ℕ) (access : Access) (sha
     → IsSound server → IsFree server.opens server.leases (Some key) file access share
     → is_state_within (server.leases key).state (granted_form_of want) ≡ true
     → is_state_within (server.leases key).state (offered server key file want) ≡ true
-unfolding offered allowed
 offered_more server key file access share want s free part =
     let old : State = (server.leases key).state in
     if_cases (λ x. is_state_within old x ≡ true) (server.expired key) nothing_cached _
@@ -75,7 +73,6 @@ offered_more server key file access share want s free part =
 granted_rises : (server : Server) (key : Key) (file : ℕ) (access : Access) (share : Share) (want : State)
     → IsSound server → IsFree server.opens server.leases (Some key) file access share
     → (lease_granted server key file want ≡ server.leases key) ⊎ IsRaised (server.leases key) (lease_granted server key file want)
-unfolding lease_granted
 granted_rises server key file access share want s free =
     let Goal : Lease → Type 0 = λ l. (l ≡ server.leases key) ⊎ IsRaised (server.leases key) l in
     if_cases Goal (is_breaking (server.leases key)) (server.leases key) _
@@ -113,9 +110,9 @@ ends_lease : (client : ℕ) (progress : Progress) (key : Key) → IsSound progre
     → MayServe progress.server client request) → StaysOrRises progress.server after.server key)
 ends_lease client progress key s = record {
   refused = λ request status may. inl refl;
-  left = λ request outcome may. inl refl;
-  full = λ file access share ask none may. inl refl;
-  granted = λ file access share ask none may. granted_with-lease client file access share ask.lease ask.durable progress
+  left = λ request outcome why may. inl refl;
+  full = λ file access share ask none out may. inl refl;
+  granted = λ file access share ask none room may. granted_with-lease client file access share ask.lease ask.durable progress
       key s (subst (MayCreate progress.server client file access share ask.lease) none (may refl).1);
   again = λ file access share ask file_id some may. inl refl;
   read = λ file_id one own may. inl refl;
@@ -161,7 +158,7 @@ acknowledged-lease : (client : ℕ) (given : Option LeaseOf) (progress : Progres
 acknowledged-lease client given progress other = any_judgement client progress
     (λ given after. (after.server.leases other ≡ progress.server.leases other)
     ⊎ IsEnded (progress.server.leases other) (after.server.leases other)) (record {
-      failed = λ given status why. inl refl;
+      failed = λ given why. inl refl;
       ended = λ g lowered there breaks within. ended-lease (key_of client g.key) g.state lowered progress other breaks within;
     }) given
 

@@ -36,9 +36,9 @@ replied-out client request reply progress = grind arith
 ends_out : (client : ℕ) (progress : Progress) → HasEnds client progress (λ request outcome. GoesOut client request progress)
 ends_out client progress = record {
   refused = λ request status. replied-out client request (refusal_of request status) progress;
-  left = λ request outcome. go_on-same (IsOfRequest client request) progress.outs;
-  full = λ file access share ask none. replied-out client _ _ progress;
-  granted = λ file access share ask none. record { more = _; are_more = refl; each = (refl, (refl, tt)) };
+  left = λ request outcome why. go_on-same (IsOfRequest client request) progress.outs;
+  full = λ file access share ask none out. replied-out client _ _ progress;
+  granted = λ file access share ask none room. record { more = _; are_more = refl; each = (refl, (refl, tt)) };
   again = λ file access share ask file_id some. record { more = _; are_more = refl; each = (refl, tt) };
   read = λ file_id one own. replied-out client _ _ progress;
   changed = λ file_id number patch one own.
@@ -67,7 +67,7 @@ pub acknowledged-out : (client : ℕ) (given : Option LeaseOf) (progress : Progr
     → GoOn (IsSentTo client) progress.outs (acknowledged client given progress).outs
 acknowledged-out client given progress =
     any_judgement client progress (λ given after. GoOn (IsSentTo client) progress.outs after.outs) (record {
-      failed = λ given status why. sent-out client (Reply.AckFailed status) progress;
+      failed = λ given why. sent-out client _ progress;
       ended = λ g lowered there breaks within. record { more = _; are_more = refl; each = (refl, tt) };
     }) given
 

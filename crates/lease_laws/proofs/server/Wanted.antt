@@ -143,7 +143,6 @@ wants-ordered lowering (key ∷ keys) o = (
 -- the wants of a test are those of the opens that pass it
 pub wants_where-exact : (server : Server) (test : Open → Bool) (lowering : State → State)
     → AreWanted server test lowering (wants_where server test lowering)
-unfolding wants_where
 wants_where-exact server test lowering = record {
   in_order = wants-ordered (λ key. lowering (server.leases key).state) (keys_of (filter test server.opens))
       (keys_of-ordered (filter test server.opens));

@@ -87,7 +87,6 @@ map_empty f x2 = grind arith
 pub wants_where-none : (server : Server) (test : Open → Bool) (lowering : State → State)
     → is_empty (wants_where server test lowering) ≡ true
     → (key : Key) (one : Open) → Among one server.opens → has_key key one ≡ true → test one ≡ false
-unfolding wants_where
 wants_where-none server test lowering none key one a k = not_true (test one) (λ t.
     clash (is_empty (keys_of (filter test server.opens)))
     (sym (map_empty (λ x. record { key = x; lowered = lowering (server.leases x).state })
@@ -114,7 +113,6 @@ pub wants_where-fit : (server : Server) (test : Open → Bool) (lowering : State
     → ((one : Open) → test one ≡ true → granted_form_of (lease_of server one).state ≡ (lease_of server one).state
     → ((lease_of server one) ≡ no_lease → ⊥) × IsLowered (lease_of server one).state (lowering (lease_of server one).state))
     → AllFit server (wants_where server test lowering)
-unfolding wants_where
 wants_where-fit server test lowering s good want a =
     let x = among_map (λ key. record { key = key; lowered = lowering (server.leases key).state }) want
     (keys_of (filter test server.opens)) a in

@@ -109,9 +109,9 @@ ends_fit : (client : ℕ) (progress : Progress) → DoFit progress.server.conten
     → DoFit after.server.contents)
 ends_fit client progress fit = record {
   refused = λ request status may. fit;
-  left = λ request outcome may. fit;
-  full = λ file access share ask none may. fit;
-  granted = λ file access share ask none may. subst DoFit (sym (put_contents progress.server client ask.lease _)) fit;
+  left = λ request outcome why may. fit;
+  full = λ file access share ask none out may. fit;
+  granted = λ file access share ask none room may. subst DoFit (sym (put_contents progress.server client ask.lease _)) fit;
   again = λ file access share ask file_id some may. fit;
   read = λ file_id one own may. fit;
   changed = λ file_id number patch one own may. put_fits progress.server.contents one.file _ fit
@@ -137,7 +137,7 @@ acknowledged_contents : (client : ℕ) (given : Option LeaseOf) (progress : Prog
     → (acknowledged client given progress).server.contents ≡ progress.server.contents
 acknowledged_contents client given progress = any_judgement client progress
     (λ given after. after.server.contents ≡ progress.server.contents)
-    (record { failed = λ given status why. refl; ended = λ g lowered there breaks within. refl }) given
+    (record { failed = λ given why. refl; ended = λ g lowered there breaks within. refl }) given
 
 -- each step
 step_fits : (step : SmallStep) (progress : Progress) → IsGuarded step progress.server

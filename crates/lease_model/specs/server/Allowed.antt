@@ -10,17 +10,17 @@ use Rattle.lease_model.specs.values.LeaseStates.{without_write}
 use Rattle.lease_model.specs.server.State.{Server, Open, has_own_key}
 
 -- an open on the file that has another key than the request; None: the request has no key
-unfoldable pub is_other_on : Option Key → ℕ → Open → Bool
+abbrev pub is_other_on : Option Key → ℕ → Open → Bool
 is_other_on own file one = one.file == file && not (has_own_key own one)
 
 -- Own: the granted form of the want, and no writes to cache where an open on the file has
 -- another key.
-unfoldable pub allowed : Server → Option Key → ℕ → State → State
+abbrev pub allowed : Server → Option Key → ℕ → State → State
 allowed server own file want =
     if list_any (is_other_on own file) server.opens
     then without_write (granted_form_of want)
     else granted_form_of want
 
 -- an open on the file that conflicts with this access and share (MS-SMB2 3.3.5.9, SHARING_VIOLATION)
-unfoldable pub conflicts_on : ℕ → Access → Share → Open → Bool
+abbrev pub conflicts_on : ℕ → Access → Share → Open → Bool
 conflicts_on file access share one = one.file == file && conflict access share one.access one.share

@@ -25,7 +25,7 @@ abbrev pub file_of_create : Server → ℕ → Option CreateAsk → Result ℕ S
 file_of_create server file None = Err Status.InvalidParameter
 file_of_create server file (Some ask) = if has_file server file then Ok file else Err Status.ObjectNameNotFound
 
-unfoldable pub file_asked : Server → ℕ → FileRequest → Result ℕ Status
+abbrev pub file_asked : Server → ℕ → FileRequest → Result ℕ Status
 file_asked server client (FileRequest.Create file access share contexts) = file_of_create server file contexts
 file_asked server client (FileRequest.Read file_id) = file_of_open (connected_open server client file_id)
 file_asked server client (FileRequest.Write file_id number patch) =
@@ -81,7 +81,7 @@ join server client = if server.present client then begun server else joined clie
 
 -- Own (3.3.7.1): an open outlives its client's connection where it is durable, its lease holds H,
 -- and the lease isn't breaking.
-unfoldable pub outlives_connection : Server → Open → Bool
+abbrev pub outlives_connection : Server → Open → Bool
 outlives_connection server one =
     one.durable && (lease_of server one).state.handle && not (is_breaking (lease_of server one))
 

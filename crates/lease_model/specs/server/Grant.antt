@@ -14,13 +14,13 @@ use Rattle.lease_model.specs.server.State.{Server, Open, Lease, no_lease, is_bre
 use Rattle.lease_model.specs.server.Naming.{key_of}
 
 -- what a key is offered: nothing where its timer ran out (profile)
-unfoldable pub offered : Server → Key → ℕ → State → State
+abbrev pub offered : Server → Key → ℕ → State → State
 offered server key file want =
     if server.expired key then nothing_cached else allowed server (Some key) file want
 
 -- The lease after a grant (profile): one that is breaking stays; one within the granted form of the
 -- want becomes what is offered, as a new one does; any other stays.
-unfoldable pub lease_granted : Server → Key → ℕ → State → Lease
+abbrev pub lease_granted : Server → Key → ℕ → State → Lease
 lease_granted server key file want =
     if is_breaking (server.leases key) then server.leases key
     else (if is_state_within (server.leases key).state (granted_form_of want)
@@ -76,7 +76,7 @@ granted_with client file access share asked durable lease progress = stepped pro
     ∷ [])
 
 -- FileIds are 1, 2, 3 and so on, never used again (profile); after the last there is no grant.
-unfoldable pub granted : ℕ → ℕ → Access → Share → Option LeaseOf → Bool → Progress → Progress
+abbrev pub granted : ℕ → ℕ → Access → Share → Option LeaseOf → Bool → Progress → Progress
 granted client file access share asked durable progress =
     if progress.server.last_id == last_file_id
     then replied client (Reply.CreateFailed file Status.InsufficientResources) progress

@@ -16,7 +16,7 @@ pub record Want : Type 0 where
   pub lowered : State
 
 -- Wanted of the keys that have an open that passes the test: that their state be so lowered.
-unfoldable pub wants_where : Server → (Open → Bool) → (State → State) → List Want
+abbrev pub wants_where : Server → (Open → Bool) → (State → State) → List Want
 wants_where server test lowering =
     map (λ key. record { key = key; lowered = lowering (server.leases key).state })
     (keys_of (filter test server.opens))
