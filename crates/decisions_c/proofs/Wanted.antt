@@ -95,7 +95,10 @@ sees Nothing state = holds_any state
 
 wanted_sees : (wish : Wish) (server : Server) (own : Option Key) (one : Open) → is_wanted wish server own one ≡ true
     → sees wish (lease_of server one).state ≡ true
-wanted_sees x1 server own one t = grind arith
+wanted_sees (NoHandles access share) server own one t =
+    (and_parts (conflicts_on 1 access share one && is_other_on own 1 one) (lease_of server one).state.handle t).1
+wanted_sees NoWrites server own one t = (and_parts (is_other_on own 1 one) (lease_of server one).state.write t).1
+wanted_sees Nothing server own one t = (and_parts (is_other_on own 1 one) (holds_any (lease_of server one).state) t).1
 
 sees_none : (wish : Wish) → sees wish nothing_cached ≡ false
 sees_none x1 = grind arith

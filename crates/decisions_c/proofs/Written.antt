@@ -1,5 +1,5 @@
 -- Structs that were written hold what they were written for, and what every server does with an acknowledgment.
-use Rattle.std.proofs.Common.{◌≡◌, refl, subst, Bool, true, false, arith}
+use Rattle.std.proofs.Common.{Bool, ap, arith, false, refl, subst, true, ◌∙◌, ◌≡◌}
 use Rattle.std.specs.Prelude.{Option, Some, None}
 use Rattle.lease_state.specs.State.{State, state_of_bits, bits_of_state, granted_form_of, is_state_within}
 use Rattle.lease_laws.proofs.server.Keys.{put_key-here}
@@ -11,6 +11,7 @@ use Rattle.lease_model.specs.values.Keys.{Key}
 use Rattle.decisions_c.specs.Judged.{acknowledged_status, lease_acknowledged, status_out, IsAnswered, IsAnsweredByAll}
 use Rattle.decisions_c.specs.Tables.{lease_held, entry_fields}
 use Rattle.lease_laws.proofs.server.cases.Judgements.{is_judged}
+use Rattle.lease_model.specs.messages.Requests.{LeaseOf}
 
 pub state_held : (s : State) → state_of_bits (bits_of_state s) ≡ s
 state_held s = grind arith

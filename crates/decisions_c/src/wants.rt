@@ -79,7 +79,7 @@ impl LeaseRequest {
 impl<'a> Tables<'a> {
     // What a create wishes, or the status that refuses it: first conflicts, then cached writes
     // (profile).
-    #[tactic(auto, using(crate::proofs::Wanted::without_conflict, crate::proofs::Wanted::broken_first, crate::proofs::Wanted::refused_at_once))]
+    #[tactic(auto)]
     fn open_wish(&self, own: &Option<Key>, access: Access, share: Share) -> Result<Wish, Status>
         ensures { found_by (server_of self.now) own.now result ≡ create_finding (server_of self.now) own.now 1 access share }
     {
