@@ -1,7 +1,7 @@
 -- What calls of a client in a handle come to, by the rules of clients.
 use Rattle.std.specs.Prelude.{◌≡◌, true, ⊤}
 use Rattle.lease_client.specs.Beliefs.{NoneRose, RoseBy}
-use Rattle.lease_client.specs.Commanded.{is_refused}
+use Rattle.lease_model.specs.client.Commanded.{is_refused}
 use Rattle.lease_client.specs.Known.{client_of}
 use Rattle.lease_client.specs.Steps.{IsStep, RefusesQuietly}
 use Rattle.lease_client.specs.declared.step.Step.{Step}

@@ -1,4 +1,3 @@
-pub mod ByTurns
 pub mod Entries
 pub mod Found
 pub mod Linked
@@ -6,7 +5,6 @@ pub mod NewClient
 pub mod Numbered
 pub mod Places
 pub mod Replied
-pub mod Replying
 pub mod Rising
 pub mod Sound
 pub mod Steps

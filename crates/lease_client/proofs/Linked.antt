@@ -1,17 +1,14 @@
 -- All entries have their turns, in the order of their files.
-use Rattle.lease_laws.proofs.Words.{◌++◌, ◌+◌, ◌-◌, ◌<◌, ◌∙◌, ◌≡◌, ◌≤◌, Answer, Bool, Client, Entry, List, Note, Pending, Phase}
+use Rattle.lease_laws.proofs.Words.{◌++◌, ◌+◌, ◌-◌, ◌<◌, ◌∙◌, ◌≡◌, ◌≤◌, Answer, Bool, Client, Entry, List, Note}
 use Rattle.lease_laws.proofs.Words.{Turn, ℕ, [], add-one, all_turned, ap, arith, belief_of, believes_noted, cases_lt}
-use Rattle.lease_laws.proofs.Words.{closed_entry, fun_ext, inl, inr, knows_file, lease_key, length, length-set, map, map-append}
+use Rattle.lease_laws.proofs.Words.{closed_entry, fun_ext, inl, inr, knows_file, length, length-set, map, map-append}
 use Rattle.lease_laws.proofs.Words.{nat_tests, numbered, numbers_to, refl, request_written, suc, sym, true, zero}
 use Rattle.std.proofs.lemmas.List.{flat_map_more}
 use Rattle.std.proofs.lemmas.Option.{slice_get_cases}
-use Rattle.lease_model.specs.client.Connection as model
-use Rattle.lease_client.specs.Connected.{connected_in}
 use Rattle.lease_client.specs.Known.{Known, client_of}
 use Rattle.lease_client.specs.Links.{link_turn, is_made, linked, entries_to, requests_to, notes_to}
 use Rattle.lease_client.specs.Turns.{Given, IsAfter, turn_written, given_by}
 use Rattle.lease_client.specs.declared.links.Link.{Link}
-use Rattle.lease_client.specs.declared.links.Link.TheVariants.{Lost, Made}
 use Rattle.lease_client.proofs.Entries.{number_set}
 use Rattle.lease_client.proofs.Turned.{with_entry}
 

@@ -1,5 +1,5 @@
 -- The entries of a new client stand for the client that is new.
-use Rattle.lease_laws.proofs.Words.{◌++◌, ◌+◌, ◌∙◌, ◌∷◌, ◌≡◌, Client, Entry, List, ℕ, [], ap, arith, closed_entry, false, fun_ext}
+use Rattle.lease_laws.proofs.Words.{◌++◌, ◌+◌, ◌∷◌, ◌≡◌, Client, Entry, List, ℕ, [], arith, closed_entry, false, fun_ext}
 use Rattle.lease_laws.proofs.Words.{length, new_client, numbered, refl, suc, unwrap_or, zero}
 use Rattle.std.proofs.Common.{replicate}
 use Rattle.std.proofs.lemmas.List.{length-replicate, replicate-append-replicate}

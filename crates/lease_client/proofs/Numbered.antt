@@ -1,6 +1,6 @@
 -- A write that is taken out by its number.
-use Rattle.lease_laws.proofs.Words.{◌∙◌, ◌∷◌, ◌≡◌, Bool, List, None, Option, Pending, Some, ℕ, [], ap, arith, cond, false, find}
-use Rattle.lease_laws.proofs.Words.{get_or, is_numbered, nat_tests, option_map, refl, sent_without, subst, suc, sym, true}
+use Rattle.lease_laws.proofs.Words.{◌∙◌, ◌∷◌, ◌≡◌, Bool, List, None, Option, Pending, Some, ℕ, [], arith, cond, false, find}
+use Rattle.lease_laws.proofs.Words.{get_or, is_numbered, nat_tests, option_map, refl, sent_without, subst, suc, sym}
 use Rattle.std.specs.List.{position, remove}
 
 abbrev place_in : ℕ → List Pending → Option ℕ

@@ -1,116 +1,167 @@
 -- No call raises a belief, but a reply to a create that tells of no break in progress.
-use Rattle.lease_laws.proofs.Words.{◌&&◌, ◌==◌, ◌||◌, ◌≡◌, Bool, Client, Command, Entry, List, LiveEntry, None, OpenTerms, Option}
-use Rattle.lease_laws.proofs.Words.{Patch, Pending, Phase, Some, State, Turn, ℕ, arith, belief_of, commanded, count_limit, false}
-use Rattle.lease_laws.proofs.Words.{file_of, has_unanswered, if◌then◌else◌, inl, inr, is_asking, is_state_within, is_within_limit}
-use Rattle.lease_laws.proofs.Words.{knows_file, last_write_number, lease_key, live_entry, may_read, may_write, meet, nat_lt}
-use Rattle.lease_laws.proofs.Words.{nat_tests, not, put, refl, same_access, same_share, true, turned}
-use Rattle.std.proofs.Common.{eqb}
-use Rattle.std.proofs.lemmas.Bool.{cases_eq}
-use Rattle.lease_client.specs.Beliefs.{IsNoMore, NoneRose}
-use Rattle.lease_client.specs.Commanded as rules
-use Rattle.lease_client.proofs.ByTurns.{commanded_by, commanded_nowhere}
+use Rattle.lease_laws.proofs.Words.{inl, inr, ◌&&◌, ◌==◌, ◌≡◌, ◌⊎◌, Asked, Bool, Client, Command, CreateAnswer, Entry, LeaseGiven, List}
+use Rattle.lease_laws.proofs.Words.{LiveEntry, Option, Pending, Phase, Reply, Some, State, Turn, ℕ, arith, belief_in}
+use Rattle.lease_laws.proofs.Words.{belief_of, commanded, false, given_state, is_state_within, lease_key, meet}
+use Rattle.lease_laws.proofs.Words.{nothing_cached, phase_with, sent_without, promoted_belief, put, refl, subst, sym, taken, true}
+use Rattle.lease_laws.proofs.Words.{turned, without_open}
+use Rattle.lease_laws.proofs.client.cases.Commands.{any_command, sent_of}
+use Rattle.lease_laws.proofs.client.cases.Links.{any_notice}
+use Rattle.lease_laws.proofs.client.cases.Replies.{any_reply}
+use Rattle.lease_model.specs.client.Connection as connection
+use Rattle.lease_client.specs.Beliefs.{IsNoMore, NoneRose, RoseBy, is_free}
+use Rattle.lease_client.specs.Links.{linked}
+use Rattle.lease_client.specs.declared.links.Link.{Link}
+use Rattle.lease_client.specs.declared.links.Link.TheVariants.{Lost, Made}
 
 -- ---- states
 
-pub within_self : (state : State) → is_state_within state state ≡ true
+within_self : (state : State) → is_state_within state state ≡ true
 within_self state = grind (arith)
 
-pub meet_within : (one other : State) → is_state_within (meet one other) one ≡ true
+meet_within : (one other : State) → is_state_within (meet one other) one ≡ true
 meet_within one other = grind (arith)
 
 -- ---- one entry
 
-abbrev pub IsLower : Entry → Entry → Type 0
-IsLower old new = is_state_within (belief_of new) (belief_of old) ≡ true
+abbrev IsLower : Phase → State → Type 0
+IsLower old new = is_state_within new (belief_in old) ≡ true
 
-abbrev pub Lowers : Entry → Turn → Type 0
-Lowers entry turn = IsLower entry turn.entry
+-- an entry that comes to believe no more
+lower_at : (client : Client) (file : ℕ) (entry : Entry) → IsLower (client.entries file).phase (belief_of entry) → (n : ℕ)
+    → is_state_within (belief_of (put client.entries file entry n)) (belief_of (client.entries n)) ≡ true
+unfolding put
+lower_at client file entry lower n = grind arith
 
-pub lower_if : (entry : Entry) (b : Bool) (first second : Turn) → Lowers entry first → Lowers entry second
-    → Lowers entry (if b then first else second)
-lower_if entry x2 first second one other = grind arith
-
--- a turn of one entry raises no belief where it doesn't raise the entry's
-pub turned_lower : (client : Client) (file : ℕ) (turn : Turn) → Lowers (client.entries file) turn
+lower_turn : (client : Client) (file : ℕ) (turn : Turn) → IsLower (client.entries file).phase (belief_of turn.entry)
     → NoneRose client (turned client file turn).client
-unfolding turned put
-turned_lower client file turn lower n = grind arith
+unfolding turned
+lower_turn client file turn lower = lower_at client file turn.entry lower
 
--- and that of no other file
-pub turned_apart : (client : Client) (file : ℕ) (turn : Turn) (n : ℕ) → (file == n) ≡ false
+-- another file's entry is left alone
+apart_turn : (client : Client) (file : ℕ) (turn : Turn) (n : ℕ) → (file == n) ≡ false
     → IsNoMore client (turned client file turn).client n
 unfolding turned put
-turned_apart client file turn n apart = grind arith
+apart_turn client file turn n apart = grind arith
+
+quiet_none : (client : Client) → NoneRose client client
+quiet_none client file = within_self (belief_of (client.entries file))
+
+-- what a live entry believed, or less
+live_lower : (client : Client) (file : ℕ) (live : LiveEntry) → (client.entries file).phase ≡ Phase.Live live → (belief : State)
+    → is_state_within belief live.belief ≡ true → IsLower (client.entries file).phase belief
+live_lower client file live is belief lower = subst (λ phase. IsLower phase belief) (sym is) lower
+
+live_same : (client : Client) (file : ℕ) (live : LiveEntry) → (client.entries file).phase ≡ Phase.Live live
+    → IsLower (client.entries file).phase live.belief
+live_same client file live is = live_lower client file live is live.belief (within_self live.belief)
 
 -- ---- commands
 
-open_lowers : (online : Bool) (key : List ℕ) (file : ℕ) (terms : OpenTerms) (sent : List Pending) (phase : Phase)
-    → Lowers (record { phase = phase; sent = sent }) (rules.open_in online key file terms sent phase)
-unfolding rules.live_open_turn rules.handle_turn rules.other_turn rules.anew_turn rules.more_turn
-open_lowers online key file terms sent Phase.Closed = lower_if (record { phase = Phase.Closed; sent = sent }) online _ _ refl refl
-open_lowers online key file terms sent (Phase.Live live) =
-    let same = within_self live.belief in
-    lower_if (live_entry live sent) (is_asking live) _ _ same
-    (lower_if (live_entry live sent) (same_access terms.access live.access && same_share terms.share live.share) _ _
-    (lower_if (live_entry live sent) (live.handles == count_limit) _ _ same same)
-    (lower_if (live_entry live sent) (live.handles == 0) _ _ refl (lower_if (live_entry live sent) (live.handles == count_limit) _
-    _ same same)))
-open_lowers online key file terms sent phase = refl
-
-heard_lowers : (turn : LiveEntry → List Pending → Turn) (sent : List Pending) (phase : Phase)
-    → ((live : LiveEntry) → Lowers (live_entry live sent) (turn live sent))
-    → Lowers (record { phase = phase; sent = sent }) (rules.heard_in turn sent phase)
-heard_lowers turn sent x3 lowers = grind arith
-
-close_lowers : (sent : List Pending) (live : LiveEntry) → Lowers (live_entry live sent) (rules.close_turn live sent)
-unfolding rules.close_turn rules.last_close_turn
-close_lowers sent live = grind arith
-
-read_sent_lowers : (sent : List Pending) (live : LiveEntry) → Lowers (live_entry live sent) (rules.read_sent_turn live sent)
-unfolding rules.read_sent_turn
-read_sent_lowers sent live = grind arith
-
-read_from_lowers : (file : ℕ) (sent : List Pending) (live : LiveEntry) (reads : Bool) (base : Option (List ℕ))
-    → Lowers (live_entry live sent) (rules.read_from_turn file live sent reads base)
-read_from_lowers file sent live true (Some base) = within_self live.belief
-read_from_lowers file sent live true None = read_sent_lowers sent live
-read_from_lowers file sent live false base = read_sent_lowers sent live
-
-read_lowers : (file : ℕ) (sent : List Pending) (live : LiveEntry) → Lowers (live_entry live sent) (rules.read_turn file live sent)
-unfolding rules.read_turn
-read_lowers file sent live =
-    lower_if (live_entry live sent) (may_read live.access) _ _ (read_from_lowers file sent live live.belief.read live.base)
-    (within_self live.belief)
-
-write_lowers : (file last : ℕ) (patch : Patch) (sent : List Pending) (live : LiveEntry)
-    → Lowers (live_entry live sent) (rules.write_turn file live sent last patch)
-unfolding rules.write_turn rules.taken_turn rules.buffered_turn rules.through_turn
-write_lowers file last patch sent live = grind arith
-
-flush_lowers : (sent : List Pending) (live : LiveEntry) → Lowers (live_entry live sent) (rules.flush_turn live sent)
-unfolding rules.flush_turn
-flush_lowers sent live = within_self live.belief
-
-command_lowers : (online : Bool) (key : List ℕ) (last : ℕ) (command : Command) (entry : Entry)
-    → Lowers entry (rules.commanded_turn online key last command entry)
-command_lowers online key last (Command.Open file terms) entry = open_lowers online key file terms entry.sent entry.phase
-command_lowers online key last (Command.Close file) entry =
-    heard_lowers rules.close_turn entry.sent entry.phase (close_lowers entry.sent)
-command_lowers online key last (Command.Read file) entry =
-    heard_lowers (rules.read_turn file) entry.sent entry.phase (read_lowers file entry.sent)
-command_lowers online key last (Command.Write file patch) entry =
-    heard_lowers (λ live sent. rules.write_turn file live sent last patch) entry.sent entry.phase
-    (write_lowers file last patch entry.sent)
-command_lowers online key last (Command.Flush file) entry =
-    heard_lowers rules.flush_turn entry.sent entry.phase (flush_lowers entry.sent)
-
-known_commands : (client : Client) (command : Command) (known : Bool) → knows_file client (file_of command) ≡ known
-    → NoneRose client (commanded client command).client
-known_commands client command true is = rw (commanded_by client command is) (turned_lower client (file_of command) _
-    (command_lowers client.is_online (lease_key client.guid (file_of command)) client.last_number command
-    (client.entries (file_of command))))
-known_commands client command false is =
-    rw (commanded_nowhere client command is) (λ file. within_self (belief_of (client.entries file)))
-
 pub commands_raise_none : (client : Client) (command : Command) → NoneRose client (commanded client command).client
-commands_raise_none client command = known_commands client command (knows_file client (file_of command)) refl
+commands_raise_none client = any_command client (λ step. NoneRose client step.client) (record {
+  refused = λ refusal. quiet_none client;
+  opening = λ file terms is on. lower_turn client file _ refl;
+  added = λ file live is. lower_turn client file _ (live_same client file live is.is_so);
+  asked = λ file live terms is idle some. lower_turn client file _ (live_same client file live is.is_so);
+  anew = λ file live terms is idle none. lower_turn client file _ refl;
+  fewer = λ file live is more. lower_turn client file _ (live_same client file live is.is_so);
+  parked = λ file live is idle done stays. lower_turn client file _ (live_same client file live is.is_so);
+  closed = λ file live is idle done goes. lower_turn client file _ refl;
+  cached = λ file live base is reads has. quiet_none client;
+  read = λ file live is idle. lower_turn client file _ (live_same client file live is.is_so);
+  buffered = λ file live patch is fits caches. lower_at client file _ (live_same client file live is.is_so);
+  written = λ file live patch is fits sends. lower_at client file _ (live_same client file live is.is_so);
+  flushed = λ file live is. lower_turn client file _ (live_same client file live is.is_so);
+})
+
+-- ---- replies
+
+either_free : (here free : Bool) → (here && free) ≡ false → (here ≡ false) ⊎ (free ≡ false)
+either_free x1 free is = grind arith
+
+-- a create that tells of a break in progress gives nothing
+given_none : (key : List ℕ) (given : Option LeaseGiven) → is_free given ≡ false → given_state key given ≡ nothing_cached
+given_none key x2 free = grind arith
+
+given_within : (key : List ℕ) (given : Option LeaseGiven) (state : State) → is_free given ≡ false
+    → is_state_within (given_state key given) state ≡ true
+given_within key given state free = rw (given_none key given free) refl
+
+promoted_within : (key : List ℕ) (given : Option LeaseGiven) (state : State) → is_free given ≡ false
+    → is_state_within (promoted_belief key state given) state ≡ true
+promoted_within key x2 state free = grind arith
+
+-- what a reply to a create makes of an entry, where it grants it nothing
+create_rises : (client : Client) (file file_id : ℕ) (answer : CreateAnswer) (turn : Turn)
+    → (is_free answer.lease ≡ false → IsLower (client.entries file).phase (belief_of turn.entry))
+    → RoseBy (Reply.Created file file_id (Some answer)) client (turned client file turn).client
+create_rises client file file_id answer turn lower n other = elim (either_free (file == n) (is_free answer.lease) other) [
+  | inl apart ↦ apart_turn client file turn n apart
+  | inr held ↦ lower_turn client file turn (lower held) n
+]
+
+-- an entry without its open believes nothing
+gone_lower : (phase : Phase) (asking : Option Asked) (sent : List Pending) → IsLower phase (belief_of (without_open asking sent))
+gone_lower phase x2 sent = grind arith
+
+kept_belief : (write : Option Pending) (phase : Phase) → belief_in (phase_with write phase) ≡ belief_in phase
+kept_belief write x2 = grind arith
+
+pub replies_raise : (client : Client) (reply : Reply) → RoseBy reply client (taken client reply).client
+replies_raise client = any_reply client (λ reply step. RoseBy reply client step.client) (record {
+  passed = λ reply why n other. quiet_none client n;
+  parked_closes = λ file notice live at is parked n other. lower_turn client file _ refl n;
+  lowered = λ file notice live at is stays n other.
+      lower_turn client file _ (live_lower client file live is _ (meet_within live.belief notice.lowered)) n;
+  opened = λ file file_id answer access share is. create_rises client file file_id answer _
+      (λ held. given_within (lease_key client.guid file) answer.lease _ held);
+  reconnected = λ file file_id answer parted is. create_rises client file file_id answer _
+      (λ held. given_within (lease_key client.guid file) answer.lease _ held);
+  promoted = λ file file_id answer live asked is asks. create_rises client file file_id answer _
+      (λ held. live_lower client file live is _ (promoted_within (lease_key client.guid file) answer.lease live.belief held));
+  not_opened = λ file status access share is n other. lower_turn client file _ refl n;
+  not_reconnected = λ file status parted is n other. lower_turn client file _ refl n;
+  not_promoted = λ file status live asked is asks n other. lower_turn client file _ (live_same client file live is) n;
+  read = λ file file_id bytes live is id some n other. lower_turn client file _ (live_same client file live is) n;
+  read_closed = λ file file_id status live is id gone n other.
+      lower_turn client file _ (gone_lower (client.entries file).phase live.asking (sent_of client file)) n;
+  not_read = λ file file_id status live is id some n other. lower_turn client file _ (live_same client file live is) n;
+  written = λ file file_id number at known n other. lower_turn client file _
+      (subst (IsLower (client.entries file).phase) (sym (kept_belief _ (client.entries file).phase))
+      (within_self (belief_of (client.entries file)))) n;
+  write_closed = λ file file_id number status live at known is id gone n other.
+      lower_turn client file _ (gone_lower (client.entries file).phase live.asking (sent_without number (sent_of client file))) n;
+  not_written = λ file file_id number status at known n other.
+      lower_turn client file _ (within_self (belief_of (client.entries file))) n;
+})
+
+-- ---- a connection that is lost or made
+
+notices_lower : (sent : List Pending) (phase : Phase) → IsLower phase (belief_of (connection.notice_turn sent phase).entry)
+notices_lower sent = any_notice sent (λ phase turn. IsLower phase (belief_of turn.entry)) (record {
+  closed = refl;
+  opening = λ access share. refl;
+  ended = λ live. refl;
+  kept = λ live writes. refl;
+  bare = λ live none. refl;
+  offline = λ parted. refl;
+  reconnecting = λ parted. refl;
+})
+
+connects_lower : (key : List ℕ) (file : ℕ) (sent : List Pending) (phase : Phase)
+    → IsLower phase (belief_of (connection.connected_in key file sent phase).entry)
+connects_lower key file sent (Phase.Live live) = within_self live.belief
+connects_lower key file sent phase = refl
+
+pub links_raise_none : (client : Client) (link : Link) → NoneRose client (linked client link).client
+links_raise_none client Lost file = notices_lower (client.entries file).sent (client.entries file).phase
+links_raise_none client Made file =
+    connects_lower (lease_key client.guid file) file (client.entries file).sent (client.entries file).phase
+
+-- ---- the client that a step leaves
+
+pub none_rose : (old after new : Client) → new ≡ after → NoneRose old after → NoneRose old new
+none_rose old after new is none = subst (NoneRose old) (sym is) none
+
+pub rose_by : (reply : Reply) (old after new : Client) → new ≡ after → RoseBy reply old after → RoseBy reply old new
+rose_by reply old after new is rose = subst (RoseBy reply old) (sym is) rose

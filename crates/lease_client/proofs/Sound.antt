@@ -1,5 +1,5 @@
 -- What a call leaves behind keeps the laws of clients.
-use Rattle.lease_laws.proofs.Words.{◌∙◌, ◌≡◌, Client, ClientCall, IsSoundClient, Step, ap, arith, client_called, refl, subst, sym}
+use Rattle.lease_laws.proofs.Words.{◌∙◌, ◌≡◌, Client, ClientCall, IsSoundClient, Step, ap, arith, client_called, subst, sym}
 use Rattle.lease_laws.specs.client.Laws.{ClientsStaySound}
 use Rattle.lease_client.specs.Links.{linked}
 use Rattle.lease_client.specs.declared.links.Link.{Link}

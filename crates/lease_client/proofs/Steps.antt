@@ -1,13 +1,14 @@
 -- Calls that go by one entry.
-use Rattle.lease_laws.proofs.Words.{◌∙◌, ◌≡◌, Answer, Client, Command, List, Refusal, State, Step, Turn, ℕ, [], ap, arith}
-use Rattle.lease_laws.proofs.Words.{belief_of, commanded, file_of, knows_file, lease_key, refl, same_state, true, turned}
+use Rattle.lease_laws.proofs.Words.{◌∙◌, ◌≡◌, Client, Command, List, State, Turn, ℕ, [], ap, arith}
+use Rattle.lease_laws.proofs.Words.{belief_of, commanded, file_of, knows_file, lease_key, same_state, true, turned}
 use Rattle.lease_laws.specs.client.Laws.{RefusedCommandsDoNothing}
-use Rattle.lease_client.specs.Calls.{turn_by, last_by}
-use Rattle.lease_client.specs.Commanded.{commanded_turn, last_after, is_refused}
+use Rattle.lease_model.specs.client.Commanded.{last_by, turn_by}
+use Rattle.lease_model.specs.client.Commanded.{commanded_turn, last_after, is_refused}
 use Rattle.lease_client.specs.Known.{Known, client_of}
 use Rattle.lease_client.specs.Turns.{Given, turn_written, given_in, IsAfter}
-use Rattle.lease_client.proofs.ByTurns.{commanded_by}
-use Rattle.lease_client.proofs.Turned.{with_entry, entry_there, with_note, is_after, refusal_same, same_numbered}
+use Rattle.lease_laws.proofs.client.cases.Commands.{commanded_by}
+use Rattle.lease_client.proofs.Turned.{with_entry, entry_there, with_note, is_after, refusal_same}
+use Rattle.lease_laws.proofs.client.cases.Turns.{same_numbered}
 
 pub told_after : (known : Known) (n : ℕ) (turn : Turn) (old new : State) (final : Known) (first given : Given)
     → knows_file (client_of known) n ≡ true → old ≡ belief_of ((client_of known).entries n)

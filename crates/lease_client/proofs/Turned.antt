@@ -1,41 +1,15 @@
 -- A turn of one entry, and what it makes of the client.
 use Rattle.lease_laws.proofs.Words.{◌++◌, ◌-◌, ◌<◌, ◌∙◌, ◌∷◌, ◌≡◌, Answer, Bool, Client, Entry, List, Note, State, Step, Turn, ℕ}
-use Rattle.lease_laws.proofs.Words.{[], ap, arith, belief_of, believes_noted, beq, false, fun_ext, if◌then◌else◌, knows_file}
-use Rattle.lease_laws.proofs.Words.{length, nat_tests, put, refl, same_state, suc, sym, true, turn_of, turned, zero}
+use Rattle.lease_laws.proofs.Words.{[], ap, arith, belief_of, believes_noted, if◌then◌else◌, knows_file}
+use Rattle.lease_laws.proofs.Words.{length, nat_tests, refl, same_state, suc, sym, true, turned, zero}
 use Rattle.std.proofs.Math.ListN.{set}
-use Rattle.lease_client.specs.Calls.{with_number}
+use Rattle.lease_model.specs.client.Step.{with_number}
 use Rattle.lease_client.specs.Known.{Known, client_of}
 use Rattle.lease_client.specs.Turns.{Given, turn_written, given_in, given_by, IsAfter}
 use Rattle.lease_client.proofs.Entries.{client_set, file_there, number_set}
 
--- ---- a turn that leaves the entry as it is
-
-beq_same : (b : Bool) → beq b b ≡ true
-beq_same x1 = grind arith
-
-pub state_same : (state : State) → same_state state state ≡ true
-state_same state = rw (beq_same state.read, beq_same state.write, beq_same state.handle) refl
-
-pub put_same : (table : ℕ → Entry) (n : ℕ) → put table n (table n) ≡ table
-unfolding put
-put_same table n = fun_ext (λ k. grind (arith, nat_tests))
-
-pub unnoted : (file : ℕ) (state : State) → believes_noted file state state ≡ []
-unnoted file state = rw (state_same state) refl
-
 abbrev pub answered : Client → Answer → Step
 answered client answer = record { client = client; answer = answer; requests = []; notes = [] }
-
-pub turned_still : (client : Client) (file : ℕ) (answer : Answer)
-    → turned client file (turn_of (client.entries file) answer []) ≡ answered client answer
-unfolding turned
-turned_still client file answer = ap (λ (notes : List Note). record {
-  client = record client { entries = put client.entries file (client.entries file) };
-  answer = answer;
-  requests = [];
-  notes = notes;
-}) (unnoted file (belief_of (client.entries file)))
-    ∙ ap (λ (t : ℕ → Entry). answered (record client { entries = t }) answer) (put_same client.entries file)
 
 -- ---- the entry has turned in its place
 
@@ -98,11 +72,6 @@ pub is_after : (known : Known) (n last : ℕ) (turn : Turn) (old new : State) (f
 is_after known n last turn old new final first given is was stands by now out =
     let told = noted_by known n last turn old new final first given is was stands by now out in
     rw (stands, told) (in_its_place known n last turn is)
-
-pub same_numbered : (client : Client) (file : ℕ) (turn : Turn)
-    → with_number client.last_number (turned client file turn) ≡ turned client file turn
-unfolding turned
-same_numbered client file turn = refl
 
 -- ---- nothing changes
 

@@ -2,13 +2,12 @@
 use Rattle.std.specs.Prelude.{ℕ, zero, suc, Bool, true, false, List, [], ◌++◌, flat_map}
 use Rattle.std.proofs.Math.ListN.{set}
 use Rattle.lease_model.specs.client.Commands.{Note}
-use Rattle.lease_model.specs.client.Connection.{notice_turn, noticed, connection_made}
+use Rattle.lease_model.specs.client.Connection.{connected_turn, notice_turn, noticed, connection_made}
 use Rattle.lease_model.specs.client.State.{Client, Entry, closed_entry, lease_key, belief_of}
 use Rattle.lease_model.specs.client.Step.{Step, Turn, believes_noted}
 use Rattle.lease_model.specs.messages.Requests.{Request}
 use Rattle.lease_model.specs.values.Lists.{numbers_to}
 use Rattle.lease_model.specs.values.Tables.{numbered}
-use Rattle.lease_client.specs.Connected.{connected_turn}
 use Rattle.lease_client.specs.declared.links.Link.{Link}
 use Rattle.lease_client.specs.declared.links.Link.TheVariants.{Lost, Made}
 

@@ -2,10 +2,9 @@
 use Rattle.std.specs.Prelude.{ℕ, List}
 use Rattle.lease_model.specs.client.State.{Entry}
 use Rattle.lease_model.specs.client.Step.{Turn}
-use Rattle.lease_model.specs.client.Taken.{write_done_turn}
-use Rattle.lease_client.specs.Answered.{read_done_turn, not_read_turn, not_written_turn}
-use Rattle.lease_client.specs.Broken.{broken_turn, notice_read}
-use Rattle.lease_client.specs.Created.{answer_read, created_turn, not_created_turn}
+use Rattle.lease_model.specs.client.Taken.{broken_turn, created_turn, not_created_turn, not_read_turn, not_written_turn}
+use Rattle.lease_model.specs.client.Taken.{read_done_turn, write_done_turn}
+use Rattle.lease_client.specs.Heard.{answer_read, notice_read}
 use Rattle.lease_client.specs.declared.message.Message as code
 
 abbrev pub message_turn : List ℕ → code.Message → Entry → Turn

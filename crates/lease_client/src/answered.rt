@@ -1,7 +1,7 @@
 ghost use Rattle.std.specs.Prelude.{◌≡◌, IfOk, map, find};
 ghost use Rattle.std.specs.List.{list_any, position};
 ghost use Rattle.lease_model.specs.client.Taken as rules;
-ghost use Rattle.lease_client.specs.Answered.{read_done_turn, not_read_turn, not_written_turn};
+ghost use Rattle.lease_model.specs.client.Taken.{read_done_turn, not_read_turn, not_written_turn};
 ghost use Rattle.lease_client.specs.Answers.{note_of};
 ghost use Rattle.lease_client.specs.Turns.{turned_to, turn_written};
 

@@ -3,7 +3,9 @@ ghost use Rattle.lease_state.specs.State.{state_of};
 ghost use Rattle.lease_model.specs.client.Taken as rules;
 ghost use Rattle.lease_model.specs.values.LeaseStates as states;
 ghost use Rattle.lease_client.specs.Answers.{answer_of};
-ghost use Rattle.lease_client.specs.Broken.{notice_read, closing_turn, broken_turn};
+ghost use Rattle.lease_client.specs.Heard.{notice_read};
+ghost use Rattle.lease_model.specs.client.Commanded.{closing_turn};
+ghost use Rattle.lease_model.specs.client.Taken.{broken_turn};
 ghost use Rattle.lease_client.specs.Turns.{turned_to, turn_written};
 
 use crate::command::Answer;

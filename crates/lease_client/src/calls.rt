@@ -2,8 +2,9 @@ ghost use Rattle.std.specs.Prelude.{◌≡◌, OnOk, IsOk, true};
 ghost use Rattle.lease_model.specs.client.Commanded.{commanded};
 ghost use Rattle.lease_model.specs.client.State.{knows_file};
 ghost use Rattle.lease_client.specs.Answers.{command_of};
-ghost use Rattle.lease_client.specs.Calls.{step_by, turn_by, told_step};
-ghost use Rattle.lease_client.specs.Commanded.{is_refused};
+ghost use Rattle.lease_client.specs.Calls.{told_step};
+ghost use Rattle.lease_model.specs.client.Commanded.{step_by, turn_by};
+ghost use Rattle.lease_model.specs.client.Commanded.{is_refused};
 ghost use Rattle.lease_client.specs.Known.{client_of};
 ghost use Rattle.lease_client.specs.Turns.{IsAfter};
 

@@ -9,7 +9,7 @@ ghost use Rattle.lease_model.specs.messages.FromBytes.{reply_of};
 ghost use Rattle.lease_client.specs.Answers.{command_of};
 ghost use Rattle.lease_client.specs.Beliefs.{NoneRose, RoseBy};
 ghost use Rattle.lease_client.specs.Calls.{is_idle};
-ghost use Rattle.lease_client.specs.Commanded.{is_refused};
+ghost use Rattle.lease_model.specs.client.Commanded.{is_refused};
 ghost use Rattle.lease_client.specs.Known.{client_of};
 ghost use Rattle.lease_client.specs.Links.{linked};
 ghost use Rattle.lease_client.specs.Steps.{IsStep, RefusesQuietly};

@@ -2,7 +2,7 @@ ghost use Rattle.std.specs.Prelude.{◌≡◌, ◌==◌, ◌+◌, true, Some, If
 ghost use Rattle.lease_model.specs.client.Commanded.{has_unanswered};
 ghost use Rattle.lease_model.specs.values.Patches.{is_within_limit};
 ghost use Rattle.lease_client.specs.Answers.{command_of};
-ghost use Rattle.lease_client.specs.Commanded as rules;
+ghost use Rattle.lease_model.specs.client.Commanded as rules;
 ghost use Rattle.lease_client.specs.Turns.{turned_to, turn_written};
 
 use crate::command::{Answer, Command, Refusal};
@@ -95,8 +95,8 @@ impl Entry {
     /// refused.
     pub fn read(&mut self, file: FileNo, given: &mut Given) -> Result<(), Memory>
         ensures turn { OnOk result (turned_to self.new given.new
-            ≡ turn_written (rules.heard_turn (rules.read_turn file.0) self.old)) }
-        ensures refused { rules.is_refused (rules.heard_turn (rules.read_turn file.0) self.old).answer ≡ true
+            ≡ turn_written (rules.heard_turn (rules.live_read_turn file.0) self.old)) }
+        ensures refused { rules.is_refused (rules.heard_turn (rules.live_read_turn file.0) self.old).answer ≡ true
             → IsOk result }
     {
         let Phase::Live(live) = &mut self.phase else {
@@ -163,7 +163,7 @@ impl Entry {
     }
 }
 
-ghost use Rattle.lease_client.specs.Commanded.{written_turn};
+ghost use Rattle.lease_model.specs.client.Commanded.{written_turn};
 
 // The patch ends within the limit of a file, also one without bytes.
 fn is_within_limit(change: &Patch) -> bool
@@ -182,7 +182,7 @@ impl Live {
     }
 
     // The last handle stays while something is unanswered, or the entry asks for more.
-    #[tactic(auto, unfolding(crate::specs::Commanded::close_turn))]
+    #[tactic(auto, unfolding(lease_model::specs::client::Commanded::close_turn))]
     fn close(self, sent: Vec<Pending>) -> Result<Turn, Memory>
         ensures turn { IfOk result (λ turn. turn ≡ turn_written (rules.close_turn self sent.items)) }
         ensures refused { rules.is_refused (rules.close_turn self sent.items).answer ≡ true → IsOk result }
@@ -212,7 +212,7 @@ impl Live {
     }
 
     // The entry is parked where the belief holds handles.
-    #[tactic(auto, unfolding(crate::specs::Commanded::last_close_turn))]
+    #[tactic(auto, unfolding(lease_model::specs::client::Commanded::last_close_turn))]
     fn close_last(self, sent: Vec<Pending>) -> Result<Turn, Memory>
         requires { self.asking ≡ None }
         ensures turn { IfOk result (λ turn. turn ≡ turn_written (rules.last_close_turn self sent.items)) }
@@ -227,11 +227,11 @@ impl Live {
     }
 
     // A Read is answered from the cache, or sent.
-    #[tactic(auto, unfolding(crate::specs::Commanded::read_turn))]
+    #[tactic(auto, unfolding(lease_model::specs::client::Commanded::live_read_turn))]
     fn read(&mut self, sent: &[Pending], file: FileNo, given: &mut Given) -> Result<(), Memory>
         ensures turn { OnOk result (turned_to (live_entry self.new sent.now) given.new
-            ≡ turn_written (rules.read_turn file.0 self.old sent.now)) }
-        ensures refused { rules.is_refused (rules.read_turn file.0 self.old sent.now).answer ≡ true
+            ≡ turn_written (rules.live_read_turn file.0 self.old sent.now)) }
+        ensures refused { rules.is_refused (rules.live_read_turn file.0 self.old sent.now).answer ≡ true
             → IsOk result }
     {
         if !self.access.reads() {
@@ -247,7 +247,7 @@ impl Live {
         }
     }
 
-    #[tactic(auto, unfolding(crate::specs::Commanded::read_sent_turn, lease_model::specs::values::Limits::count_limit))]
+    #[tactic(auto, unfolding(lease_model::specs::client::Commanded::read_sent_turn, lease_model::specs::values::Limits::count_limit))]
     fn send_read(&mut self, given: &mut Given) -> Result<(), Memory>
         ensures turn { (sent : List Pending) → OnOk result (turned_to (live_entry self.new sent) given.new
             ≡ turn_written (rules.read_sent_turn self.old sent)) }
@@ -269,7 +269,7 @@ impl Live {
     }
 
     // First the access, then the write's end, then the numbers that are left.
-    #[tactic(auto, unfolding(crate::specs::Commanded::write_turn, lease_model::specs::values::Limits::last_write_number))]
+    #[tactic(auto, unfolding(lease_model::specs::client::Commanded::write_turn, lease_model::specs::values::Limits::last_write_number))]
     fn write(
         &mut self,
         sent: &mut Vec<Pending>,
@@ -302,7 +302,7 @@ impl Live {
     }
 
     // Under W a write is buffered, and else it is sent.
-    #[tactic(auto, unfolding(crate::specs::Commanded::taken_turn))]
+    #[tactic(auto, unfolding(lease_model::specs::client::Commanded::taken_turn))]
     fn take_write(
         &mut self,
         sent: &mut Vec<Pending>,
@@ -322,7 +322,7 @@ impl Live {
         }
     }
 
-    #[tactic(auto, unfolding(crate::specs::Commanded::buffered_turn))]
+    #[tactic(auto, unfolding(lease_model::specs::client::Commanded::buffered_turn))]
     fn buffer_write(
         &mut self,
         sent: &mut Vec<Pending>,
@@ -346,7 +346,7 @@ impl Live {
         })
     }
 
-    #[tactic(auto, unfolding(crate::specs::Commanded::through_turn))]
+    #[tactic(auto, unfolding(lease_model::specs::client::Commanded::through_turn))]
     fn send_write(
         &self,
         sent: &mut Vec<Pending>,
@@ -377,7 +377,7 @@ impl Live {
         Ok(())
     }
 
-    #[tactic(auto, unfolding(crate::specs::Commanded::flush_turn))]
+    #[tactic(auto, unfolding(lease_model::specs::client::Commanded::flush_turn))]
     fn flush(&mut self, sent: &mut Vec<Pending>, given: &mut Given) -> Result<(), Memory>
         ensures turn { OnOk result (turned_to (live_entry self.new sent.new.items) given.new
             ≡ turn_written (rules.flush_turn self.old sent.old.items)) }
@@ -395,7 +395,8 @@ impl Live {
 }
 
 ghost use Rattle.std.specs.Prelude.{None, [], ◌∷◌, false, List};
-ghost use Rattle.lease_model.specs.client.Commanded.{turn_of, one_handle_less};
+ghost use Rattle.lease_model.specs.client.Commanded.{one_handle_less};
+ghost use Rattle.lease_model.specs.client.Step.{turn_of};
 ghost use Rattle.lease_model.specs.client.State.{live_entry, Pending};
 ghost use Rattle.lease_model.specs.client.Commands as model;
 

@@ -4,7 +4,8 @@ ghost use Rattle.lease_state.specs.State.{state_of};
 ghost use Rattle.lease_wire.specs.Create.{granted_view};
 ghost use Rattle.lease_model.specs.client.Taken as rules;
 ghost use Rattle.lease_model.specs.messages.FromBytes.{lease_read};
-ghost use Rattle.lease_client.specs.Created.{answer_read, created_turn, not_created_turn};
+ghost use Rattle.lease_client.specs.Heard.{answer_read};
+ghost use Rattle.lease_model.specs.client.Taken.{created_turn, not_created_turn};
 ghost use Rattle.lease_client.specs.Turns.{turned_to, turn_written};
 
 use crate::command::Answer;
@@ -195,8 +196,6 @@ impl Parted {
     }
 }
 
-ghost use Rattle.lease_client.specs.Created as created;
-
 impl Live {
     // A live entry is answered only where it asked for more.
     fn created(
@@ -206,7 +205,7 @@ impl Live {
         file_id: FileId,
         answer: &CreateAnswer,
     ) -> Result<Turn, Memory>
-        ensures { IfOk result (λ turn. turn ≡ turn_written (created.created_for key.0 self sent.items file_id.0
+        ensures { IfOk result (λ turn. turn ≡ turn_written (rules.created_for key.0 self sent.items file_id.0
             (answer_read answer.now) self.asking)) }
     {
         match self.handles.asking() {
@@ -258,7 +257,7 @@ impl Live {
 
     // An entry that asked for more goes on without.
     fn not_created(self, sent: Vec<Pending>, status: Status) -> Turn
-        ensures { result ≡ turn_written (created.not_created_for self sent.items status self.asking) }
+        ensures { result ≡ turn_written (rules.not_created_for self sent.items status self.asking) }
     {
         let mut live = self;
         match live.handles.asking() {

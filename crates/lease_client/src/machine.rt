@@ -6,7 +6,7 @@ ghost use Rattle.lease_client.specs.Known.{client_of, entry_at};
 ghost use Rattle.lease_model.specs.client.Taken.{has_sent};
 ghost use Rattle.lease_client.specs.Answers.{command_of};
 ghost use Rattle.lease_client.specs.Searches.{is_read_under};
-ghost use Rattle.lease_client.specs.Commanded.{commanded_turn, is_refused, last_after};
+ghost use Rattle.lease_model.specs.client.Commanded.{commanded_turn, is_refused, last_after};
 ghost use Rattle.lease_client.specs.Links.{keyed_turn};
 ghost use Rattle.lease_client.specs.Messages.{message_turn};
 ghost use Rattle.lease_client.specs.Turns.{given_in, turn_written};

@@ -2,7 +2,8 @@ ghost use Rattle.std.specs.Prelude.{◌≡◌, ◌+◌, ◌<◌, ◌^◌, true, 
 ghost use Rattle.lease_model.specs.client.Commanded.{joint_terms};
 ghost use Rattle.lease_model.specs.values.Sharing as sharing;
 ghost use Rattle.lease_client.specs.Answers.{refusal_of};
-ghost use Rattle.lease_client.specs.Commanded as rules;
+ghost use Rattle.lease_model.specs.client.Commanded as rules;
+ghost use Rattle.lease_model.specs.client.Step.{refused_turn};
 ghost use Rattle.lease_client.specs.Terms.{terms_of};
 ghost use Rattle.lease_client.specs.Turns.{turned_to, turn_written};
 
@@ -138,13 +139,13 @@ fn both_share(one: Share, other: Share) -> Share
 impl Live {
     /// A refused command leaves the entry as it is.
     pub fn refused(self, sent: Vec<Pending>, refusal: Refusal) -> Turn
-        ensures { result ≡ turn_written (rules.refused_turn (live_entry self sent.items) (refusal_of refusal)) }
+        ensures { result ≡ turn_written (refused_turn (live_entry self sent.items) (refusal_of refusal)) }
     {
         Turn::still(Entry::live(self, sent), Answer::Refused(refusal))
     }
 
     // While an entry asks for more, every Open is refused.
-    #[tactic(auto, unfolding(crate::specs::Commanded::live_open_turn))]
+    #[tactic(auto, unfolding(lease_model::specs::client::Commanded::live_open_turn))]
     fn open(
         self,
         sent: Vec<Pending>,
@@ -167,7 +168,7 @@ impl Live {
     }
 
     // One handle more on the open's own terms.
-    #[tactic(auto, unfolding(crate::specs::Commanded::handle_turn, lease_model::specs::values::Limits::count_limit))]
+    #[tactic(auto, unfolding(lease_model::specs::client::Commanded::handle_turn, lease_model::specs::values::Limits::count_limit))]
     fn with_handle(self, sent: Vec<Pending>) -> Turn
         requires { self.asking ≡ None }
         ensures { result ≡ turn_written (rules.handle_turn self sent.items) }
@@ -181,7 +182,7 @@ impl Live {
     }
 
     // An Open on other terms: a parked entry gives its open up.
-    #[tactic(auto, unfolding(crate::specs::Commanded::other_turn))]
+    #[tactic(auto, unfolding(lease_model::specs::client::Commanded::other_turn))]
     fn open_other(
         self,
         sent: Vec<Pending>,
@@ -202,7 +203,7 @@ impl Live {
     }
 
     // The unsent writes are sent, the old open is closed, and a create follows.
-    #[tactic(auto, using(crate::proofs::Written::written_more), unfolding(crate::specs::Commanded::anew_turn))]
+    #[tactic(auto, using(crate::proofs::Written::written_more), unfolding(lease_model::specs::client::Commanded::anew_turn))]
     fn open_anew(
         self,
         mut sent: Vec<Pending>,
@@ -248,7 +249,7 @@ impl Live {
     }
 
     // A second create under the entry's key; the entry goes on until it is answered.
-    #[tactic(auto, unfolding(crate::specs::Commanded::more_turn, lease_model::specs::values::Limits::count_limit))]
+    #[tactic(auto, unfolding(lease_model::specs::client::Commanded::more_turn, lease_model::specs::values::Limits::count_limit))]
     fn ask_for_more(
         self,
         sent: Vec<Pending>,

@@ -2,7 +2,7 @@ ghost use Rattle.std.specs.Prelude.{◌≡◌, ◌++◌, [], ◌∷◌, map, IfO
 ghost use Rattle.lease_state.specs.State.{state_of};
 ghost use Rattle.lease_model.specs.client.Step.{write_requests};
 ghost use Rattle.lease_model.specs.messages.ToBytes.{request_written};
-ghost use Rattle.lease_client.specs.Requests as rules;
+ghost use Rattle.lease_model.specs.client.Requests as rules;
 ghost use Rattle.lease_client.specs.Terms.{terms_of};
 
 use crate::entry::{Parted, Pending};

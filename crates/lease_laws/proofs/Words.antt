@@ -40,32 +40,40 @@ pub use Rattle.lease_state.specs.declared.number.FileNo.{FileNo}
 pub use Rattle.lease_state.specs.declared.patch.Patch.{Patch}
 pub use Rattle.lease_state.specs.declared.status.Status.{Status}
 pub use Rattle.lease_model.specs.client.Calls.{ClientCall, client_called}
-pub use Rattle.lease_model.specs.client.Commanded.{asked_by, cached_read, create_request, file_of, flush_on_live}
-pub use Rattle.lease_model.specs.client.Commanded.{has_unanswered, is_asking, joint_terms, next_write, on_closed, on_entry}
-pub use Rattle.lease_model.specs.client.Commanded.{on_live, one_handle_less, opened_anew, read_from, turn_of, unless_parked}
-pub use Rattle.lease_model.specs.client.Commanded.{write_buffered, write_sent, write_taken, wrote_step}
-unfoldable pub use Rattle.lease_model.specs.client.Commanded.{close_on_live, commanded, handle_added, last_handle_closed}
-unfoldable pub use Rattle.lease_model.specs.client.Commanded.{more_asked, open_on_live, open_other, read_on_live, read_sent}
-unfoldable pub use Rattle.lease_model.specs.client.Commanded.{write_on_live}
 pub use Rattle.lease_model.specs.client.Commands.{Answer, Command, Note, OpenTerms, Refusal, Settlement}
-pub use Rattle.lease_model.specs.client.Connection.{all_turned, connect_turn, connection_made, ended_turn, notice_turn}
-pub use Rattle.lease_model.specs.client.Connection.{noticed, offline_turn, parted_from, reconnect_request, silent_turn}
-unfoldable pub use Rattle.lease_model.specs.client.Connection.{live_noticed, live_parted}
 pub use Rattle.lease_model.specs.client.State.{Asked, Client, Entry, LiveEntry, Parted, Pending, Phase, belief, belief_in}
 pub use Rattle.lease_model.specs.client.State.{belief_of, closed_entry, knows_file, live_entry, patches_of, view}
-unfoldable pub use Rattle.lease_model.specs.client.State.{lease_key, new_client}
-pub use Rattle.lease_model.specs.client.Step.{Step, Turn, believes_noted, quiet_step, refused_step, settled_as, write_requests}
+pub use Rattle.lease_model.specs.client.Commanded.{asked_by, cached_turn, closing_turn, commanded_turn, file_of}
+pub use Rattle.lease_model.specs.client.Commanded.{first_open_turn, has_unanswered, heard_in, heard_turn, is_asking}
+pub use Rattle.lease_model.specs.client.Commanded.{is_refused, joint_terms, last_after, last_by, number_after}
+pub use Rattle.lease_model.specs.client.Commanded.{one_handle_less, open_in, open_turn, opening_entry, read_from_turn}
+pub use Rattle.lease_model.specs.client.Commanded.{refusal_in, step_by, turn_by, unheard_turn, unless_parked, write_of}
+pub use Rattle.lease_model.specs.client.Commanded.{written_turn, wrote_turn}
+unfoldable pub use Rattle.lease_model.specs.client.Commanded.{anew_turn, buffered_turn, close_turn, commanded, flush_turn}
+unfoldable pub use Rattle.lease_model.specs.client.Commanded.{handle_turn, last_close_turn, live_open_turn, live_read_turn}
+unfoldable pub use Rattle.lease_model.specs.client.Commanded.{more_turn, other_turn, read_sent_turn, taken_turn, through_turn}
+unfoldable pub use Rattle.lease_model.specs.client.Commanded.{write_turn}
+pub use Rattle.lease_model.specs.client.Connection.{all_turned, connected_in, connected_turn, connection_made, ended_turn}
+pub use Rattle.lease_model.specs.client.Connection.{notice_turn, noticed, offline_turn, parted_from, reconnecting_turn}
+pub use Rattle.lease_model.specs.client.Connection.{silent_turn}
+unfoldable pub use Rattle.lease_model.specs.client.Connection.{live_noticed, live_parted}
+pub use Rattle.lease_model.specs.client.Requests.{again_request, close_request, open_request}
+pub use Rattle.lease_model.specs.client.Step.{Step, Turn, believes_noted, quiet_step, quiet_turn, refused_step, refused_turn}
+pub use Rattle.lease_model.specs.client.Step.{settled_as, turn_of, write_requests}
 unfoldable pub use Rattle.lease_model.specs.client.Step.{turned}
-pub use Rattle.lease_model.specs.client.Taken.{acknowledgment, base_with, belief_lowered, break_on, closed_by_server}
-pub use Rattle.lease_model.specs.client.Taken.{create_failed_for, created_for, created_on, failed_on, failed_turn, file_where}
-pub use Rattle.lease_model.specs.client.Taken.{first_belief, flushed, given_state, gives_up, has_sent, is_file_closed}
-pub use Rattle.lease_model.specs.client.Taken.{is_key_of, is_numbered, on_file, one_read_less, opened_turn, parked_closed}
-pub use Rattle.lease_model.specs.client.Taken.{phase_with, promoted_belief, promoted_turn, read_failed_on, read_on, read_turn}
-pub use Rattle.lease_model.specs.client.Taken.{reads_under, reconnected_turn, still_open, unflushed, without_open}
-pub use Rattle.lease_model.specs.client.Taken.{write_done_turn, write_failed_in}
-unfoldable pub use Rattle.lease_model.specs.client.Taken.{break_turn, broken, create_answered, create_failed}
-unfoldable pub use Rattle.lease_model.specs.client.Taken.{create_failed_on_live, created_on_live, read_answered, read_failed}
-unfoldable pub use Rattle.lease_model.specs.client.Taken.{read_failed_turn, sent_without, taken, write_done, write_failed}
+pub use Rattle.lease_model.specs.client.Taken.{acknowledgment, base_with, belief_lowered, broken_in, broken_turn}
+pub use Rattle.lease_model.specs.client.Taken.{closed_by_server, created_for, created_in, created_turn, failed_turn}
+pub use Rattle.lease_model.specs.client.Taken.{file_where, first_belief, flushed, given_state, gives_up, has_sent}
+pub use Rattle.lease_model.specs.client.Taken.{is_file_closed, is_key_of, is_numbered, not_created_for, not_created_in}
+pub use Rattle.lease_model.specs.client.Taken.{not_created_turn, not_read_in, not_read_turn, not_written_turn, on_file}
+pub use Rattle.lease_model.specs.client.Taken.{one_read_less, opened_turn, parked_closed, phase_with, promoted_belief}
+pub use Rattle.lease_model.specs.client.Taken.{promoted_turn, read_done_turn, read_in, read_turn, reads_under}
+pub use Rattle.lease_model.specs.client.Taken.{reconnected_turn, still_open, unflushed, without_open, write_done_turn}
+pub use Rattle.lease_model.specs.client.Taken.{write_failed_in}
+unfoldable pub use Rattle.lease_model.specs.client.Taken.{break_turn, broken, create_answered, create_failed, read_answered}
+unfoldable pub use Rattle.lease_model.specs.client.Taken.{read_failed, read_failed_turn, sent_without, taken, write_done}
+unfoldable pub use Rattle.lease_model.specs.client.Taken.{write_failed}
+unfoldable pub use Rattle.lease_model.specs.client.State.{lease_key, new_client}
 pub use Rattle.lease_model.specs.messages.FromBytes.{answer_found, ask_found, reply_of, request_of}
 unfoldable pub use Rattle.lease_model.specs.messages.FromBytes.{acknowledged_in, notice_in}
 pub use Rattle.lease_model.specs.messages.Replies.{BreakNotice, CreateAnswer, LeaseGiven, Out, Reply}
@@ -167,6 +175,8 @@ pub use Rattle.lease_laws.specs.world.FileIds.{FileIdsAreCounted, OpensAreTold}
 unfoldable pub use Rattle.lease_laws.specs.world.FileIds.{opened_count, was_opened}
 pub use Rattle.lease_laws.specs.world.Links.{IsOnline, IsTied, LinksOfRuns, is_down, is_up}
 pub use Rattle.lease_laws.specs.world.Timers.{TimersAreTold}
+pub use Rattle.lease_laws.specs.client.Forms.{cached_read, connect_turn, create_request, flush_on_live, next_write, opened_anew}
+pub use Rattle.lease_laws.specs.client.Forms.{reconnect_request, write_buffered, write_sent, wrote_step}
 pub use Rattle.lease_wire.proofs.CanonicalLaws.{written_reads_back}
 pub use Rattle.lease_wire.proofs.Messages.{acknowledgment_layout, notification_layout}
 pub use Rattle.lease_wire.proofs.Pieces.{bytes_at-taken, number_at-taken}

@@ -1,6 +1,6 @@
 -- The laws of the entries of a client hold of a new one, and every call keeps them.
 use Rattle.lease_laws.proofs.Words.{◌++◌, ◌+◌, ◌≡◌, ◌≤◌, Asked, Bool, Client, ClientCall, IsSoundEntry, IsSoundLive, IsSoundPhase}
-use Rattle.lease_laws.proofs.Words.{List, LiveEntry, None, Option, Pending, Phase, Some, Step, Turn, ℕ, [], all_turned}
+use Rattle.lease_laws.proofs.Words.{List, LiveEntry, None, Option, Pending, Phase, Some, Step, Turn, ℕ, []}
 use Rattle.lease_laws.proofs.Words.{are_buffered, arith, client_called}
 use Rattle.lease_laws.proofs.Words.{connect_turn, false, first_belief, gives_up, if◌then◌else◌}
 use Rattle.lease_laws.proofs.Words.{is_asking, lease_key, meet, new_client, one_handle_less, one_read_less}

@@ -1,5 +1,5 @@
 -- Entries of files that a client doesn't know stay closed.
-use Rattle.lease_laws.proofs.Words.{◌≡◌, ◌≢◌, Client, ClientCall, Entry, List, Phase, Step, Turn, ℕ, all_turned, ap}
+use Rattle.lease_laws.proofs.Words.{◌≡◌, ◌≢◌, Client, ClientCall, Entry, List, Phase, Step, Turn, ℕ, ap}
 use Rattle.std.proofs.Common.{arith}
 use Rattle.lease_laws.proofs.Words.{client_called, connect_turn, false, is_key_of}
 use Rattle.lease_laws.proofs.Words.{knows_file, new_client, notice_turn, put, refl, true, turned}

@@ -1,7 +1,7 @@
 -- The unanswered writes of a client have their own numbers, and every call keeps it so.
 use Rattle.lease_laws.proofs.Words.{◌++◌, ◌+◌, ◌∙◌, ◌∷◌, ◌≡◌, Asked, Bool, Client, ClientCall, Entry, HaveOwnNumbers, List}
 use Rattle.std.proofs.Common.{arith}
-use Rattle.lease_laws.proofs.Words.{LiveEntry, Option, Pending, Phase, Turn, ℕ, [], all_turned, ap, append-nil}
+use Rattle.lease_laws.proofs.Words.{LiveEntry, Option, Pending, Phase, Turn, ℕ, [], ap, append-nil}
 use Rattle.lease_laws.proofs.Words.{append_assoc, client_called, connect_turn}
 use Rattle.lease_laws.proofs.Words.{false, first_belief, gives_up, if◌then◌else◌, lease_key, meet}
 use Rattle.lease_laws.proofs.Words.{new_client, next_write, notice_turn}

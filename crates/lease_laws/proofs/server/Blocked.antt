@@ -1,17 +1,17 @@
 -- Where a round has to wait, another key on the request's file is breaking.
-use Rattle.lease_laws.proofs.Words.{◌&&◌, ◌==◌, ◌∙◌, ◌≡◌, Access, Among, Bool, CreateAsk, Decides-eqb, FileRequest, Finding}
+use Rattle.lease_laws.proofs.Words.{◌&&◌, ◌==◌, ◌∙◌, ◌≡◌, Access, Among, Bool, Decides-eqb, FileRequest, Finding}
 use Rattle.std.proofs.Common.{arith}
-use Rattle.lease_laws.proofs.Words.{HasToWait, IsBlockedBy, IsOpenBlocked, IsSound, Key, Lease, LeaseOf, List, None, Open, Option}
-use Rattle.lease_laws.proofs.Words.{Patch, Progress, Server, Share, Some, State, Status, Want, ℕ, [], all_wants, ap}
-use Rattle.lease_laws.proofs.Words.{asked_finding, breaks_to_some, by_open, conflicts_on, connected_open, create_finding}
-use Rattle.lease_laws.proofs.Words.{false, filter, finding, handle_wants, has_file, has_key, has_lease, has_own_key, holds_any}
-use Rattle.lease_laws.proofs.Words.{if◌then◌else◌, is_breaking, is_empty, is_leased_elsewhere, is_other_on, is_within_limit}
-use Rattle.lease_laws.proofs.Words.{key_of_open, keys_of, lease_of, list_any, may_write, must_wait, not, nothing_cached}
-use Rattle.lease_laws.proofs.Words.{own_key, read_finding, reconnect_finding, refl, subst, sym, true, true≢false, waits_for}
-use Rattle.lease_laws.proofs.Words.{wants_met, wants_where, without_handle, without_write, write_finding, write_wants}
+use Rattle.lease_laws.proofs.Words.{HasToWait, IsBlockedBy, IsSound, Key, Lease, List, None, Open, Option}
+use Rattle.lease_laws.proofs.Words.{Progress, Server, Share, Some, State, Want, ℕ, all_wants, ap}
+use Rattle.lease_laws.proofs.Words.{breaks_to_some, conflicts_on}
+use Rattle.lease_laws.proofs.Words.{false, filter, finding, handle_wants, has_key, has_lease, has_own_key, holds_any}
+use Rattle.lease_laws.proofs.Words.{is_breaking, is_other_on}
+use Rattle.lease_laws.proofs.Words.{key_of_open, keys_of, lease_of, list_any, must_wait, not, nothing_cached}
+use Rattle.lease_laws.proofs.Words.{own_key, refl, sym, true, true≢false}
+use Rattle.lease_laws.proofs.Words.{wants_met, wants_where, without_handle, without_write, write_wants}
 use Rattle.lease_laws.proofs.server.Breaking.{some_breaks}
 use Rattle.lease_laws.proofs.server.Keys.{is_key-one}
-use Rattle.lease_laws.proofs.server.Lists.{if_cases, clash, and_parts, not_parts, not_true, any_has, among_map}
+use Rattle.lease_laws.proofs.server.Lists.{clash, and_parts, not_parts, not_true, any_has, among_map}
 use Rattle.lease_laws.proofs.server.Lists.{among_filter}
 use Rattle.lease_laws.proofs.server.Met.{wants_met-were, wants_met-found}
 use Rattle.lease_laws.proofs.server.Wants.{keys_of-has}

@@ -1,12 +1,12 @@
 -- To meet wants keeps a server's laws.
-use Rattle.lease_laws.proofs.Words.{◌&&◌, ◌∙◌, ◌∷◌, ◌≡◌, Among, Bool, IsLowered, IsSound, Key, Lease, List, None, Open, Progress}
+use Rattle.lease_laws.proofs.Words.{◌∙◌, ◌≡◌, Among, Bool, IsLowered, IsSound, Key, Lease, List, None, Open, Progress}
 use Rattle.std.proofs.Common.{arith}
-use Rattle.lease_laws.proofs.Words.{Server, Some, State, Want, [], ap, break_begun, false, filter, has_key, has_lease}
-use Rattle.lease_laws.proofs.Words.{if◌then◌else◌, inl, inr, is_breaking, is_left_open, is_state_within, lease_broken}
+use Rattle.lease_laws.proofs.Words.{Server, Some, State, Want, ap, break_begun, false, filter, has_key}
+use Rattle.lease_laws.proofs.Words.{inl, inr, is_breaking, is_left_open, is_state_within, lease_broken}
 use Rattle.lease_laws.proofs.Words.{lease_lowered, list_any, needs_acknowledgment, no_lease, not, opens_dropped, refl, subst, sym}
 use Rattle.lease_laws.proofs.Words.{true, true≢false, want_met, wants_met}
 use Rattle.lease_laws.proofs.server.Keys.{put_key-cases}
-use Rattle.lease_laws.proofs.server.Lists.{if_cases, clash, and_both, and_parts, not_parts, not_false, among_filter}
+use Rattle.lease_laws.proofs.server.Lists.{if_cases, clash, and_both, not_parts, not_false, among_filter}
 use Rattle.lease_laws.proofs.server.Lists.{any_has, has_any}
 use Rattle.lease_laws.proofs.server.Progress.{MayBreak, opens_dropped-sound, lease_lowered-sound, break_begun-sound}
 use Rattle.lease_laws.proofs.server.Wants.{Fits, AllFit}

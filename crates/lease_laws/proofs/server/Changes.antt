@@ -4,10 +4,10 @@ use Rattle.std.proofs.Common.{arith}
 use Rattle.lease_laws.proofs.Words.{CachesAlone, Call, ComesBehindBreaks, Decides-eqb, EachOut, FileRequest, GoOn, HasGivenUp}
 use Rattle.lease_laws.proofs.Words.{IsCaching, IsGivenUp, IsGuarded, IsOfCall, IsRaised, IsSound, Key, Lease, LeaseOf, List}
 use Rattle.lease_laws.proofs.Words.{MayEnd, None, Open, Option, Out, Outcome, Patch, Progress, Reply, Request, Server, SmallStep}
-use Rattle.lease_laws.proofs.Words.{Some, State, Status, StaysOrRises, WaitsWell, ℕ, ⊎_elim, ⊤, [], acknowledged, answered, ap}
-use Rattle.lease_laws.proofs.Words.{append-nil, append_assoc, break_notice, call_begun, called, changed, concluded}
+use Rattle.lease_laws.proofs.Words.{Some, State, Status, StaysOrRises, WaitsWell, ℕ, ⊎_elim, ⊤, [], acknowledged, ap}
+use Rattle.lease_laws.proofs.Words.{append-nil, append_assoc, break_notice, call_begun, called, concluded}
 use Rattle.lease_laws.proofs.Words.{connected_open, false, granted_form_of, has_lease, held_left, inl, inr, is_breaking}
-use Rattle.lease_laws.proofs.Words.{is_left_open, is_some, key_of, nothing_cached, on_open, refl}
+use Rattle.lease_laws.proofs.Words.{is_left_open, is_some, key_of, nothing_cached, refl}
 use Rattle.lease_laws.proofs.Words.{MayServe, refusal_of, refused, step_taken, steps_taken, subst, sym}
 use Rattle.lease_laws.proofs.server.Keys.{put_key-cases}
 use Rattle.lease_laws.proofs.server.Lists.{clash, and_parts, among_behind, find_has}

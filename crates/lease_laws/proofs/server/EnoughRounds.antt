@@ -3,7 +3,7 @@ use Rattle.lease_laws.proofs.Words.{◌&&◌, ◌∙◌, ◌∷◌, ◌≡◌, �
 use Rattle.lease_laws.proofs.Words.{Some, State, Want, ℕ, ⊎_elim, [], ap, arith, break_begun, breaks_to_none, breaks_to_some}
 use Rattle.lease_laws.proofs.Words.{false, filter, find, has_key, has_lease, if◌then◌else◌, inl, inr, is_breaking, is_key}
 use Rattle.lease_laws.proofs.Words.{is_left_open, key_added, key_before, key_eq, key_of, keys_of, lease_broken, lease_by}
-use Rattle.lease_laws.proofs.Words.{lease_lowered, lease_of, list_all, list_any, map, needs_acknowledgment, no_lease, not}
+use Rattle.lease_laws.proofs.Words.{lease_lowered, lease_of, list_all, list_any, map, no_lease, not}
 use Rattle.lease_laws.proofs.Words.{nothing_cached, open_key_added, opens_dropped, refl, subst, sym, true, want_met, wants_met}
 use Rattle.lease_laws.proofs.Words.{wants_where}
 use Rattle.lease_laws.proofs.server.Breaking.{to_nothing}

@@ -1,16 +1,16 @@
 -- A try ends by itself within three rounds.
 use Rattle.lease_laws.proofs.Words.{◌&&◌, ◌==◌, ◌∙◌, ◌≡◌, ◌≤◌, Access, Among, Bool, CreateAsk, EndsFor, FileRequest, Finding, Key}
-use Rattle.lease_laws.proofs.Words.{Lease, LeaseOf, List, None, Open, Option, Outcome, Patch, Progress, Server, Share, Some}
-use Rattle.lease_laws.proofs.Words.{State, Status, ThreeRoundsAreEnough, Tried, TriesEnd, Want, ℕ, [], after_breaks}
-use Rattle.lease_laws.proofs.Words.{after_finding, all_wants, ap, arith, breaks_to_some, by_open, conflicts_on}
-use Rattle.lease_laws.proofs.Words.{connected_open, create_finding, ended, false, finding, handle_wants, has_file, holds_any}
-use Rattle.lease_laws.proofs.Words.{if◌then◌else◌, is_breaking, is_empty, is_leased_elsewhere, is_other_on, is_ready}
+use Rattle.lease_laws.proofs.Words.{Lease, List, None, Open, Option, Outcome, Patch, Progress, Server, Share, Some}
+use Rattle.lease_laws.proofs.Words.{State, Status, ThreeRoundsAreEnough, TriesEnd, Want, ℕ, []}
+use Rattle.lease_laws.proofs.Words.{all_wants, ap, arith, breaks_to_some, conflicts_on}
+use Rattle.lease_laws.proofs.Words.{connected_open, ended, false, finding, handle_wants, holds_any}
+use Rattle.lease_laws.proofs.Words.{is_breaking, is_empty, is_leased_elsewhere, is_other_on, is_ready}
 use Rattle.lease_laws.proofs.Words.{is_within_limit, key_of_open, list_any, may_write, must_wait, nat_le}
-use Rattle.lease_laws.proofs.Words.{nothing_cached, own_key, read_finding, reconnect_finding, refl, subst, suc, sym, tried_for}
-use Rattle.lease_laws.proofs.Words.{true, waits_for, wants_met, without_handle, without_write, write_finding, write_wants, zero}
+use Rattle.lease_laws.proofs.Words.{nothing_cached, own_key, refl, subst, suc, sym, tried_for}
+use Rattle.lease_laws.proofs.Words.{true, wants_met, without_handle, without_write, write_wants, zero}
 use Rattle.lease_laws.proofs.server.EnoughRounds.{IsAfterBreaks, IsRoundDone, NoneIs, IsRoundBroken, AllBreakToNone, is_wanted}
 use Rattle.lease_laws.proofs.server.EnoughRounds.{nothing_wanted, round_done, round_broken}
-use Rattle.lease_laws.proofs.server.Lists.{if_cases, either, clash, and_parts, not_true, any_has, has_any}
+use Rattle.lease_laws.proofs.server.Lists.{either, clash, not_true, any_has, has_any}
 use Rattle.lease_laws.proofs.server.cases.Findings.{IsAtHome, any_finding, finds_all, finds_handles, finds_violation, finds_writes}
 use Rattle.lease_laws.proofs.server.cases.Tries.{any_rounds, round_ends, round_fails, round_goes_on, round_waits}
 

@@ -1,9 +1,9 @@
 -- What is known of the file of a request that is ready, and of the open that it is to have again.
-use Rattle.lease_laws.proofs.Words.{◌≡◌, Access, Among, CreateAsk, FileRequest, Finding, Key, LeaseOf}
+use Rattle.lease_laws.proofs.Words.{◌≡◌, Among, CreateAsk, FileRequest, Key}
 use Rattle.std.proofs.Common.{arith}
-use Rattle.lease_laws.proofs.Words.{List, None, Open, Option, Progress, Server, Share, Some, Status, Want, ℕ, [], asked_finding}
-use Rattle.lease_laws.proofs.Words.{awaits, finding, has_file, list_any, own_key, reconnect_finding, subst, sym, true}
-use Rattle.lease_laws.proofs.server.Lists.{if_cases, any_has}
+use Rattle.lease_laws.proofs.Words.{None, Open, Option, Progress, Server, Some, ℕ}
+use Rattle.lease_laws.proofs.Words.{awaits, has_file, own_key, subst, sym, true}
+use Rattle.lease_laws.proofs.server.Lists.{any_has}
 use Rattle.lease_laws.proofs.server.Tries.{IsFoundReady}
 use Rattle.lease_laws.proofs.server.cases.Findings.{any_needs}
 

@@ -1,6 +1,5 @@
 -- What is left once wants are met and none of their leases is breaking: no open passes the test any more.
 use Rattle.lease_laws.proofs.Words.{◌&&◌, ◌==◌, ◌∙◌, ◌∷◌, ◌≡◌, Among, Bool, Key, List, Open, Progress, Some, State, Want, ℕ, []}
-use Rattle.std.proofs.Common.{arith}
 use Rattle.lease_laws.proofs.Words.{ap, connected_open, filter, find, has_key, if◌then◌else◌}
 use Rattle.lease_laws.proofs.Words.{is_left_open, lease_broken, not, opens_dropped, refl}
 use Rattle.lease_laws.proofs.Words.{subst, true, want_met, wants_met}

@@ -5,10 +5,10 @@ use Rattle.std.proofs.Common.{arith}
 use Rattle.lease_laws.proofs.Words.{FileRequest, Finding, GoOn, IsAlone, IsBreak, IsNoBreak, IsSound, List, Ok, Open}
 use Rattle.lease_laws.proofs.Words.{Option, Out, Outcome, Patch, Progress, Request, Result, Server, Some, State, Status, Want, ℕ}
 use Rattle.lease_laws.proofs.Words.{[], after_first_try, all_wants, ap, append-nil, arrived_on, begun, breaks_to_none}
-use Rattle.lease_laws.proofs.Words.{by_open, connected_open, false, file_asked, file_request_arrived, finding, has_own_key}
-use Rattle.lease_laws.proofs.Words.{held_of, holds_any, inl, inr, is_behind, is_other_on, is_ready, is_within_limit, key_of_open}
-use Rattle.lease_laws.proofs.Words.{lease_of, leaves_nothing, may_write, not, nothing_cached, receive, refl, refused}
-use Rattle.lease_laws.proofs.Words.{request_held, subst, sym, tried, true, write_finding, ⊤}
+use Rattle.lease_laws.proofs.Words.{connected_open, false, file_asked, file_request_arrived, finding, has_own_key}
+use Rattle.lease_laws.proofs.Words.{held_of, holds_any, inl, inr, is_behind, is_other_on, key_of_open}
+use Rattle.lease_laws.proofs.Words.{lease_of, leaves_nothing, not, nothing_cached, receive, refl, refused}
+use Rattle.lease_laws.proofs.Words.{request_held, subst, sym, tried, true, ⊤}
 use Rattle.lease_laws.proofs.server.Keys.{lease_by-key}
 use Rattle.lease_laws.proofs.server.EnoughRounds.{AllBreakToNone}
 use Rattle.lease_laws.proofs.server.KeyOrder.{wants_where-has}

@@ -1,13 +1,12 @@
 -- What stands once a create is ready: its key is at home on the file, no open there conflicts with it,
 -- and no other key there holds W.
-use Rattle.lease_laws.proofs.Words.{◌&&◌, ◌==◌, ◌∙◌, ◌≡◌, Access, Among, CreateAsk, Decides-eqb, FileRequest, Finding, IsFree}
-use Rattle.std.proofs.Common.{arith}
-use Rattle.lease_laws.proofs.Words.{Key, Lease, LeaseOf, List, None, Open, Option, Progress, Server, Share, Some, Status, Want, ℕ}
-use Rattle.lease_laws.proofs.Words.{ap, asked_finding, conflict, conflicts_on, create_finding, false, finding, handle_wants}
-use Rattle.lease_laws.proofs.Words.{has_file, has_key, has_own_key, is_empty, is_leased_elsewhere, is_other_on, is_ready}
+use Rattle.lease_laws.proofs.Words.{◌&&◌, ◌==◌, ◌∙◌, ◌≡◌, Access, Among, CreateAsk, Decides-eqb, FileRequest, IsFree}
+use Rattle.lease_laws.proofs.Words.{Key, LeaseOf, None, Open, Option, Progress, Server, Share, Some, ℕ}
+use Rattle.lease_laws.proofs.Words.{ap, conflict, conflicts_on, false}
+use Rattle.lease_laws.proofs.Words.{has_key, has_own_key, is_empty, is_leased_elsewhere, is_other_on, is_ready}
 use Rattle.lease_laws.proofs.Words.{lease_of, list_any, not, own_key, subst, sym, true, true≢false, without_write, write_wants}
 use Rattle.lease_laws.proofs.server.Keys.{lease_by-key}
-use Rattle.lease_laws.proofs.server.Lists.{if_cases, clash, and_both, not_true, not_false, none_has}
+use Rattle.lease_laws.proofs.server.Lists.{clash, and_both, not_true, not_false, none_has}
 use Rattle.lease_laws.proofs.server.Tries.{IsFoundReady}
 use Rattle.lease_laws.proofs.server.Wants.{wants_where-none}
 use Rattle.lease_laws.proofs.server.cases.Findings.{IsAtHome, any_needs}

@@ -1,11 +1,10 @@
 -- A try waits only where the request has to.
-use Rattle.lease_laws.proofs.Words.{◌≡◌, FileRequest, Finding, HasToWait, IsSound, Outcome, Progress, Tried, ℕ, after_breaks}
-use Rattle.lease_laws.proofs.Words.{after_finding, ended, finding, is_ready, must_wait, refl, suc, tried, tried_for, wants_met}
-use Rattle.lease_laws.proofs.Words.{subst, zero}
+use Rattle.lease_laws.proofs.Words.{◌≡◌, FileRequest, HasToWait, IsSound, Outcome, Progress, Tried, ℕ}
+use Rattle.lease_laws.proofs.Words.{tried, tried_for}
+use Rattle.lease_laws.proofs.Words.{subst}
 use Rattle.lease_laws.proofs.server.Blocked.{round_waits}
 use Rattle.lease_laws.proofs.server.Breaks.{wants_met-sound}
 use Rattle.lease_laws.proofs.server.EnoughTries.{Ends, EndsAfter, tries_settle}
-use Rattle.lease_laws.proofs.server.Lists.{if_cases}
 use Rattle.lease_laws.proofs.server.Wants.{needs-fit}
 use Rattle.lease_laws.proofs.server.cases.Tries.{any_rounds}
 

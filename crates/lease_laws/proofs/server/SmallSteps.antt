@@ -1,22 +1,22 @@
 -- Tries and their ends go by guarded small steps.
-use Rattle.lease_laws.proofs.Words.{◌&&◌, ◌++◌, ◌+◌, ◌∙◌, ◌∷◌, ◌≡◌, Access, Among, AreGuarded, AreInKeyOrder, AreInTurn, AreOf}
-use Rattle.lease_laws.proofs.Words.{Bool, CachesAlone, Call, CreateAsk, EndsFor, FileRequest, Finding, GoesBySteps, HasOpen}
-use Rattle.lease_laws.proofs.Words.{IsAwaitedAt, IsGuarded, IsInTurn, IsLowered, IsOfCall, IsSound, Key, Lease, LeaseOf}
-use Rattle.lease_laws.proofs.Words.{List, MayChange, MayCreate, MayEnd, MayLower, MayRefuse, MayServe, None, Open, Option}
-use Rattle.lease_laws.proofs.Words.{Outcome, Patch, Progress, Server, Share, SmallStep, Some, State, Status, Tried, Want, ℕ, ⊤}
-use Rattle.lease_laws.proofs.Words.{[], after_breaks, after_finding, all_wants, ap, ap₂, arith, asked_finding, awaits}
-use Rattle.lease_laws.proofs.Words.{break_begun, by_open, conflicts_on, connected_open, create_finding, ended, false, finding}
-use Rattle.lease_laws.proofs.Words.{handle_wants, has_file, has_key, has_lease, if◌then◌else◌, inl, inr, is_breaking, is_empty}
-use Rattle.lease_laws.proofs.Words.{is_leased_elsewhere, is_left_open, is_ready, is_within_limit, key_before, key_eq}
-use Rattle.lease_laws.proofs.Words.{lease_broken, lease_lowered, list_any, may_read, may_write, must_wait, needs_acknowledgment}
-use Rattle.lease_laws.proofs.Words.{not, opens_dropped, own_count, own_key, read_finding, reconnect_finding, refl, step_taken}
-use Rattle.lease_laws.proofs.Words.{steps_taken, subst, suc, sym, tried, tried_for, true, want_met, wants_met}
-use Rattle.lease_laws.proofs.Words.{is_other_on, lease_of, put_key, true≢false, without, without_handle, write_finding}
-use Rattle.lease_laws.proofs.Words.{holds_any, key_of_open, nothing_cached, without_write, write_wants, zero}
+use Rattle.lease_laws.proofs.Words.{◌&&◌, ◌++◌, ◌+◌, ◌∙◌, ◌∷◌, ◌≡◌, Among, AreGuarded, AreInKeyOrder, AreInTurn, AreOf}
+use Rattle.lease_laws.proofs.Words.{Bool, Call, EndsFor, FileRequest, Finding, GoesBySteps}
+use Rattle.lease_laws.proofs.Words.{IsGuarded, IsInTurn, IsLowered, IsOfCall, IsSound, Key, Lease}
+use Rattle.lease_laws.proofs.Words.{List, MayCreate, MayEnd, MayLower, MayRefuse, MayServe, None, Open}
+use Rattle.lease_laws.proofs.Words.{Outcome, Progress, Server, SmallStep, Some, State, Status, Want, ℕ, ⊤}
+use Rattle.lease_laws.proofs.Words.{[], ap, ap₂, arith, awaits}
+use Rattle.lease_laws.proofs.Words.{conflicts_on, connected_open, false, finding}
+use Rattle.lease_laws.proofs.Words.{has_key, has_lease, inl, inr}
+use Rattle.lease_laws.proofs.Words.{is_left_open, is_ready, key_before, key_eq}
+use Rattle.lease_laws.proofs.Words.{lease_broken}
+use Rattle.lease_laws.proofs.Words.{not, opens_dropped, own_count, own_key, refl, step_taken}
+use Rattle.lease_laws.proofs.Words.{steps_taken, subst, sym, tried, tried_for, true, want_met, wants_met}
+use Rattle.lease_laws.proofs.Words.{is_other_on, lease_of, put_key, true≢false, without, without_handle}
+use Rattle.lease_laws.proofs.Words.{holds_any, key_of_open, nothing_cached, without_write}
 use Rattle.lease_laws.proofs.server.Breaks.{left_present, wants_met-sound}
 use Rattle.lease_laws.proofs.server.EnoughTries.{tries_end}
 use Rattle.lease_laws.proofs.server.Keys.{put_key-cases, key_eq-same, key_eq-refl}
-use Rattle.lease_laws.proofs.server.Lists.{if_cases, clash, and_parts, not_parts, not_true, any_has, has_any, among_filter}
+use Rattle.lease_laws.proofs.server.Lists.{clash, not_true, any_has, has_any, among_filter}
 use Rattle.lease_laws.proofs.server.OutAnswers.{all_wants-given}
 use Rattle.lease_laws.proofs.server.Ready.{enters_free}
 use Rattle.lease_laws.proofs.server.Steps.{left_here}

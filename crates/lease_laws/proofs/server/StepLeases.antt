@@ -2,7 +2,7 @@
 use Rattle.lease_laws.proofs.Words.{◌++◌, ◌==◌, ◌∙◌, ◌∷◌, ◌≡◌, ◌⊎◌, Access, Among, AreGuarded, BecomesBy, Bool}
 use Rattle.lease_laws.proofs.Words.{FileRequest, Held, IsBreakTold, IsEnded, IsFree, IsGuarded, IsRaised, IsSound}
 use Rattle.lease_laws.proofs.Words.{Key, Lease, LeaseOf, List, MayCreate, MayServe, None, Open, Option, Out, Outcome, Progress}
-use Rattle.lease_laws.proofs.Words.{Server, Share, SmallStep, Some, State, StaysOrRises, ℕ, ⊎_elim, [], acknowledged, allowed, ap}
+use Rattle.lease_laws.proofs.Words.{Server, Share, SmallStep, Some, State, StaysOrRises, ℕ, ⊎_elim, [], acknowledged, ap}
 use Rattle.lease_laws.proofs.Words.{append-nil, append_assoc, arith, break_ended, break_notice, concluded}
 use Rattle.lease_laws.proofs.Words.{false, granted_form_of, granted_with, has_key, has_lease, held_left, inl, inr}
 use Rattle.lease_laws.proofs.Words.{is_breaking, is_left_open, is_other_on, is_some, is_state_within, key_of, lease_after}

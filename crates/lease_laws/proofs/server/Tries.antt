@@ -1,9 +1,7 @@
 -- A try keeps a server's laws, and where it ends ready a look at the request finds nothing left to do.
-use Rattle.lease_laws.proofs.Words.{◌≡◌, FileRequest, Finding, IsSound, List, Outcome, Progress, Tried, Want, ℕ, after_breaks}
-use Rattle.lease_laws.proofs.Words.{after_finding, ended, finding, is_ready, must_wait, refl, suc, tried_for, true, wants_met}
-use Rattle.lease_laws.proofs.Words.{zero}
+use Rattle.lease_laws.proofs.Words.{◌≡◌, FileRequest, Finding, IsSound, List, Outcome, Progress, Tried, Want, ℕ}
+use Rattle.lease_laws.proofs.Words.{finding, is_ready, tried_for, true}
 use Rattle.lease_laws.proofs.server.Breaks.{wants_met-sound}
-use Rattle.lease_laws.proofs.server.Lists.{if_cases}
 use Rattle.lease_laws.proofs.server.Wants.{needs-fit}
 use Rattle.lease_laws.proofs.server.cases.Tries.{any_rounds}
 

@@ -1,14 +1,14 @@
 -- What a look at a request wants: each wanted lease can be so lowered.
-use Rattle.lease_laws.proofs.Words.{◌&&◌, ◌∙◌, ◌∷◌, ◌≡◌, ◌⊎◌, Access, Among, Bool, CreateAsk, FileRequest, Finding, IsLowered}
+use Rattle.lease_laws.proofs.Words.{◌&&◌, ◌∙◌, ◌∷◌, ◌≡◌, ◌⊎◌, Access, Among, Bool, FileRequest, Finding, IsLowered}
 use Rattle.std.proofs.Common.{arith}
-use Rattle.lease_laws.proofs.Words.{IsSound, Key, LeaseOf, List, None, Open, Option, Patch, Server, Share, Some, State}
-use Rattle.lease_laws.proofs.Words.{Want, ℕ, ⊎_elim, [], all_wants, ap, asked_finding, by_contexts, by_open, conflicts_on}
-use Rattle.lease_laws.proofs.Words.{connected_open, create_finding, false, filter, finding, granted_form_of, handle_wants}
-use Rattle.lease_laws.proofs.Words.{has_file, has_key, holds_any, if◌then◌else◌, inl, inr, is_empty, is_key, is_leased_elsewhere}
-use Rattle.lease_laws.proofs.Words.{is_other_on, is_within_limit, key_added, key_before, key_eq, key_of, key_of_open, keys_of}
-use Rattle.lease_laws.proofs.Words.{lease_of, list_any, map, may_write, no_lease, nothing_cached, open_key_added}
-use Rattle.lease_laws.proofs.Words.{own_key, read_finding, reconnect_finding, refl, subst, sym, true, true≢false, wants_where}
-use Rattle.lease_laws.proofs.Words.{without_handle, without_write, write_finding, write_wants}
+use Rattle.lease_laws.proofs.Words.{IsSound, Key, List, None, Open, Option, Server, Share, Some, State}
+use Rattle.lease_laws.proofs.Words.{Want, ℕ, ⊎_elim, [], all_wants, ap, conflicts_on}
+use Rattle.lease_laws.proofs.Words.{false, filter, finding, granted_form_of, handle_wants}
+use Rattle.lease_laws.proofs.Words.{has_key, holds_any, if◌then◌else◌, inl, inr, is_empty, is_key}
+use Rattle.lease_laws.proofs.Words.{is_other_on, key_added, key_before, key_eq, key_of, key_of_open, keys_of}
+use Rattle.lease_laws.proofs.Words.{lease_of, map, no_lease, nothing_cached, open_key_added}
+use Rattle.lease_laws.proofs.Words.{own_key, refl, subst, sym, true, true≢false, wants_where}
+use Rattle.lease_laws.proofs.Words.{without_handle, without_write, write_wants}
 use Rattle.lease_laws.proofs.server.Keys.{is_key-refl, lease_by-key}
 use Rattle.lease_laws.proofs.server.Lists.{if_cases, clash, and_parts, not_true, among_filter, among_filtered, among_map}
 use Rattle.lease_laws.proofs.server.States.{without_write-lowered, without_handle-lowered, nothing-lowered}

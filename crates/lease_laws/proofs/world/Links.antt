@@ -2,7 +2,7 @@
 use Rattle.lease_laws.proofs.Words.{◌++◌, ◌+◌, ◌==◌, ◌∙◌, ◌∷◌, ◌≡◌, ◌≢◌, Call, Client, EachOut, Event, Fact, IsOnline, IsSound}
 use Rattle.lease_laws.proofs.Words.{IsTied, IsToPresent, Link, LinksOfRuns, List, None, Note, Option, Out, Progress, Reply}
 use Rattle.lease_laws.proofs.Words.{Request, Server, Setup, Some, Step, WaitsWell, World, ℕ, ⊤, [], after, all_delivered}
-use Rattle.lease_laws.proofs.Words.{all_turned, ap, applied, arith, breaking, called, client_of, client_takes, commanded}
+use Rattle.lease_laws.proofs.Words.{ap, applied, arith, breaking, called, client_of, client_takes, commanded}
 use Rattle.lease_laws.proofs.Words.{connect_over, connection_made, cut, cut_over, delivered, eq-eqb, fact_of, false}
 use Rattle.lease_laws.proofs.Words.{first_world, happened, happens, has_client, has_file, if◌then◌else◌, is_down, is_served}
 use Rattle.lease_laws.proofs.Words.{is_start, is_up, join, kept, length, length-append, link_connected, link_cut, link_noticed}

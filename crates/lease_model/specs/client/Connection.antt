@@ -3,7 +3,8 @@
 use Rattle.std.specs.Prelude.{ℕ, Bool, true, false, Some, List, [], ◌∷◌, ◌++◌, filter, flat_map, if◌then◌else◌}
 use Rattle.lease_state.specs.State.{nothing_cached}
 use Rattle.lease_model.specs.client.State.{Client, Entry, LiveEntry, Parted, Pending, Phase, closed_entry, lease_key, belief_of}
-use Rattle.lease_model.specs.client.Step.{Step, Turn, settled_as, believes_noted}
+use Rattle.lease_model.specs.client.Step.{Step, Turn, turn_of, quiet_turn, settled_as, believes_noted}
+use Rattle.lease_model.specs.client.Requests.{again_request}
 use Rattle.lease_model.specs.client.Commands.{Answer, Note, Settlement}
 use Rattle.lease_model.specs.values.Lists.{without, numbers_to}
 use Rattle.lease_model.specs.messages.Requests.{FileRequest, Request}
@@ -70,24 +71,17 @@ notice_turn sent (Phase.Reconnecting parted) = offline_turn parted sent
 abbrev pub noticed : Client → Step
 noticed client = all_turned client false (λ file entry. notice_turn entry.sent entry.phase)
 
--- the create that reconnects: RqLs with the file's key and no state (profile), and DHnC of the FileId
-abbrev pub reconnect_request : Client → ℕ → Parted → Request
-reconnect_request client file parted =
-    Request.OnFile (FileRequest.Create file parted.access parted.share (Some (record {
-      lease = Some (record { key = lease_key client.guid file; state = nothing_cached });
-      durable = false;
-      reconnect = Some parted.file_id;
-    })))
+abbrev pub reconnecting_turn : List ℕ → ℕ → Parted → List Pending → Turn
+reconnecting_turn key file parted sent = turn_of (record { phase = Phase.Reconnecting parted; sent = sent })
+    Answer.Quiet (again_request key file parted ∷ [])
 
-abbrev pub connect_turn : Client → ℕ → List Pending → Phase → Turn
-connect_turn client file sent (Phase.Offline parted) = record {
-  entry = record { phase = Phase.Reconnecting parted; sent = sent };
-  answer = Answer.Quiet;
-  requests = reconnect_request client file parted ∷ [];
-  settled = [];
-}
-connect_turn client file sent phase = silent_turn (record { phase = phase; sent = sent }) []
+abbrev pub connected_in : List ℕ → ℕ → List Pending → Phase → Turn
+connected_in key file sent (Phase.Offline parted) = reconnecting_turn key file parted sent
+connected_in key file sent phase = quiet_turn (record { phase = phase; sent = sent })
+
+abbrev pub connected_turn : List ℕ → ℕ → Entry → Turn
+connected_turn key file entry = connected_in key file entry.sent entry.phase
 
 -- The client connects: each offline entry is reconnecting.
 abbrev pub connection_made : Client → Step
-connection_made client = all_turned client true (λ file entry. connect_turn client file entry.sent entry.phase)
+connection_made client = all_turned client true (λ file entry. connected_turn (lease_key client.guid file) file entry)

@@ -21,6 +21,17 @@ pub record Turn : Type 0 where
   pub requests : List Request
   pub settled : List Note
 
+abbrev pub turn_of : Entry → Answer → List Request → Turn
+turn_of entry answer requests =
+    record { entry = entry; answer = answer; requests = requests; settled = [] }
+
+abbrev pub refused_turn : Entry → Refusal → Turn
+refused_turn entry refusal = turn_of entry (Answer.Refused refusal) []
+
+-- a message that the entry passes over
+abbrev pub quiet_turn : Entry → Turn
+quiet_turn entry = turn_of entry Answer.Quiet []
+
 -- a change of belief is noted, and nothing else of it
 abbrev pub believes_noted : ℕ → State → State → List Note
 believes_noted file old new = if same_state old new then [] else Note.Believes file new ∷ []
@@ -33,6 +44,10 @@ turned client file turn = record {
   requests = turn.requests;
   notes = turn.settled ++ believes_noted file (belief_of (client.entries file)) (belief_of turn.entry);
 }
+
+-- a step after which this is the number of the last write
+abbrev pub with_number : ℕ → Step → Step
+with_number last step = record step { client = record step.client { last_number = last } }
 
 abbrev pub refused_step : Client → Refusal → Step
 refused_step client refusal =

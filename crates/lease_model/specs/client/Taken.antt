@@ -6,7 +6,7 @@ use Rattle.lease_state.specs.declared.access.Access.{Access}
 use Rattle.lease_state.specs.declared.access.Share.{Share}
 use Rattle.lease_state.specs.declared.status.Status.{Status}
 use Rattle.lease_model.specs.client.State.{Client, Entry, LiveEntry, Asked, Parted, Pending, Phase, closed_entry, live_entry, lease_key, view}
-use Rattle.lease_model.specs.client.Step.{Step, Turn, turned, quiet_step, write_requests, settled_as}
+use Rattle.lease_model.specs.client.Step.{Step, Turn, turned, quiet_step, quiet_turn, write_requests, settled_as}
 use Rattle.lease_model.specs.client.Commands.{Answer, Note, Settlement}
 use Rattle.lease_state.specs.Content.{patch as patched}
 use Rattle.lease_model.specs.values.LeaseStates.{meet}
@@ -74,10 +74,12 @@ break_turn live sent notice new =
     else belief_lowered live sent notice new
 
 -- a break of an entry that isn't live is ignored
-abbrev pub break_on : Client → ℕ → BreakNotice → List Pending → Phase → Step
-break_on client file notice sent (Phase.Live live) =
-    turned client file (break_turn live sent notice (meet live.belief notice.lowered))
-break_on client file notice sent phase = quiet_step client
+abbrev pub broken_in : BreakNotice → List Pending → Phase → Turn
+broken_in notice sent (Phase.Live live) = break_turn live sent notice (meet live.belief notice.lowered)
+broken_in notice sent phase = quiet_turn (record { phase = phase; sent = sent })
+
+abbrev pub broken_turn : BreakNotice → Entry → Turn
+broken_turn notice entry = broken_in notice entry.sent entry.phase
 
 abbrev pub is_key_of : Client → List ℕ → ℕ → Bool
 is_key_of client key file = bytes_eq (lease_key client.guid file) key
@@ -85,7 +87,7 @@ is_key_of client key file = bytes_eq (lease_key client.guid file) key
 unfoldable pub broken : Client → Option BreakNotice → Step
 broken client None = quiet_step client
 broken client (Some notice) = on_file client (file_where client (is_key_of client notice.key))
-    (λ file. break_on client file notice (client.entries file).sent (client.entries file).phase)
+    (λ file. turned client file (broken_turn notice (client.entries file)))
 
 -- ---- a create is answered (3.2.5.7)
 
@@ -171,34 +173,32 @@ promoted_turn live sent asked file_id durable belief = record {
 }
 
 -- a live entry that didn't ask for more passes a Created over
-abbrev pub created_for : Client → ℕ → LiveEntry → List Pending → ℕ → CreateAnswer → Option Asked → Step
-created_for client file live sent file_id answer None = quiet_step client
-created_for client file live sent file_id answer (Some asked) = turned client file
-    (promoted_turn live sent asked file_id answer.durable
-    (promoted_belief (lease_key client.guid file) live.belief answer.lease))
-
-unfoldable pub created_on_live : Client → ℕ → LiveEntry → List Pending → ℕ → CreateAnswer → Step
-created_on_live client file live sent file_id answer =
-    created_for client file live sent file_id answer live.asking
+abbrev pub created_for : List ℕ → LiveEntry → List Pending → ℕ → CreateAnswer → Option Asked → Turn
+created_for key live sent file_id answer None = quiet_turn (live_entry live sent)
+created_for key live sent file_id answer (Some asked) = promoted_turn live sent asked file_id answer.durable
+    (promoted_belief key live.belief answer.lease)
 
 -- the belief that a reply to a create gives to an entry that had none
 abbrev pub first_belief : Client → ℕ → CreateAnswer → State
 first_belief client file answer = given_state (lease_key client.guid file) answer.lease
 
-abbrev pub created_on : Client → ℕ → ℕ → CreateAnswer → List Pending → Phase → Step
-created_on client file file_id answer sent (Phase.Opening access share) = turned client file
-    (opened_turn file_id access share sent answer (first_belief client file answer))
-created_on client file file_id answer sent (Phase.Reconnecting parted) =
-    turned client file (reconnected_turn parted sent (first_belief client file answer))
-created_on client file file_id answer sent (Phase.Live live) =
-    created_on_live client file live sent file_id answer
-created_on client file file_id answer sent phase = quiet_step client
+abbrev pub created_in : List ℕ → ℕ → CreateAnswer → List Pending → Phase → Turn
+created_in key file_id answer sent (Phase.Opening access share) =
+    opened_turn file_id access share sent answer (given_state key answer.lease)
+created_in key file_id answer sent (Phase.Reconnecting parted) =
+    reconnected_turn parted sent (given_state key answer.lease)
+created_in key file_id answer sent (Phase.Live live) =
+    created_for key live sent file_id answer live.asking
+created_in key file_id answer sent phase = quiet_turn (record { phase = phase; sent = sent })
+
+abbrev pub created_turn : List ℕ → ℕ → CreateAnswer → Entry → Turn
+created_turn key file_id answer entry = created_in key file_id answer entry.sent entry.phase
 
 -- a reply that can't be read is ignored
 unfoldable pub create_answered : Client → ℕ → ℕ → Option CreateAnswer → Step
 create_answered client file file_id None = quiet_step client
-create_answered client file file_id (Some answer) = created_on client file file_id answer
-    (client.entries file).sent (client.entries file).phase
+create_answered client file file_id (Some answer) =
+    turned client file (created_turn (lease_key client.guid file) file_id answer (client.entries file))
 
 abbrev pub still_open : Entry → List Note → Status → Turn
 still_open entry settled status =
@@ -213,27 +213,22 @@ failed_turn status sent writes = record {
 }
 
 -- an entry that asked for more goes on without; any other live entry passes a failed create over
-abbrev pub create_failed_for : Client → ℕ → LiveEntry → List Pending → Status → Option Asked → Step
-create_failed_for client file live sent status None = quiet_step client
-create_failed_for client file live sent status (Some asked) = turned client file
-    (still_open (live_entry (record live { asking = None }) sent) [] status)
+abbrev pub not_created_for : LiveEntry → List Pending → Status → Option Asked → Turn
+not_created_for live sent status None = quiet_turn (live_entry live sent)
+not_created_for live sent status (Some asked) =
+    still_open (live_entry (record live { asking = None }) sent) [] status
 
-unfoldable pub create_failed_on_live : Client → ℕ → LiveEntry → List Pending → Status → Step
-create_failed_on_live client file live sent status =
-    create_failed_for client file live sent status live.asking
+abbrev pub not_created_in : Status → List Pending → Phase → Turn
+not_created_in status sent (Phase.Opening access share) = failed_turn status sent []
+not_created_in status sent (Phase.Reconnecting parted) = failed_turn status sent parted.writes
+not_created_in status sent (Phase.Live live) = not_created_for live sent status live.asking
+not_created_in status sent phase = quiet_turn (record { phase = phase; sent = sent })
 
-abbrev pub failed_on : Client → ℕ → Status → List Pending → Phase → Step
-failed_on client file status sent (Phase.Opening access share) =
-    turned client file (failed_turn status sent [])
-failed_on client file status sent (Phase.Reconnecting parted) =
-    turned client file (failed_turn status sent parted.writes)
-failed_on client file status sent (Phase.Live live) =
-    create_failed_on_live client file live sent status
-failed_on client file status sent phase = quiet_step client
+abbrev pub not_created_turn : Status → Entry → Turn
+not_created_turn status entry = not_created_in status entry.sent entry.phase
 
 unfoldable pub create_failed : Client → ℕ → Status → Step
-create_failed client file status =
-    failed_on client file status (client.entries file).sent (client.entries file).phase
+create_failed client file status = turned client file (not_created_turn status (client.entries file))
 
 -- ---- reads and writes are answered (3.2.5.11, 3.2.5.12)
 
@@ -261,16 +256,19 @@ read_turn live sent bytes = record {
   settled = [];
 }
 
-abbrev pub read_on : Client → ℕ → List ℕ → List Pending → Phase → Step
-read_on client file bytes sent (Phase.Live live) = turned client file (read_turn live sent bytes)
-read_on client file bytes sent phase = quiet_step client
+abbrev pub read_in : List ℕ → List Pending → Phase → Turn
+read_in bytes sent (Phase.Live live) = read_turn live sent bytes
+read_in bytes sent phase = quiet_turn (record { phase = phase; sent = sent })
+
+abbrev pub read_done_turn : List ℕ → Entry → Turn
+read_done_turn bytes entry = read_in bytes entry.sent entry.phase
 
 -- a Read of more bytes than a file may have is ignored
 unfoldable pub read_answered : Client → ℕ → List ℕ → Step
 read_answered client file_id bytes =
     if nat_le (length bytes) FILE_LIMIT
     then on_file client (file_where client (λ file. reads_under file_id (client.entries file).phase))
-    (λ file. read_on client file bytes (client.entries file).sent (client.entries file).phase)
+    (λ file. turned client file (read_done_turn bytes (client.entries file)))
     else quiet_step client
 
 abbrev pub is_file_closed : Status → Bool
@@ -297,15 +295,17 @@ read_failed_turn live sent status =
     then closed_by_server live sent [] status
     else still_open (live_entry (record live { reads = one_read_less live.reads }) sent) [] status
 
-abbrev pub read_failed_on : Client → ℕ → Status → List Pending → Phase → Step
-read_failed_on client file status sent (Phase.Live live) =
-    turned client file (read_failed_turn live sent status)
-read_failed_on client file status sent phase = quiet_step client
+abbrev pub not_read_in : Status → List Pending → Phase → Turn
+not_read_in status sent (Phase.Live live) = read_failed_turn live sent status
+not_read_in status sent phase = quiet_turn (record { phase = phase; sent = sent })
+
+abbrev pub not_read_turn : Status → Entry → Turn
+not_read_turn status entry = not_read_in status entry.sent entry.phase
 
 unfoldable pub read_failed : Client → ℕ → Status → Step
 read_failed client file_id status =
     on_file client (file_where client (λ file. reads_under file_id (client.entries file).phase))
-    (λ file. read_failed_on client file status (client.entries file).sent (client.entries file).phase)
+    (λ file. turned client file (not_read_turn status (client.entries file)))
 
 -- a sent, unanswered write of this number
 abbrev pub is_numbered : ℕ → Pending → Bool
@@ -353,10 +353,13 @@ write_failed_in file_id number status sent (Phase.Live live) =
 write_failed_in file_id number status sent phase =
     still_open (record { phase = phase; sent = sent }) (Note.Settled number Settlement.Failed ∷ []) status
 
+abbrev pub not_written_turn : ℕ → ℕ → Status → Entry → Turn
+not_written_turn file_id number status entry =
+    write_failed_in file_id number status (sent_without number entry.sent) entry.phase
+
 unfoldable pub write_failed : Client → ℕ → ℕ → Status → Step
 write_failed client file_id number status = on_file client (file_where client (has_sent client number))
-    (λ file. turned client file (write_failed_in file_id number status
-    (sent_without number (client.entries file).sent) (client.entries file).phase))
+    (λ file. turned client file (not_written_turn file_id number status (client.entries file)))
 
 -- A message of the server comes.
 unfoldable pub taken : Client → Reply → Step

@@ -1,9 +1,8 @@
 -- What the end of a request makes of a call under way: each of the forms, with what is known of it. Whatever holds of
 -- each form holds of every end.
 use Rattle.lease_laws.proofs.Words.{◌∙◌, ◌&&◌, ◌==◌, ◌≡◌, Access, Among, CreateAsk, FileRequest, None, Open, Option, Outcome, Patch}
-use Rattle.std.proofs.Common.{arith}
 use Rattle.lease_laws.proofs.Words.{Progress, Reply, Server, Share, Some, Status, ℕ, answered, changed, closed, concluded}
-use Rattle.lease_laws.proofs.Words.{connected_open, created, eqb-true, granted, granted_with, lease_after, on_open}
+use Rattle.lease_laws.proofs.Words.{connected_open, created, eqb-true, granted_with, lease_after}
 use Rattle.lease_laws.proofs.Words.{last_file_id, opens_dropped, read_done, reconnected, refl, refusal_of, replied, subst, true}
 use Rattle.lease_laws.proofs.Words.{false, sym, ⊤}
 use Rattle.lease_laws.proofs.server.Lists.{and_parts, either, find_has}

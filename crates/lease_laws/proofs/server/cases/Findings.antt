@@ -1,5 +1,5 @@
 -- What a look at a request finds: each of the findings, with why it is found. Whatever holds of each holds of every look.
-use Rattle.lease_laws.proofs.Words.{◌&&◌, ◌==◌, ◌≡◌, Access, CreateAsk, FileRequest, Finding, None, Open, Option, Patch, Server}
+use Rattle.lease_laws.proofs.Words.{◌≡◌, Access, CreateAsk, FileRequest, Finding, None, Open, Option, Patch, Server}
 use Rattle.lease_laws.proofs.Words.{Share, Some, Status, ℕ, [], all_wants, awaits, by_open, connected_open, conflicts_on, false}
 use Rattle.lease_laws.proofs.Words.{finding, handle_wants, has_file, is_empty, is_leased_elsewhere, is_within_limit}
 use Rattle.lease_laws.proofs.Words.{List, key_of_open, list_any, may_read, may_write, own_key, refl, subst, sym, true}

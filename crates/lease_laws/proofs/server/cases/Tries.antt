@@ -1,7 +1,7 @@
 -- What a try makes of a call under way: the wanted leases are broken, in rounds, until it ends. Whatever holds of each way
 -- that a break, the meeting of wants, or a round can go holds of every try.
 use Rattle.lease_laws.proofs.Words.{◌&&◌, ◌∷◌, ◌≡◌, FileRequest, Finding, Key, List, Outcome, Progress, Server, State, Tried}
-use Rattle.lease_laws.proofs.Words.{Want, ℕ, [], after_breaks, after_finding, ap, break_begun, ended, false, finding}
+use Rattle.lease_laws.proofs.Words.{Want, ℕ, [], after_finding, ap, break_begun, ended, false, finding}
 use Rattle.lease_laws.proofs.Words.{has_lease, is_breaking, is_left_open, is_ready, lease_broken, lease_lowered, must_wait}
 use Rattle.lease_laws.proofs.Words.{needs_acknowledgment, not, opens_dropped, refl, subst, suc, sym, tried_for, true}
 use Rattle.lease_laws.proofs.Words.{Status, if◌then◌else◌, want_met, wants_met, zero, ◌∙◌}

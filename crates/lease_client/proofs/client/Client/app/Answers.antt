@@ -1,7 +1,7 @@
 use Rattle.lease_laws.proofs.Words.{ClientCall}
 use Rattle.lease_client.specs.Answers.{command_of}
 use Rattle.lease_client.specs.Known.{client_of}
-use Rattle.lease_client.proofs.Replying.{none_rose}
+use Rattle.lease_client.proofs.Rising.{none_rose}
 use Rattle.lease_client.proofs.Rising.{commands_raise_none}
 use Rattle.lease_client.proofs.Sound.{sound_after}
 use Rattle.lease_client.proofs.client.Client.app.Goals as goal

@@ -1,5 +1,5 @@
 use Rattle.lease_client.specs.Known.{client_of}
-use Rattle.lease_client.proofs.Replying.{none_rose, links_raise_none}
+use Rattle.lease_client.proofs.Rising.{none_rose, links_raise_none}
 use Rattle.lease_client.proofs.Sound.{sound_linked}
 use Rattle.lease_client.proofs.client.Client.link.Goals as goal
 

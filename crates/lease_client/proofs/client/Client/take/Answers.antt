@@ -1,6 +1,6 @@
 use Rattle.lease_laws.proofs.Words.{ClientCall, reply_of}
 use Rattle.lease_client.specs.Known.{client_of}
-use Rattle.lease_client.proofs.Replying.{rose_by, replies_raise}
+use Rattle.lease_client.proofs.Rising.{rose_by, replies_raise}
 use Rattle.lease_client.proofs.Sound.{sound_after}
 use Rattle.lease_client.proofs.client.Client.take.Goals as goal
 

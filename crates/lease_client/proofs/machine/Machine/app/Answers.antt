@@ -1,7 +1,7 @@
 use Rattle.lease_laws.proofs.Words.{◌∙◌, ◌≡◌, Answer, Refusal, false, file_of, knows_file, sym}
 use Rattle.lease_client.specs.Answers.{command_of}
 use Rattle.lease_client.specs.Known.{client_of}
-use Rattle.lease_client.proofs.ByTurns.{commanded_nowhere}
+use Rattle.lease_laws.proofs.client.cases.Commands.{commanded_nowhere}
 use Rattle.lease_client.proofs.Turned.{nothing_after}
 use Rattle.lease_client.proofs.machine.Machine.app.Goals as goal
 

@@ -1,7 +1,8 @@
 use Rattle.lease_laws.proofs.Words.{◌≡◌, None, Some, notice_in, sym}
-use Rattle.lease_client.specs.Broken.{notice_read}
+use Rattle.lease_client.specs.Heard.{notice_read}
 use Rattle.lease_client.specs.Known.{client_of}
-use Rattle.lease_client.proofs.Replied.{breaks_by, breaks_none, no_notice, unread_break}
+use Rattle.lease_laws.proofs.client.cases.Replies.{breaks_by, breaks_none, unread_break}
+use Rattle.lease_client.proofs.Replied.{no_notice}
 use Rattle.lease_client.proofs.machine.Machine.broken.Goals as goal
 
 pub returns-in-Some : goal.returns-in-Some

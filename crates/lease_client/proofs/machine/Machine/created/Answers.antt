@@ -1,9 +1,10 @@
 use Rattle.lease_laws.proofs.Words.{◌∙◌, ◌≡◌, None, Some, answer_found, ap, sym}
 use Rattle.lease_wire.specs.Gathering.{value_of}
 use Rattle.lease_wire.specs.declared.create.Direction.{Direction}
-use Rattle.lease_client.specs.Created.{answer_read}
+use Rattle.lease_client.specs.Heard.{answer_read}
 use Rattle.lease_client.specs.Known.{client_of}
-use Rattle.lease_client.proofs.Replied.{created_by, created_nowhere, unread_create}
+use Rattle.lease_laws.proofs.client.cases.Replies.{created_by, unread_create}
+use Rattle.lease_client.proofs.Replied.{created_nowhere}
 use Rattle.lease_client.proofs.machine.Machine.created.Goals as goal
 
 pub returns-then-not-knows : goal.returns-then-not-knows

@@ -1,6 +1,7 @@
 use Rattle.lease_laws.proofs.Words.{◌∙◌, sym}
 use Rattle.lease_client.specs.Known.{client_of}
-use Rattle.lease_client.proofs.Replied.{not_created_by, not_created_nowhere}
+use Rattle.lease_laws.proofs.client.cases.Replies.{not_created_by}
+use Rattle.lease_client.proofs.Replied.{not_created_nowhere}
 use Rattle.lease_client.proofs.machine.Machine.not_created.Goals as goal
 
 pub returns-then-not-knows : goal.returns-then-not-knows

@@ -1,6 +1,6 @@
 use Rattle.lease_laws.proofs.Words.{sym}
 use Rattle.lease_client.specs.Known.{client_of}
-use Rattle.lease_client.proofs.Replied.{fails_by}
+use Rattle.lease_laws.proofs.client.cases.Replies.{fails_by}
 use Rattle.lease_client.proofs.machine.Machine.not_read.Goals as goal
 
 pub returns-in-Some : goal.returns-in-Some

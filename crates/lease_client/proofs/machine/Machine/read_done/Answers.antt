@@ -1,7 +1,7 @@
 use Rattle.lease_laws.proofs.Words.{◌≤◌, FILE_LIMIT, arith, length, sym}
 use Rattle.std.proofs.lemmas.Bool.{le-leb}
 use Rattle.lease_client.specs.Known.{client_of}
-use Rattle.lease_client.proofs.Replied.{reads_by}
+use Rattle.lease_laws.proofs.client.cases.Replies.{reads_by}
 use Rattle.lease_client.proofs.machine.Machine.read_done.Goals as goal
 
 pub returns-in-Some : goal.returns-in-Some
