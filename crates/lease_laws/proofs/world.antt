@@ -7,3 +7,4 @@ pub mod Links
 pub mod Runs
 pub mod Snapshots
 pub mod Timers
+pub mod cases

@@ -1,15 +1,15 @@
 -- In the record of a run every client is sound, and no write is settled before it is given.
-use Rattle.lease_laws.proofs.Words.{◌<◌, ◌==◌, ◌∙◌, ◌∷◌, ◌≡◌, ◌≢◌, ◌≤◌, Bool, Client, ClientCall, ClientsOfRunsAreSound}
-use Rattle.lease_laws.proofs.Words.{Event, Fact, IsSoundClient, Link, List, None, Note, Option, Out, Patch, Progress, Reply}
-use Rattle.lease_laws.proofs.Words.{Request, RunsGiveFirst, Settlement, Setup, Some, Step, TellNumbers, World, ℕ, []}
-use Rattle.lease_laws.proofs.Words.{after, all_delivered, applied, arith, breaking, client_called, client_of, client_takes}
-use Rattle.lease_laws.proofs.Words.{connect_over, connection_made, cut, cut_over, delivered, eq-eqb, eqb-true, expire, fact_of}
-use Rattle.lease_laws.proofs.Words.{false, first_world, gives_first, happened, happens, has_client, has_file, if◌then◌else◌}
-use Rattle.lease_laws.proofs.Words.{is_settled, is_start, join, kept, length, link_connected, link_cut, link_noticed, list_all}
-use Rattle.lease_laws.proofs.Words.{machine_key, new_client, noted, notice_over, put, receive, refl, requests_sent, reverse}
-use Rattle.lease_laws.proofs.Words.{scavenge, scavenged, served, server_takes, starts_from, stepped_in, strayed_over, subst, sym}
-use Rattle.lease_laws.proofs.Words.{timer_expired, true}
-use Rattle.lease_laws.proofs.client.Words.{if_either, put_each}
+use Rattle.lease_laws.proofs.Words.{◌<◌, ◌==◌, ◌∷◌, ◌≡◌, ◌≢◌, ◌≤◌, Bool, Client, ClientCall, ClientsOfRunsAreSound}
+use Rattle.lease_laws.proofs.Words.{Event, Fact, IsSoundClient, List, Note, Out, Patch, Progress}
+use Rattle.lease_laws.proofs.Words.{RunsGiveFirst, Settlement, Setup, Step, TellNumbers, World, ℕ, []}
+use Rattle.lease_laws.proofs.Words.{after, all_delivered, arith, client_called}
+use Rattle.lease_laws.proofs.Words.{delivered, eq-eqb, eqb-true, fact_of}
+use Rattle.lease_laws.proofs.Words.{false, first_world, gives_first, happened}
+use Rattle.lease_laws.proofs.Words.{is_settled, is_start, length, list_all}
+use Rattle.lease_laws.proofs.Words.{new_client, noted, put, refl, requests_sent, reverse}
+use Rattle.lease_laws.proofs.Words.{served, starts_from, stepped_in, subst, sym}
+use Rattle.lease_laws.proofs.Words.{true, called}
+use Rattle.lease_laws.proofs.client.Words.{put_each}
 use Rattle.lease_laws.proofs.records.Runs.{all_starts, all_reversed}
 use Rattle.lease_laws.proofs.client.Entries.{first_entries, called_entries}
 use Rattle.lease_laws.proofs.client.InFiles.{first_in_files, called_in_files}
@@ -17,6 +17,7 @@ use Rattle.lease_laws.proofs.client.Notes.{called_tells}
 use Rattle.lease_laws.proofs.client.Numbers.{first_numbers, called_numbers}
 use Rattle.lease_laws.proofs.client.Thin.{put_same, put_other}
 use Rattle.lease_laws.proofs.server.Lists.{either, clash}
+use Rattle.lease_laws.proofs.world.Kept.{IsKept, IsOfWorld, after-kept}
 
 -- a new client is sound
 new_sound : (guid : List ℕ) (files : ℕ) → IsSoundClient (new_client guid files)
@@ -37,9 +38,9 @@ called_sound client call sound = record {
 -- ---- the writes of one client in a record
 
 -- no write is settled before it is given, and those settled have numbers up to the last
-record IsNumbered (client : ℕ) (last : ℕ) (past : List Fact) : Type 0 where
-  gives : gives_first client past ≡ true
-  old : (number : ℕ) → is_settled client number past ≡ true → number ≤ last
+pub record IsNumbered (client : ℕ) (last : ℕ) (past : List Fact) : Type 0 where
+  pub gives : gives_first client past ≡ true
+  pub old : (number : ℕ) → is_settled client number past ≡ true → number ≤ last
 
 -- a fact that gives no write and settles none
 abbrev is_plain : Fact → Bool
@@ -119,12 +120,12 @@ other_notes world other client (Note.CachedRead file bytes ∷ notes) last ne n 
 -- ---- worlds
 
 -- every client is sound, and its writes are numbered so in the record
-record IsGiven (clients : ℕ → Client) (past : List Fact) : Type 0 where
-  sound : (client : ℕ) → IsSoundClient (clients client)
-  numbered : (client : ℕ) → IsNumbered client (clients client).last_number past
+pub record IsGiven (clients : ℕ → Client) (past : List Fact) : Type 0 where
+  pub sound : (client : ℕ) → IsSoundClient (clients client)
+  pub numbered : (client : ℕ) → IsNumbered client (clients client).last_number past
 
 -- the same of a world
-abbrev Given : World → Type 0
+abbrev pub Given : World → Type 0
 Given world = IsGiven world.clients world.past
 
 -- a plain fact happens
@@ -149,26 +150,10 @@ unfolding all_delivered
 all_delivered_given world [] g = g
 all_delivered_given world (out ∷ outs) g = all_delivered_given (delivered world out) outs (delivered_given world out g)
 
--- and changes no client
-delivered_clients : (world : World) (out : Out) → (delivered world out).clients ≡ world.clients
-unfolding delivered
-delivered_clients world x2 = grind arith
-
--- all that it gives out changes none
-all_delivered_clients : (world : World) (outs : List Out) → (all_delivered world outs).clients ≡ world.clients
-unfolding all_delivered
-all_delivered_clients world [] = refl
-all_delivered_clients world (out ∷ outs) = all_delivered_clients (delivered world out) outs ∙ delivered_clients world out
-
 -- a call of the server
 served_given : (world : World) (progress : Progress) → Given world → Given (served world progress)
 unfolding served
 served_given world progress g = all_delivered_given (record world { server = progress.server }) progress.outs g
-
--- nor does a call of the server
-served_clients : (world : World) (progress : Progress) → (served world progress).clients ≡ world.clients
-unfolding served
-served_clients world progress = all_delivered_clients (record world { server = progress.server }) progress.outs
 
 -- a step of a client
 stepped_given : (world : World) (client : ℕ) (step : Step) → Given world → IsSoundClient step.client
@@ -197,92 +182,18 @@ call_given : (world : World) (client : ℕ) (call : ClientCall) → Given world
 call_given world client call g = stepped_given world client (client_called (world.clients client) call) g
     (called_sound (world.clients client) call (g.sound client)) (called_tells (world.clients client) call (g.sound client))
 
--- the server takes a request
-server_takes_given : (world : World) (client : ℕ) (queue : List Request) → Given world → Given (server_takes world client queue)
-server_takes_given world client [] g = g
-server_takes_given world client (request ∷ queue) g =
-    served_given (record world { requests = put world.requests client queue }) (receive world.server client request) g
+-- ---- events
 
--- a client takes a reply
-client_takes_given : (world : World) (client : ℕ) (queue : List Reply) → Given world → Given (client_takes world client queue)
-client_takes_given world client [] g = g
-client_takes_given world client (reply ∷ queue) g =
-    call_given (happened (record world { replies = put world.replies client queue }) (Fact.Took client)) client
-    (ClientCall.Taken reply) (happened_given world.clients world.past (Fact.Took client) refl g)
+world_plain : (fact : Fact) → IsOfWorld fact → is_plain fact ≡ true
+world_plain x1 of = grind arith
 
--- a connection is lost
-cut_given : (world : World) (client : ℕ) (link : Link) → Given world → Given (cut_over world client link)
-unfolding link_cut
-cut_given world client Link.Up g = served_given _ (cut world.server client)
-    (happened_given world.clients world.past (Fact.Dropped client) refl g)
-cut_given world client link g = g
-
--- its client notices
-notice_given : (world : World) (client : ℕ) (link : Link) → Given world → Given (notice_over world client link)
-unfolding link_noticed
-notice_given world client Link.Cut g =
-    call_given (record world { links = put world.links client Link.Down }) client ClientCall.Noticed g
-notice_given world client link g = g
-
--- a client connects
-connect_given : (world : World) (client : ℕ) (link : Link) → Given world → Given (connect_over world client link)
-unfolding link_connected
-connect_given world client Link.Down g =
-    let up : World = happened (record world { links = put world.links client Link.Up }) (Fact.Joined client) in
-    let joined : World = served up (join world.server client) in
-    stepped_given joined client (connection_made (world.clients client))
-    (served_given up (join world.server client) (happened_given world.clients world.past (Fact.Joined client) refl g))
-    (called_sound (world.clients client) ClientCall.Connected (g.sound client))
-    (subst (λ (c : ℕ → Client). TellNumbers (c client).last_number (connection_made (world.clients client)).notes
-    (connection_made (world.clients client)).client.last_number) (sym (served_clients up (join world.server client)))
-    (called_tells (world.clients client) ClientCall.Connected (g.sound client)))
-connect_given world client link g = g
-
--- a timer runs out
-timer_given : (world : World) (client file : ℕ) → Given world → Given (timer_expired world client file)
-unfolding timer_expired
-timer_given world client file g = served_given _ (expire world.server (machine_key world client file))
-    (happened_given world.clients world.past (Fact.Expired client file) refl g)
-
--- an open is scavenged
-scavenged_given : (world : World) (found : Option ℕ) → Given world → Given (scavenged world found)
-scavenged_given world None g = g
-scavenged_given world (Some file_id) g = served_given world (scavenge world.server file_id) g
-
--- a client strays
-strayed_given : (world : World) (client : ℕ) (request : Request) (link : Link) → Given world
-    → Given (strayed_over world client request link)
-unfolding strayed_over requests_sent
-strayed_given world client request Link.Up g = happened_given world.clients world.past (Fact.Strayed client) refl g
-strayed_given world client request link g = g
-
--- any event of a client of the setup
-applied_given : (world : World) (event : Event) → Given world → Given (applied world event)
-unfolding applied
-applied_given world (Event.App client command) g = call_given world client (ClientCall.Commanded command) g
-applied_given world (Event.ServerTakes client) g = server_takes_given world client (world.requests client) g
-applied_given world (Event.ClientTakes client) g = client_takes_given world client (world.replies client) g
-applied_given world (Event.Cut client) g = cut_given world client (world.links client) g
-applied_given world (Event.Notice client) g = notice_given world client (world.links client) g
-applied_given world (Event.Connect client) g = connect_given world client (world.links client) g
-applied_given world (Event.Expire client file) g = if_either Given (has_file world.server file)
-    (if breaking world.server (machine_key world client file) then timer_expired world client file else world) world
-    (if_either Given (breaking world.server (machine_key world client file))
-    (timer_expired world client file) world (timer_given world client file g) g) g
-applied_given world (Event.Scavenge client file) g = scavenged_given world (kept world.server client file) g
-applied_given world (Event.Raw client request) g = strayed_given world client request (world.links client) g
-
--- any event
-happens_given : (world : World) (event : Event) → Given world → Given (happens world event)
-unfolding happens
-happens_given world event g = if_either Given (has_client world (client_of event)) (applied world event) world
-    (applied_given world event g) g
-
--- any events
-after_given : (world : World) (events : List Event) → Given world → Given (after world events)
-unfolding after
-after_given world [] g = g
-after_given world (event ∷ events) g = after_given (happens world event) events (happens_given world event g)
+pub given_kept : IsKept Given
+given_kept = record {
+  messages = λ world requests replies links g. g;
+  fact = λ world fact of g. happened_given world.clients world.past fact (world_plain fact of) g;
+  call = λ world call g. served_given world (called world.server call) g;
+  step = call_given;
+}
 
 -- ---- where a run begins
 
@@ -296,7 +207,7 @@ started_numbered client last (Fact.Start file bytes ∷ past) all =
 started_numbered client last (_ ∷ past) all = clash false all refl
 
 -- where a run begins, every client is new
-first_given : (setup : Setup) → Given (first_world setup)
+pub first_given : (setup : Setup) → Given (first_world setup)
 unfolding first_world
 first_given setup = record {
   sound = λ client. new_sound _ (length setup.files);
@@ -306,7 +217,7 @@ first_given setup = record {
 
 -- the world after any run
 run_given : (setup : Setup) (events : List Event) → Given (after (first_world setup) events)
-run_given setup events = after_given (first_world setup) events (first_given setup)
+run_given setup events = after-kept Given given_kept (first_world setup) events (first_given setup)
 
 -- so no write is settled before it is given
 pub runs_give_first : RunsGiveFirst

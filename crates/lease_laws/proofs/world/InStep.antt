@@ -1,24 +1,25 @@
 -- In every run the record has the contents of the server, and replies on their way are right for their places.
-use Rattle.lease_laws.proofs.Words.{◌+◌, ◌<◌, ◌==◌, ◌∙◌, ◌∷◌, ◌≡◌, ◌≤◌, Call, ContentsAreTold, Event, Fact, Link, List, None}
-use Rattle.lease_laws.proofs.Words.{Note, Option, RepliesAreOfTheirPlaces, Reply, Request, Server, Setup, Some, Step, World, ℕ}
-use Rattle.lease_laws.proofs.Words.{[], after, all_delivered, ap, applied, arith, breaking, called, client_of, client_takes}
-use Rattle.lease_laws.proofs.Words.{commanded, connect_over, connection_made, content_of, cut_over, eq-eqb, eqb-true, fact_of}
-use Rattle.lease_laws.proofs.Words.{files_limit, first_world, happened, happens, has_client, has_file, if◌then◌else◌}
-use Rattle.lease_laws.proofs.Words.{is_allowed_setup, is_up, join, kept, last_file_number, length, link_connected, link_cut}
-use Rattle.lease_laws.proofs.Words.{link_noticed, machine_key, nat_le, new_server, noted, notice_over, noticed, numbered, put}
-use Rattle.lease_laws.proofs.Words.{refl, requests_sent, reverse_aux, scavenged, sendings, served, server_takes, slice_get}
-use Rattle.lease_laws.proofs.Words.{starts_from, stepped_in, strayed_over, subst, suc, sym, take, taken, takings, timer_expired}
-use Rattle.lease_laws.proofs.Words.{true, true≢false, unwrap_or, zero}
+use Rattle.lease_laws.proofs.Words.{◌+◌, ◌<◌, ◌==◌, ◌∙◌, ◌∷◌, ◌≡◌, ◌≤◌, Call, ContentsAreTold, Event, Fact, Link, List}
+use Rattle.lease_laws.proofs.Words.{Note, RepliesAreOfTheirPlaces, Server, Setup, Step, World, ℕ}
+use Rattle.lease_laws.proofs.Words.{[], after, all_delivered, ap, arith, called}
+use Rattle.lease_laws.proofs.Words.{content_of, eq-eqb, eqb-true, fact_of}
+use Rattle.lease_laws.proofs.Words.{files_limit, first_world, happened, if◌then◌else◌}
+use Rattle.lease_laws.proofs.Words.{is_allowed_setup, is_up, last_file_number, length}
+use Rattle.lease_laws.proofs.Words.{machine_key, nat_le, new_server, noted, numbered, put}
+use Rattle.lease_laws.proofs.Words.{refl, requests_sent, reverse_aux, sendings, served, slice_get}
+use Rattle.lease_laws.proofs.Words.{starts_from, stepped_in, subst, suc, sym, take, takings}
+use Rattle.lease_laws.proofs.Words.{true, true≢false, unwrap_or, zero, ClientCall, client_called}
 use Rattle.lease_laws.proofs.server.Lists.{either, and_parts}
-use Rattle.lease_laws.proofs.client.Words.{if_either}
 use Rattle.lease_laws.proofs.client.Thin.{put_other}
 use Rattle.lease_laws.proofs.world.Contents.{HasContents, called-fits, called-contents}
 use Rattle.lease_laws.proofs.world.FileIds.{IsCountedWorld, counted_kept, first_counted, told, all_delivered_past}
-use Rattle.lease_laws.proofs.world.Kept.{served-server, happens-kept}
-use Rattle.lease_laws.proofs.world.Links.{IsLinked, first_linked, happens_linked}
+use Rattle.lease_laws.proofs.world.Kept.{served-server, kept_forms}
+use Rattle.lease_laws.proofs.world.Links.{IsLinked, first_linked, linked_forms}
 use Rattle.lease_laws.proofs.world.Runs.{stepped_server}
 use Rattle.lease_laws.proofs.world.Snapshots.{KeepsStep, all_in_step, stepped_in_step, took_in_step, joined_in_step, down_in_step}
 use Rattle.lease_laws.proofs.world.Snapshots.{carried_step}
+use Rattle.lease_laws.proofs.world.cases.Events.{Both, HasForms, IsTold, Keeps, KeepsWhere, both_forms, call_served, kept_by_run}
+use Rattle.lease_laws.proofs.world.cases.Events.{link_made, reply_off, two_forms}
 
 -- what holds of a world: by the record, of contents and of replies
 record IsTrue (world : World) : Type 0 where
@@ -34,12 +35,6 @@ IsPlain fact = Unit {0}
 plain_content : (file : ℕ) (past : List Fact) (fact : Fact) → IsPlain fact → content_of file (fact ∷ past) ≡ content_of file past
 unfolding content_of
 plain_content file past x3 plain = grind arith
-
--- facts of timers and strays
-abbrev IsTimer : Fact → Type 0
-IsTimer (Fact.Expired client file) = Unit {0}
-IsTimer (Fact.Strayed client) = Unit {0}
-IsTimer fact = ⊥
 
 note_plain : (client : ℕ) (note : Note) → IsPlain (fact_of client note)
 note_plain client x2 = grind arith
@@ -82,128 +77,92 @@ served_true world call n t =
 
 -- ---- events
 
-record IsReady (world : World) : Type 0 where
-  linked : IsLinked world
-  counted : IsCountedWorld world
-  telling : IsTrue world
+-- the links are tied, and FileIds counted
+abbrev IsReady : World → Type 0
+IsReady world = Both IsLinked IsCountedWorld world
 
-server_takes_true : (world : World) (client : ℕ) (queue : List Request) → IsReady world → IsTrue (server_takes world client queue)
-server_takes_true world client [] r = r.telling
-server_takes_true world client (request ∷ queue) r =
-    let popped : World = record world { requests = put world.requests client queue } in
-    served_true popped (Call.Receive client request)
-    (counted_kept.messages world (put world.requests client queue) world.replies world.links r.counted) (record {
-      contents = (r.telling).contents;
-      in_step = λ c. carried_step world popped c refl refl refl refl ((r.telling).in_step c);
-    })
+-- facts that change no queue
+abbrev IsOfNoQueue : Fact → Type 0
+IsOfNoQueue (Fact.Joined client) = ⊥
+IsOfNoQueue (Fact.Sent client) = ⊥
+IsOfNoQueue (Fact.Took client) = ⊥
+IsOfNoQueue fact = Unit {0}
 
-client_takes_true : (world : World) (client : ℕ) (queue : List Reply) → world.replies client ≡ queue → IsReady world
-    → IsTrue (client_takes world client queue)
-client_takes_true world client [] e r = r.telling
-client_takes_true world client (reply ∷ queue) e r =
-    stepped_true (happened (record world { replies = put world.replies client queue }) (Fact.Took client)) client
-    (taken (world.clients client) reply) (record {
-      contents = λ file. (r.telling).contents file ∙ sym (plain_content file world.past (Fact.Took client) tt);
-      in_step = took_in_step world client reply queue e (r.telling).in_step;
-    })
-
-cut_true : (world : World) (client : ℕ) (link : Link) → IsReady world → IsTrue (cut_over world client link)
-unfolding link_cut sendings takings
-cut_true world client Link.Up r =
-    let lost : World = record world {
-      links = put world.links client Link.Cut;
-      requests = put world.requests client [];
-      replies = put world.replies client [];
-    } in
-    served_true (happened lost (Fact.Dropped client)) (Call.Cut client) (counted_kept.fact lost (Fact.Dropped client) tt
-    (counted_kept.messages world (put world.requests client []) (put world.replies client [])
-    (put world.links client Link.Cut) r.counted)) (record {
-      contents = λ file. (r.telling).contents file ∙ sym (plain_content file world.past (Fact.Dropped client) tt);
-      in_step = λ c. carried_step lost (happened lost (Fact.Dropped client)) c refl refl refl refl
-          (down_in_step world client Link.Cut (put world.requests client []) (put world.replies client []) refl
-          (λ d ne. put_other world.replies client [] d ne) (r.telling).in_step c);
-    })
-cut_true world client link r = r.telling
-
-notice_true : (world : World) (client : ℕ) (link : Link) → IsReady world → IsTrue (notice_over world client link)
-unfolding link_noticed
-notice_true world client Link.Cut r = stepped_true (record world { links = put world.links client Link.Down }) client
-    (noticed (world.clients client)) (record {
-      contents = (r.telling).contents;
-      in_step = down_in_step world client Link.Down world.requests world.replies refl (λ d ne. refl) (r.telling).in_step;
-    })
-notice_true world client link r = r.telling
-
-connect_true : (world : World) (client : ℕ) (link : Link) → world.links client ≡ link → IsReady world
-    → IsTrue (connect_over world client link)
-unfolding link_connected
-connect_true world client Link.Down e r =
-    let up : World = record world { links = put world.links client Link.Up } in
-    let back : World = happened up (Fact.Joined client) in
-    stepped_true (served back (join world.server client)) client (connection_made (world.clients client))
-    (served_true back (Call.Join client) (counted_kept.fact up (Fact.Joined client) tt
-    (counted_kept.messages world world.requests world.replies (put world.links client Link.Up) r.counted)) (record {
-      contents = λ file. (r.telling).contents file ∙ sym (plain_content file world.past (Fact.Joined client) tt);
-      in_step = joined_in_step world client (((r.linked).tied client).replies (ap is_up e)) (r.telling).in_step;
-    }))
-connect_true world client link e r = r.telling
-
--- a fact that changes no queue
-fact_in_step : (world : World) (fact : Fact) → IsTimer fact → (c : ℕ) → KeepsStep world c → KeepsStep (happened world fact) c
+fact_in_step : (world : World) (fact : Fact) → IsOfNoQueue fact → (c : ℕ) → KeepsStep world c → KeepsStep (happened world fact) c
 unfolding sendings takings
 fact_in_step world x2 of c k = grind arith
 
-timer_true : (world : World) (client file : ℕ) → IsReady world → IsTrue (timer_expired world client file)
-unfolding timer_expired
-timer_true world client file r =
-    served_true (happened world (Fact.Expired client file)) (Call.Expire (machine_key world client file))
-    (counted_kept.fact world (Fact.Expired client file) tt r.counted) (record {
-      contents = λ f. (r.telling).contents f ∙ sym (plain_content f world.past (Fact.Expired client file) tt);
-      in_step = λ c. fact_in_step world (Fact.Expired client file) tt c ((r.telling).in_step c);
-    })
+told_plain : (client : ℕ) (fact : Fact) → IsTold client fact → IsPlain fact × IsOfNoQueue fact
+told_plain client x2 is = grind arith
 
-scavenged_true : (world : World) (found : Option ℕ) → IsReady world → IsTrue (scavenged world found)
-scavenged_true world None r = r.telling
-scavenged_true world (Some file_id) r = served_true world (Call.Scavenge file_id) r.counted r.telling
-
-strayed_true : (world : World) (client : ℕ) (request : Request) (link : Link) → IsReady world
-    → IsTrue (strayed_over world client request link)
-unfolding strayed_over requests_sent
-strayed_true world client request Link.Up r = record {
-  contents = λ f. (r.telling).contents f ∙ sym (plain_content f world.past (Fact.Strayed client) tt);
-  in_step = λ c. carried_step (happened world (Fact.Strayed client)) _ c refl refl refl refl
-      (fact_in_step world (Fact.Strayed client) tt c ((r.telling).in_step c));
+fact_true : (world : World) (fact : Fact) → IsPlain fact → IsOfNoQueue fact → IsTrue world → IsTrue (happened world fact)
+fact_true world fact plain none t = record {
+  contents = λ file. t.contents file ∙ sym (plain_content file world.past fact plain);
+  in_step = λ c. fact_in_step world fact none c (t.in_step c);
 }
-strayed_true world client request link r = r.telling
 
-applied_true : (world : World) (event : Event) → IsReady world → IsTrue (applied world event)
-unfolding applied
-applied_true world (Event.App client command) r = stepped_true world client (commanded (world.clients client) command) r.telling
-applied_true world (Event.ServerTakes client) r = server_takes_true world client (world.requests client) r
-applied_true world (Event.ClientTakes client) r = client_takes_true world client (world.replies client) refl r
-applied_true world (Event.Cut client) r = cut_true world client (world.links client) r
-applied_true world (Event.Notice client) r = notice_true world client (world.links client) r
-applied_true world (Event.Connect client) r = connect_true world client (world.links client) refl r
-applied_true world (Event.Expire client file) r = if_either IsTrue (has_file world.server file)
-    (if breaking world.server (machine_key world client file) then timer_expired world client file else world) world
-    (if_either IsTrue (breaking world.server (machine_key world client file)) (timer_expired world client file)
-    world (timer_true world client file r) r.telling) r.telling
-applied_true world (Event.Scavenge client file) r = scavenged_true world (kept world.server client file) r
-applied_true world (Event.Raw client request) r = strayed_true world client request (world.links client) r
+true_forms : HasForms (KeepsWhere IsReady IsTrue)
+unfolding sendings takings requests_sent
+true_forms = record {
+  told = λ world client fact some is r n t.
+      let plain = told_plain client fact is in fact_true world fact plain.0 plain.1 t;
+  command = λ world client command some r n t.
+      stepped_true world client (client_called (world.clients client) (ClientCall.Commanded command)) t;
+  request = λ world client request queue some first r n t.
+      let popped : World = record world { requests = put world.requests client queue } in
+      served_true popped (Call.Receive client request)
+      (counted_kept.messages world (put world.requests client queue) world.replies world.links r.1) (record {
+        contents = t.contents;
+        in_step = λ c. carried_step world popped c refl refl refl refl (t.in_step c);
+      });
+  reply = λ world client reply queue some first r n t. stepped_true (reply_off world client queue) client
+      (client_called (world.clients client) (ClientCall.Taken reply)) (record {
+        contents = λ file. t.contents file ∙ sym (plain_content file world.past (Fact.Took client) tt);
+        in_step = took_in_step world client reply queue first t.in_step;
+      });
+  cut = λ world client some up r n t.
+      let lost : World = record world {
+        links = put world.links client Link.Cut;
+        requests = put world.requests client [];
+        replies = put world.replies client [];
+      } in
+      served_true (happened lost (Fact.Dropped client)) (Call.Cut client) (counted_kept.fact lost (Fact.Dropped client) tt
+      (counted_kept.messages world (put world.requests client []) (put world.replies client [])
+      (put world.links client Link.Cut) r.1)) (record {
+        contents = λ file. t.contents file ∙ sym (plain_content file world.past (Fact.Dropped client) tt);
+        in_step = λ c. carried_step lost (happened lost (Fact.Dropped client)) c refl refl refl refl
+            (down_in_step world client Link.Cut (put world.requests client []) (put world.replies client []) refl
+            (λ d ne. put_other world.replies client [] d ne) t.in_step c);
+      });
+  notice = λ world client some cut r n t. stepped_true (record world { links = put world.links client Link.Down }) client
+      (client_called (world.clients client) ClientCall.Noticed) (record {
+        contents = t.contents;
+        in_step = down_in_step world client Link.Down world.requests world.replies refl (λ d ne. refl) t.in_step;
+      });
+  connect = λ world client some down r n t.
+      let up : World = record world { links = put world.links client Link.Up } in
+      stepped_true (call_served (link_made world client) (Call.Join client)) client
+      (client_called (world.clients client) ClientCall.Connected)
+      (served_true (link_made world client) (Call.Join client) (counted_kept.fact up (Fact.Joined client) tt
+      (counted_kept.messages world world.requests world.replies (put world.links client Link.Up) r.1)) (record {
+        contents = λ file. t.contents file ∙ sym (plain_content file world.past (Fact.Joined client) tt);
+        in_step = joined_in_step world client (((r.0).tied client).replies (ap is_up down)) t.in_step;
+      }));
+  timer = λ world client file some on breaks r n t.
+      served_true (happened world (Fact.Expired client file)) (Call.Expire (machine_key world client file))
+      (counted_kept.fact world (Fact.Expired client file) tt r.1) (fact_true world (Fact.Expired client file) tt tt t);
+  scavenge = λ world file_id r n t. served_true world (Call.Scavenge file_id) r.1 t;
+  stray = λ world client request some up has r n t. record {
+    contents = t.contents;
+    in_step = λ c. carried_step world _ c refl refl refl refl (t.in_step c);
+  };
+}
 
-happens_true : (world : World) (event : Event) → IsReady world → IsTrue (happens world event)
-unfolding happens
-happens_true world event r = if_either IsTrue (has_client world (client_of event)) (applied world event) world
-    (applied_true world event r) r.telling
+ready_forms : HasForms (Keeps IsReady)
+ready_forms = two_forms IsLinked IsCountedWorld linked_forms (kept_forms IsCountedWorld counted_kept)
 
-after_ready : (world : World) (events : List Event) → IsReady world → IsReady (after world events)
-unfolding after
-after_ready world [] r = r
-after_ready world (event ∷ events) r = after_ready (happens world event) events (record {
-  linked = happens_linked world event r.linked;
-  counted = happens-kept IsCountedWorld counted_kept world event r.counted;
-  telling = happens_true world event r;
-})
+telling_forms : HasForms (Keeps (Both IsReady IsTrue))
+telling_forms = both_forms IsReady IsTrue ready_forms true_forms
 
 -- ---- where runs begin
 
@@ -266,19 +225,18 @@ first_idle : (setup : Setup) (c : ℕ) → KeepsStep (first_world setup) c
 unfolding first_world
 first_idle setup c up = absurd (true≢false (sym up))
 
-first_ready : (setup : Setup) → is_allowed_setup setup ≡ true → IsReady (first_world setup)
-first_ready setup allowed = record {
-  linked = first_linked setup;
-  counted = first_counted setup;
-  telling = record { contents = first_contents setup allowed; in_step = first_idle setup };
-}
+first_telling : (setup : Setup) → is_allowed_setup setup ≡ true → Both IsReady IsTrue (first_world setup)
+first_telling setup allowed = (
+  (first_linked setup, first_counted setup),
+  record { contents = first_contents setup allowed; in_step = first_idle setup },
+)
 
-run_ready : (setup : Setup) (events : List Event) → is_allowed_setup setup ≡ true → IsReady (after (first_world setup) events)
-run_ready setup events allowed = after_ready (first_world setup) events (first_ready setup allowed)
+run_telling : (setup : Setup) (events : List Event) → is_allowed_setup setup ≡ true → IsTrue (after (first_world setup) events)
+run_telling setup events allowed =
+    (kept_by_run (Both IsReady IsTrue) telling_forms (first_world setup) events (first_telling setup allowed)).1
 
 pub contents_are_told : ContentsAreTold
-contents_are_told setup events allowed file = ((run_ready setup events allowed).telling).contents file
+contents_are_told setup events allowed file = (run_telling setup events allowed).contents file
 
 pub replies_are_of_their_places : RepliesAreOfTheirPlaces
-replies_are_of_their_places setup events allowed client up =
-    (((run_ready setup events allowed).telling).in_step client up).in_step
+replies_are_of_their_places setup events allowed client up = ((run_telling setup events allowed).in_step client up).in_step

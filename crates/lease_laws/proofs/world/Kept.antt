@@ -1,22 +1,28 @@
 -- What holds of a world in every run: where it holds of the first one, and calls, steps and facts keep it. For
 -- what speaks of the server, the clients and the record, and not of queues and links.
-use Rattle.lease_laws.proofs.Words.{◌∙◌, ◌∷◌, ◌≡◌, Call, Client, ClientCall, Event, Fact, Link, List, None, Option, Out, Progress}
+use Rattle.lease_laws.proofs.Words.{◌∙◌, ◌∷◌, ◌≡◌, Call, Client, ClientCall, Event, Fact, Link, List, Out, Progress}
 use Rattle.std.proofs.Common.{arith}
-use Rattle.lease_laws.proofs.Words.{Reply, Request, Some, World, ℕ, [], after, all_delivered, applied, breaking, called}
-use Rattle.lease_laws.proofs.Words.{client_called, client_of, client_takes, connect_over, connection_made, cut_over, delivered}
-use Rattle.lease_laws.proofs.Words.{happened, happens, has_client, has_file, if◌then◌else◌, join, kept, link_connected, link_cut}
-use Rattle.lease_laws.proofs.Words.{link_noticed, machine_key, notice_over, put, refl, requests_sent, scavenged, served}
-use Rattle.lease_laws.proofs.Words.{server_takes, stepped_in, strayed_over, subst, timer_expired}
-use Rattle.lease_laws.proofs.client.Words.{if_either}
+use Rattle.lease_laws.proofs.Words.{Reply, Request, World, ℕ, [], after, all_delivered, called}
+use Rattle.lease_laws.proofs.Words.{client_called, delivered}
+use Rattle.lease_laws.proofs.Words.{happened, happens}
+use Rattle.lease_laws.proofs.Words.{machine_key, put, refl, requests_sent, served}
+use Rattle.lease_laws.proofs.Words.{stepped_in, subst}
+use Rattle.lease_laws.proofs.world.cases.Events.{HasForms, IsTold, Keeps, call_served, kept_by_event, kept_by_run}
 
--- facts of connections, timers, messages taken and strays
+-- facts that neither start a file, nor are given out by the server or noted by a client
 abbrev pub IsOfWorld : Fact → Type 0
-IsOfWorld (Fact.Joined client) = Unit {0}
-IsOfWorld (Fact.Dropped client) = Unit {0}
-IsOfWorld (Fact.Expired client file) = Unit {0}
-IsOfWorld (Fact.Took client) = Unit {0}
-IsOfWorld (Fact.Strayed client) = Unit {0}
-IsOfWorld _ = ⊥
+IsOfWorld (Fact.Start file bytes) = ⊥
+IsOfWorld (Fact.Sent client) = ⊥
+IsOfWorld (Fact.Opened file client) = ⊥
+IsOfWorld (Fact.Changed file client number patch) = ⊥
+IsOfWorld (Fact.Wrote client file number patch buffered) = ⊥
+IsOfWorld (Fact.Settled client number outcome) = ⊥
+IsOfWorld (Fact.Believes client file state) = ⊥
+IsOfWorld (Fact.CachedRead client file bytes) = ⊥
+IsOfWorld _ = Unit {0}
+
+pub told_of_world : (client : ℕ) (fact : Fact) → IsTold client fact → IsOfWorld fact
+told_of_world client x2 is = grind arith
 
 -- what keeps such a statement
 pub record IsKept (P : World → Type 0) : Type 0 where
@@ -55,100 +61,48 @@ pub served-server : (world : World) (progress : Progress) → (served world prog
 unfolding served
 served-server world progress = all_delivered_server (record world { server = progress.server }) progress.outs
 
--- the server takes a request
-server_takes-kept : (P : World → Type 0) → IsKept P → (world : World) (client : ℕ) (queue : List Request) → P world
-    → P (server_takes world client queue)
-server_takes-kept P k world client [] p = p
-server_takes-kept P k world client (request ∷ queue) p =
-    k.call (record world { requests = put world.requests client queue }) (Call.Receive client request)
-    (k.messages world (put world.requests client queue) world.replies world.links p)
+-- ---- events
 
--- a client takes a reply
-client_takes-kept : (P : World → Type 0) → IsKept P → (world : World) (client : ℕ) (queue : List Reply) → P world
-    → P (client_takes world client queue)
-client_takes-kept P k world client [] p = p
-client_takes-kept P k world client (reply ∷ queue) p =
-    let popped : World = record world { replies = put world.replies client queue } in
-    k.step (happened popped (Fact.Took client)) client (ClientCall.Taken reply) (k.fact popped (Fact.Took client) tt
-    (k.messages world world.requests (put world.replies client queue) world.links p))
-
--- a connection is lost
-cut-kept : (P : World → Type 0) → IsKept P → (world : World) (client : ℕ) (link : Link) → P world → P (cut_over world client link)
-unfolding link_cut
-cut-kept P k world client Link.Up p =
-    let lost : World = record world {
-      links = put world.links client Link.Cut;
-      requests = put world.requests client [];
-      replies = put world.replies client [];
-    } in
-    k.call (happened lost (Fact.Dropped client)) (Call.Cut client) (k.fact lost (Fact.Dropped client) tt
-    (k.messages world (put world.requests client []) (put world.replies client []) (put world.links client Link.Cut) p))
-cut-kept P k world client link p = p
-
--- its client notices
-notice-kept : (P : World → Type 0) → IsKept P → (world : World) (client : ℕ) (link : Link) → P world
-    → P (notice_over world client link)
-unfolding link_noticed
-notice-kept P k world client Link.Cut p = k.step (record world { links = put world.links client Link.Down }) client
-    ClientCall.Noticed (k.messages world world.requests world.replies (put world.links client Link.Down) p)
-notice-kept P k world client link p = p
-
--- a client connects
-connect-kept : (P : World → Type 0) → IsKept P → (world : World) (client : ℕ) (link : Link) → P world
-    → P (connect_over world client link)
-unfolding link_connected
-connect-kept P k world client Link.Down p =
-    let up : World = record world { links = put world.links client Link.Up } in
-    let joined : World = served (happened up (Fact.Joined client)) (join world.server client) in
-    subst (λ (c : ℕ → Client). P (stepped_in joined client (connection_made (c client))))
-    (served-clients (happened up (Fact.Joined client)) (join world.server client)) (k.step joined client ClientCall.Connected
-    (k.call (happened up (Fact.Joined client)) (Call.Join client) (k.fact up (Fact.Joined client) tt
-    (k.messages world world.requests world.replies (put world.links client Link.Up) p))))
-connect-kept P k world client link p = p
-
--- a timer runs out
-timer-kept : (P : World → Type 0) → IsKept P → (world : World) (client file : ℕ) → P world → P (timer_expired world client file)
-unfolding timer_expired
-timer-kept P k world client file p = k.call (happened world (Fact.Expired client file))
-    (Call.Expire (machine_key world client file)) (k.fact world (Fact.Expired client file) tt p)
-
--- an open is scavenged
-scavenged-kept : (P : World → Type 0) → IsKept P → (world : World) (found : Option ℕ) → P world → P (scavenged world found)
-scavenged-kept P k world None p = p
-scavenged-kept P k world (Some file_id) p = k.call world (Call.Scavenge file_id) p
-
--- a client strays
-strayed-kept : (P : World → Type 0) → IsKept P → (world : World) (client : ℕ) (request : Request) (link : Link)
-    → P world → P (strayed_over world client request link)
-unfolding strayed_over requests_sent
-strayed-kept P k world client request Link.Up p = k.messages (happened world (Fact.Strayed client)) _ world.replies world.links
-    (k.fact world (Fact.Strayed client) tt p)
-strayed-kept P k world client request link p = p
-
--- any event of a client of the setup
-applied-kept : (P : World → Type 0) → IsKept P → (world : World) (event : Event) → P world → P (applied world event)
-unfolding applied
-applied-kept P k world (Event.App client command) p = k.step world client (ClientCall.Commanded command) p
-applied-kept P k world (Event.ServerTakes client) p = server_takes-kept P k world client (world.requests client) p
-applied-kept P k world (Event.ClientTakes client) p = client_takes-kept P k world client (world.replies client) p
-applied-kept P k world (Event.Cut client) p = cut-kept P k world client (world.links client) p
-applied-kept P k world (Event.Notice client) p = notice-kept P k world client (world.links client) p
-applied-kept P k world (Event.Connect client) p = connect-kept P k world client (world.links client) p
-applied-kept P k world (Event.Expire client file) p = if_either P (has_file world.server file)
-    (if breaking world.server (machine_key world client file) then timer_expired world client file else world) world
-    (if_either P (breaking world.server (machine_key world client file)) (timer_expired world client file) world
-    (timer-kept P k world client file p) p) p
-applied-kept P k world (Event.Scavenge client file) p = scavenged-kept P k world (kept world.server client file) p
-applied-kept P k world (Event.Raw client request) p = strayed-kept P k world client request (world.links client) p
+pub kept_forms : (P : World → Type 0) → IsKept P → HasForms (Keeps P)
+unfolding requests_sent
+kept_forms P k = record {
+  told = λ world client fact some is p. k.fact world fact (told_of_world client fact is) p;
+  command = λ world client command some p. k.step world client (ClientCall.Commanded command) p;
+  request = λ world client request queue some first p.
+      k.call (record world { requests = put world.requests client queue }) (Call.Receive client request)
+      (k.messages world (put world.requests client queue) world.replies world.links p);
+  reply = λ world client reply queue some first p.
+      let popped : World = record world { replies = put world.replies client queue } in
+      k.step (happened popped (Fact.Took client)) client (ClientCall.Taken reply) (k.fact popped (Fact.Took client) tt
+      (k.messages world world.requests (put world.replies client queue) world.links p));
+  cut = λ world client some up p.
+      let lost : World = record world {
+        links = put world.links client Link.Cut;
+        requests = put world.requests client [];
+        replies = put world.replies client [];
+      } in
+      k.call (happened lost (Fact.Dropped client)) (Call.Cut client) (k.fact lost (Fact.Dropped client) tt
+      (k.messages world (put world.requests client []) (put world.replies client []) (put world.links client Link.Cut) p));
+  notice = λ world client some cut p. k.step (record world { links = put world.links client Link.Down }) client
+      ClientCall.Noticed (k.messages world world.requests world.replies (put world.links client Link.Down) p);
+  connect = λ world client some down p.
+      let up : World = record world { links = put world.links client Link.Up } in
+      let joined : World = call_served (happened up (Fact.Joined client)) (Call.Join client) in
+      subst (λ (c : ℕ → Client). P (stepped_in joined client (client_called (c client) ClientCall.Connected)))
+      (served-clients (happened up (Fact.Joined client)) (called world.server (Call.Join client)))
+      (k.step joined client ClientCall.Connected
+      (k.call (happened up (Fact.Joined client)) (Call.Join client) (k.fact up (Fact.Joined client) tt
+      (k.messages world world.requests world.replies (put world.links client Link.Up) p))));
+  timer = λ world client file some on breaks p. k.call (happened world (Fact.Expired client file))
+      (Call.Expire (machine_key world client file)) (k.fact world (Fact.Expired client file) tt p);
+  scavenge = λ world file_id p. k.call world (Call.Scavenge file_id) p;
+  stray = λ world client request some up has p. k.messages world _ world.replies world.links p;
+}
 
 -- any event
 pub happens-kept : (P : World → Type 0) → IsKept P → (world : World) (event : Event) → P world → P (happens world event)
-unfolding happens
-happens-kept P k world event p = if_either P (has_client world (client_of event)) (applied world event) world
-    (applied-kept P k world event p) p
+happens-kept P k world event p = kept_by_event P (kept_forms P k) world event p
 
 -- any events
 pub after-kept : (P : World → Type 0) → IsKept P → (world : World) (events : List Event) → P world → P (after world events)
-unfolding after
-after-kept P k world [] p = p
-after-kept P k world (event ∷ events) p = after-kept P k (happens world event) events (happens-kept P k world event p)
+after-kept P k world events p = kept_by_run P (kept_forms P k) world events p

@@ -1,17 +1,16 @@
 -- Links, queues and connections in every run, and what the record says of them.
-use Rattle.lease_laws.proofs.Words.{◌++◌, ◌+◌, ◌==◌, ◌∙◌, ◌∷◌, ◌≡◌, ◌≢◌, Call, Client, EachOut, Event, Fact, IsOnline, IsSound}
-use Rattle.lease_laws.proofs.Words.{IsTied, IsToPresent, Link, LinksOfRuns, List, None, Note, Option, Out, Progress, Reply}
-use Rattle.lease_laws.proofs.Words.{Request, Server, Setup, Some, Step, WaitsWell, World, ℕ, ⊤, [], after, all_delivered}
-use Rattle.lease_laws.proofs.Words.{ap, applied, arith, breaking, called, client_of, client_takes, commanded}
-use Rattle.lease_laws.proofs.Words.{connect_over, connection_made, cut, cut_over, delivered, eq-eqb, fact_of, false}
-use Rattle.lease_laws.proofs.Words.{first_world, happened, happens, has_client, has_file, if◌then◌else◌, is_down, is_served}
-use Rattle.lease_laws.proofs.Words.{is_start, is_up, join, kept, length, length-append, link_connected, link_cut, link_noticed}
-use Rattle.lease_laws.proofs.Words.{list_all, machine_key, new_client, new_server, not, noted, notice_over, noticed, put, refl}
-use Rattle.lease_laws.proofs.Words.{requests_sent, reverse, scavenged, sendings, sent_over, served, server_takes, starts_from}
-use Rattle.lease_laws.proofs.Words.{stepped_in, strayed_over, subst, sym, taken, takings, timer_expired, true, true≢false}
+use Rattle.lease_laws.proofs.Words.{◌++◌, ◌+◌, ◌==◌, ◌∙◌, ◌∷◌, ◌≡◌, ◌≢◌, Call, Client, EachOut, Fact, IsOnline, IsSound}
+use Rattle.lease_laws.proofs.Words.{IsTied, IsToPresent, Link, LinksOfRuns, List, Note, Out, Progress, Reply}
+use Rattle.lease_laws.proofs.Words.{Request, Server, Setup, Step, WaitsWell, World, ℕ, ⊤, [], all_delivered}
+use Rattle.lease_laws.proofs.Words.{ap, arith, called}
+use Rattle.lease_laws.proofs.Words.{connection_made, cut, delivered, eq-eqb, fact_of, false}
+use Rattle.lease_laws.proofs.Words.{first_world, happened, is_down, is_served}
+use Rattle.lease_laws.proofs.Words.{is_start, is_up, join, length, length-append}
+use Rattle.lease_laws.proofs.Words.{list_all, machine_key, new_client, new_server, not, noted, noticed, put, refl}
+use Rattle.lease_laws.proofs.Words.{requests_sent, reverse, sendings, sent_over, served, starts_from}
+use Rattle.lease_laws.proofs.Words.{stepped_in, subst, sym, takings, true, true≢false, ClientCall, client_called}
 use Rattle.lease_laws.proofs.client.Forms.{commanded-stays, taken-stays}
 use Rattle.lease_laws.proofs.client.Thin.{put_same, put_other}
-use Rattle.lease_laws.proofs.client.Words.{if_either}
 use Rattle.lease_laws.proofs.records.Runs.{all_starts, all_reversed}
 use Rattle.lease_laws.proofs.server.Calls.{new_server-sound, called-sound}
 use Rattle.lease_laws.proofs.server.Lists.{clash}
@@ -20,6 +19,7 @@ use Rattle.lease_laws.proofs.server.StepOuts.{replies-find}
 use Rattle.lease_laws.proofs.server.WaitCalls.{first-waits-well, called-waits-well}
 use Rattle.lease_laws.proofs.world.Kept.{served-server, served-clients}
 use Rattle.lease_laws.proofs.world.Runs.{stepped_server, stepped_clients}
+use Rattle.lease_laws.proofs.world.cases.Events.{HasForms, IsTold, Keeps, call_served, kept_by_run, link_lost, link_made}
 
 -- ---- one client, and the others
 
@@ -298,17 +298,6 @@ taken_tied world client request queue e tied c =
     (λ ne apart. carried world (record world { requests = put world.requests client queue }) c refl refl
     (put_other world.requests client queue c ne) refl refl refl refl (tied c))
 
-server_takes_linked : (world : World) (client : ℕ) (queue : List Request) → world.requests client ≡ queue
-    → IsLinked world → IsLinked (server_takes world client queue)
-server_takes_linked world client [] e l = l
-server_takes_linked world client (request ∷ queue) e l =
-    plain_linked (record world { requests = put world.requests client queue }) (Call.Receive client request) tt (record {
-      sound = l.sound;
-      waits = l.waits;
-      tied = taken_tied world client request queue e l.tied;
-      online = l.online;
-    })
-
 -- a client takes a reply
 abbrev reply_taken : World → ℕ → List Reply → World
 reply_taken world client queue = happened (record world { replies = put world.replies client queue }) (Fact.Took client)
@@ -328,117 +317,87 @@ took_tied world client reply queue e tied c = by_client (IsTied (reply_taken wor
     (λ ne apart. carried world (reply_taken world client queue) c refl refl refl
     (put_other world.replies client queue c ne) refl refl (rw (apart) refl) (tied c))
 
-client_takes_linked : (world : World) (client : ℕ) (queue : List Reply) → world.replies client ≡ queue
-    → IsLinked world → IsLinked (client_takes world client queue)
-client_takes_linked world client [] e l = l
-client_takes_linked world client (reply ∷ queue) e l = stepped_linked (reply_taken world client queue) client
-    (taken (world.clients client) reply) l.sound l.waits (took_tied world client reply queue e l.tied)
-    ((taken-stays (world.clients client) reply).online ∙ l.online client) (λ c ne. l.online c)
-
--- a connection is lost
-cut_linked : (world : World) (client : ℕ) (link : Link) → world.links client ≡ link → IsLinked world
-    → IsLinked (cut_over world client link)
-unfolding link_cut
-cut_linked world client Link.Up e l =
-    let lost : World = happened (record world {
-      links = put world.links client Link.Cut;
-      requests = put world.requests client [];
-      replies = put world.replies client [];
-    }) (Fact.Dropped client) in
-    called_linked lost (Call.Cut client) l.sound l.waits
-    (served_tied lost (Call.Cut client) l.sound l.waits (cut_tied world client l.sound l.waits (ap is_up e) l.tied))
-    (λ c. by_client (IsOnline lost) client c (l.online client ∙ ap (λ k. not (is_down k)) e
-    ∙ ap (λ k. not (is_down k)) (sym (put_same world.links client Link.Cut)))
-    (λ ne apart. l.online c ∙ ap (λ k. not (is_down k)) (sym (put_other world.links client Link.Cut c ne))))
-cut_linked world client link e l = l
-
--- its client notices
-notice_linked : (world : World) (client : ℕ) (link : Link) → world.links client ≡ link → IsLinked world
-    → IsLinked (notice_over world client link)
-unfolding link_noticed
-notice_linked world client Link.Cut e l = stepped_linked (record world { links = put world.links client Link.Down }) client
-    (noticed (world.clients client)) l.sound l.waits (relinked world client Link.Down (ap is_up e) refl l.tied)
-    (sym (ap (λ k. not (is_down k)) (put_same world.links client Link.Down)))
-    (λ c ne. l.online c ∙ ap (λ k. not (is_down k)) (sym (put_other world.links client Link.Down c ne)))
-notice_linked world client link e l = l
-
 -- a client connects
-connect_linked : (world : World) (client : ℕ) (link : Link) → world.links client ≡ link → IsLinked world
-    → IsLinked (connect_over world client link)
-unfolding link_connected
-connect_linked world client Link.Down e l =
-    let back : World = happened (record world { links = put world.links client Link.Up }) (Fact.Joined client) in
+connected_linked : (world : World) (client : ℕ) → is_up (world.links client) ≡ false → IsLinked world
+    → IsLinked (stepped_in (call_served (link_made world client) (Call.Join client)) client
+    (client_called (world.clients client) ClientCall.Connected))
+unfolding connection_made
+connected_linked world client down l =
+    let back : World = link_made world client in
     let progress = join world.server client in
     stepped_linked (served back progress) client (connection_made (world.clients client))
     (subst IsSound (sym (served-server back progress)) (called-sound world.server (Call.Join client) l.sound))
     (subst WaitsWell (sym (served-server back progress)) (called-waits-well world.server (Call.Join client) l.sound l.waits))
-    (served_tied back (Call.Join client) l.sound l.waits (join_tied world client l.sound l.waits (ap is_up e) l.tied))
+    (served_tied back (Call.Join client) l.sound l.waits (join_tied world client l.sound l.waits down l.tied))
     (sym (ap (λ (t : ℕ → Link). not (is_down (t client))) (served_links back progress)
     ∙ ap (λ k. not (is_down k)) (put_same world.links client Link.Up)))
     (λ c ne. ap (λ (t : ℕ → Client). (t c).is_online) (served-clients back progress) ∙ l.online c
     ∙ ap (λ k. not (is_down k)) (sym (put_other world.links client Link.Up c ne))
     ∙ ap (λ (t : ℕ → Link). not (is_down (t c))) (sym (served_links back progress)))
-connect_linked world client link e l = l
 
 -- a timer runs out
 expired_tied : (world : World) (client file c : ℕ) → IsTied world c → IsTied (happened world (Fact.Expired client file)) c
 unfolding is_served sendings takings
 expired_tied world client file c t = grind arith
 
-timer_linked : (world : World) (client file : ℕ) → IsLinked world → IsLinked (timer_expired world client file)
-unfolding timer_expired
-timer_linked world client file l =
-    plain_linked (happened world (Fact.Expired client file)) (Call.Expire (machine_key world client file)) tt (record {
-      sound = l.sound;
-      waits = l.waits;
-      tied = λ c. expired_tied world client file c (l.tied c);
-      online = l.online;
-    })
+-- a fact that stands alone
+told_tied : (world : World) (client : ℕ) (fact : Fact) (c : ℕ) → IsTold client fact → IsTied world c
+    → IsTied (happened world fact) c
+unfolding is_served sendings takings
+told_tied world client x3 c is t = grind arith
 
--- an open is scavenged
-scavenged_linked : (world : World) (found : Option ℕ) → IsLinked world → IsLinked (scavenged world found)
-scavenged_linked world None l = l
-scavenged_linked world (Some file_id) l = plain_linked world (Call.Scavenge file_id) tt l
+-- ---- events
 
--- a client strays
-strayed_linked : (world : World) (client : ℕ) (request : Request) (link : Link) → IsLinked world
-    → IsLinked (strayed_over world client request link)
-unfolding strayed_over requests_sent is_served sendings takings
-strayed_linked world client request Link.Up l = record {
-  sound = l.sound;
-  waits = l.waits;
-  tied = λ c. sent_tied (happened world (Fact.Strayed client)) client (request ∷ []) c
-      (carried world (happened world (Fact.Strayed client)) c refl refl refl refl refl refl refl (l.tied c));
-  online = l.online;
+pub linked_forms : HasForms (Keeps IsLinked)
+unfolding noticed connection_made requests_sent
+linked_forms = record {
+  told = λ world client fact some is l. record {
+    sound = l.sound;
+    waits = l.waits;
+    tied = λ c. told_tied world client fact c is (l.tied c);
+    online = l.online;
+  };
+  command = λ world client command some l.
+      stepped_linked world client (client_called (world.clients client) (ClientCall.Commanded command)) l.sound l.waits l.tied
+      ((commanded-stays (world.clients client) command).online ∙ l.online client) (λ c ne. l.online c);
+  request = λ world client request queue some first l.
+      plain_linked (record world { requests = put world.requests client queue }) (Call.Receive client request) tt (record {
+        sound = l.sound;
+        waits = l.waits;
+        tied = taken_tied world client request queue first l.tied;
+        online = l.online;
+      });
+  reply = λ world client reply queue some first l. stepped_linked (reply_taken world client queue) client
+      (client_called (world.clients client) (ClientCall.Taken reply)) l.sound l.waits
+      (took_tied world client reply queue first l.tied) ((taken-stays (world.clients client) reply).online ∙ l.online client)
+      (λ c ne. l.online c);
+  cut = λ world client some up l. called_linked (link_lost world client) (Call.Cut client) l.sound l.waits
+      (served_tied (link_lost world client) (Call.Cut client) l.sound l.waits
+      (cut_tied world client l.sound l.waits (ap is_up up) l.tied))
+      (λ c. by_client (IsOnline (link_lost world client)) client c (l.online client ∙ ap (λ k. not (is_down k)) up
+      ∙ ap (λ k. not (is_down k)) (sym (put_same world.links client Link.Cut)))
+      (λ ne apart. l.online c ∙ ap (λ k. not (is_down k)) (sym (put_other world.links client Link.Cut c ne))));
+  notice = λ world client some cut l. stepped_linked (record world { links = put world.links client Link.Down }) client
+      (client_called (world.clients client) ClientCall.Noticed) l.sound l.waits
+      (relinked world client Link.Down (ap is_up cut) refl l.tied)
+      (sym (ap (λ k. not (is_down k)) (put_same world.links client Link.Down)))
+      (λ c ne. l.online c ∙ ap (λ k. not (is_down k)) (sym (put_other world.links client Link.Down c ne)));
+  connect = λ world client some down l. connected_linked world client (ap is_up down) l;
+  timer = λ world client file some on breaks l.
+      plain_linked (happened world (Fact.Expired client file)) (Call.Expire (machine_key world client file)) tt (record {
+        sound = l.sound;
+        waits = l.waits;
+        tied = λ c. expired_tied world client file c (l.tied c);
+        online = l.online;
+      });
+  scavenge = λ world file_id l. plain_linked world (Call.Scavenge file_id) tt l;
+  stray = λ world client request some up has l. record {
+    sound = l.sound;
+    waits = l.waits;
+    tied = λ c. sent_tied world client (request ∷ []) c (l.tied c);
+    online = l.online;
+  };
 }
-strayed_linked world client request link l = l
-
-applied_linked : (world : World) (event : Event) → IsLinked world → IsLinked (applied world event)
-unfolding applied
-applied_linked world (Event.App client command) l = stepped_linked world client
-    (commanded (world.clients client) command) l.sound l.waits l.tied
-    ((commanded-stays (world.clients client) command).online ∙ l.online client) (λ c ne. l.online c)
-applied_linked world (Event.ServerTakes client) l = server_takes_linked world client (world.requests client) refl l
-applied_linked world (Event.ClientTakes client) l = client_takes_linked world client (world.replies client) refl l
-applied_linked world (Event.Cut client) l = cut_linked world client (world.links client) refl l
-applied_linked world (Event.Notice client) l = notice_linked world client (world.links client) refl l
-applied_linked world (Event.Connect client) l = connect_linked world client (world.links client) refl l
-applied_linked world (Event.Expire client file) l = if_either IsLinked (has_file world.server file)
-    (if breaking world.server (machine_key world client file) then timer_expired world client file else world) world
-    (if_either IsLinked (breaking world.server (machine_key world client file)) (timer_expired world client file)
-    world (timer_linked world client file l) l) l
-applied_linked world (Event.Scavenge client file) l = scavenged_linked world (kept world.server client file) l
-applied_linked world (Event.Raw client request) l = strayed_linked world client request (world.links client) l
-
-pub happens_linked : (world : World) (event : Event) → IsLinked world → IsLinked (happens world event)
-unfolding happens
-happens_linked world event l = if_either IsLinked (has_client world (client_of event)) (applied world event) world
-    (applied_linked world event l) l
-
-after_linked : (world : World) (events : List Event) → IsLinked world → IsLinked (after world events)
-unfolding after
-after_linked world [] l = l
-after_linked world (event ∷ events) l = after_linked (happens world event) events (happens_linked world event l)
 
 -- ---- where runs begin
 
@@ -468,4 +427,4 @@ first_linked setup = record {
 
 pub links_of_runs : LinksOfRuns
 links_of_runs setup events client =
-    let l = after_linked (first_world setup) events (first_linked setup) in (l.tied client, l.online client)
+    let l = kept_by_run IsLinked linked_forms (first_world setup) events (first_linked setup) in (l.tied client, l.online client)
