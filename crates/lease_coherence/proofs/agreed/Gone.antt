@@ -98,6 +98,7 @@ stepped_gone id world c step g = subst (IsGoneFrom id) (sym (stepped_server worl
 
 gone_moves : (id : ℕ) → IsMoved HasLeases (IsGone id)
 unfolding requests_sent
+gone_moves id world (Move.Told c fact) is v g = g
 gone_moves id world (Move.Step step) next v g = step_deed world (IsGone id) (deeds_gone id world g) step next
 gone_moves id world (Move.Cut c) up v g = let left = fewer_gone id world.server (is_lost world.server c) g in
     same_gone id (with_opens world.server (without (is_lost world.server c) world.server.opens)) _ (itself world.server.last_id)

@@ -1,30 +1,31 @@
 -- One write cache also between the facts of an event: where a client notes several beliefs, each is what it believes once
 -- the event is over, so that of each file all is believed that was believed before it, or all that is believed after it.
-use Rattle.lease_laws.proofs.Words.{◌&&◌, ◌++◌, ◌==◌, ◌||◌, ◌∙◌, ◌∷◌, ◌≡◌, ◌≢◌, ◌⊎◌, Bool, Client, ClientCall, EachBeginning}
-use Rattle.lease_laws.proofs.Words.{Event, Fact, IsSoundClient, IsSoundPhase, Link, List, None, Note, OneWriteCache, Option, Out}
-use Rattle.lease_laws.proofs.Words.{Phase, Progress, Reply, Request, Setup, Some, State, World, ℕ, ⊎_elim, ⊤, [], after, ap}
-use Rattle.lease_laws.proofs.Words.{applied, belief, belief_in, believed, breaking, client_called, client_of, client_takes}
-use Rattle.lease_laws.proofs.Words.{connect_over, cut, cut_over, eq-eqb, eqb-true, expire, fact_of, false, first_world, happened}
-use Rattle.lease_laws.proofs.Words.{happens, has_client, has_file, has_strayed, if◌then◌else◌, inl, inr, is_down, is_good}
-use Rattle.lease_laws.proofs.Words.{is_served, is_start, join, kept, link_connected, link_cut, link_noticed, list_all}
-use Rattle.lease_laws.proofs.Words.{machine_key, not, nothing_cached, notice_over, put, receive, refl, requests_sent, reverse}
-use Rattle.lease_laws.proofs.Words.{reverse-reverse, scavenge, scavenged, served, server_takes, starts_from, stepped_in}
-use Rattle.lease_laws.proofs.Words.{strayed_over, subst, sym, timer_expired, true, true≢false}
+use Rattle.lease_laws.proofs.Words.{◌&&◌, ◌==◌, ◌||◌, ◌∙◌, ◌∷◌, ◌≡◌, ◌≢◌, ◌⊎◌, Bool, Call, Client, ClientCall, EachBeginning}
+use Rattle.lease_laws.proofs.Words.{Fact, IsSoundClient, IsSoundPhase, Link, List, Note, OneWriteCache, Out, Phase, Progress}
+use Rattle.lease_laws.proofs.Words.{Setup, State, World, ℕ, ⊎_elim, ⊤, [], after, ap, arith, belief, belief_in, believed}
+use Rattle.lease_laws.proofs.Words.{client_called, cut, eq-eqb, eqb-true, expire, fact_of, false, first_world, happened}
+use Rattle.lease_laws.proofs.Words.{has_strayed, if◌then◌else◌, inl, inr, is_down, is_good, is_served, is_start, join, list_all}
+use Rattle.lease_laws.proofs.Words.{machine_key, not, nothing_cached, put, receive, refl, requests_sent, reverse, reverse-reverse}
+use Rattle.lease_laws.proofs.Words.{scavenge, served, starts_from, stepped_in, subst, sym, true, true≢false}
 use Rattle.lease_laws.proofs.client.Thin.{put_same}
 use Rattle.lease_laws.proofs.records.Runs.{all_starts, all_reversed}
-use Rattle.lease_laws.proofs.server.Lists.{if_cases, either, clash, and_parts, and_both}
-use Rattle.lease_laws.proofs.world.Beliefs.{beliefs_of_runs}
-use Rattle.lease_laws.proofs.world.FileIds.{fact_told, told, all_delivered_past}
-use Rattle.lease_laws.proofs.world.Kept.{served-clients}
+use Rattle.lease_laws.proofs.server.Lists.{either, clash, and_parts, and_both}
+use Rattle.lease_laws.proofs.world.Beliefs.{Agrees, agrees_kept, first_agrees}
+use Rattle.lease_laws.proofs.world.FileIds.{IsCountedWorld, fact_told, first_counted, told, all_delivered_past}
+use Rattle.lease_laws.proofs.world.Kept.{served-clients, kept_forms}
 use Rattle.lease_laws.proofs.world.Links.{by_client}
 use Rattle.lease_laws.proofs.world.Runs.{stepped_clients}
+use Rattle.lease_laws.proofs.world.Timers.{IsTimely, timely_forms, first_timely}
+use Rattle.lease_laws.proofs.world.cases.Events.{Both, HasForms, IsTold, Keeps, KeepsWhere, both_forms, call_served, call_stepped}
+use Rattle.lease_laws.proofs.world.cases.Events.{kept_by_run, link_lost, link_made, reply_off, two_forms}
 use Rattle.lease_coherence.specs.Parts.{RunsHaveOneWriteCache}
-use Rattle.lease_coherence.proofs.moves.Shift.{append_none}
-use Rattle.lease_coherence.proofs.beliefs.WriteCaches.{after_one_write_cache}
+use Rattle.lease_coherence.proofs.beliefs.WriteCaches.{one_write_cache}
+use Rattle.lease_coherence.proofs.moves.Events.{carried_forms}
 use Rattle.lease_coherence.proofs.moves.Frames.{stepped_past}
 use Rattle.lease_coherence.proofs.records.Later.{past_noted}
 use Rattle.lease_coherence.proofs.wellformed.Notes.{EachNote, IsFineNote, call_fine}
-use Rattle.lease_coherence.proofs.told.AllRuns.{run_leases}
+use Rattle.lease_coherence.proofs.told.AllRuns.{leases_carried, first_leases}
+use Rattle.lease_coherence.proofs.told.Leases.{HasLeases}
 
 -- ---- facts that say nothing of beliefs, and make no client good
 
@@ -250,136 +251,86 @@ down_nothing client s off file = by_phase (client.entries file).phase (s.entries
 
 -- ---- events
 
--- a world that events of a run lead to
-record IsReached (world : World) : Type 0 where
-  sound : (c : ℕ) → IsSoundClient (world.clients c)
-  online : (c : ℕ) → (world.clients c).is_online ≡ not (is_down (world.links c))
-  cache : OneWriteCache world.past
-  agrees : (c file : ℕ) → believed c file world.past ≡ belief (world.clients c) file
+-- what is known of the world of every run, and follows from that
+abbrev IsReached : World → Type 0
+IsReached world = Both (Both IsCountedWorld HasLeases) (Both IsTimely Agrees) world
 
-server_takes_always : (world : World) (client : ℕ) (queue : List Request) → Always world.past
-    → Always (server_takes world client queue).past
-server_takes_always world client [] a = a
-server_takes_always world client (request ∷ queue) a =
-    served_always (record world { requests = put world.requests client queue }) (receive world.server client request) a
+reached_forms : HasForms (Keeps IsReached)
+reached_forms = two_forms (Both IsCountedWorld HasLeases) (Both IsTimely Agrees)
+    (carried_forms HasLeases (λ world v. v.structure.ground) leases_carried)
+    (two_forms IsTimely Agrees timely_forms (kept_forms Agrees agrees_kept))
 
-client_takes_always : (world : World) (client : ℕ) (queue : List Reply) → IsReached world
-    → IsReached (client_takes world client queue) → Always world.past → Always (client_takes world client queue).past
-client_takes_always world client [] r n a = a
-client_takes_always world client (reply ∷ queue) r n a =
-    stepped_always (happened (record world { replies = put world.replies client queue }) (Fact.Took client)) client
-    (ClientCall.Taken reply) (r.sound client) (neutral_always (Fact.Took client) world.past tt a) n.cache (n.agrees client)
+first_reached : (setup : Setup) → IsReached (first_world setup)
+first_reached setup = ((first_counted setup, first_leases setup), (first_timely setup, first_agrees setup))
 
-cut_always : (world : World) (client : ℕ) (link : Link) → Always world.past → Always (cut_over world client link).past
-unfolding link_cut
-cut_always world client Link.Up a = served_always (happened (record world {
-  links = put world.links client Link.Cut;
-  requests = put world.requests client [];
-  replies = put world.replies client [];
-}) (Fact.Dropped client)) (cut world.server client) (neutral_always (Fact.Dropped client) world.past tt a)
-cut_always world client link a = a
+sound_in : (world : World) → IsReached world → (c : ℕ) → IsSoundClient (world.clients c)
+sound_in world r = (r.0).1.structure.ground.clients
 
-notice_always : (world : World) (client : ℕ) (link : Link) → IsReached world
-    → IsReached (notice_over world client link) → Always world.past → Always (notice_over world client link).past
-unfolding link_noticed
-notice_always world client Link.Cut r n a = stepped_always (record world { links = put world.links client Link.Down })
-    client ClientCall.Noticed (r.sound client) a n.cache (n.agrees client)
-notice_always world client link r n a = a
+cache_in : (world : World) → IsReached world → OneWriteCache world.past
+cache_in world r = one_write_cache world (r.0).1 (r.1).0 (r.1).1
 
-connect_always : (world : World) (client : ℕ) (link : Link) → world.links client ≡ link → IsReached world
-    → IsReached (connect_over world client link) → Always world.past → Always (connect_over world client link).past
-unfolding link_connected
-connect_always world client Link.Down down r n a =
-    let back : World = happened (record world { links = put world.links client Link.Up }) (Fact.Joined client) in
+agrees_in : (world : World) → IsReached world → (c file : ℕ) → believed c file world.past ≡ belief (world.clients c) file
+agrees_in world r = ((r.1).1).agrees
+
+abbrev AlwaysIn : World → Type 0
+AlwaysIn world = Always world.past
+
+told_fact : (client : ℕ) (fact : Fact) → IsTold client fact → IsNeutral fact
+told_fact client x2 is = grind arith
+
+connect_always : (world : World) (client : ℕ) → world.links client ≡ Link.Down → IsReached world
+    → IsReached (stepped_in (call_served (link_made world client) (Call.Join client)) client
+    (client_called (world.clients client) ClientCall.Connected))
+    → Always world.past → AlwaysIn (stepped_in (call_served (link_made world client) (Call.Join client)) client
+    (client_called (world.clients client) ClientCall.Connected))
+connect_always world client down r n a =
+    let back : World = link_made world client in
     let joins = served back (join world.server client) in
+    let next : World = stepped_in joins client (client_called (world.clients client) ClientCall.Connected) in
     let nothing : (file : ℕ) → believed client file world.past ≡ nothing_cached =
-    λ file. r.agrees client file ∙ down_nothing (world.clients client) (r.sound client)
-    (r.online client ∙ ap (λ l. not (is_down l)) down) file in
+    λ file. agrees_in world r client file ∙ down_nothing (world.clients client) (sound_in world r client)
+    ((r.0).1.structure.ground.online client ∙ ap (λ l. not (is_down l)) down) file in
     let same : joins.clients ≡ world.clients = served-clients back (join world.server client) in
     subst (λ (m : Client). Always (stepped_in joins client (client_called m ClientCall.Connected)).past)
     (ap (λ (t : ℕ → Client). t client) same) (stepped_always joins client ClientCall.Connected
-    (subst (λ (t : ℕ → Client). IsSoundClient (t client)) (sym same) (r.sound client))
+    (subst (λ (t : ℕ → Client). IsSoundClient (t client)) (sym same) (sound_in world r client))
     (served_always back (join world.server client) (joined_cache world.past client nothing (always_now world.past a), a))
     (subst (λ (m : Client). OneWriteCache (stepped_in joins client (client_called m ClientCall.Connected)).past)
-    (ap (λ (t : ℕ → Client). t client) (sym same)) n.cache) (subst (λ (m : Client). (file : ℕ)
+    (ap (λ (t : ℕ → Client). t client) (sym same)) (cache_in next n)) (subst (λ (m : Client). (file : ℕ)
     → believed client file (stepped_in joins client (client_called m ClientCall.Connected)).past
     ≡ belief ((stepped_in joins client (client_called m ClientCall.Connected)).clients client) file)
-    (ap (λ (t : ℕ → Client). t client) (sym same)) (n.agrees client)))
-connect_always world client Link.Up up r n a = a
-connect_always world client Link.Cut cut r n a = a
+    (ap (λ (t : ℕ → Client). t client) (sym same)) (agrees_in next n client)))
 
-timer_always : (world : World) (client file : ℕ) → Always world.past → Always (timer_expired world client file).past
-unfolding timer_expired
-timer_always world client file a = served_always (happened world (Fact.Expired client file))
-    (expire world.server (machine_key world client file)) (neutral_always (Fact.Expired client file) world.past tt a)
+-- a client steps in a world that is as before, but for its queues and its link
+step_always : (world middle : World) (client : ℕ) (call : ClientCall) → middle.clients ≡ world.clients
+    → IsReached world → IsReached (call_stepped middle client call) → Always middle.past
+    → AlwaysIn (call_stepped middle client call)
+step_always world middle client call same r n a = stepped_always middle client call
+    (subst (λ (t : ℕ → Client). IsSoundClient (t client)) (sym same) (sound_in world r client)) a
+    (cache_in (call_stepped middle client call) n) (agrees_in (call_stepped middle client call) n client)
 
-scavenged_always : (world : World) (found : Option ℕ) → Always world.past → Always (scavenged world found).past
-scavenged_always world None a = a
-scavenged_always world (Some file_id) a = served_always world (scavenge world.server file_id) a
-
-strayed_always : (world : World) (client : ℕ) (request : Request) (link : Link) → Always world.past
-    → Always (strayed_over world client request link).past
-unfolding strayed_over requests_sent
-strayed_always world client request Link.Up a = neutral_always (Fact.Strayed client) world.past tt a
-strayed_always world client request link a = a
-
-applied_always : (world : World) (event : Event) → IsReached world → IsReached (applied world event)
-    → Always world.past → Always (applied world event).past
-unfolding applied
-applied_always world (Event.App client command) r n a =
-    stepped_always world client (ClientCall.Commanded command) (r.sound client) a n.cache (n.agrees client)
-applied_always world (Event.ServerTakes client) r n a = server_takes_always world client (world.requests client) a
-applied_always world (Event.ClientTakes client) r n a = client_takes_always world client (world.replies client) r n a
-applied_always world (Event.Cut client) r n a = cut_always world client (world.links client) a
-applied_always world (Event.Notice client) r n a = notice_always world client (world.links client) r n a
-applied_always world (Event.Connect client) r n a = connect_always world client (world.links client) refl r n a
-applied_always world (Event.Expire client file) r n a = if_cases (λ (w : World). Always w.past) (has_file world.server file)
-    (if breaking world.server (machine_key world client file) then timer_expired world client file else world) world
-    (λ on. if_cases (λ (w : World). Always w.past) (breaking world.server (machine_key world client file))
-    (timer_expired world client file) world (λ breaks. timer_always world client file a) (λ settled. a))
-    (λ off. a)
-applied_always world (Event.Scavenge client file) r n a = scavenged_always world (kept world.server client file) a
-applied_always world (Event.Raw client request) r n a = strayed_always world client request (world.links client) a
-
-happens_always : (world : World) (event : Event) → IsReached world → IsReached (happens world event)
-    → Always world.past → Always (happens world event).past
-unfolding happens
-happens_always world event r n a = by_client_known (has_client world (client_of event)) n
-  where
-    by_client_known : (b : Bool) → IsReached (if b then applied world event else world)
-        → Always (if b then applied world event else world).past
-    by_client_known true m = applied_always world event r m a
-    by_client_known false m = a
-
--- ---- runs
-
-pub after_last : (world : World) (events : List Event) (event : Event)
-    → after world (events ++ event ∷ []) ≡ happens (after world events) event
-unfolding after
-after_last world [] event = refl
-after_last world (first ∷ events) event = after_last (happens world first) events event
-
-reached : (setup : Setup) (events : List Event) → IsReached (after (first_world setup) events)
-reached setup events = let v = run_leases setup events in record {
-  sound = v.structure.ground.clients;
-  online = v.structure.ground.online;
-  cache = after_one_write_cache setup events;
-  agrees = beliefs_of_runs setup events;
+always_forms : HasForms (KeepsWhere IsReached AlwaysIn)
+unfolding requests_sent
+always_forms = record {
+  told = λ world client fact some is r n a. neutral_always fact world.past (told_fact client fact is) a;
+  command = λ world client command some r n a. step_always world world client (ClientCall.Commanded command) refl r n a;
+  request = λ world client request queue some first r n a.
+      served_always (record world { requests = put world.requests client queue }) (receive world.server client request) a;
+  reply = λ world client reply queue some first r n a.
+      step_always world (reply_off world client queue) client (ClientCall.Taken reply) refl r n
+      (neutral_always (Fact.Took client) world.past tt a);
+  cut = λ world client some up r n a. served_always (link_lost world client) (cut world.server client)
+      (neutral_always (Fact.Dropped client) world.past tt a);
+  notice = λ world client some cut r n a.
+      step_always world (record world { links = put world.links client Link.Down }) client ClientCall.Noticed refl r n a;
+  connect = λ world client some down r n a. connect_always world client down r n a;
+  timer = λ world client file some on breaks r n a. served_always (happened world (Fact.Expired client file))
+      (expire world.server (machine_key world client file)) (neutral_always (Fact.Expired client file) world.past tt a);
+  scavenge = λ world file_id r n a. served_always world (scavenge world.server file_id) a;
+  stray = λ world client request some up has r n a. a;
 }
 
-pub append_last : {X : Type 0} (xs : List X) (x : X) (ys : List X) → (xs ++ x ∷ []) ++ ys ≡ xs ++ x ∷ ys
-append_last [] x ys = refl
-append_last (y ∷ xs) x ys = ap (λ l. y ∷ l) (append_last xs x ys)
-
-run_always : (setup : Setup) (before events : List Event) → Always (after (first_world setup) before).past
-    → Always (after (first_world setup) (before ++ events)).past
-run_always setup before [] a = subst (λ l. Always (after (first_world setup) l).past) (sym (append_none before)) a
-run_always setup before (event ∷ events) a =
-    subst (λ l. Always (after (first_world setup) l).past) (append_last before event events)
-    (run_always setup (before ++ event ∷ []) events
-    (subst (λ (w : World). Always w.past) (sym (after_last (first_world setup) before event))
-    (happens_always (after (first_world setup) before) event (reached setup before)
-    (subst IsReached (after_last (first_world setup) before event) (reached setup (before ++ event ∷ []))) a)))
+-- ---- runs
 
 first_always : (setup : Setup) → Always (first_world setup).past
 unfolding first_world
@@ -387,6 +338,7 @@ first_always setup = starts_always (reverse (starts_from 1 setup.files))
     (all_reversed (starts_from 1 setup.files) [] (all_starts 1 setup.files) refl)
 
 pub runs_have_one_write_cache : RunsHaveOneWriteCache
-unfolding after
 runs_have_one_write_cache setup events = subst (EachBeginning OneWriteCache)
-    (sym (reverse-reverse (after (first_world setup) events).past)) (run_always setup [] events (first_always setup))
+    (sym (reverse-reverse (after (first_world setup) events).past))
+    (kept_by_run (Both IsReached AlwaysIn) (both_forms IsReached AlwaysIn reached_forms always_forms) (first_world setup) events
+    (first_reached setup, first_always setup)).1

@@ -1,14 +1,13 @@
 -- At every point of a run that its events reach, one client caches writes of a file.
-use Rattle.lease_laws.proofs.Words.{◌∙◌, ◌≡◌, ◌≢◌, Event, List, LiveEntry, OneWriteCache, Phase, Setup, State, World, ℕ, ⊎_elim}
-use Rattle.lease_laws.proofs.Words.{after, ap, belief, belief_in, false, first_world, has_strayed, is_good, is_served, is_up}
-use Rattle.lease_laws.proofs.Words.{machine_key, not, nothing_cached, refl, subst, sym, true, true≢false}
-use Rattle.lease_laws.proofs.server.Lists.{clash, and_parts, not_parts, not_true}
-use Rattle.lease_laws.proofs.world.Beliefs.{beliefs_of_runs}
-use Rattle.lease_laws.proofs.world.Timers.{timers_are_told}
+use Rattle.lease_laws.proofs.Words.{◌∙◌, ◌≡◌, ◌≢◌, LiveEntry, OneWriteCache, Phase, State, World, ℕ, ⊎_elim, ap, belief}
+use Rattle.lease_laws.proofs.Words.{belief_in, false, has_strayed, is_good, is_served, is_up, machine_key, not, nothing_cached}
+use Rattle.lease_laws.proofs.Words.{refl, subst, sym, true, true≢false}
+use Rattle.lease_laws.proofs.server.Lists.{clash, and_parts, not_parts}
+use Rattle.lease_laws.proofs.world.Beliefs.{Agrees}
+use Rattle.lease_laws.proofs.world.Timers.{IsTimely, unexpired}
 use Rattle.lease_coherence.specs.Standing.{IsOpenFor, IsStandingAt, PhaseStands}
 use Rattle.lease_coherence.proofs.moves.Foreign.{key_client}
 use Rattle.lease_coherence.proofs.beliefs.Trust.{open_has_key}
-use Rattle.lease_coherence.proofs.told.AllRuns.{run_leases}
 use Rattle.lease_coherence.proofs.told.Leases.{HasLeases}
 
 -- ---- two clients in one world
@@ -47,25 +46,15 @@ one_writer world v file c other ne good up fresh w fine on unexpired =
     (v.structure.ground.fine.sound.one_writer (machine_key world c file) mine.one theirs.one held.1 mine.there has theirs.there
     (theirs.on_file ∙ sym mine.on_file)))))
 
--- ---- after each event
+-- ---- where no timer of a client that is served ran out, and the record has what clients believe
 
-pub after_one_write_cache : (setup : Setup) (events : List Event) → OneWriteCache (after (first_world setup) events).past
+pub one_write_cache : (world : World) → HasLeases world → IsTimely world → Agrees world → OneWriteCache world.past
 unfolding is_good
-after_one_write_cache setup events file client other ne good w fine =
-    let world = after (first_world setup) events in
-    let v = run_leases setup events in
+one_write_cache world v t a file client other ne good w fine =
     let parts = and_parts (not (has_strayed client world.past)) (is_served client world.past) good in
     let others = and_parts (not (has_strayed other world.past)) (is_served other world.past) fine in
-    beliefs_of_runs setup events other file
-    ∙ one_writer world v file client other ne (not_parts (has_strayed client world.past) parts.0)
-    ((v.structure.ground.tied client).served parts.1) (timely setup events client file parts.1)
-    (ap (λ (s : State). s.write) (sym (beliefs_of_runs setup events client file)) ∙ w)
+    a.agrees other file ∙ one_writer world v file client other ne (not_parts (has_strayed client world.past) parts.0)
+    ((v.structure.ground.tied client).served parts.1) (unexpired world t client file parts.1)
+    (ap (λ (s : State). s.write) (sym (a.agrees client file)) ∙ w)
     (not_parts (has_strayed other world.past) others.0) ((v.structure.ground.tied other).served others.1)
-    (timely setup events other file others.1)
-  where
-    timely : (setup : Setup) (events : List Event) (c file : ℕ) → is_served c (after (first_world setup) events).past ≡ true
-        → (after (first_world setup) events).server.expired (machine_key (after (first_world setup) events) c file) ≡ false
-    timely setup events c file served = not_true
-        ((after (first_world setup) events).server.expired (machine_key (after (first_world setup) events) c file))
-        (λ out. clash (is_served c (after (first_world setup) events).past) served
-        (timers_are_told setup events (machine_key (after (first_world setup) events) c file) out))
+    (unexpired world t other file others.1)

@@ -1,12 +1,13 @@
 -- At every point of a run the contents of the server are those of the record.
 use Rattle.lease_laws.proofs.Words.{◌==◌, ◌∙◌, ◌∷◌, ◌≡◌, Fact, FileRequest, Link, List, Note, Patch, Server, Step, World, ℕ, []}
-use Rattle.lease_laws.proofs.Words.{ap, client_forgotten, content_of, eq-eqb, eqb-true, fact_of, if◌then◌else◌, joined}
+use Rattle.lease_laws.proofs.Words.{ap, arith, client_forgotten, content_of, eq-eqb, eqb-true, fact_of, if◌then◌else◌, joined}
 use Rattle.lease_laws.proofs.Words.{key_expired, lease_after, opens_disconnected, opens_dropped, put, refl, requests_sent}
 use Rattle.lease_laws.proofs.Words.{stepped_in, subst, sym, with_opens}
 use Rattle.lease_state.specs.Content.{patch as patched}
 use Rattle.lease_laws.proofs.client.Thin.{put_same, put_other}
 use Rattle.lease_laws.proofs.server.Lists.{either, clash}
 use Rattle.lease_laws.proofs.world.Runs.{stepped_server}
+use Rattle.lease_laws.proofs.world.cases.Events.{IsTold}
 use Rattle.lease_coherence.proofs.moves.Deeds.{HasDeeds, IsSource, step_deed}
 use Rattle.lease_coherence.proofs.moves.Events.{Ground, IsMoved, reply_gone, come_back, Move}
 use Rattle.lease_coherence.proofs.moves.Frames.{from_source, lease_put_rest, stepped_past}
@@ -71,8 +72,14 @@ stepped_contents : (world : World) (client : ℕ) (step : Step) → HasContents 
 stepped_contents world client step h file = ap (λ (s : Server). s.contents file) (stepped_server world client step)
     ∙ h file ∙ sym (ap (content_of file) (stepped_past world client step) ∙ noted_content client world.past step.notes file)
 
+told_content : (client : ℕ) (fact : Fact) (past : List Fact) (file : ℕ) → IsTold client fact
+    → content_of file (fact ∷ past) ≡ content_of file past
+unfolding content_of
+told_content client x2 past file is = grind arith
+
 pub contents_moves : IsMoved Ground HasContents
 unfolding requests_sent content_of
+contents_moves world (Move.Told client fact) is g h = λ file. h file ∙ sym (told_content client fact world.past file is)
 contents_moves world (Move.Step step) next g h = step_deed world HasContents (deeds_contents world h) step next
 contents_moves world (Move.Expire client file) (on, breaks) g h = h
 contents_moves world (Move.Scavenge file_id) may g h = h

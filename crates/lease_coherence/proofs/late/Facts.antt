@@ -1,13 +1,14 @@
 -- No write is accepted late: each change in a record is of a write that nobody overtook.
 use Rattle.lease_laws.proofs.Words.{◌+◌, ◌∙◌, ◌∷◌, ◌≡◌, Among, EachFact, Event, Fact, FileRequest, Link, List, NoLateWrite, Note}
-use Rattle.lease_laws.proofs.Words.{Open, Patch, Request, Setup, Some, Step, World, ℕ, [], after, ap, commanded, connected_open}
-use Rattle.lease_laws.proofs.Words.{connection_made, fact_of, false, first_world, has_strayed, is_allowed_setup, is_touched}
-use Rattle.lease_laws.proofs.Words.{noticed, put, refl, requests_sent, reverse-reverse, reverse_aux, starts_from, stepped_in}
-use Rattle.lease_laws.proofs.Words.{subst, sym, taken, true}
+use Rattle.lease_laws.proofs.Words.{Open, Patch, Request, Setup, Some, Step, World, ℕ, [], after, ap, arith, commanded}
+use Rattle.lease_laws.proofs.Words.{connected_open, connection_made, fact_of, false, first_world, has_strayed, is_allowed_setup}
+use Rattle.lease_laws.proofs.Words.{is_touched, noticed, put, refl, requests_sent, reverse-reverse, reverse_aux, starts_from}
+use Rattle.lease_laws.proofs.Words.{stepped_in, subst, sym, taken, true}
 use Rattle.lease_coherence.specs.Parts.{InRuns}
 use Rattle.lease_coherence.proofs.late.Runs.{ground_in}
 use Rattle.lease_coherence.proofs.late.Words.{WriteSafe}
 use Rattle.lease_coherence.proofs.moves.Deeds.{HasDeeds, IsSource, step_deed}
+use Rattle.lease_laws.proofs.world.cases.Events.{IsTold}
 use Rattle.lease_coherence.proofs.moves.Events.{IsMoved, Both, carried_both, runs_have, come_back, reply_gone, Move}
 use Rattle.lease_coherence.proofs.moves.Frames.{from_source, stepped_past}
 use Rattle.lease_coherence.proofs.order.Sends.{off_past}
@@ -81,8 +82,12 @@ stepped_none world client step l = subst (EachFact NoLateWrite) (sym (stepped_pa
 
 -- ---- all moves
 
+told_none : (client : ℕ) (fact : Fact) (past : List Fact) → IsTold client fact → NoLateWrite fact past
+told_none client x2 past is = grind arith
+
 none_moves : IsMoved HasRecord NoneLate
 unfolding requests_sent
+none_moves world (Move.Told client fact) is v l = (told_none client fact world.past is, l)
 none_moves world (Move.Step step) next v l = step_deed world NoneLate (deeds_none world v l) step next
 none_moves world (Move.Expire client file) (on, breaks) v l = (tt, l)
 none_moves world (Move.Scavenge file_id) may v l = l
@@ -93,7 +98,8 @@ none_moves world (Move.Take client reply queue) first v l =
     stepped_none (reply_gone world client queue) client (taken (world.clients client) reply) (tt, l)
 none_moves world (Move.Notice client) cut v l = stepped_none (record world { links = put world.links client Link.Down }) client
     (noticed (world.clients client)) l
-none_moves world move up v l = (tt, l)
+none_moves world (Move.Cut client) up v l = (tt, l)
+none_moves world (Move.Stray client request) may v l = l
 
 -- ---- runs
 

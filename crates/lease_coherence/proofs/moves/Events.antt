@@ -1,19 +1,19 @@
 -- What the moves of worlds keep, every event keeps.
-use Rattle.lease_laws.proofs.Words.{◌∙◌, ◌∷◌, ◌≡◌, Bool, Call, Command, Event, Fact, IsOnline, IsSoundClient, IsTied, Link, List}
-use Rattle.lease_laws.proofs.Words.{None, Option, Progress, Reply, Request, Server, Setup, SmallStep, Some, WaitsWell, World, ℕ}
-use Rattle.lease_laws.proofs.Words.{⊤, [], after, all_delivered, ap, applied, begun, breaking, call_begun, called}
-use Rattle.lease_laws.proofs.Words.{client_forgotten, client_of, client_takes, commanded, connect_over, connection_made, cut_over}
-use Rattle.lease_laws.proofs.Words.{false, first_world, happened, happens, has_client, has_file, has_key, if◌then◌else◌}
-use Rattle.lease_laws.proofs.Words.{is_breaking, is_left_behind, is_lost, is_up, join, joined, kept, key_expired, link_connected}
-use Rattle.lease_laws.proofs.Words.{link_cut, link_noticed, list_any, machine_key, notice_over, noticed, opens_disconnected}
-use Rattle.lease_laws.proofs.Words.{opens_dropped, own_steps, put, receive, refl, requests_sent, scavenged, served, server_takes}
-use Rattle.lease_laws.proofs.Words.{stepped_in, steps_taken, strayed_over, subst, sym, taken, timer_expired, true}
-use Rattle.lease_laws.proofs.client.Words.{if_either}
+use Rattle.lease_laws.proofs.Words.{◌∙◌, ◌∷◌, ◌≡◌, Bool, Call, ClientCall, Command, Event, Fact, IsOnline, IsSoundClient, IsTied}
+use Rattle.lease_laws.proofs.Words.{Link, List, Progress, Reply, Request, Server, Setup, SmallStep, WaitsWell, World, ℕ, ⊤, []}
+use Rattle.lease_laws.proofs.Words.{after, all_delivered, ap, begun, breaking, call_begun, called, client_called}
+use Rattle.lease_laws.proofs.Words.{client_forgotten, commanded, connection_made, false, first_world, happened, has_file, has_key}
+use Rattle.lease_laws.proofs.Words.{has_strayed, if◌then◌else◌, is_breaking, is_left_behind, is_lost, is_up, join, joined}
+use Rattle.lease_laws.proofs.Words.{key_expired, list_any, machine_key, noticed, opens_disconnected, opens_dropped, own_steps}
+use Rattle.lease_laws.proofs.Words.{put, receive, refl, requests_sent, served, stepped_in, steps_taken, subst, sym, taken, true}
 use Rattle.lease_laws.proofs.server.Lists.{if_cases}
 use Rattle.lease_laws.proofs.server.Orderly.{IsFine}
 use Rattle.lease_laws.proofs.server.StepCalls.{called-steps, call_begun-silent}
 use Rattle.lease_laws.proofs.world.FileIds.{IsCounted, IsCountedWorld, counted_kept, first_counted}
-use Rattle.lease_laws.proofs.world.Kept.{happens-kept}
+use Rattle.lease_laws.proofs.world.Kept.{kept_forms}
+pub use Rattle.lease_laws.proofs.world.cases.Events.{Both}
+use Rattle.lease_laws.proofs.world.cases.Events.{HasForms, IsTold, Keeps, KeepsWhere, both_forms, call_served, kept_by_run}
+use Rattle.lease_laws.proofs.world.cases.Events.{link_lost, link_made}
 use Rattle.lease_coherence.proofs.moves.Moves.{IsNext, rest_of, moved, popped, steps_keep, none_due, once_due}
 
 -- What is known at every point: the server is sound and in order, FileIds are as the record counts them, links
@@ -78,13 +78,14 @@ abbrev pub noticed_by : World → ℕ → World
 noticed_by world client =
     stepped_in (record world { links = put world.links client Link.Down }) client (noticed (world.clients client))
 
--- a client strays
+-- a request is sent in the name of a client that has strayed
 abbrev pub strayed : World → ℕ → Request → World
-strayed world client request = requests_sent (happened world (Fact.Strayed client)) client (request ∷ [])
+strayed world client request = requests_sent world client (request ∷ [])
 
 -- ---- any move
 
 pub data Move : Type 0 where
+  Told : (client : ℕ) (fact : Fact) → Move
   Step : (step : SmallStep) → Move
   Cut : (client : ℕ) → Move
   Expire : (client file : ℕ) → Move
@@ -96,6 +97,7 @@ pub data Move : Type 0 where
   Stray : (client : ℕ) (request : Request) → Move
 
 abbrev pub MayMove : World → Move → Type 0
+MayMove world (Move.Told client fact) = IsTold client fact
 MayMove world (Move.Step step) = IsNext world step
 MayMove world (Move.Cut client) = world.links client ≡ Link.Up
 MayMove world (Move.Expire client file) =
@@ -103,10 +105,11 @@ MayMove world (Move.Expire client file) =
 MayMove world (Move.Connect client) = world.links client ≡ Link.Down
 MayMove world (Move.Take client reply queue) = world.replies client ≡ reply ∷ queue
 MayMove world (Move.Notice client) = world.links client ≡ Link.Cut
-MayMove world (Move.Stray client request) = world.links client ≡ Link.Up
+MayMove world (Move.Stray client request) = (world.links client ≡ Link.Up) × (has_strayed client world.past ≡ true)
 MayMove world move = ⊤
 
 abbrev pub moved_by : World → Move → World
+moved_by world (Move.Told client fact) = happened world fact
 moved_by world (Move.Step step) = moved world step
 moved_by world (Move.Cut client) = cut_off world client
 moved_by world (Move.Expire client file) = timed_out world client file
@@ -126,9 +129,6 @@ abbrev pub IsCarried : (World → Type 0) → Type 0
 IsCarried V = (world : World) (move : Move) → MayMove world move → V world → V (moved_by world move)
 
 -- ---- one after the other
-
-abbrev pub Both : (World → Type 0) → (World → Type 0) → World → Type 0
-Both V P world = V world × P world
 
 pub carried_both : (V P : World → Type 0) → IsCarried V → IsMoved V P → IsCarried (Both V P)
 carried_both V P v p world move may both = (v world move may both.0, p world move may both.0 both.1)
@@ -182,31 +182,6 @@ request_call V k world client request queue f w up first v =
 
 -- ---- events
 
-record IsAt (V : World → Type 0) (world : World) : Type 0 where
-  waits : WaitsWell world.server
-  holds : V world
-
-server_takes_moves : (V : World → Type 0) → ((world : World) → V world → Ground world) → IsCarried V
-    → (world : World) (client : ℕ) (queue : List Request) → world.requests client ≡ queue → IsAt V world
-    → V (server_takes world client queue)
-server_takes_moves V ground k world client [] e at = at.holds
-server_takes_moves V ground k world client (request ∷ queue) e at =
-    let g = ground world at.holds in
-    request_call V k world client request queue g.fine at.waits
-    ((g.tied client).present ∙ is_linked (is_up (world.links client)) refl) e at.holds
-  where
-    never : {X : Type 0} (x : X) (xs : List X) → (x ∷ xs) ≡ [] → ⊥
-    never x xs e = cc
-
-    is_linked : (b : Bool) → is_up (world.links client) ≡ b → is_up (world.links client) ≡ true
-    is_linked true up = up
-    is_linked false down = absurd (never request queue (sym e ∙ ((ground world at.holds).tied client).requests down))
-
-client_takes_moves : (V : World → Type 0) → IsCarried V → (world : World) (client : ℕ) (queue : List Reply)
-    → world.replies client ≡ queue → V world → V (client_takes world client queue)
-client_takes_moves V k world client [] e v = v
-client_takes_moves V k world client (reply ∷ queue) e v = k world (Move.Take client reply queue) e v
-
 -- a choice that was made
 pub chosen : {X : Type 0} (b : Bool) (x y : X) → b ≡ true → (if b then x else y) ≡ x
 chosen true x y e = refl
@@ -216,105 +191,84 @@ pub not_chosen : {X : Type 0} (b : Bool) (x y : X) → b ≡ false → (if b the
 not_chosen true x y e = let c : ⊥ = cc in absurd c
 not_chosen false x y e = refl
 
-cut_moves : (V : World → Type 0) → ((world : World) → V world → Ground world) → IsCarried V
-    → (world : World) (client : ℕ) (link : Link) → world.links client ≡ link → IsAt V world → V (cut_over world client link)
-unfolding link_cut
-cut_moves V ground k world client Link.Up e at =
-    let g = ground world at.holds in
-    let lost : World = record world {
-      links = put world.links client Link.Cut;
-      requests = put world.requests client [];
-      replies = put world.replies client [];
-      past = Fact.Dropped client ∷ world.past;
-    } in
-    quiet_call V k lost (Call.Cut client) g.fine at.waits (λ request c never. absurd (cc))
-    (subst (λ (s : Server). V (record lost { server = s }))
+-- a client whose queue holds a request is up
+asks_up : (world : World) (client : ℕ) (request : Request) (queue : List Request) → Ground world
+    → world.requests client ≡ request ∷ queue → world.server.present client ≡ true
+asks_up world client request queue g first = (g.tied client).present ∙ is_linked (is_up (world.links client)) refl
+  where
+    never : {X : Type 0} (x : X) (xs : List X) → (x ∷ xs) ≡ [] → ⊥
+    never x xs e = cc
+
+    is_linked : (b : Bool) → is_up (world.links client) ≡ b → is_up (world.links client) ≡ true
+    is_linked true up = up
+    is_linked false down = absurd (never request queue (sym first ∙ (g.tied client).requests down))
+
+-- what calls begin with
+cut_moves : (V : World → Type 0) → IsCarried V → (world : World) (client : ℕ) → Ground world → WaitsWell world.server
+    → world.links client ≡ Link.Up → V world → V (call_served (link_lost world client) (Call.Cut client))
+cut_moves V k world client g w up v =
+    quiet_call V k (link_lost world client) (Call.Cut client) g.fine w (λ request c never. absurd (cc))
+    (subst (λ (s : Server). V (record (link_lost world client) { server = s }))
     (sym (ap (λ (p : Progress). p.server) (chosen (world.server.present client) _ (begun world.server)
-    ((g.tied client).present ∙ ap is_up e)))) (k world (Move.Cut client) e at.holds))
-cut_moves V ground k world client link e at = at.holds
+    ((g.tied client).present ∙ ap is_up up)))) (k world (Move.Cut client) up v))
 
-notice_moves : (V : World → Type 0) → IsCarried V → (world : World) (client : ℕ) (link : Link)
-    → world.links client ≡ link → V world → V (notice_over world client link)
-unfolding link_noticed
-notice_moves V k world client Link.Cut e v = k world (Move.Notice client) e v
-notice_moves V k world client link e v = v
-
-connect_moves : (V : World → Type 0) → ((world : World) → V world → Ground world) → IsCarried V
-    → (world : World) (client : ℕ) (link : Link) → world.links client ≡ link → V world → V (connect_over world client link)
-unfolding link_connected join served all_delivered
-connect_moves V ground k world client Link.Down e v =
-    let g = ground world v in
-    let back : World = happened (record world { links = put world.links client Link.Up }) (Fact.Joined client) in
-    subst (λ (p : Progress). V (stepped_in (served back p) client (connection_made (world.clients client))))
+connect_moves : (V : World → Type 0) → IsCarried V → (world : World) (client : ℕ) → Ground world
+    → world.links client ≡ Link.Down → V world → V (stepped_in (call_served (link_made world client) (Call.Join client)) client
+    (client_called (world.clients client) ClientCall.Connected))
+unfolding join served all_delivered
+connect_moves V k world client g down v =
+    subst (λ (p : Progress). V (stepped_in (served (link_made world client) p) client (connection_made (world.clients client))))
     (sym (not_chosen (world.server.present client) (begun world.server) (joined client (begun world.server))
-    ((g.tied client).present ∙ ap is_up e))) (k world (Move.Connect client) e v)
-connect_moves V ground k world client link e v = v
+    ((g.tied client).present ∙ ap is_up down))) (k world (Move.Connect client) down v)
 
-timer_moves : (V : World → Type 0) → ((world : World) → V world → Ground world) → IsCarried V
-    → (world : World) (client file : ℕ) → has_file world.server file ≡ true
-    → breaking world.server (machine_key world client file) ≡ true → IsAt V world → V (timer_expired world client file)
-unfolding timer_expired
-timer_moves V ground k world client file on breaks at =
-    let g = ground world at.holds in
+timer_moves : (V : World → Type 0) → IsCarried V → (world : World) (client file : ℕ) → Ground world → WaitsWell world.server
+    → has_file world.server file ≡ true → breaking world.server (machine_key world client file) ≡ true → V world
+    → V (call_served (happened world (Fact.Expired client file)) (Call.Expire (machine_key world client file)))
+timer_moves V k world client file g w on breaks v =
     let key = machine_key world client file in
-    quiet_call V k (happened world (Fact.Expired client file)) (Call.Expire key) g.fine at.waits
+    quiet_call V k (happened world (Fact.Expired client file)) (Call.Expire key) g.fine w
     (λ request c never. absurd (cc))
     (subst (λ (s : Server). V (record (happened world (Fact.Expired client file)) { server = s }))
     (sym (ap (λ (p : Progress). p.server) (chosen (is_breaking (world.server.leases key)) _ (begun world.server) breaks)))
-    (k world (Move.Expire client file) (on, breaks) at.holds))
+    (k world (Move.Expire client file) (on, breaks) v))
 
-scavenge_moves : (V : World → Type 0) → ((world : World) → V world → Ground world) → IsCarried V
-    → (world : World) (found : Option ℕ) → IsAt V world → V (scavenged world found)
-scavenge_moves V ground k world None at = at.holds
-scavenge_moves V ground k world (Some file_id) at =
-    let g = ground world at.holds in
-    quiet_call V k world (Call.Scavenge file_id) g.fine at.waits (λ request c never. absurd (cc))
+scavenge_moves : (V : World → Type 0) → IsCarried V → (world : World) (file_id : ℕ) → Ground world → WaitsWell world.server
+    → V world → V (call_served world (Call.Scavenge file_id))
+scavenge_moves V k world file_id g w v =
+    quiet_call V k world (Call.Scavenge file_id) g.fine w (λ request c never. absurd (cc))
     (if_cases (λ p. V (record world { server = p.server })) (list_any (is_left_behind file_id) world.server.opens)
     (opens_dropped (is_left_behind file_id) (begun world.server)) (begun world.server)
-    (λ there. k world (Move.Scavenge file_id) tt at.holds) (λ gone. at.holds))
+    (λ there. k world (Move.Scavenge file_id) tt v) (λ gone. v))
 
-strayed_moves : (V : World → Type 0) → IsCarried V → (world : World) (client : ℕ) (request : Request) (link : Link)
-    → world.links client ≡ link → V world → V (strayed_over world client request link)
-unfolding strayed_over
-strayed_moves V k world client request Link.Up e v = k world (Move.Stray client request) e v
-strayed_moves V k world client request link e v = v
+-- every form is moves
+moved_forms : (V : World → Type 0) → ((world : World) → V world → Ground world) → IsCarried V
+    → HasForms (KeepsWhere IsCountedWorld V)
+moved_forms V ground k = record {
+  told = λ world client fact some is c n v. k world (Move.Told client fact) is v;
+  command = λ world client command some c n v. k world (Move.Commanded client command) tt v;
+  request = λ world client request queue some first c n v. request_call V k world client request queue (ground world v).fine
+      c.waits (asks_up world client request queue (ground world v) first) first v;
+  reply = λ world client reply queue some first c n v. k world (Move.Take client reply queue) first v;
+  cut = λ world client some up c n v. cut_moves V k world client (ground world v) c.waits up v;
+  notice = λ world client some cut c n v. k world (Move.Notice client) cut v;
+  connect = λ world client some down c n v. connect_moves V k world client (ground world v) down v;
+  timer = λ world client file some on breaks c n v.
+      timer_moves V k world client file (ground world v) c.waits on breaks v;
+  scavenge = λ world file_id c n v. scavenge_moves V k world file_id (ground world v) c.waits v;
+  stray = λ world client request some up has c n v. k world (Move.Stray client request) (up, has) v;
+}
 
-applied_moves : (V : World → Type 0) → ((world : World) → V world → Ground world) → IsCarried V
-    → (world : World) (event : Event) → IsAt V world → V (applied world event)
-unfolding applied
-applied_moves V ground k world (Event.App client command) at = k world (Move.Commanded client command) tt at.holds
-applied_moves V ground k world (Event.ServerTakes client) at =
-    server_takes_moves V ground k world client (world.requests client) refl at
-applied_moves V ground k world (Event.ClientTakes client) at =
-    client_takes_moves V k world client (world.replies client) refl at.holds
-applied_moves V ground k world (Event.Cut client) at = cut_moves V ground k world client (world.links client) refl at
-applied_moves V ground k world (Event.Notice client) at = notice_moves V k world client (world.links client) refl at.holds
-applied_moves V ground k world (Event.Connect client) at =
-    connect_moves V ground k world client (world.links client) refl at.holds
-applied_moves V ground k world (Event.Expire client file) at = if_cases V (has_file world.server file)
-    (if breaking world.server (machine_key world client file) then timer_expired world client file else world) world
-    (λ on. if_cases V (breaking world.server (machine_key world client file)) (timer_expired world client file) world
-    (λ breaks. timer_moves V ground k world client file on breaks at) (λ settled. at.holds))
-    (λ off. at.holds)
-applied_moves V ground k world (Event.Scavenge client file) at =
-    scavenge_moves V ground k world (kept world.server client file) at
-applied_moves V ground k world (Event.Raw client request) at =
-    strayed_moves V k world client request (world.links client) refl at.holds
-
-happens_moves : (V : World → Type 0) → ((world : World) → V world → Ground world) → IsCarried V
-    → (world : World) (event : Event) → IsAt V world → V (happens world event)
-unfolding happens
-happens_moves V ground k world event at = if_either V (has_client world (client_of event)) (applied world event) world
-    (applied_moves V ground k world event at) at.holds
+-- what the moves keep, every event keeps
+pub carried_forms : (V : World → Type 0) → ((world : World) → V world → Ground world) → IsCarried V
+    → HasForms (Keeps (Both IsCountedWorld V))
+carried_forms V ground k =
+    both_forms IsCountedWorld V (kept_forms IsCountedWorld counted_kept) (moved_forms V ground k)
 
 -- from any point of a run
 pub after_moves : (V : World → Type 0) → ((world : World) → V world → Ground world) → IsCarried V
     → (world : World) (events : List Event) → IsCountedWorld world → V world → V (after world events)
-unfolding after
-after_moves V ground k world [] c v = v
-after_moves V ground k world (event ∷ events) c v = after_moves V ground k (happens world event) events
-    (happens-kept IsCountedWorld counted_kept world event c)
-    (happens_moves V ground k world event (record { waits = c.waits; holds = v }))
+after_moves V ground k world events c v =
+    (kept_by_run (Both IsCountedWorld V) (carried_forms V ground k) world events (c, v)).1
 
 -- what the moves keep, every run has
 pub runs_have : (V : World → Type 0) → ((world : World) → V world → Ground world) → IsCarried V

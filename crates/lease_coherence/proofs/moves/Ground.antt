@@ -1,4 +1,6 @@
 -- What is known at every point of a run is kept by every move.
+use Rattle.lease_laws.proofs.world.Links.{all_tied, by_client, carried, first_linked, relinked, sent_tied, served_links}
+use Rattle.lease_laws.proofs.world.Links.{stepped_online, stepped_tied, told_tied}
 use Rattle.lease_laws.proofs.Words.{◌++◌, ◌+◌, ◌==◌, ◌∙◌, ◌∷◌, ◌≡◌, ◌≢◌, ◌⊎◌, Among, Call, Client, ClientCall, Command, EachOut}
 use Rattle.lease_laws.proofs.Words.{Fact, Held, IsGuarded, IsInTurn, IsOnline, IsSoundClient, IsTied, IsToPresent, Link, List}
 use Rattle.lease_laws.proofs.Words.{Note, Out, Progress, Reply, Request, Server, Setup, SmallStep, World, ℕ, ⊎_elim, []}
@@ -22,14 +24,13 @@ use Rattle.lease_laws.proofs.server.PassWaits.{among_more}
 use Rattle.lease_laws.proofs.server.StepKeeps.{step-sound, step-goes}
 use Rattle.lease_laws.proofs.server.StepOuts as outs
 use Rattle.lease_laws.proofs.server.WaitCalls.{joined-orderly, cut-fine, expired-fine, dropped-fine}
-use Rattle.lease_laws.proofs.world.FileIds.{IsCounted, told, all_delivered_past, step_counted, begun_counted, same_counted}
-use Rattle.lease_laws.proofs.world.FileIds.{world_fact_same, note_same, first_counted}
-use Rattle.lease_laws.proofs.world.Kept.{IsOfWorld, served-server, served-clients}
-use Rattle.lease_laws.proofs.world.Links.{by_client, carried, all_tied, served_links, stepped_tied, stepped_online, sent_tied}
-use Rattle.lease_laws.proofs.world.Links.{relinked, first_linked}
+use Rattle.lease_laws.proofs.world.FileIds.{IsCounted, all_delivered_past, begun_counted, first_counted, note_same, same_counted}
+use Rattle.lease_laws.proofs.world.FileIds.{step_counted, told, world_fact_same}
+use Rattle.lease_laws.proofs.world.Kept.{IsOfWorld, served-server, served-clients, told_of_world}
+use Rattle.lease_laws.proofs.world.cases.Events.{IsTold}
 use Rattle.lease_laws.proofs.world.Runs.{stepped_server, stepped_clients}
-use Rattle.lease_coherence.proofs.moves.Events.{Ground, chosen, IsCarried, cut_off, timed_out, left_behind, come_back, connected}
-use Rattle.lease_coherence.proofs.moves.Events.{reply_gone, reply_taken, noticed_by, strayed, Move}
+use Rattle.lease_coherence.proofs.moves.Events.{Ground, IsCarried, Move, chosen, come_back, connected, cut_off, left_behind}
+use Rattle.lease_coherence.proofs.moves.Events.{noticed_by, reply_gone, reply_taken, strayed, timed_out}
 use Rattle.lease_coherence.proofs.moves.Moves.{IsNext, rest_of, popped, taken_off, moved}
 
 -- ---- steps of the server
@@ -328,17 +329,26 @@ notice_ground world client g e = stepped_ground (record world { links = put worl
     (λ c ne. g.online c ∙ ap (λ k. not (is_down k)) (sym (put_other world.links client Link.Down c ne))) g.clients
 
 stray_ground : (world : World) (client : ℕ) (request : Request) → Ground world → Ground (strayed world client request)
-unfolding requests_sent is_served sendings takings
+unfolding requests_sent
 stray_ground world client request g = record {
   fine = g.fine;
-  counted = fact_counted world.past (Fact.Strayed client) world.server tt g.counted;
-  tied = λ c. sent_tied (happened world (Fact.Strayed client)) client (request ∷ []) c
-      (carried world (happened world (Fact.Strayed client)) c refl refl refl refl refl refl refl (g.tied c));
+  counted = g.counted;
+  tied = λ c. sent_tied world client (request ∷ []) c (g.tied c);
+  online = g.online;
+  clients = g.clients;
+}
+
+told_ground : (world : World) (client : ℕ) (fact : Fact) → IsTold client fact → Ground world → Ground (happened world fact)
+told_ground world client fact is g = record {
+  fine = g.fine;
+  counted = fact_counted world.past fact world.server (told_of_world client fact is) g.counted;
+  tied = λ c. told_tied world client fact c is (g.tied c);
   online = g.online;
   clients = g.clients;
 }
 
 pub ground_carried : IsCarried Ground
+ground_carried world (Move.Told client fact) is g = told_ground world client fact is g
 ground_carried world (Move.Step step) next g = moved_ground world step g next
 ground_carried world (Move.Cut client) up g = cut_ground world client g up
 ground_carried world (Move.Expire client file) (on, breaks) g = timer_ground world client file g breaks

@@ -1,32 +1,33 @@
 -- What is said of one client has to be shown for its own moves alone.
 use Rattle.lease_laws.proofs.Words.{◌++◌, ◌==◌, ◌∙◌, ◌∷◌, ◌≡◌, ◌≢◌, Access, Among, Bool, Command, CreateAsk, Fact, FileRequest}
-use Rattle.lease_laws.proofs.Words.{Held, IsAwaitedAt, IsFree, IsInTurn, Key, LeaseOf, Link, List, MayChange, MayHold, MayLower}
-use Rattle.lease_laws.proofs.Words.{MayRefuse, None, Open, Option, Patch, Reply, Request, Server, Share, SmallStep, Some, State}
-use Rattle.lease_laws.proofs.Words.{Status, Step, World, ℕ, [], ap, begun, break_notice, breaking, client_forgotten, commanded}
-use Rattle.lease_laws.proofs.Words.{connected_again, connected_open, disconnected, eq-eqb, eqb-true, false, granted_form_of}
-use Rattle.lease_laws.proofs.Words.{has_file, has_key, has_lease, has_strayed, is_left_behind, is_left_open, is_lost}
-use Rattle.lease_laws.proofs.Words.{is_state_within, joined, key_expired, key_of, lease_after, machine_key, map, may_read}
-use Rattle.lease_laws.proofs.Words.{needs_acknowledgment, not, opens_disconnected, opens_dropped, own_key, put, refl, refusal_of}
-use Rattle.lease_laws.proofs.Words.{requests_sent, step_taken, stepped_in, subst, sym, true, was_opened, with_opens, without}
+use Rattle.lease_laws.proofs.Words.{Held, IsAwaitedAt, IsFree, IsInTurn, Key, Lease, LeaseOf, Link, List, MayChange, MayHold}
+use Rattle.lease_laws.proofs.Words.{MayLower, MayRefuse, None, Open, Option, Patch, Reply, Request, Server, Share, SmallStep}
+use Rattle.lease_laws.proofs.Words.{Some, State, Status, Step, World, ℕ, [], ap, arith, begun, break_notice, breaking}
+use Rattle.lease_laws.proofs.Words.{client_forgotten, commanded, connected_again, connected_open, disconnected, eqb-true, false}
+use Rattle.lease_laws.proofs.Words.{granted_form_of, happened, has_file, has_key, has_lease, has_strayed, is_left_behind}
+use Rattle.lease_laws.proofs.Words.{is_left_open, is_lost, is_state_within, joined, key_expired, key_of, lease_after, machine_key}
+use Rattle.lease_laws.proofs.Words.{map, may_read, needs_acknowledgment, not, opens_disconnected, opens_dropped, own_key, put}
+use Rattle.lease_laws.proofs.Words.{refl, refusal_of, requests_sent, step_taken, stepped_in, subst, sym, true, was_opened}
+use Rattle.lease_laws.proofs.Words.{with_opens, without}
 use Rattle.lease_laws.proofs.client.Thin.{put_other}
 use Rattle.lease_laws.proofs.server.Keys.{put_key-cases}
-use Rattle.lease_laws.proofs.server.Lists.{if_cases, either, clash, and_parts, not_true, not_parts, true_or}
+use Rattle.lease_laws.proofs.server.Lists.{if_cases, clash, and_parts, not_true, not_parts}
 use Rattle.lease_laws.proofs.world.Links.{by_client, stepped_links}
 use Rattle.lease_laws.proofs.world.Runs.{stepped_server, stepped_clients}
+use Rattle.lease_laws.proofs.world.cases.Events.{IsTold}
 use Rattle.lease_coherence.specs.Creates.{held_by}
-use Rattle.lease_coherence.proofs.moves.Deeds.{HasDeeds, IsSource, step_deed, told_to, granted_in, reconnected_in}
-use Rattle.lease_coherence.proofs.moves.Deeds.{changed_in, without_opens, leased_in, held_in}
-use Rattle.lease_coherence.proofs.moves.Events.{Ground, IsMoved, cut_off, timed_out, come_back, connected, reply_gone}
-use Rattle.lease_coherence.proofs.moves.Events.{reply_taken, noticed_by, strayed, Move}
-use Rattle.lease_coherence.proofs.moves.Foreign.{free_no_writer, change_no_writer, change_no_reader, off_sound, false_not}
-use Rattle.lease_coherence.proofs.moves.Foreign.{IsUnmoved, unmoved_same, unmoved_then, apart, key_client, filter_last}
-use Rattle.lease_coherence.proofs.moves.Foreign.{filter_twice, unmoved_off, off_ground, unmoved_told, unmoved_popped}
-use Rattle.lease_coherence.proofs.moves.Foreign.{unmoved_held, unmoved_without, unmoved_leased, unmoved_granted, unmoved_mapped}
-use Rattle.lease_coherence.proofs.moves.Foreign.{unmoved_content}
+use Rattle.lease_coherence.proofs.moves.Deeds.{HasDeeds, IsSource, changed_in, granted_in, held_in, leased_in, reconnected_in}
+use Rattle.lease_coherence.proofs.moves.Deeds.{step_deed, told_to, without_opens}
+use Rattle.lease_coherence.proofs.moves.Events.{Ground, IsMoved, Move, come_back, connected, cut_off, noticed_by, reply_gone}
+use Rattle.lease_coherence.proofs.moves.Events.{reply_taken, strayed, timed_out}
+use Rattle.lease_coherence.proofs.moves.Foreign.{IsUnmoved, apart, change_no_reader, change_no_writer, false_not, filter_last}
+use Rattle.lease_coherence.proofs.moves.Foreign.{filter_twice, free_no_writer, key_client, off_ground, off_sound, unmoved_content}
+use Rattle.lease_coherence.proofs.moves.Foreign.{unmoved_granted, unmoved_held, unmoved_leased, unmoved_mapped, unmoved_off}
+use Rattle.lease_coherence.proofs.moves.Foreign.{unmoved_popped, unmoved_same, unmoved_then, unmoved_told, unmoved_without}
 use Rattle.lease_coherence.proofs.moves.Frames.{stepped_past, stepped_requests, stepped_replies}
 use Rattle.lease_coherence.proofs.moves.Ground.{moved_past}
 use Rattle.lease_coherence.proofs.moves.Moves.{IsOldest, popped}
-use Rattle.lease_coherence.proofs.moves.Spared.{IsSpared, spared_fact, spared_noted}
+use Rattle.lease_coherence.proofs.moves.Spared.{IsSpared, Spares, spared_fact, spared_noted}
 use Rattle.lease_coherence.proofs.names.Names.{off_counted, awaits_parts}
 use Rattle.lease_coherence.proofs.names.Words.{opened_by}
 use Rattle.lease_coherence.proofs.records.Later.{IsLater, later_then, later_fact, later_told, later_noted}
@@ -326,11 +327,32 @@ unmoved_strayed : (world : World) (client : ℕ) (request : Request) (c : ℕ) �
     → IsUnmoved world (strayed world client request) c
 unfolding requests_sent
 unmoved_strayed world client request c ne = let s = unmoved_same world c in record {
-  later = later_fact world.past (Fact.Strayed client);
-  spared = spared_fact c world.server.opens world.server.leases (Fact.Strayed client) world.past tt;
+  later = s.later;
+  spared = s.spared;
   machine = refl;
   link = refl;
   requests = put_other world.requests client _ c (λ e. ne (sym e));
+  replies = refl;
+  held = s.held;
+  kept = s.kept;
+  from = s.from;
+  leases = s.leases;
+  expired = s.expired;
+}
+
+-- a fact that stands alone spares everyone
+told_spares : (client : ℕ) (fact : Fact) (c : ℕ) (opens : List Open) (leases : Key → Lease) → IsTold client fact
+    → Spares c opens leases fact
+told_spares client x2 c opens leases is = grind arith
+
+unmoved_fact : (world : World) (client : ℕ) (fact : Fact) (c : ℕ) → IsTold client fact → IsUnmoved world (happened world fact) c
+unmoved_fact world client fact c is = let s = unmoved_same world c in record {
+  later = later_fact world.past fact;
+  spared = spared_fact c world.server.opens world.server.leases fact world.past
+      (told_spares client fact c world.server.opens world.server.leases is);
+  machine = refl;
+  link = refl;
+  requests = refl;
   replies = refl;
   held = s.held;
   kept = s.kept;
@@ -355,19 +377,20 @@ stepped_later world client step = subst (IsLater world.past) (sym (stepped_past 
 then_later : (a b c : List Fact) → IsLater a b → IsLater b c → IsLater a c
 then_later a b c h k = later_then a b c h k
 
--- a client that strays, and any other
+-- nothing is said of the client that strayed
 stray_all : (V : World → Type 0) (A : World → ℕ → Type 0) → IsOwnMoved V A → (world : World) (client : ℕ)
-    (request : Request) → V world → OfGood A world → OfGood A (strayed world client request)
-unfolding requests_sent has_strayed
-stray_all V A k world client request v a c good = either (client == c)
-    (λ same. clash (has_strayed c (Fact.Strayed client ∷ world.past))
-    (true_or (client == c) (has_strayed c world.past) same) good)
-    (λ other. let was = (later_fact world.past (Fact.Strayed client)).strayed c good in
-    k.unmoved world (strayed world client request) c v was
-    (unmoved_strayed world client request c (λ e. clash (client == c) (eq-eqb client c e) other)) (a c was))
+    (request : Request) → has_strayed client world.past ≡ true → V world → OfGood A world
+    → OfGood A (strayed world client request)
+unfolding requests_sent
+stray_all V A k world client request has v a c good = k.unmoved world (strayed world client request) c v good
+    (unmoved_strayed world client request c
+    (λ e. clash (has_strayed c world.past) (ap (λ d. has_strayed d world.past) (sym e) ∙ has) good)) (a c good)
 
 pub own_moves : (V : World → Type 0) (A : World → ℕ → Type 0) → ((world : World) → V world → Ground world)
     → IsOwnMoved V A → IsMoved V (OfGood A)
+own_moves V A ground k world (Move.Told client fact) is v a = λ c good.
+    let was = (later_fact world.past fact).strayed c good in
+    k.unmoved world (happened world fact) c v was (unmoved_fact world client fact c is) (a c was)
 own_moves V A ground k world (Move.Step step) next v a =
     λ c good. step_deed world (ForAll A world) (deeds_all V A ground k world v a) step next c
     ((later_told world.past (step_taken step (begun world.server)).outs).strayed c
@@ -403,4 +426,4 @@ own_moves V A ground k world (Move.Notice client) cut v a = moved_all V A k worl
     (λ c ne. unmoved_then world (record world { links = put world.links client Link.Down }) _ c
     (unmoved_link world client Link.Down c ne)
     (unmoved_stepped (record world { links = put world.links client Link.Down }) client _ c ne))
-own_moves V A ground k world (Move.Stray client request) up v a = stray_all V A k world client request v a
+own_moves V A ground k world (Move.Stray client request) (up, has) v a = stray_all V A k world client request has v a

@@ -1,23 +1,25 @@
 -- Every move keeps what clients name, and so no write is settled as done that wasn't accepted.
 use Rattle.lease_laws.proofs.Words.{◌+◌, ◌==◌, ◌∙◌, ◌∷◌, ◌≡◌, ◌≢◌, Among, Client, ClientCall, EachFact, Event, Fact, Link, List}
 use Rattle.lease_laws.proofs.Words.{NoFalseDone, Note, Open, Out, Reply, Request, Server, Settlement, Setup, SmallStep, Step}
-use Rattle.lease_laws.proofs.Words.{World, ℕ, [], after, all_turned, ap, begun, client_called, client_forgotten, connection_made}
-use Rattle.lease_laws.proofs.Words.{disconnected, eq-eqb, false, first_world, has_key, has_strayed, is_left_behind, is_lost}
-use Rattle.lease_laws.proofs.Words.{joined, key_expired, machine_key, new_client, new_server, not, noticed, opens_disconnected}
-use Rattle.lease_laws.proofs.Words.{opens_dropped, put, refl, requests_sent, reverse-reverse, reverse_aux, sent_over, starts_from}
-use Rattle.lease_laws.proofs.Words.{step_taken, stepped_in, subst, sym, with_opens, without}
+use Rattle.lease_laws.proofs.Words.{World, ℕ, [], after, all_turned, ap, arith, begun, client_called, client_forgotten}
+use Rattle.lease_laws.proofs.Words.{connection_made, disconnected, false, first_world, happened, has_key, has_strayed}
+use Rattle.lease_laws.proofs.Words.{is_left_behind, is_lost, joined, key_expired, machine_key, new_client, new_server, not}
+use Rattle.lease_laws.proofs.Words.{noticed, opens_disconnected, opens_dropped, put, refl, requests_sent, reverse-reverse}
+use Rattle.lease_laws.proofs.Words.{reverse_aux, sent_over, starts_from, step_taken, stepped_in, subst, sym, true, with_opens}
+use Rattle.lease_laws.proofs.Words.{without}
 use Rattle.lease_laws.proofs.client.Forms.{commanded-stays, taken-stays}
 use Rattle.lease_laws.proofs.client.Thin.{put_same, put_other}
-use Rattle.lease_laws.proofs.server.Lists.{if_cases, either, clash, among_filter, among_map, true_or}
+use Rattle.lease_laws.proofs.server.Lists.{if_cases, clash, among_filter, among_map}
 use Rattle.lease_laws.proofs.world.FileIds.{told}
 use Rattle.lease_laws.proofs.world.Links.{by_client}
 use Rattle.lease_laws.proofs.world.Runs.{stepped_server, stepped_clients}
 use Rattle.lease_coherence.specs.Names.{Each, IsNamed, IsNamedAt, IsNamedEntry, IsNamedOnFile, IsNamedReply, IsNamedRequest}
 use Rattle.lease_coherence.specs.Names.{IsOwnOpen}
 use Rattle.lease_coherence.specs.Parts.{NothingIsFalselyDone}
+use Rattle.lease_laws.proofs.world.cases.Events.{IsTold}
 use Rattle.lease_coherence.proofs.moves.Deeds.{step_deed}
-use Rattle.lease_coherence.proofs.moves.Events.{Ground, IsMoved, Both, carried_both, runs_have, cut_off, timed_out, left_behind}
-use Rattle.lease_coherence.proofs.moves.Events.{come_back, reply_gone, strayed, Move}
+use Rattle.lease_coherence.proofs.moves.Events.{Both, Ground, IsMoved, Move, carried_both, come_back, cut_off, left_behind}
+use Rattle.lease_coherence.proofs.moves.Events.{reply_gone, runs_have, strayed, timed_out}
 use Rattle.lease_coherence.proofs.moves.Frames.{stepped_past, stepped_requests, stepped_replies}
 use Rattle.lease_coherence.proofs.moves.Ground.{ground_carried, first_ground, moved_past}
 use Rattle.lease_coherence.proofs.moves.Moves.{IsNext, moved}
@@ -171,17 +173,23 @@ gone_named world client reply queue first n c good =
     (λ ne apart old. subst (Each (IsNamedReply c (Fact.Took client ∷ world.past)))
     (sym (put_other world.replies client queue c ne)) old) (replies_later c world.past _ (world.replies c) later m.replies)) m
 
-strayed_named : (world : World) (client : ℕ) (request : Request) → IsNamed world → IsNamed (strayed world client request)
-unfolding requests_sent has_strayed
-strayed_named world client request n c good =
-    let later = later_fact world.past (Fact.Strayed client) in
+fact_named : (world : World) (fact : Fact) → IsNamed world → IsNamed (happened world fact)
+fact_named world fact n c good =
+    let later = later_fact world.past fact in
     let m = n c (later.strayed c good) in
-    at_later world (strayed world client request) c later refl (either (client == c)
-    (λ same. clash (has_strayed c (Fact.Strayed client ∷ world.past)) (true_or (client == c) (has_strayed c world.past) same)
-    good)
-    (λ apart. subst (Each (IsNamedRequest c (world.clients c).guid world.past))
-    (sym (put_other world.requests client _ c (λ e. clash (client == c) (eq-eqb client c (sym e)) apart))) m.requests))
-    m.held m.opens (replies_later c world.past _ (world.replies c) later m.replies) m
+    at_later world (happened world fact) c later refl m.requests m.held m.opens
+    (replies_later c world.past _ (world.replies c) later m.replies) m
+
+strayed_named : (world : World) (client : ℕ) (request : Request) → has_strayed client world.past ≡ true → IsNamed world
+    → IsNamed (strayed world client request)
+unfolding requests_sent
+strayed_named world client request has n c good =
+    let m = n c good in
+    at_later world (strayed world client request) c (later_same world.past) refl
+    (subst (Each (IsNamedRequest c (world.clients c).guid world.past))
+    (sym (put_other world.requests client _ c
+    (λ e. clash (has_strayed c world.past) (ap (λ d. has_strayed d world.past) e ∙ has) good))) m.requests)
+    m.held m.opens m.replies m
 
 -- ---- nothing is falsely done
 
@@ -251,8 +259,13 @@ stepped_true world client call same named t =
           (λ good. (call_named client (world.clients client) world.past call (t.0 client good).entries (named good)).done) t.1),
     )
 
+told_true_done : (client : ℕ) (fact : Fact) (past : List Fact) → IsTold client fact → NoFalseDone fact past
+told_true_done client x2 past is = grind arith
+
 pub true_moves : IsMoved Ground HasTrueNames
 unfolding requests_sent
+true_moves world (Move.Told client fact) is g t =
+    (fact_named world fact t.0, (told_true_done client fact world.past is, t.1))
 true_moves world (Move.Step step) next g t = moved_true world step g next t
 true_moves world (Move.Cut client) up g t = (cut_named world client t.0, (tt, t.1))
 true_moves world (Move.Expire client file) (on, breaks) g t = (timer_named world client file t.0, (tt, t.1))
@@ -274,7 +287,7 @@ true_moves world (Move.Notice client) cut g t = stepped_true (record world { lin
           m.requests m.held m.opens m.replies m,
       t.1,
     )
-true_moves world (Move.Stray client request) up g t = (strayed_named world client request t.0, (tt, t.1))
+true_moves world (Move.Stray client request) (up, has) g t = (strayed_named world client request has t.0, t.1)
 
 -- ---- where runs begin, and every run
 

@@ -17,6 +17,7 @@ use Rattle.lease_laws.proofs.world.InStep.{take_all, few_files}
 use Rattle.lease_laws.proofs.world.Links.{by_client, stepped_links}
 use Rattle.lease_laws.proofs.world.Runs.{stepped_server, stepped_clients}
 use Rattle.lease_coherence.specs.Parts.{RunsAreWellFormed}
+use Rattle.lease_laws.proofs.world.cases.Events.{IsTold}
 use Rattle.lease_coherence.proofs.moves.Deeds.{HasDeeds, IsSource, step_deed}
 use Rattle.lease_coherence.proofs.moves.Events.{Ground, IsMoved, Both, carried_both, runs_have, reply_gone, come_back, Move}
 use Rattle.lease_coherence.proofs.moves.Frames.{from_source, lease_put_rest, stepped_past}
@@ -279,8 +280,19 @@ put_up links client link c up = by_client
     client c (λ u. inr (refl, sym (ap is_up (put_same links client link)) ∙ u))
     (λ ne apart u. inl (sym (ap is_up (put_other links client link c ne)) ∙ u)) up
 
+told_well : (client : ℕ) (fact : Fact) (past : List Fact) → IsTold client fact → WellFormed fact past
+unfolding is_well_formed
+told_well client x2 past is = grind arith
+
+told_numbers : (client : ℕ) (fact : Fact) (past : List Fact) (c number : ℕ) → IsTold client fact
+    → has_number c number (fact ∷ past) ≡ has_number c number past
+unfolding has_number
+told_numbers client x2 past c number is = grind arith
+
 pub well_moves : IsMoved Ground IsWell
 unfolding is_well_formed has_number requests_sent has_joined
+well_moves world (Move.Told client fact) is g w = more_well world.past fact world.clients world.links world.server world.server
+    refl (told_well client fact world.past is) (λ c n. told_numbers client fact world.past c n is) w
 well_moves world (Move.Step step) next g w = step_deed world IsWell (deeds_well world g w) step next
 well_moves world (Move.Cut client) up g w = plain_well world.past (Fact.Dropped client) world.clients world.links
     (put world.links client Link.Cut) world.server _ refl refl (λ c n. refl)
@@ -310,8 +322,13 @@ well_moves world (Move.Notice client) cut g w = stepped_well (record world { lin
           (put_up world.links client Link.Down c u);
       numbers = w.numbers;
     })
-well_moves world (Move.Stray client request) up g w = more_well world.past (Fact.Strayed client) world.clients world.links
-    world.server world.server refl refl (λ c n. refl) w
+well_moves world (Move.Stray client request) may g w = record {
+  facts = w.facts;
+  started = w.started;
+  files = w.files;
+  joined_so = w.joined_so;
+  numbers = w.numbers;
+}
 
 -- ---- where runs begin
 

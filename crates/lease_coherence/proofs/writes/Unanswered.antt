@@ -2,7 +2,7 @@
 use Rattle.lease_laws.proofs.Words.{◌&&◌, ◌++◌, ◌==◌, ◌||◌, ◌∙◌, ◌∷◌, ◌≡◌, ◌≢◌, Among, Answer, Asked, Bool, Client, ClientCall}
 use Rattle.lease_laws.proofs.Words.{Entry, Fact, IsSoundClient, IsSoundLive, IsSoundPhase, Link, List, LiveEntry, None, Note}
 use Rattle.lease_laws.proofs.Words.{Option, Out, Pending, Phase, Settlement, Some, Step, Turn, World, ℕ, ⊎_elim, [], all_turned}
-use Rattle.lease_laws.proofs.Words.{ap, ap₂, are_rising, begun, belief_lowered, belief_of, cached_read, client_called}
+use Rattle.lease_laws.proofs.Words.{ap, ap₂, are_rising, arith, begun, belief_lowered, belief_of, cached_read, client_called}
 use Rattle.lease_laws.proofs.Words.{closed_by_server, connect_turn, connection_made, eq-eqb, eqb-true, fact_of, false, filter}
 use Rattle.lease_laws.proofs.Words.{first_belief, flat_map, flush_on_live, gives_up, has_number, if◌then◌else◌, joined}
 use Rattle.lease_laws.proofs.Words.{knows_file, lease_key, meet, next_write, not, notice_turn, noticed, numbers_to, offline_turn}
@@ -19,17 +19,18 @@ use Rattle.lease_laws.proofs.world.Runs.{stepped_clients}
 use Rattle.lease_laws.proofs.client.cases.Commands.{HasCommands, any_command, sent_of}
 use Rattle.lease_laws.proofs.client.cases.Files.{among_numbers}
 use Rattle.lease_laws.proofs.client.cases.Replies.{HasTakes, any_reply}
+use Rattle.lease_laws.proofs.world.cases.Events.{IsTold}
 use Rattle.lease_coherence.proofs.moves.Events.{Ground, IsMoved, come_back, reply_gone, Move}
 use Rattle.lease_coherence.proofs.moves.Frames.{stepped_past}
 use Rattle.lease_coherence.proofs.moves.Ground.{moved_clients, moved_past}
 use Rattle.lease_coherence.proofs.moves.Shift.{append_none}
 use Rattle.lease_coherence.proofs.records.Later.{past_noted}
 use Rattle.lease_coherence.proofs.wellformed.Notes.{EachNote, notes_append, IsSettling, settles}
-use Rattle.lease_coherence.proofs.writes.Settled.{same_bool, or_later, filter_alike, number_there, number_append, settles_in}
-use Rattle.lease_coherence.proofs.writes.Settled.{settles_append, settles_these, left_of, left_one, left_one_front, left_buffered}
-use Rattle.lease_coherence.proofs.writes.Noted.{IsPlainNote, noted_left, LeavesWrites, TellsWrites, TurnLeaves, settling_none}
-use Rattle.lease_coherence.proofs.writes.Noted.{believed_none, turn_notes, turn_settles, turned_leaves, turned_tells}
-use Rattle.lease_coherence.proofs.writes.Noted.{quiet_leaves, front_leaves, same_leaves}
+use Rattle.lease_coherence.proofs.writes.Settled.{filter_alike, left_buffered, left_of, left_one, left_one_front, number_append}
+use Rattle.lease_coherence.proofs.writes.Settled.{number_there, or_later, same_bool, settles_append, settles_in, settles_these}
+use Rattle.lease_coherence.proofs.writes.Noted.{IsPlainNote, LeavesWrites, TellsWrites, TurnLeaves, believed_none, front_leaves}
+use Rattle.lease_coherence.proofs.writes.Noted.{noted_left, quiet_leaves, same_leaves, settling_none, turn_notes, turn_settles}
+use Rattle.lease_coherence.proofs.writes.Noted.{turned_leaves, turned_tells}
 use Rattle.lease_laws.proofs.client.cases.Links.{HasNotices, any_notice}
 use Rattle.lease_laws.proofs.client.Words.{sound_as}
 
@@ -409,8 +410,15 @@ stepped_writes world c call s files h d file known =
     ∙ h d file (ap (λ (m : Client). knows_file m file) (sym (put_other world.clients c step.client d ne)) ∙ known_there)
     ∙ ap (λ (m : Client). unanswered_in (m.entries file)) (sym (put_other world.clients c step.client d ne))) k) known
 
+told_one : (client : ℕ) (fact : Fact) (past : List Fact) (c file : ℕ) → IsTold client fact
+    → open_writes c file (fact ∷ past) ≡ open_writes c file past
+unfolding open_writes
+told_one client x2 past c file is = grind arith
+
 pub writes_moves : IsMoved Ground HasWrites
 unfolding open_writes requests_sent
+writes_moves world (Move.Told client fact) is g h = λ c file known.
+    told_one client fact world.past c file is ∙ h c file known
 writes_moves world (Move.Step step) next g h = λ c file known. ap (open_writes c file) (moved_past world step)
     ∙ told_writes c file world.past (step_taken step (begun world.server)).outs
     ∙ h c file (ap (λ (t : ℕ → Client). knows_file (t c) file) (sym (moved_clients world step)) ∙ known)

@@ -1,14 +1,10 @@
 -- In the record of a run every client is sound, and no write is settled before it is given.
-use Rattle.lease_laws.proofs.Words.{◌<◌, ◌==◌, ◌∷◌, ◌≡◌, ◌≢◌, ◌≤◌, Bool, Client, ClientCall, ClientsOfRunsAreSound}
-use Rattle.lease_laws.proofs.Words.{Event, Fact, IsSoundClient, List, Note, Out, Patch, Progress}
-use Rattle.lease_laws.proofs.Words.{RunsGiveFirst, Settlement, Setup, Step, TellNumbers, World, ℕ, []}
-use Rattle.lease_laws.proofs.Words.{after, all_delivered, arith, client_called}
-use Rattle.lease_laws.proofs.Words.{delivered, eq-eqb, eqb-true, fact_of}
-use Rattle.lease_laws.proofs.Words.{false, first_world, gives_first, happened}
-use Rattle.lease_laws.proofs.Words.{is_settled, is_start, length, list_all}
-use Rattle.lease_laws.proofs.Words.{new_client, noted, put, refl, requests_sent, reverse}
-use Rattle.lease_laws.proofs.Words.{served, starts_from, stepped_in, subst, sym}
-use Rattle.lease_laws.proofs.Words.{true, called}
+use Rattle.lease_laws.proofs.Words.{◌<◌, ◌==◌, ◌∷◌, ◌≡◌, ◌≢◌, ◌≤◌, Bool, Client, ClientCall, ClientsOfRunsAreSound, Event, Fact}
+use Rattle.lease_laws.proofs.Words.{IsSoundClient, List, Note, Out, Patch, Progress, RunsGiveFirst, Settlement, Setup, Step}
+use Rattle.lease_laws.proofs.Words.{TellNumbers, World, ℕ, [], after, all_delivered, arith, called, client_called, delivered}
+use Rattle.lease_laws.proofs.Words.{eq-eqb, eqb-true, fact_of, false, first_world, gives_first, happened, is_settled, is_start}
+use Rattle.lease_laws.proofs.Words.{length, list_all, new_client, noted, put, refl, requests_sent, reverse, served, starts_from}
+use Rattle.lease_laws.proofs.Words.{stepped_in, subst, sym, true}
 use Rattle.lease_laws.proofs.client.Words.{put_each}
 use Rattle.lease_laws.proofs.records.Runs.{all_starts, all_reversed}
 use Rattle.lease_laws.proofs.client.Entries.{first_entries, called_entries}

@@ -1,12 +1,8 @@
 -- In the record of a run the files are started first.
-use Rattle.lease_laws.proofs.Words.{◌+◌, ◌∷◌, ◌≡◌, Fact, List, Note, Out}
+use Rattle.lease_laws.proofs.Words.{◌+◌, ◌∷◌, ◌≡◌, Fact, List, Note, Out, RunsStartFirst, Setup, World, ℕ, [], all_delivered}
+use Rattle.lease_laws.proofs.Words.{called, client_called, delivered, first_world, happened, is_start, list_all, noted, refl}
+use Rattle.lease_laws.proofs.Words.{requests_sent, reverse, reverse_aux, served, starts_first, starts_from, stepped_in, true}
 use Rattle.std.proofs.Common.{arith}
-use Rattle.lease_laws.proofs.Words.{RunsStartFirst, Setup, World, ℕ, [], all_delivered}
-use Rattle.lease_laws.proofs.Words.{delivered}
-use Rattle.lease_laws.proofs.Words.{first_world, is_start}
-use Rattle.lease_laws.proofs.Words.{list_all, noted}
-use Rattle.lease_laws.proofs.Words.{refl, requests_sent, reverse, reverse_aux, served}
-use Rattle.lease_laws.proofs.Words.{starts_first, starts_from, stepped_in, true, happened, called, client_called}
 use Rattle.lease_laws.proofs.records.Content.{all_first}
 use Rattle.lease_laws.proofs.world.Kept.{IsKept, IsOfWorld, after-kept}
 
@@ -53,7 +49,8 @@ begun_kept = record {
   messages = λ world requests replies links b. record { first = b.first };
   fact = fact_begun;
   call = λ world call b. all_delivered_begun _ (called world.server call).outs (record { first = b.first });
-  step = λ world client call b. noted_begun _ client (client_called (world.clients client) call).notes (record { first = b.first });
+  step = λ world client call b.
+      noted_begun _ client (client_called (world.clients client) call).notes (record { first = b.first });
 }
 
 -- where a run begins

@@ -1,10 +1,10 @@
 -- In every run the record says what clients believe.
 use Rattle.lease_laws.proofs.Words.{◌&&◌, ◌==◌, ◌∙◌, ◌∷◌, ◌≡◌, Client, Decides-eqb, Event, Fact, List, Note, Out, Progress, Setup}
-use Rattle.std.proofs.Common.{arith}
 use Rattle.lease_laws.proofs.Words.{Step, World, ℕ, [], after, all_delivered, ap, belief, believed, believed_after, called}
 use Rattle.lease_laws.proofs.Words.{client_called, delivered, fact_of, false, first_world, happened, if◌then◌else◌, is_start}
 use Rattle.lease_laws.proofs.Words.{length, list_all, new_client, noted, nothing_cached, numbered, put, refl, requests_sent}
 use Rattle.lease_laws.proofs.Words.{reverse, served, starts_from, stepped_in, subst, sym, true}
+use Rattle.std.proofs.Common.{arith}
 use Rattle.lease_laws.proofs.client.AllBeliefs.{called-beliefs}
 use Rattle.lease_laws.proofs.client.InFiles.{InFiles, first_in_files, called_in_files}
 use Rattle.lease_laws.proofs.client.Thin.{put_same, put_other}
@@ -14,9 +14,9 @@ use Rattle.lease_laws.proofs.world.Kept.{IsKept, IsOfWorld, served-clients, afte
 use Rattle.lease_laws.proofs.world.Runs.{stepped_clients}
 
 -- the record agrees with what clients believe
-record Agrees (world : World) : Type 0 where
-  in_files : (client : ℕ) → InFiles (world.clients client)
-  agrees : (client file : ℕ) → believed client file world.past ≡ belief (world.clients client) file
+pub record Agrees (world : World) : Type 0 where
+  pub in_files : (client : ℕ) → InFiles (world.clients client)
+  pub agrees : (client file : ℕ) → believed client file world.past ≡ belief (world.clients client) file
 
 -- facts of the world say nothing of beliefs
 of_world : (client file : ℕ) (fact : Fact) (past : List Fact) → IsOfWorld fact
@@ -90,7 +90,7 @@ stepped_agrees world client step a inside tells =
           (λ same. clash (client == c) ((Decides-eqb client c).1 (sym same)) e)))));
     }
 
-agrees_kept : IsKept Agrees
+pub agrees_kept : IsKept Agrees
 agrees_kept = record {
   messages = λ world requests replies links a. record { in_files = a.in_files; agrees = a.agrees };
   fact = λ world fact of a. record {
@@ -116,7 +116,7 @@ started_believed client file [] all = refl
 started_believed client file (Fact.Start f bytes ∷ past) all = started_believed client file past all
 started_believed client file (_ ∷ past) all = clash false all refl
 
-first_agrees : (setup : Setup) → Agrees (first_world setup)
+pub first_agrees : (setup : Setup) → Agrees (first_world setup)
 unfolding first_world new_client
 first_agrees setup = record {
   in_files = λ client. first_in_files (numbered [] setup.clients client) (length setup.files);

@@ -1,14 +1,11 @@
 -- In every run the record has the contents of the server, and replies on their way are right for their places.
-use Rattle.lease_laws.proofs.Words.{◌+◌, ◌<◌, ◌==◌, ◌∙◌, ◌∷◌, ◌≡◌, ◌≤◌, Call, ContentsAreTold, Event, Fact, Link, List}
-use Rattle.lease_laws.proofs.Words.{Note, RepliesAreOfTheirPlaces, Server, Setup, Step, World, ℕ}
-use Rattle.lease_laws.proofs.Words.{[], after, all_delivered, ap, arith, called}
-use Rattle.lease_laws.proofs.Words.{content_of, eq-eqb, eqb-true, fact_of}
-use Rattle.lease_laws.proofs.Words.{files_limit, first_world, happened, if◌then◌else◌}
-use Rattle.lease_laws.proofs.Words.{is_allowed_setup, is_up, last_file_number, length}
-use Rattle.lease_laws.proofs.Words.{machine_key, nat_le, new_server, noted, numbered, put}
-use Rattle.lease_laws.proofs.Words.{refl, requests_sent, reverse_aux, sendings, served, slice_get}
-use Rattle.lease_laws.proofs.Words.{starts_from, stepped_in, subst, suc, sym, take, takings}
-use Rattle.lease_laws.proofs.Words.{true, true≢false, unwrap_or, zero, ClientCall, client_called}
+use Rattle.lease_laws.proofs.Words.{◌+◌, ◌<◌, ◌==◌, ◌∙◌, ◌∷◌, ◌≡◌, ◌≤◌, Call, ClientCall, ContentsAreTold, Event, Fact, Link}
+use Rattle.lease_laws.proofs.Words.{List, Note, RepliesAreOfTheirPlaces, Server, Setup, Step, World, ℕ, [], after, all_delivered}
+use Rattle.lease_laws.proofs.Words.{ap, arith, called, client_called, content_of, eq-eqb, eqb-true, fact_of, files_limit}
+use Rattle.lease_laws.proofs.Words.{first_world, happened, if◌then◌else◌, is_allowed_setup, is_up, last_file_number, length}
+use Rattle.lease_laws.proofs.Words.{machine_key, nat_le, new_server, noted, numbered, put, refl, requests_sent, reverse_aux}
+use Rattle.lease_laws.proofs.Words.{sendings, served, slice_get, starts_from, stepped_in, subst, suc, sym, take, takings, true}
+use Rattle.lease_laws.proofs.Words.{true≢false, unwrap_or, zero}
 use Rattle.lease_laws.proofs.server.Lists.{either, and_parts}
 use Rattle.lease_laws.proofs.client.Thin.{put_other}
 use Rattle.lease_laws.proofs.world.Contents.{HasContents, called-fits, called-contents}
@@ -16,8 +13,8 @@ use Rattle.lease_laws.proofs.world.FileIds.{IsCountedWorld, counted_kept, first_
 use Rattle.lease_laws.proofs.world.Kept.{served-server, kept_forms}
 use Rattle.lease_laws.proofs.world.Links.{IsLinked, first_linked, linked_forms}
 use Rattle.lease_laws.proofs.world.Runs.{stepped_server}
-use Rattle.lease_laws.proofs.world.Snapshots.{KeepsStep, all_in_step, stepped_in_step, took_in_step, joined_in_step, down_in_step}
-use Rattle.lease_laws.proofs.world.Snapshots.{carried_step}
+use Rattle.lease_laws.proofs.world.Snapshots.{KeepsStep, all_in_step, carried_step, down_in_step, joined_in_step, stepped_in_step}
+use Rattle.lease_laws.proofs.world.Snapshots.{took_in_step}
 use Rattle.lease_laws.proofs.world.cases.Events.{Both, HasForms, IsTold, Keeps, KeepsWhere, both_forms, call_served, kept_by_run}
 use Rattle.lease_laws.proofs.world.cases.Events.{link_made, reply_off, two_forms}
 

@@ -1,12 +1,9 @@
 -- What holds of a world in every run: where it holds of the first one, and calls, steps and facts keep it. For
 -- what speaks of the server, the clients and the record, and not of queues and links.
-use Rattle.lease_laws.proofs.Words.{◌∙◌, ◌∷◌, ◌≡◌, Call, Client, ClientCall, Event, Fact, Link, List, Out, Progress}
+use Rattle.lease_laws.proofs.Words.{◌∙◌, ◌∷◌, ◌≡◌, Call, Client, ClientCall, Event, Fact, Link, List, Out, Progress, Reply}
+use Rattle.lease_laws.proofs.Words.{Request, World, ℕ, [], after, all_delivered, called, client_called, delivered, happened}
+use Rattle.lease_laws.proofs.Words.{happens, machine_key, put, refl, requests_sent, served, stepped_in, subst}
 use Rattle.std.proofs.Common.{arith}
-use Rattle.lease_laws.proofs.Words.{Reply, Request, World, ℕ, [], after, all_delivered, called}
-use Rattle.lease_laws.proofs.Words.{client_called, delivered}
-use Rattle.lease_laws.proofs.Words.{happened, happens}
-use Rattle.lease_laws.proofs.Words.{machine_key, put, refl, requests_sent, served}
-use Rattle.lease_laws.proofs.Words.{stepped_in, subst}
 use Rattle.lease_laws.proofs.world.cases.Events.{HasForms, IsTold, Keeps, call_served, kept_by_event, kept_by_run}
 
 -- facts that neither start a file, nor are given out by the server or noted by a client

@@ -1,14 +1,11 @@
 -- Links, queues and connections in every run, and what the record says of them.
-use Rattle.lease_laws.proofs.Words.{◌++◌, ◌+◌, ◌==◌, ◌∙◌, ◌∷◌, ◌≡◌, ◌≢◌, Call, Client, EachOut, Fact, IsOnline, IsSound}
-use Rattle.lease_laws.proofs.Words.{IsTied, IsToPresent, Link, LinksOfRuns, List, Note, Out, Progress, Reply}
-use Rattle.lease_laws.proofs.Words.{Request, Server, Setup, Step, WaitsWell, World, ℕ, ⊤, [], all_delivered}
-use Rattle.lease_laws.proofs.Words.{ap, arith, called}
-use Rattle.lease_laws.proofs.Words.{connection_made, cut, delivered, eq-eqb, fact_of, false}
-use Rattle.lease_laws.proofs.Words.{first_world, happened, is_down, is_served}
-use Rattle.lease_laws.proofs.Words.{is_start, is_up, join, length, length-append}
-use Rattle.lease_laws.proofs.Words.{list_all, machine_key, new_client, new_server, not, noted, noticed, put, refl}
-use Rattle.lease_laws.proofs.Words.{requests_sent, reverse, sendings, sent_over, served, starts_from}
-use Rattle.lease_laws.proofs.Words.{stepped_in, subst, sym, takings, true, true≢false, ClientCall, client_called}
+use Rattle.lease_laws.proofs.Words.{◌++◌, ◌+◌, ◌==◌, ◌∙◌, ◌∷◌, ◌≡◌, ◌≢◌, Call, Client, ClientCall, EachOut, Fact, IsOnline}
+use Rattle.lease_laws.proofs.Words.{IsSound, IsTied, IsToPresent, Link, LinksOfRuns, List, Note, Out, Progress, Reply, Request}
+use Rattle.lease_laws.proofs.Words.{Server, Setup, Step, WaitsWell, World, ℕ, ⊤, [], all_delivered, all_turned, ap, arith, called}
+use Rattle.lease_laws.proofs.Words.{client_called, connection_made, cut, delivered, eq-eqb, fact_of, false, first_world, happened}
+use Rattle.lease_laws.proofs.Words.{is_down, is_served, is_start, is_up, join, length, length-append, list_all, machine_key}
+use Rattle.lease_laws.proofs.Words.{new_client, new_server, not, noted, noticed, put, refl, requests_sent, reverse, sendings}
+use Rattle.lease_laws.proofs.Words.{sent_over, served, starts_from, stepped_in, subst, sym, takings, true, true≢false}
 use Rattle.lease_laws.proofs.client.Forms.{commanded-stays, taken-stays}
 use Rattle.lease_laws.proofs.client.Thin.{put_same, put_other}
 use Rattle.lease_laws.proofs.records.Runs.{all_starts, all_reversed}
@@ -321,7 +318,6 @@ took_tied world client reply queue e tied c = by_client (IsTied (reply_taken wor
 connected_linked : (world : World) (client : ℕ) → is_up (world.links client) ≡ false → IsLinked world
     → IsLinked (stepped_in (call_served (link_made world client) (Call.Join client)) client
     (client_called (world.clients client) ClientCall.Connected))
-unfolding connection_made
 connected_linked world client down l =
     let back : World = link_made world client in
     let progress = join world.server client in
@@ -341,7 +337,7 @@ unfolding is_served sendings takings
 expired_tied world client file c t = grind arith
 
 -- a fact that stands alone
-told_tied : (world : World) (client : ℕ) (fact : Fact) (c : ℕ) → IsTold client fact → IsTied world c
+pub told_tied : (world : World) (client : ℕ) (fact : Fact) (c : ℕ) → IsTold client fact → IsTied world c
     → IsTied (happened world fact) c
 unfolding is_served sendings takings
 told_tied world client x3 c is t = grind arith
@@ -349,7 +345,7 @@ told_tied world client x3 c is t = grind arith
 -- ---- events
 
 pub linked_forms : HasForms (Keeps IsLinked)
-unfolding noticed connection_made requests_sent
+unfolding requests_sent
 linked_forms = record {
   told = λ world client fact some is l. record {
     sound = l.sound;

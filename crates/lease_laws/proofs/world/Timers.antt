@@ -1,15 +1,13 @@
 -- In every run the record doesn't call a client served whose timer ran out since it connected.
-use Rattle.lease_laws.proofs.Words.{◌&&◌, ◌==◌, ◌∙◌, ◌∷◌, ◌≡◌, Bool, Call, Fact, Key, Link, List, Note, Out}
+use Rattle.lease_laws.proofs.Words.{◌&&◌, ◌==◌, ◌∙◌, ◌∷◌, ◌≡◌, Bool, Call, ClientCall, Fact, Key, Link, List, Note, Out, Setup}
+use Rattle.lease_laws.proofs.Words.{Step, TimersAreTold, World, ℕ, ⊎_elim, [], all_delivered, ap, called, client_called}
+use Rattle.lease_laws.proofs.Words.{delivered, eq-eqb, fact_of, false, first_world, happened, if◌then◌else◌, is_served, is_up}
+use Rattle.lease_laws.proofs.Words.{machine_key, new_server, not, noted, put, refl, requests_sent, served, stepped_in, sym, true}
+use Rattle.lease_laws.proofs.Words.{true≢false}
 use Rattle.std.proofs.Common.{arith}
-use Rattle.lease_laws.proofs.Words.{Setup, Step, TimersAreTold, World, ℕ, ⊎_elim, [], all_delivered}
-use Rattle.lease_laws.proofs.Words.{ap, called}
-use Rattle.lease_laws.proofs.Words.{delivered, eq-eqb, fact_of, false, first_world, happened}
-use Rattle.lease_laws.proofs.Words.{if◌then◌else◌, is_served, is_up}
-use Rattle.lease_laws.proofs.Words.{machine_key, new_server, not, noted, put, refl}
-use Rattle.lease_laws.proofs.Words.{requests_sent, served, stepped_in, sym}
-use Rattle.lease_laws.proofs.Words.{true, true≢false, ClientCall, client_called}
 use Rattle.lease_laws.proofs.server.Expired.{called-expired, cut-expired, scavenge-expired, join-expired, expire-expired}
 use Rattle.lease_laws.proofs.server.Keys.{put_key-cases}
+use Rattle.lease_laws.proofs.server.Lists.{clash, not_true}
 use Rattle.lease_laws.proofs.world.Kept.{served-server}
 use Rattle.lease_laws.proofs.world.Links.{IsLinked, first_linked, linked_forms}
 use Rattle.lease_laws.proofs.world.Runs.{stepped_server}
@@ -144,6 +142,12 @@ timely_forms = both_forms IsLinked AreToldOf linked_forms told_forms
 pub first_timely : (setup : Setup) → IsTimely (first_world setup)
 unfolding first_world new_server
 first_timely setup = (first_linked setup, λ key e. absurd (true≢false (sym e)))
+
+-- a client that is served has no timer that ran out
+pub unexpired : (world : World) → IsTimely world → (c file : ℕ) → is_served c world.past ≡ true
+    → world.server.expired (machine_key world c file) ≡ false
+unexpired world t c file served = not_true (world.server.expired (machine_key world c file))
+    (λ out. clash (is_served c world.past) served (t.1 (machine_key world c file) out))
 
 pub timers_are_told : TimersAreTold
 timers_are_told setup events key e =

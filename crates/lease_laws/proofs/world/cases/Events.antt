@@ -1,11 +1,11 @@
 -- What an event makes of a world: each of the forms, with what is known of it. What each form keeps, every event keeps, and
 -- every run.
-use Rattle.lease_laws.proofs.Words.{◌==◌, ◌∷◌, ◌≡◌, Call, ClientCall, Command, Event, Fact, Link, List, None, Option}
-use Rattle.lease_laws.proofs.Words.{Reply, Request, Some, World, ℕ, [], after, applied, breaking, called, client_called}
-use Rattle.lease_laws.proofs.Words.{client_of, client_takes, connect_over, cut_over, eq-eqb, happened, happens, has_client}
-use Rattle.lease_laws.proofs.Words.{has_file, has_strayed, if◌then◌else◌, kept, link_connected, link_cut, link_noticed}
-use Rattle.lease_laws.proofs.Words.{machine_key, nat_le, notice_over, put, refl, requests_sent, scavenged, served, server_takes}
-use Rattle.lease_laws.proofs.Words.{stepped_in, strayed_over, timer_expired, true}
+use Rattle.lease_laws.proofs.Words.{◌==◌, ◌∷◌, ◌≡◌, Call, ClientCall, Command, Event, Fact, Link, List, None, Option, Reply}
+use Rattle.lease_laws.proofs.Words.{Request, Some, World, ℕ, [], after, applied, breaking, called, client_called, client_of}
+use Rattle.lease_laws.proofs.Words.{client_takes, connect_over, cut_over, eq-eqb, happened, happens, has_client, has_file}
+use Rattle.lease_laws.proofs.Words.{has_strayed, if◌then◌else◌, kept, link_connected, link_cut, link_noticed, machine_key, nat_le}
+use Rattle.lease_laws.proofs.Words.{notice_over, put, refl, requests_sent, scavenged, served, server_takes, stepped_in}
+use Rattle.lease_laws.proofs.Words.{strayed_over, timer_expired, true}
 use Rattle.lease_laws.proofs.server.Lists.{if_cases, and_parts, true_or}
 
 -- facts that are told of a client alone, before anything else happens
