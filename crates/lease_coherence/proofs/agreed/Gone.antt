@@ -1,9 +1,9 @@
 -- An open that is gone never comes back: FileIds are never given again.
 use Rattle.lease_laws.proofs.Words.{◌++◌, ◌+◌, ◌==◌, ◌∙◌, ◌∷◌, ◌≡◌, ◌≢◌, ◌≤◌, Among, Bool, List, None, Open, Option, Server, Some}
-use Rattle.lease_laws.proofs.Words.{Step, World, ℕ, ⊎_elim, [], after, ap, arith, client_forgotten, commanded, connected_again}
+use Rattle.lease_laws.proofs.Words.{Step, World, ℕ, ⊎_elim, [], after, ap, arith, commanded, connected_again}
 use Rattle.lease_laws.proofs.Words.{connected_open, connection_made, disconnected, false, first_world, has_key, is_left_behind}
-use Rattle.lease_laws.proofs.Words.{is_lost, joined, key_expired, lease_after, machine_key, map, new_open, not, noticed}
-use Rattle.lease_laws.proofs.Words.{opens_disconnected, opens_dropped, refl, requests_sent, stepped_in, subst, sym, taken, true}
+use Rattle.lease_laws.proofs.Words.{is_lost, lease_after, machine_key, map, new_open, not, noticed}
+use Rattle.lease_laws.proofs.Words.{refl, requests_sent, stepped_in, subst, sym, taken, true}
 use Rattle.lease_laws.proofs.Words.{with_opens, without}
 use Rattle.lease_laws.proofs.server.Lists.{if_cases, among_append, among_filter, among_map}
 use Rattle.lease_laws.proofs.world.FileIds.{run_counted}

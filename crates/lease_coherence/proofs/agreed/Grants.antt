@@ -1,11 +1,11 @@
 -- A client's belief rises by a grant alone, while no break is in progress.
 use Rattle.lease_laws.proofs.Words.{◌&&◌, ◌||◌, ◌≡◌, ◌⊎◌, Asked, Bool, Client, ClientCall, CreateAnswer, Entry, LeaseGiven, List}
-use Rattle.lease_laws.proofs.Words.{LiveEntry, None, Option, Pending, Phase, Reply, Some, State, Step, ℕ, all_turned, belief}
-use Rattle.lease_laws.proofs.Words.{belief_in, belief_lowered, bytes_eq, cached_read, closed_by_server, connect_turn}
-use Rattle.lease_laws.proofs.Words.{connection_made, false, flush_on_live, given_state, inl, inr, is_state_within, lease_key}
-use Rattle.lease_laws.proofs.Words.{meet, not, nothing_cached, noticed, opened_anew, opened_turn, parked_closed, phase_with}
-use Rattle.lease_laws.proofs.Words.{promoted_belief, promoted_turn, put, read_turn, reconnected_turn, refl, sent_without, subst}
-use Rattle.lease_laws.proofs.Words.{sym, true, turned, without_open, write_buffered, write_done_turn, write_sent}
+use Rattle.lease_laws.proofs.Words.{LiveEntry, None, Option, Pending, Phase, Reply, Some, State, Step, ℕ, belief}
+use Rattle.lease_laws.proofs.Words.{belief_in, bytes_eq, connect_turn}
+use Rattle.lease_laws.proofs.Words.{false, given_state, inl, inr, is_state_within, lease_key}
+use Rattle.lease_laws.proofs.Words.{meet, not, nothing_cached, phase_with}
+use Rattle.lease_laws.proofs.Words.{promoted_belief, put, refl, sent_without, subst}
+use Rattle.lease_laws.proofs.Words.{sym, true, turned, without_open}
 use Rattle.lease_laws.proofs.client.Thin.{put_same, put_other}
 use Rattle.lease_laws.proofs.server.Lists.{if_cases, either, clash, and_parts, not_parts}
 use Rattle.lease_laws.proofs.world.Links.{by_client}

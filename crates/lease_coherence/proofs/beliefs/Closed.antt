@@ -1,7 +1,7 @@
 -- Opens that are closed take no trust away: a lease that stays is as it was, and of one that goes nothing is believed.
 use Rattle.lease_laws.proofs.Words.{◌++◌, ◌==◌, ◌∙◌, ◌∷◌, ◌≡◌, ◌⊎◌, Among, Bool, Fact, FileRequest, Key, Lease, List, Open, Reply}
-use Rattle.lease_laws.proofs.Words.{Server, World, ℕ, ⊎_elim, [], ap, false, has_key, inl, inr, key_eq, key_expired, list_any}
-use Rattle.lease_laws.proofs.Words.{machine_key, no_lease, not, opens_dropped, put, put_key, refl, subst, sym, true, true≢false}
+use Rattle.lease_laws.proofs.Words.{Server, World, ℕ, ⊎_elim, [], ap, false, has_key, inl, inr, key_eq, list_any}
+use Rattle.lease_laws.proofs.Words.{machine_key, no_lease, not, put, put_key, refl, subst, sym, true, true≢false}
 use Rattle.lease_laws.proofs.Words.{with_opens, without}
 use Rattle.lease_laws.proofs.client.Thin.{put_same}
 use Rattle.lease_laws.proofs.server.Keys.{put_key-cases, is_key-one, key_eq-refl}

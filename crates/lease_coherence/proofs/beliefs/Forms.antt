@@ -3,11 +3,11 @@
 use Rattle.lease_laws.proofs.Words.{◌++◌, ◌+◌, ◌∙◌, ◌∷◌, ◌≡◌, ◌≢◌, ◌⊎◌, Answer, Asked, BreakNotice, Client, CreateAnswer, Entry}
 use Rattle.lease_laws.proofs.Words.{FileRequest, LeaseGiven, List, LiveEntry, None, Option, Pending, Phase, Reply, Request, Some}
 use Rattle.lease_laws.proofs.Words.{State, Step, Turn, ℕ, ⊤, [], acknowledgment, ap, ap₂, arith, belief_lowered, bytes_eq}
-use Rattle.lease_laws.proofs.Words.{bytes_eq-Decides, cached_read, closed_by_server, create_request, false, flush_on_live}
-use Rattle.lease_laws.proofs.Words.{flushed, given_state, inl, inr, is_key_of, lease_key, meet, next_write, opened_anew}
-use Rattle.lease_laws.proofs.Words.{opened_turn, parked_closed, phase_with, promoted_belief, promoted_turn, put, quiet_step}
-use Rattle.lease_laws.proofs.Words.{read_turn, reconnected_turn, refl, subst, sym, take, true, turned, without_open}
-use Rattle.lease_laws.proofs.Words.{write_buffered, write_done_turn, write_requests, write_sent, wrote_step}
+use Rattle.lease_laws.proofs.Words.{bytes_eq-Decides, create_request, false}
+use Rattle.lease_laws.proofs.Words.{flushed, given_state, inl, inr, is_key_of, lease_key, meet, next_write}
+use Rattle.lease_laws.proofs.Words.{parked_closed, phase_with, promoted_belief, put, quiet_step}
+use Rattle.lease_laws.proofs.Words.{refl, subst, sym, take, true, turned, without_open}
+use Rattle.lease_laws.proofs.Words.{write_requests, wrote_step}
 use Rattle.lease_laws.proofs.client.Thin.{put_same, put_other}
 use Rattle.lease_laws.proofs.server.Lists.{if_cases, either, clash, not_true}
 use Rattle.lease_laws.proofs.world.Links.{by_client}

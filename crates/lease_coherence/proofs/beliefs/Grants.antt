@@ -1,7 +1,7 @@
 -- What a grant gives is held by the lease, and takes no writes from it.
 use Rattle.lease_laws.proofs.Words.{◌&&◌, ◌==◌, ◌∙◌, ◌≡◌, Access, IsFree, IsSound, Key, Lease, List, Server, Share, Some, State}
-use Rattle.lease_laws.proofs.Words.{ℕ, allowed, ap, bytes_eq, eqb-true, false, given_state, granted_form_of, has_key, is_breaking}
-use Rattle.lease_laws.proofs.Words.{is_other_on, is_state_within, lease_granted, list_any, not, nothing_cached, offered, refl}
+use Rattle.lease_laws.proofs.Words.{ℕ, ap, bytes_eq, eqb-true, false, given_state, granted_form_of, has_key, is_breaking}
+use Rattle.lease_laws.proofs.Words.{is_other_on, is_state_within, lease_granted, list_any, not, nothing_cached, refl}
 use Rattle.lease_laws.proofs.Words.{sym, true, true≢false}
 use Rattle.lease_laws.proofs.server.Lists.{if_cases, either, clash, and_parts, not_parts, any_has}
 use Rattle.lease_laws.proofs.server.States.{write_of_part}

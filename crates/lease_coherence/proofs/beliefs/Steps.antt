@@ -1,8 +1,8 @@
 -- What a client does keeps its trust.
 use Rattle.lease_laws.proofs.Words.{◌++◌, ◌+◌, ◌∙◌, ◌≡◌, ◌⊎◌, Among, Client, FileRequest, Held, IsSoundPhase, Link, List}
-use Rattle.lease_laws.proofs.Words.{LiveEntry, Pending, Phase, Reply, Request, Server, Step, World, ℕ, ⊎_elim, ⊤, [], all_turned}
+use Rattle.lease_laws.proofs.Words.{LiveEntry, Pending, Phase, Reply, Request, Server, Step, World, ℕ, ⊎_elim, ⊤, []}
 use Rattle.lease_laws.proofs.Words.{ap, ap₂, arith, connect_turn, connection_made, false, flat_map, inl, inr, is_down, is_up}
-use Rattle.lease_laws.proofs.Words.{joined, key_of, lease_key, machine_key, not, numbers_to, refl, sent_over, stepped_in, subst}
+use Rattle.lease_laws.proofs.Words.{key_of, lease_key, machine_key, not, numbers_to, refl, sent_over, stepped_in, subst}
 use Rattle.lease_laws.proofs.Words.{sym, true}
 use Rattle.lease_laws.proofs.client.Thin.{put_same}
 use Rattle.lease_laws.proofs.server.Lists.{clash}

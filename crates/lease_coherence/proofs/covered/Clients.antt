@@ -1,11 +1,11 @@
 -- Every step of a client keeps its opens covered, and reads and writes under the open of a live entry.
 use Rattle.lease_laws.proofs.Words.{◌++◌, ◌+◌, ◌==◌, ◌∙◌, ◌∷◌, ◌≡◌, ◌≢◌, ◌≤◌, Answer, Asked, Client, CreateAnswer, Entry}
 use Rattle.lease_laws.proofs.Words.{FileRequest, IsSoundClient, List, LiveEntry, None, Option, Pending, Phase, Reply, Request}
-use Rattle.lease_laws.proofs.Words.{Some, Status, Step, Turn, ℕ, ⊎_elim, [], ap, arith, belief_lowered, cached_read}
-use Rattle.lease_laws.proofs.Words.{closed_by_server, create_request, eq-eqb, eqb-true, false, flush_on_live, inl, inr, is_asking}
-use Rattle.lease_laws.proofs.Words.{is_file_closed, is_some, next_write, opened_anew, opened_turn, parked_closed, phase_with}
-use Rattle.lease_laws.proofs.Words.{promoted_turn, put, quiet_step, read_turn, reconnected_turn, refl, subst, sym, true}
-use Rattle.lease_laws.proofs.Words.{true≢false, turned, write_buffered, write_done_turn, write_requests, write_sent, wrote_step}
+use Rattle.lease_laws.proofs.Words.{Some, Status, Step, Turn, ℕ, ⊎_elim, [], ap, arith}
+use Rattle.lease_laws.proofs.Words.{create_request, eq-eqb, eqb-true, false, inl, inr, is_asking}
+use Rattle.lease_laws.proofs.Words.{is_file_closed, is_some, next_write, phase_with}
+use Rattle.lease_laws.proofs.Words.{put, quiet_step, refl, subst, sym, true}
+use Rattle.lease_laws.proofs.Words.{true≢false, turned, write_requests, wrote_step}
 use Rattle.lease_laws.proofs.client.Thin.{put_same, put_other}
 use Rattle.lease_laws.proofs.server.Lists.{either, and_parts}
 use Rattle.lease_laws.proofs.world.Links.{by_client}

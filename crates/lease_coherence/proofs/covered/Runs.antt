@@ -3,9 +3,9 @@ use Rattle.lease_laws.proofs.Words.{◌++◌, ◌+◌, ◌==◌, ◌∙◌, ◌�
 use Rattle.lease_laws.proofs.Words.{Lease, LeaseOf, Link, List, None, Ok, Open, Option, Phase, Reply, Request, Server, SmallStep}
 use Rattle.lease_laws.proofs.Words.{Some, Status, Step, World, ℕ, ⊎_elim, [], ap, ap₂, arith, break_notice, commanded}
 use Rattle.lease_laws.proofs.Words.{connected_open, connection_made, eq-eqb, false, file_asked, file_of_open, has_key}
-use Rattle.lease_laws.proofs.Words.{has_strayed, is_up, joined, key_expired, key_of, lease_key, machine_key, not, noticed}
-use Rattle.lease_laws.proofs.Words.{opens_dropped, put, refl, refusal_of, stepped_in, subst, sym, taken, true, true≢false}
-use Rattle.lease_laws.proofs.Words.{was_opened, with_opens}
+use Rattle.lease_laws.proofs.Words.{has_strayed, is_up, key_of, lease_key, machine_key, not, noticed}
+use Rattle.lease_laws.proofs.Words.{put, refl, refusal_of, stepped_in, subst, sym, taken, true, true≢false}
+use Rattle.lease_laws.proofs.Words.{was_opened}
 use Rattle.lease_laws.proofs.client.Forms.{commanded-stays, taken-stays}
 use Rattle.lease_laws.proofs.client.Thin.{put_same}
 use Rattle.lease_laws.proofs.server.Goes.{one_id}

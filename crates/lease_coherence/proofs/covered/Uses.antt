@@ -1,8 +1,8 @@
 -- Reads and writes are sent under the open of a live entry.
 use Rattle.lease_laws.proofs.Words.{◌++◌, ◌∷◌, ◌≡◌, Client, FileRequest, List, LiveEntry, Pending, Phase, Request, Step, ℕ, ⊤, []}
-use Rattle.lease_laws.proofs.Words.{acknowledgment, belief_lowered, cached_read, closed_by_server, flush_on_live, flushed, meet}
-use Rattle.lease_laws.proofs.Words.{opened_anew, opened_turn, parked_closed, promoted_turn, read_turn, reconnected_turn, refl}
-use Rattle.lease_laws.proofs.Words.{turned, write_buffered, write_done_turn, write_requests, write_sent}
+use Rattle.lease_laws.proofs.Words.{acknowledgment, flushed, meet}
+use Rattle.lease_laws.proofs.Words.{refl}
+use Rattle.lease_laws.proofs.Words.{turned, write_requests}
 use Rattle.lease_laws.proofs.server.Lists.{if_cases}
 use Rattle.lease_coherence.specs.Names.{Each}
 use Rattle.lease_laws.proofs.client.cases.Commands.{HasCommands}

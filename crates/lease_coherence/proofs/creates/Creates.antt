@@ -2,12 +2,12 @@
 use Rattle.lease_laws.proofs.Words.{◌&&◌, ◌++◌, ◌+◌, ◌==◌, ◌∙◌, ◌∷◌, ◌≡◌, ◌≢◌, Among, Bool, Client, CreateAsk, Entry, Err, Fact}
 use Rattle.lease_laws.proofs.Words.{FileRequest, Held, IsAbout, IsInTurn, IsSoundEntry, IsSoundPhase, LeaseOf, Link, List}
 use Rattle.lease_laws.proofs.Words.{LiveEntry, None, Ok, Option, Pending, Phase, Reply, Request, Result, Server, SmallStep, Some}
-use Rattle.lease_laws.proofs.Words.{Status, Step, World, ℕ, ⊎_elim, [], all_turned, ap, ap₂, arith, break_notice, commanded}
+use Rattle.lease_laws.proofs.Words.{Status, Step, World, ℕ, ⊎_elim, [], ap, ap₂, arith, break_notice, commanded}
 use Rattle.lease_laws.proofs.Words.{connect_turn, connection_made, eq-eqb, eqb-true, false, file_asked, file_of_create, filter}
 use Rattle.lease_laws.proofs.Words.{flat_map, flat_map-append, granted_form_of, has_file, held_of, if◌then◌else◌, inl, inr}
-use Rattle.lease_laws.proofs.Words.{is_asking, is_down, is_up, joined, key_expired, key_of, knows_file, lease_after, nat_le, not}
-use Rattle.lease_laws.proofs.Words.{noticed, numbers_to, opens_dropped, put, refl, refusal_of, sent_over, stepped_in, subst, suc}
-use Rattle.lease_laws.proofs.Words.{sym, taken, true, true≢false, with_opens, zero}
+use Rattle.lease_laws.proofs.Words.{is_asking, is_down, is_up, key_of, knows_file, lease_after, nat_le, not}
+use Rattle.lease_laws.proofs.Words.{noticed, numbers_to, put, refl, refusal_of, sent_over, stepped_in, subst, suc}
+use Rattle.lease_laws.proofs.Words.{sym, taken, true, true≢false, zero}
 use Rattle.lease_laws.proofs.client.Thin.{put_same, put_other}
 use Rattle.lease_laws.proofs.server.Lists.{if_cases, either, clash, not_true, among_behind}
 use Rattle.lease_laws.proofs.world.Links.{stepped_links}

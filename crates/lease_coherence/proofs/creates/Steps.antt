@@ -1,11 +1,11 @@
 -- What a client's step adds to the creates under way, and what it takes.
 use Rattle.lease_laws.proofs.Words.{◌++◌, ◌+◌, ◌==◌, ◌∙◌, ◌∷◌, ◌≡◌, ◌≢◌, ◌≤◌, Answer, Asked, BreakNotice, Client, Entry, Fact}
 use Rattle.lease_laws.proofs.Words.{FileRequest, List, LiveEntry, None, Option, Pending, Phase, Reply, Request, Some, State, Step}
-use Rattle.lease_laws.proofs.Words.{Turn, ℕ, [], acknowledgment, ap, ap₂, arith, belief_lowered, cached_read, closed_by_server}
-use Rattle.lease_laws.proofs.Words.{eq-eqb, eqb-true, false, flush_on_live, flushed, if◌then◌else◌, is_asking, is_some, meet}
-use Rattle.lease_laws.proofs.Words.{next_write, opened_anew, opened_turn, parked_closed, phase_with, promoted_turn, put}
-use Rattle.lease_laws.proofs.Words.{read_turn, reconnected_turn, refl, sent_without, subst, sym, true, turned, without_open}
-use Rattle.lease_laws.proofs.Words.{write_buffered, write_done_turn, write_requests, write_sent, wrote_step}
+use Rattle.lease_laws.proofs.Words.{Turn, ℕ, [], acknowledgment, ap, ap₂, arith}
+use Rattle.lease_laws.proofs.Words.{eq-eqb, eqb-true, false, flushed, if◌then◌else◌, is_asking, is_some, meet}
+use Rattle.lease_laws.proofs.Words.{next_write, phase_with, put}
+use Rattle.lease_laws.proofs.Words.{refl, sent_without, subst, sym, true, turned, without_open}
+use Rattle.lease_laws.proofs.Words.{write_requests, wrote_step}
 use Rattle.lease_laws.proofs.client.Thin.{put_same, put_other}
 use Rattle.lease_laws.proofs.server.Lists.{if_cases, either, and_parts}
 use Rattle.lease_laws.proofs.world.Links.{by_client}

@@ -2,10 +2,10 @@
 use Rattle.lease_laws.proofs.Words.{◌+◌, ◌==◌, ◌∙◌, ◌∷◌, ◌≡◌, ◌≢◌, ◌≤◌, Answer, Bool, BreakNotice, Client, CreateAnswer, Entry}
 use Rattle.lease_laws.proofs.Words.{Fact, FileRequest, IsSoundClient, IsSoundLive, IsSoundPhase, List, LiveEntry, None, Option}
 use Rattle.lease_laws.proofs.Words.{Patch, Pending, Phase, Reply, Request, Some, State, Step, Turn, ℕ, ⊎_elim, [], ap, arith}
-use Rattle.lease_laws.proofs.Words.{belief_in, bytes_eq, bytes_eq-Decides, cached_read, content_of, create_request, eq-eqb}
-use Rattle.lease_laws.proofs.Words.{eqb-true, false, flush_on_live, has_sent, has_written, inl, is_key_of, is_numbered}
-use Rattle.lease_laws.proofs.Words.{knows_file, lease_key, list_any, next_write, opened_anew, put, refl, subst, sym, true}
-use Rattle.lease_laws.proofs.Words.{true≢false, turned, write_buffered, write_sent, wrote_step}
+use Rattle.lease_laws.proofs.Words.{belief_in, bytes_eq, bytes_eq-Decides, content_of, create_request, eq-eqb}
+use Rattle.lease_laws.proofs.Words.{eqb-true, false, has_sent, has_written, inl, is_key_of, is_numbered}
+use Rattle.lease_laws.proofs.Words.{knows_file, lease_key, list_any, next_write, put, refl, subst, sym, true}
+use Rattle.lease_laws.proofs.Words.{true≢false, turned, wrote_step}
 use Rattle.lease_laws.proofs.client.Thin.{put_same, put_other}
 use Rattle.lease_laws.proofs.server.Lists.{either, clash, not_true, not_false, or_true}
 use Rattle.lease_laws.proofs.world.Links.{by_client}

@@ -1,8 +1,8 @@
 -- At every point of a run the contents of the server are those of the record.
 use Rattle.lease_laws.proofs.Words.{◌==◌, ◌∙◌, ◌∷◌, ◌≡◌, Fact, FileRequest, Link, List, Note, Patch, Server, Step, World, ℕ, []}
-use Rattle.lease_laws.proofs.Words.{ap, arith, client_forgotten, content_of, eq-eqb, eqb-true, fact_of, if◌then◌else◌, joined}
-use Rattle.lease_laws.proofs.Words.{key_expired, lease_after, opens_disconnected, opens_dropped, put, refl, requests_sent}
-use Rattle.lease_laws.proofs.Words.{stepped_in, subst, sym, with_opens}
+use Rattle.lease_laws.proofs.Words.{ap, arith, content_of, eq-eqb, eqb-true, fact_of, if◌then◌else◌}
+use Rattle.lease_laws.proofs.Words.{lease_after, put, refl, requests_sent}
+use Rattle.lease_laws.proofs.Words.{stepped_in, subst, sym}
 use Rattle.lease_state.specs.Content.{patch as patched}
 use Rattle.lease_laws.proofs.client.Thin.{put_same, put_other}
 use Rattle.lease_laws.proofs.server.Lists.{either, clash}

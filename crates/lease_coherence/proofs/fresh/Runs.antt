@@ -1,12 +1,12 @@
 -- Every move keeps a client's bytes fresh, of each file whose timer didn't run out, while its link is up.
 use Rattle.lease_laws.proofs.Words.{◌++◌, ◌+◌, ◌==◌, ◌∙◌, ◌∷◌, ◌≡◌, ◌≤◌, Among, Bool, Client, Command, Fact, FileRequest}
 use Rattle.lease_laws.proofs.Words.{IsSoundPhase, Lease, Link, List, LiveEntry, None, Note, Open, Pending, Phase, Reply, Request}
-use Rattle.lease_laws.proofs.Words.{Server, Some, State, Status, Step, World, ℕ, [], all_turned, ap, ap₂, arith, belief_in}
+use Rattle.lease_laws.proofs.Words.{Server, Some, State, Status, Step, World, ℕ, [], ap, ap₂, arith, belief_in}
 use Rattle.lease_laws.proofs.Words.{commanded, connect_turn, connection_made, content_of, drop, eq-eqb, fact_of, false, has_key}
-use Rattle.lease_laws.proofs.Words.{has_strayed, if◌then◌else◌, inl, is_breaking, is_down, is_up, joined, key_expired, key_of}
+use Rattle.lease_laws.proofs.Words.{has_strayed, if◌then◌else◌, inl, is_breaking, is_down, is_up, key_of}
 use Rattle.lease_laws.proofs.Words.{last_of, last_sending, lease_key, length, list_any, machine_key, not, noticed, numbers_to}
-use Rattle.lease_laws.proofs.Words.{opens_dropped, put, refl, refusal_of, sendings, slice_get, stepped_in, subst, suc, sym, taken}
-use Rattle.lease_laws.proofs.Words.{takings, true, true≢false, with_opens, without, zero}
+use Rattle.lease_laws.proofs.Words.{put, refl, refusal_of, sendings, slice_get, stepped_in, subst, suc, sym, taken}
+use Rattle.lease_laws.proofs.Words.{takings, true, true≢false, without, zero}
 use Rattle.lease_laws.proofs.client.Forms.{commanded-stays, taken-stays}
 use Rattle.lease_laws.proofs.client.Thin.{put_same}
 use Rattle.lease_laws.proofs.server.Keys.{put_key-cases}

@@ -2,10 +2,10 @@
 use Rattle.lease_laws.proofs.Words.{◌&&◌, ◌==◌, ◌∙◌, ◌∷◌, ◌≡◌, ◌≢◌, Among, Answer, Asked, Bool, BreakNotice, Client, CreateAnswer}
 use Rattle.lease_laws.proofs.Words.{Fact, IsSoundClient, LeaseGiven, List, LiveEntry, None, Option, Pending, Phase, Reply}
 use Rattle.lease_laws.proofs.Words.{Request, Some, State, Turn, ℕ, ⊎_elim, [], acknowledgment, ap, base_with, belief_in}
-use Rattle.lease_laws.proofs.Words.{belief_lowered, bytes_eq, bytes_eq-Decides, closed_by_server, content_of, eq-eqb, eqb-true}
+use Rattle.lease_laws.proofs.Words.{belief_lowered, bytes_eq, bytes_eq-Decides, content_of, eq-eqb, eqb-true}
 use Rattle.lease_laws.proofs.Words.{false, find, flushed, given_state, has_sent, has_written, if◌then◌else◌, inl, is_key_of}
-use Rattle.lease_laws.proofs.Words.{is_numbered, lease_key, list_any, meet, not, nothing_cached, opened_turn, parked_closed}
-use Rattle.lease_laws.proofs.Words.{phase_with, promoted_belief, promoted_turn, quiet_step, read_turn, reconnected_turn, refl}
+use Rattle.lease_laws.proofs.Words.{is_numbered, lease_key, list_any, meet, not, nothing_cached, parked_closed}
+use Rattle.lease_laws.proofs.Words.{phase_with, promoted_belief, quiet_step, read_turn, refl}
 use Rattle.lease_laws.proofs.Words.{subst, sym, true, true≢false, turned, was_opened, without_open, write_done_turn}
 use Rattle.lease_laws.proofs.Words.{write_requests}
 use Rattle.lease_state.specs.Content.{patch as patched}

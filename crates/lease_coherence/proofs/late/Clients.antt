@@ -2,12 +2,12 @@
 use Rattle.lease_laws.proofs.Words.{◌++◌, ◌+◌, ◌==◌, ◌∙◌, ◌∷◌, ◌≡◌, ◌≢◌, ◌⊎◌, Among, Answer, Asked, Bool, BreakNotice, Client}
 use Rattle.lease_laws.proofs.Words.{Entry, FileRequest, IsSoundClient, List, LiveEntry, None, Note, Option, Parted, Patch}
 use Rattle.lease_laws.proofs.Words.{Pending, Phase, Reply, Request, Some, State, Step, Turn, ℕ, ⊎_elim, ⊤, [], acknowledgment, ap}
-use Rattle.lease_laws.proofs.Words.{are_rising, belief_lowered, cached_read, closed_by_server, eq-eqb, eqb-true, false}
-use Rattle.lease_laws.proofs.Words.{file_where, flush_on_live, flushed, gives_up, has_number, has_sent, if◌then◌else◌, inl, inr}
-use Rattle.lease_laws.proofs.Words.{knows_file, meet, next_write, opened_anew, opened_turn, parked_closed, phase_with}
-use Rattle.lease_laws.proofs.Words.{promoted_turn, put, quiet_step, read_turn, reconnected_turn, refl, sent_without, subst, sym}
-use Rattle.lease_laws.proofs.Words.{true, turned, unanswered_in, unsent_in, without_open, write_buffered, write_done_turn}
-use Rattle.lease_laws.proofs.Words.{write_requests, write_sent, wrote_step}
+use Rattle.lease_laws.proofs.Words.{are_rising, belief_lowered, eq-eqb, eqb-true, false}
+use Rattle.lease_laws.proofs.Words.{file_where, flushed, gives_up, has_number, has_sent, if◌then◌else◌, inl, inr}
+use Rattle.lease_laws.proofs.Words.{knows_file, meet, next_write, phase_with}
+use Rattle.lease_laws.proofs.Words.{put, quiet_step, refl, sent_without, subst, sym}
+use Rattle.lease_laws.proofs.Words.{true, turned, unanswered_in, unsent_in, without_open}
+use Rattle.lease_laws.proofs.Words.{write_requests, wrote_step}
 use Rattle.lease_laws.proofs.client.Thin.{put_same, put_other}
 use Rattle.lease_laws.proofs.server.Lists.{if_cases, clash, not_true, among_append, true_or}
 use Rattle.lease_laws.proofs.world.Links.{by_client}

@@ -2,12 +2,12 @@
 use Rattle.lease_laws.proofs.Words.{◌&&◌, ◌++◌, ◌+◌, ◌||◌, ◌∙◌, ◌∷◌, ◌≡◌, ◌⊎◌, Among, Asked, Bool, BreakNotice, Client}
 use Rattle.lease_laws.proofs.Words.{CreateAnswer, Entry, IsSoundClient, IsSoundLive, IsSoundPhase, LeaseGiven, List, LiveEntry}
 use Rattle.lease_laws.proofs.Words.{None, Open, Option, Parted, Pending, Phase, Reply, Some, State, Step, Turn, World, ℕ, ⊎_elim}
-use Rattle.lease_laws.proofs.Words.{[], ap, belief_lowered, bytes_eq, cached_read, closed_by_server, connect_turn, false, filter}
-use Rattle.lease_laws.proofs.Words.{first_belief, flush_on_live, given_state, gives_up, if◌then◌else◌, inl, inr, is_touched}
+use Rattle.lease_laws.proofs.Words.{[], ap, belief_lowered, bytes_eq, connect_turn, false, filter}
+use Rattle.lease_laws.proofs.Words.{first_belief, given_state, gives_up, if◌then◌else◌, inl, inr, is_touched}
 use Rattle.lease_laws.proofs.Words.{knows_file, lease_key, live_entry, machine_key, meet, next_write, not, nothing_cached}
-use Rattle.lease_laws.proofs.Words.{opened_anew, opened_turn, parked_closed, phase_with, promoted_belief, promoted_turn, put}
-use Rattle.lease_laws.proofs.Words.{read_turn, reconnected_turn, refl, sent_without, subst, sym, true, true≢false, turned}
-use Rattle.lease_laws.proofs.Words.{without_open, write_buffered, write_done_turn, write_sent}
+use Rattle.lease_laws.proofs.Words.{phase_with, promoted_belief, put}
+use Rattle.lease_laws.proofs.Words.{refl, sent_without, subst, sym, true, true≢false, turned}
+use Rattle.lease_laws.proofs.Words.{without_open}
 use Rattle.lease_laws.proofs.client.Thin.{put_same, put_other}
 use Rattle.lease_laws.proofs.server.Lists.{if_cases, either, clash, and_parts}
 use Rattle.lease_laws.proofs.world.Links.{by_client}

@@ -1,9 +1,9 @@
 -- Grants, reconnects, closed opens and timers leave a client's writes safe.
 use Rattle.lease_laws.proofs.Words.{◌++◌, ◌==◌, ◌∙◌, ◌∷◌, ◌≡◌, ◌≤◌, Access, Among, Bool, CreateAsk, FileRequest, IsFree, IsSound}
 use Rattle.lease_laws.proofs.Words.{Lease, LeaseOf, Open, Pending, Reply, Share, Some, World, ℕ, ⊎_elim, [], ap, arith}
-use Rattle.lease_laws.proofs.Words.{connected_again, false, has_key, is_breaking, is_touched, is_up, key_expired, key_of}
-use Rattle.lease_laws.proofs.Words.{knows_file, lease_after, lease_granted, lease_key, machine_key, new_open, not, opens_dropped}
-use Rattle.lease_laws.proofs.Words.{own_key, refl, subst, sym, true, with_opens}
+use Rattle.lease_laws.proofs.Words.{connected_again, false, has_key, is_breaking, is_touched, is_up, key_of}
+use Rattle.lease_laws.proofs.Words.{knows_file, lease_after, lease_granted, lease_key, machine_key, new_open, not}
+use Rattle.lease_laws.proofs.Words.{own_key, refl, subst, sym, true}
 use Rattle.lease_laws.proofs.client.Thin.{put_same}
 use Rattle.lease_laws.proofs.server.Keys.{put_key-cases}
 use Rattle.lease_laws.proofs.server.Lists.{if_cases, clash, not_parts, not_true, among_append, among_filter, among_map}

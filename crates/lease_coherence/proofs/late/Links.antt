@@ -1,8 +1,8 @@
 -- A connection that is lost, noticed or made leaves a client's writes safe.
 use Rattle.lease_laws.proofs.Words.{◌==◌, ◌∙◌, ◌∷◌, ◌≡◌, Among, FileRequest, Held, Lease, Link, List, Open, Reply, Request, World}
-use Rattle.lease_laws.proofs.Words.{ℕ, [], all_turned, ap, arith, client_forgotten, connection_made, disconnected, eq-eqb, false}
-use Rattle.lease_laws.proofs.Words.{is_lost, is_up, joined, machine_key, not, noticed, opens_disconnected, opens_dropped, put}
-use Rattle.lease_laws.proofs.Words.{refl, subst, sym, true≢false, with_opens, without}
+use Rattle.lease_laws.proofs.Words.{ℕ, [], ap, arith, connection_made, disconnected, eq-eqb, false}
+use Rattle.lease_laws.proofs.Words.{is_lost, is_up, machine_key, not, noticed, put}
+use Rattle.lease_laws.proofs.Words.{refl, subst, sym, true≢false, without}
 use Rattle.lease_laws.proofs.client.Thin.{put_same}
 use Rattle.lease_laws.proofs.server.Lists.{if_cases, among_filter, among_filtered, among_map}
 use Rattle.lease_laws.proofs.world.Links.{stepped_links}

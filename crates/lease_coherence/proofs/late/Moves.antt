@@ -1,7 +1,7 @@
 -- What the server does for a client leaves its writes safe: each move by itself.
 use Rattle.lease_laws.proofs.Words.{◌++◌, ◌∙◌, ◌∷◌, ◌≡◌, Bool, FileRequest, Key, Lease, None, Open, Patch, Reply, Some, State}
 use Rattle.lease_laws.proofs.Words.{World, ℕ, ⊎_elim, [], ap, break_notice, false, is_up, knows_file, machine_key}
-use Rattle.lease_laws.proofs.Words.{needs_acknowledgment, not, refl, subst, sym, true, with_opens}
+use Rattle.lease_laws.proofs.Words.{needs_acknowledgment, not, refl, subst, sym, true}
 use Rattle.lease_laws.proofs.client.Thin.{put_same}
 use Rattle.lease_laws.proofs.server.Keys.{put_key-cases}
 use Rattle.lease_laws.proofs.server.Lists.{clash, true_or, among_filter}

@@ -1,10 +1,10 @@
 -- What the server does for a client leaves its writes safe.
 use Rattle.lease_laws.proofs.Words.{◌&&◌, ◌++◌, ◌+◌, ◌==◌, ◌||◌, ◌∙◌, ◌∷◌, ◌≡◌, ◌⊎◌, Among, Bool, Client, FileRequest, Held}
 use Rattle.lease_laws.proofs.Words.{IsBlockedBy, IsSound, Key, Lease, List, LiveEntry, Open, Option, Parted, Patch, Pending}
-use Rattle.lease_laws.proofs.Words.{Phase, Reply, Request, Server, Some, State, World, ℕ, ⊎_elim, [], allowed, ap, ap₂, arith}
+use Rattle.lease_laws.proofs.Words.{Phase, Reply, Request, Server, Some, State, World, ℕ, ⊎_elim, [], ap, ap₂, arith}
 use Rattle.lease_laws.proofs.Words.{bytes_eq, eq-eqb, eqb-true, false, given_state, granted_form_of, has_key, has_own_key}
 use Rattle.lease_laws.proofs.Words.{has_written, held_of, if◌then◌else◌, inl, inr, is_breaking, is_key, is_state_within}
-use Rattle.lease_laws.proofs.Words.{is_touched, knows_file, lease_granted, lease_key, machine_key, not, nothing_cached, offered}
+use Rattle.lease_laws.proofs.Words.{is_touched, knows_file, lease_granted, lease_key, machine_key, not, nothing_cached}
 use Rattle.lease_laws.proofs.Words.{refl, subst, suc, sym, true, true≢false, was_opened, with_opens, without, zero}
 use Rattle.lease_laws.proofs.client.Thin.{put_same}
 use Rattle.lease_laws.proofs.server.Keys.{is_key-refl}

@@ -2,14 +2,14 @@
 -- form holds after every step.
 use Rattle.lease_laws.proofs.Words.{◌&&◌, ◌++◌, ◌+◌, ◌==◌, ◌∷◌, ◌≡◌, ◌⊎◌, Access, Bool, CreateAsk, Fact, FileRequest, Held}
 use Rattle.lease_laws.proofs.Words.{IsAwaitedAt, IsFree, IsInTurn, Key, Lease, LeaseOf, List, MayChange, MayCreate, MayEnd}
-use Rattle.lease_laws.proofs.Words.{MayHold, MayLower, MayRefuse, MayServe, None, Ok, Open, Option, Outcome, Patch, Progress}
+use Rattle.lease_laws.proofs.Words.{MayHold, MayLower, MayRefuse, None, Ok, Open, Option, Outcome, Patch}
 use Rattle.lease_laws.proofs.Words.{Reply, Request, Server, Share, SmallStep, Some, State, Status, World, ℕ, [], acknowledged}
-use Rattle.lease_laws.proofs.Words.{all_delivered, answered, begun, break_begun, break_ended, break_notice, changed, closed}
-use Rattle.lease_laws.proofs.Words.{concluded, connected_again, connected_open, created, delivered, false, file_asked, granted}
-use Rattle.lease_laws.proofs.Words.{granted_form_of, granted_with, has_file, has_lease, held_left, held_of, if◌then◌else◌, inl}
-use Rattle.lease_laws.proofs.Words.{inr, is_behind, is_left_open, is_state_within, key_of, last_file_id, lease_after, lease_given}
-use Rattle.lease_laws.proofs.Words.{lease_lowered, lease_put, map, may_read, needs_acknowledgment, new_open, on_open}
-use Rattle.lease_laws.proofs.Words.{opens_dropped, own_key, put, read_done, reconnected, refl, refusal_of, refused, request_held}
+use Rattle.lease_laws.proofs.Words.{all_delivered, begun, break_notice}
+use Rattle.lease_laws.proofs.Words.{concluded, connected_again, connected_open, delivered, false, file_asked}
+use Rattle.lease_laws.proofs.Words.{granted_form_of, has_file, has_lease, held_of, inl}
+use Rattle.lease_laws.proofs.Words.{inr, is_behind, is_left_open, is_state_within, key_of, lease_after, lease_given}
+use Rattle.lease_laws.proofs.Words.{lease_put, map, may_read, needs_acknowledgment, new_open}
+use Rattle.lease_laws.proofs.Words.{own_key, put, refl, refusal_of}
 use Rattle.lease_laws.proofs.Words.{HasOpen, served, standing_lease, subst, sym, true, with_lease, with_opens, without, ◌∙◌}
 use Rattle.lease_state.specs.Content.{patch as patched}
 use Rattle.lease_coherence.proofs.moves.Moves.{IsNext, IsOldest, popped, moved}

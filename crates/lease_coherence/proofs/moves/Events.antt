@@ -3,7 +3,7 @@ use Rattle.lease_laws.proofs.Words.{◌∙◌, ◌∷◌, ◌≡◌, Bool, Call,
 use Rattle.lease_laws.proofs.Words.{Link, List, Progress, Reply, Request, Server, Setup, SmallStep, WaitsWell, World, ℕ, ⊤, []}
 use Rattle.lease_laws.proofs.Words.{after, all_delivered, ap, begun, breaking, call_begun, called, client_called}
 use Rattle.lease_laws.proofs.Words.{client_forgotten, commanded, connection_made, false, first_world, happened, has_file, has_key}
-use Rattle.lease_laws.proofs.Words.{has_strayed, if◌then◌else◌, is_breaking, is_left_behind, is_lost, is_up, join, joined}
+use Rattle.lease_laws.proofs.Words.{has_strayed, if◌then◌else◌, is_breaking, is_left_behind, is_lost, is_up, joined}
 use Rattle.lease_laws.proofs.Words.{key_expired, list_any, machine_key, noticed, opens_disconnected, opens_dropped, own_steps}
 use Rattle.lease_laws.proofs.Words.{put, receive, refl, requests_sent, served, stepped_in, steps_taken, subst, sym, taken, true}
 use Rattle.lease_laws.proofs.server.Lists.{if_cases}
@@ -14,6 +14,7 @@ use Rattle.lease_laws.proofs.world.Kept.{kept_forms}
 pub use Rattle.lease_laws.proofs.world.cases.Events.{Both}
 use Rattle.lease_laws.proofs.world.cases.Events.{HasForms, IsTold, Keeps, KeepsWhere, both_forms, call_served, kept_by_run}
 use Rattle.lease_laws.proofs.world.cases.Events.{link_lost, link_made}
+use Rattle.lease_laws.proofs.server.cases.Calls.{joins}
 use Rattle.lease_coherence.proofs.moves.Moves.{IsNext, rest_of, moved, popped, steps_keep, none_due, once_due}
 
 -- What is known at every point: the server is sound and in order, FileIds are as the record counts them, links
@@ -215,11 +216,10 @@ cut_moves V k world client g w up v =
 connect_moves : (V : World → Type 0) → IsCarried V → (world : World) (client : ℕ) → Ground world
     → world.links client ≡ Link.Down → V world → V (stepped_in (call_served (link_made world client) (Call.Join client)) client
     (client_called (world.clients client) ClientCall.Connected))
-unfolding join served all_delivered
+unfolding served all_delivered
 connect_moves V k world client g down v =
     subst (λ (p : Progress). V (stepped_in (served (link_made world client) p) client (connection_made (world.clients client))))
-    (sym (not_chosen (world.server.present client) (begun world.server) (joined client (begun world.server))
-    ((g.tied client).present ∙ ap is_up down))) (k world (Move.Connect client) down v)
+    (sym (joins world.server client ((g.tied client).present ∙ ap is_up down))) (k world (Move.Connect client) down v)
 
 timer_moves : (V : World → Type 0) → IsCarried V → (world : World) (client file : ℕ) → Ground world → WaitsWell world.server
     → has_file world.server file ≡ true → breaking world.server (machine_key world client file) ≡ true → V world

@@ -4,12 +4,12 @@ use Rattle.lease_laws.proofs.world.Links.{stepped_online, stepped_tied, told_tie
 use Rattle.lease_laws.proofs.Words.{◌++◌, ◌+◌, ◌==◌, ◌∙◌, ◌∷◌, ◌≡◌, ◌≢◌, ◌⊎◌, Among, Call, Client, ClientCall, Command, EachOut}
 use Rattle.lease_laws.proofs.Words.{Fact, Held, IsGuarded, IsInTurn, IsOnline, IsSoundClient, IsTied, IsToPresent, Link, List}
 use Rattle.lease_laws.proofs.Words.{Note, Out, Progress, Reply, Request, Server, Setup, SmallStep, World, ℕ, ⊎_elim, []}
-use Rattle.lease_laws.proofs.Words.{acknowledged, all_turned, ap, arith, begun, break_begun, breaking, call_begun, client_called}
-use Rattle.lease_laws.proofs.Words.{client_forgotten, commanded, concluded, connection_made, eq-eqb, eqb-true, fact_of, false}
-use Rattle.lease_laws.proofs.Words.{first_world, happened, held_left, inl, inr, is_down, is_left_behind, is_served, is_up, joined}
-use Rattle.lease_laws.proofs.Words.{key_expired, lease_lowered, length, machine_key, not, noted, noticed, opens_disconnected}
-use Rattle.lease_laws.proofs.Words.{opens_dropped, put, refl, request_held, requests_sent, sendings, served, step_taken}
-use Rattle.lease_laws.proofs.Words.{stepped_in, subst, sym, takings, true, with_opens}
+use Rattle.lease_laws.proofs.Words.{acknowledged, ap, arith, begun, breaking, call_begun, client_called}
+use Rattle.lease_laws.proofs.Words.{commanded, concluded, eq-eqb, eqb-true, fact_of, false}
+use Rattle.lease_laws.proofs.Words.{first_world, happened, held_left, inl, inr, is_down, is_left_behind, is_served, is_up}
+use Rattle.lease_laws.proofs.Words.{length, machine_key, not, noted}
+use Rattle.lease_laws.proofs.Words.{put, refl, requests_sent, sendings, served, step_taken}
+use Rattle.lease_laws.proofs.Words.{stepped_in, subst, sym, takings, true}
 use Rattle.lease_laws.proofs.client.Entries.{first_entries, called_entries}
 use Rattle.lease_laws.proofs.client.Forms.{commanded-stays, taken-stays}
 use Rattle.lease_laws.proofs.client.InFiles.{first_in_files, called_in_files}

@@ -3,12 +3,12 @@ use Rattle.lease_laws.proofs.Words.{◌++◌, ◌==◌, ◌∙◌, ◌∷◌, �
 use Rattle.lease_laws.proofs.Words.{Held, IsAwaitedAt, IsFree, IsInTurn, Key, Lease, LeaseOf, Link, List, MayChange, MayHold}
 use Rattle.lease_laws.proofs.Words.{MayLower, MayRefuse, None, Open, Option, Patch, Reply, Request, Server, Share, SmallStep}
 use Rattle.lease_laws.proofs.Words.{Some, State, Status, Step, World, ℕ, [], ap, arith, begun, break_notice, breaking}
-use Rattle.lease_laws.proofs.Words.{client_forgotten, commanded, connected_again, connected_open, disconnected, eqb-true, false}
+use Rattle.lease_laws.proofs.Words.{commanded, connected_again, connected_open, disconnected, eqb-true, false}
 use Rattle.lease_laws.proofs.Words.{granted_form_of, happened, has_file, has_key, has_lease, has_strayed, is_left_behind}
-use Rattle.lease_laws.proofs.Words.{is_left_open, is_lost, is_state_within, joined, key_expired, key_of, lease_after, machine_key}
-use Rattle.lease_laws.proofs.Words.{map, may_read, needs_acknowledgment, not, opens_disconnected, opens_dropped, own_key, put}
+use Rattle.lease_laws.proofs.Words.{is_left_open, is_lost, is_state_within, key_of, lease_after, machine_key}
+use Rattle.lease_laws.proofs.Words.{map, may_read, needs_acknowledgment, not, own_key, put}
 use Rattle.lease_laws.proofs.Words.{refl, refusal_of, requests_sent, step_taken, stepped_in, subst, sym, true, was_opened}
-use Rattle.lease_laws.proofs.Words.{with_opens, without}
+use Rattle.lease_laws.proofs.Words.{without}
 use Rattle.lease_laws.proofs.client.Thin.{put_other}
 use Rattle.lease_laws.proofs.server.Keys.{put_key-cases}
 use Rattle.lease_laws.proofs.server.Lists.{if_cases, clash, and_parts, not_true, not_parts}

@@ -1,11 +1,10 @@
 -- A step of the server doesn't look at what was given out before it: it appends its own outs.
-use Rattle.lease_laws.proofs.Words.{◌++◌, ◌==◌, ◌∙◌, ◌∷◌, ◌≡◌, Access, Bool, CreateAsk, FileRequest, Key, LeaseOf, List, None}
-use Rattle.lease_laws.proofs.Words.{Open, Option, Out, Outcome, Progress, Reply, Share, SmallStep, Some, State, Status, ℕ, []}
-use Rattle.lease_laws.proofs.Words.{acknowledged, answered, ap, begun, break_begun, break_ended, changed, closed, concluded}
-use Rattle.lease_laws.proofs.Words.{connected_open, created, false, granted, granted_with, has_lease, held_left, if◌then◌else◌}
-use Rattle.lease_laws.proofs.Words.{is_state_within, judged, key_of, last_file_id, lease_lowered, on_contexts, on_open}
-use Rattle.lease_laws.proofs.Words.{opens_dropped, read_done, reconnected, refl, refused, replied, request_held, step_taken, sym}
-use Rattle.lease_laws.proofs.Words.{subst, true}
+use Rattle.lease_laws.proofs.Words.{◌++◌, ◌∙◌, ◌∷◌, ◌≡◌, FileRequest, LeaseOf, List}
+use Rattle.lease_laws.proofs.Words.{Option, Out, Outcome, Progress, Reply, SmallStep, ℕ, []}
+use Rattle.lease_laws.proofs.Words.{acknowledged, ap, begun, concluded}
+use Rattle.lease_laws.proofs.Words.{held_left}
+use Rattle.lease_laws.proofs.Words.{refl, replied, step_taken, sym}
+use Rattle.lease_laws.proofs.Words.{subst}
 use Rattle.lease_laws.proofs.server.cases.Ends.{any_end, ends_again, ends_changed, ends_closed, ends_full, ends_granted, ends_left, ends_read}
 use Rattle.lease_laws.proofs.server.cases.Judgements.{any_judgement, ends_break, is_refused}
 

@@ -2,14 +2,14 @@
 use Rattle.lease_laws.proofs.Words.{◌++◌, ◌==◌, ◌∷◌, ◌≡◌, Answer, Asked, Bool, BreakNotice, Client, ClientCall, Entry, Fact}
 use Rattle.lease_laws.proofs.Words.{FileRequest, List, LiveEntry, None, Note, OpenTerms, Option, Parted, Patch, Pending, Phase}
 use Rattle.lease_laws.proofs.Words.{Reply, Request, Settlement, Some, State, Step, Turn, ℕ, ⊤, [], acknowledgment, all_turned}
-use Rattle.lease_laws.proofs.Words.{belief_lowered, belief_of, believes_noted, bytes_eq, bytes_eq-Decides, cached_read}
-use Rattle.lease_laws.proofs.Words.{client_called, closed_by_server, connect_turn, connection_made, create_request, eq-eqb, false}
-use Rattle.lease_laws.proofs.Words.{find, first_belief, flat_map, flush_on_live, flushed, gives_up, has_written, if◌then◌else◌}
+use Rattle.lease_laws.proofs.Words.{belief_of, believes_noted, bytes_eq, bytes_eq-Decides}
+use Rattle.lease_laws.proofs.Words.{client_called, connect_turn, create_request, eq-eqb, false}
+use Rattle.lease_laws.proofs.Words.{find, first_belief, flat_map, flushed, gives_up, has_written, if◌then◌else◌}
 use Rattle.lease_laws.proofs.Words.{is_accepted, is_key_of, is_numbered, joint_terms, lease_key, meet, next_write, notice_turn}
-use Rattle.lease_laws.proofs.Words.{noticed, numbers_to, opened_anew, opened_turn, parked_closed, phase_with, promoted_belief}
-use Rattle.lease_laws.proofs.Words.{promoted_turn, put, read_turn, reconnect_request, reconnected_turn, refl, same_patch}
+use Rattle.lease_laws.proofs.Words.{numbers_to, phase_with, promoted_belief}
+use Rattle.lease_laws.proofs.Words.{put, reconnect_request, refl, same_patch}
 use Rattle.lease_laws.proofs.Words.{same_state, sent_without, settled_as, silent_turn, subst, sym, true, turned, unflushed}
-use Rattle.lease_laws.proofs.Words.{was_opened, without_open, write_buffered, write_done_turn, write_requests, write_sent}
+use Rattle.lease_laws.proofs.Words.{was_opened, without_open, write_requests}
 use Rattle.lease_laws.proofs.Words.{wrote_step}
 use Rattle.lease_laws.proofs.client.Thin.{put_same, put_other}
 use Rattle.lease_laws.proofs.server.Lists.{if_cases, true_or, and_both}

@@ -1,11 +1,11 @@
 -- Every move keeps what clients name, and so no write is settled as done that wasn't accepted.
 use Rattle.lease_laws.proofs.Words.{◌+◌, ◌==◌, ◌∙◌, ◌∷◌, ◌≡◌, ◌≢◌, Among, Client, ClientCall, EachFact, Event, Fact, Link, List}
 use Rattle.lease_laws.proofs.Words.{NoFalseDone, Note, Open, Out, Reply, Request, Server, Settlement, Setup, SmallStep, Step}
-use Rattle.lease_laws.proofs.Words.{World, ℕ, [], after, all_turned, ap, arith, begun, client_called, client_forgotten}
-use Rattle.lease_laws.proofs.Words.{connection_made, disconnected, false, first_world, happened, has_key, has_strayed}
-use Rattle.lease_laws.proofs.Words.{is_left_behind, is_lost, joined, key_expired, machine_key, new_client, new_server, not}
-use Rattle.lease_laws.proofs.Words.{noticed, opens_disconnected, opens_dropped, put, refl, requests_sent, reverse-reverse}
-use Rattle.lease_laws.proofs.Words.{reverse_aux, sent_over, starts_from, step_taken, stepped_in, subst, sym, true, with_opens}
+use Rattle.lease_laws.proofs.Words.{World, ℕ, [], after, ap, arith, begun, client_called}
+use Rattle.lease_laws.proofs.Words.{disconnected, false, first_world, happened, has_key, has_strayed}
+use Rattle.lease_laws.proofs.Words.{is_left_behind, is_lost, machine_key, new_client, new_server, not}
+use Rattle.lease_laws.proofs.Words.{put, refl, requests_sent, reverse-reverse}
+use Rattle.lease_laws.proofs.Words.{reverse_aux, sent_over, starts_from, step_taken, stepped_in, subst, sym, true}
 use Rattle.lease_laws.proofs.Words.{without}
 use Rattle.lease_laws.proofs.client.Forms.{commanded-stays, taken-stays}
 use Rattle.lease_laws.proofs.client.Thin.{put_same, put_other}

@@ -5,7 +5,6 @@ use Rattle.lease_laws.proofs.Words.{Key, List, None, Open, Option, Patch, Reply,
 use Rattle.lease_laws.proofs.Words.{[], ap, asked_key, awaits, connected_again, eq-eqb, eqb-true, false, has_strayed, has_written}
 use Rattle.lease_laws.proofs.Words.{held_of, inl, is_accepted, is_left_open, lease_after, lease_key, map, new_open, not}
 use Rattle.lease_laws.proofs.Words.{opened_count, own_key, put, refl, refusal_of, subst, sym, true, true≢false, was_opened}
-use Rattle.lease_laws.proofs.Words.{with_opens}
 use Rattle.lease_laws.proofs.client.Thin.{put_same, put_other}
 use Rattle.lease_laws.proofs.server.Lists.{if_cases, and_parts, and_both, true_or, among_append, among_behind, among_filter}
 use Rattle.lease_laws.proofs.server.Lists.{among_map}

@@ -1,12 +1,12 @@
 -- Every move keeps a client's requests in order.
 use Rattle.lease_laws.proofs.Words.{◌++◌, ◌==◌, ◌||◌, ◌∙◌, ◌∷◌, ◌≡◌, Among, Bool, Client, Fact, FileRequest, Held, IsAbout}
 use Rattle.lease_laws.proofs.Words.{IsOpenOn, Link, List, LiveEntry, None, Ok, Open, Pending, Phase, Reply, Request, Server, Some}
-use Rattle.lease_laws.proofs.Words.{Status, Step, World, ℕ, ⊎_elim, ⊤, [], all_turned, ap, ap₂, break_notice, commanded}
+use Rattle.lease_laws.proofs.Words.{Status, Step, World, ℕ, ⊎_elim, ⊤, [], ap, ap₂, break_notice, commanded}
 use Rattle.lease_laws.proofs.Words.{connect_turn, connected_again, connected_open, connection_made, eq-eqb, eqb-true, false}
 use Rattle.lease_laws.proofs.Words.{file_asked, file_of_open, flat_map, granted_form_of, held_of, inl, inr, is_behind, is_up}
-use Rattle.lease_laws.proofs.Words.{joined, key_expired, key_of, lease_after, lease_key, machine_key, not, noticed, numbers_to}
-use Rattle.lease_laws.proofs.Words.{opens_dropped, put, refl, refusal_of, stepped_in, subst, sym, taken, true, true≢false}
-use Rattle.lease_laws.proofs.Words.{was_opened, with_opens}
+use Rattle.lease_laws.proofs.Words.{key_of, lease_after, lease_key, machine_key, not, noticed, numbers_to}
+use Rattle.lease_laws.proofs.Words.{put, refl, refusal_of, stepped_in, subst, sym, taken, true, true≢false}
+use Rattle.lease_laws.proofs.Words.{was_opened}
 use Rattle.lease_laws.proofs.client.Forms.{commanded-stays, taken-stays}
 use Rattle.lease_laws.proofs.client.Thin.{put_same, put_other}
 use Rattle.lease_laws.proofs.server.Lists.{if_cases, either, clash, not_true, true_or, among_append, among_before}

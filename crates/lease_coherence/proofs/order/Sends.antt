@@ -1,9 +1,9 @@
 -- What clients send stands in order, and stays so in other worlds.
 use Rattle.lease_laws.proofs.Words.{◌++◌, ◌∷◌, ◌≡◌, Among, Client, FileRequest, Held, List, LiveEntry, Pending, Phase, Request}
-use Rattle.lease_laws.proofs.Words.{Step, World, ℕ, ⊎_elim, ⊤, [], acknowledgment, ap, belief_lowered, cached_read}
-use Rattle.lease_laws.proofs.Words.{closed_by_server, flush_on_live, flushed, meet, opened_anew, opened_turn, parked_closed}
-use Rattle.lease_laws.proofs.Words.{promoted_turn, read_turn, reconnected_turn, refl, subst, sym, turned, write_buffered}
-use Rattle.lease_laws.proofs.Words.{write_done_turn, write_requests, write_sent}
+use Rattle.lease_laws.proofs.Words.{Step, World, ℕ, ⊎_elim, ⊤, [], acknowledgment, ap}
+use Rattle.lease_laws.proofs.Words.{flushed, meet}
+use Rattle.lease_laws.proofs.Words.{refl, subst, sym, turned}
+use Rattle.lease_laws.proofs.Words.{write_requests}
 use Rattle.lease_laws.proofs.server.Lists.{if_cases}
 use Rattle.lease_coherence.specs.Creates.{held_by}
 use Rattle.lease_coherence.specs.Names.{Each}

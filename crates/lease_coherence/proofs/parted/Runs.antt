@@ -2,11 +2,11 @@
 use Rattle.lease_laws.proofs.Words.{◌==◌, ◌||◌, ◌∙◌, ◌∷◌, ◌≡◌, ◌⊎◌, Access, Among, Bool, Client, CreateAsk, Event, Fact}
 use Rattle.lease_laws.proofs.Words.{FileRequest, Key, Lease, LeaseOf, Link, List, LiveEntry, None, Open, Parted, Patch, Pending}
 use Rattle.lease_laws.proofs.Words.{Phase, Reply, Server, Setup, Share, Some, State, Status, Step, World, ℕ, ⊎_elim, [], after}
-use Rattle.lease_laws.proofs.Words.{all_turned, ap, arith, break_notice, bytes_eq, bytes_eq-Decides, commanded, connect_turn}
+use Rattle.lease_laws.proofs.Words.{ap, arith, break_notice, bytes_eq, bytes_eq-Decides, commanded, connect_turn}
 use Rattle.lease_laws.proofs.Words.{connected_again, connection_made, eq-eqb, eqb-true, false, first_world, granted_form_of}
-use Rattle.lease_laws.proofs.Words.{has_key, has_strayed, inl, inr, is_state_within, is_up, joined, key_expired, key_of}
+use Rattle.lease_laws.proofs.Words.{has_key, has_strayed, inl, inr, is_state_within, is_up, key_of}
 use Rattle.lease_laws.proofs.Words.{lease_after, lease_key, list_any, machine_key, new_client, new_open, no_lease, not, noticed}
-use Rattle.lease_laws.proofs.Words.{opens_dropped, put, refl, refusal_of, stepped_in, subst, sym, taken, true, true≢false}
+use Rattle.lease_laws.proofs.Words.{put, refl, refusal_of, stepped_in, subst, sym, taken, true, true≢false}
 use Rattle.lease_laws.proofs.Words.{was_opened, with_opens, without}
 use Rattle.lease_laws.proofs.client.Forms.{commanded-stays, taken-stays}
 use Rattle.lease_laws.proofs.client.Thin.{put_same}

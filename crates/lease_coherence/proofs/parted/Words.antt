@@ -2,10 +2,10 @@
 -- the file since.
 use Rattle.lease_laws.proofs.Words.{◌&&◌, ◌==◌, ◌||◌, ◌∷◌, ◌≡◌, ◌⊎◌, Among, Asked, Bool, Client, Entry, Fact, List, LiveEntry}
 use Rattle.lease_laws.proofs.Words.{None, Note, Open, Option, Parted, Patch, Pending, Phase, Some, Step, World, ℕ, ⊤, []}
-use Rattle.lease_laws.proofs.Words.{belief_lowered, cached_read, closed_by_server, eq-eqb, fact_of, false, flush_on_live, inl}
-use Rattle.lease_laws.proofs.Words.{inr, is_up, not, opened_anew, opened_turn, parked_closed, phase_with, promoted_turn, put}
-use Rattle.lease_laws.proofs.Words.{read_turn, reconnected_turn, refl, sent_without, subst, sym, true, true≢false, turned}
-use Rattle.lease_laws.proofs.Words.{without_open, write_buffered, write_done_turn, write_sent}
+use Rattle.lease_laws.proofs.Words.{eq-eqb, fact_of, false, inl}
+use Rattle.lease_laws.proofs.Words.{inr, is_up, not, phase_with, put}
+use Rattle.lease_laws.proofs.Words.{refl, sent_without, subst, sym, true, true≢false, turned}
+use Rattle.lease_laws.proofs.Words.{without_open}
 use Rattle.lease_laws.proofs.client.Thin.{put_same, put_other}
 use Rattle.lease_laws.proofs.world.Links.{by_client}
 use Rattle.lease_coherence.specs.Agreement.{touched_since_lost}

@@ -1,11 +1,11 @@
 -- A client closes only what it gives up with the same step, and asks as its entries say.
 use Rattle.lease_laws.proofs.Words.{◌++◌, ◌+◌, ◌∙◌, ◌∷◌, ◌≡◌, ◌≢◌, ◌⊎◌, Asked, BreakNotice, Entry, FileRequest, List, LiveEntry}
 use Rattle.lease_laws.proofs.Words.{None, Option, Pending, Phase, Reply, Request, Some, State, Step, World, ℕ, ⊤, []}
-use Rattle.lease_laws.proofs.Words.{acknowledgment, ap, belief_lowered, cached_read, closed_by_server, create_request}
-use Rattle.lease_laws.proofs.Words.{first_belief, flush_on_live, flushed, if◌then◌else◌, inl, inr, is_some, joint_terms}
-use Rattle.lease_laws.proofs.Words.{lease_key, opened_anew, opened_turn, parked_closed, phase_with, promoted_belief}
-use Rattle.lease_laws.proofs.Words.{promoted_turn, put, read_turn, reconnected_turn, refl, subst, sym, true, turned, unflushed}
-use Rattle.lease_laws.proofs.Words.{without_open, write_buffered, write_done_turn, write_requests, write_sent}
+use Rattle.lease_laws.proofs.Words.{acknowledgment, ap, belief_lowered, create_request}
+use Rattle.lease_laws.proofs.Words.{first_belief, flushed, if◌then◌else◌, inl, inr, is_some, joint_terms}
+use Rattle.lease_laws.proofs.Words.{lease_key, opened_turn, phase_with, promoted_belief}
+use Rattle.lease_laws.proofs.Words.{promoted_turn, put, reconnected_turn, refl, subst, sym, true, turned, unflushed}
+use Rattle.lease_laws.proofs.Words.{without_open, write_requests}
 use Rattle.lease_laws.proofs.server.Lists.{if_cases}
 use Rattle.lease_coherence.specs.Creates.{has_asked}
 use Rattle.lease_coherence.specs.Names.{Each}

@@ -1,8 +1,8 @@
 -- Every move keeps standing what stands.
 use Rattle.lease_laws.proofs.Words.{◌++◌, ◌==◌, ◌∙◌, ◌∷◌, ◌≡◌, Among, Client, Fact, FileRequest, Held, IsAbout, IsSoundPhase}
 use Rattle.lease_laws.proofs.Words.{Link, List, Pending, Phase, Reply, Request, Server, Some, Status, Step, World, ℕ, ⊎_elim, []}
-use Rattle.lease_laws.proofs.Words.{all_turned, ap, arith, break_notice, commanded, connect_turn, connection_made, eq-eqb, false}
-use Rattle.lease_laws.proofs.Words.{flat_map, has_strayed, inl, inr, is_down, is_up, joined, key_of, not, noticed, numbers_to}
+use Rattle.lease_laws.proofs.Words.{ap, arith, break_notice, commanded, connect_turn, connection_made, eq-eqb, false}
+use Rattle.lease_laws.proofs.Words.{flat_map, has_strayed, inl, inr, is_down, is_up, key_of, not, noticed, numbers_to}
 use Rattle.lease_laws.proofs.Words.{put, refl, refusal_of, sent_over, stepped_in, subst, sym, taken, true, true≢false}
 use Rattle.lease_laws.proofs.client.Forms.{commanded-stays, taken-stays}
 use Rattle.lease_laws.proofs.client.Thin.{put_same}

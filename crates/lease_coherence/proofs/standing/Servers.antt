@@ -2,9 +2,9 @@
 use Rattle.lease_laws.proofs.Words.{◌++◌, ◌+◌, ◌==◌, ◌∙◌, ◌∷◌, ◌≡◌, ◌≤◌, Access, Among, Bool, Client, CreateAsk, FileRequest}
 use Rattle.lease_laws.proofs.Words.{Held, IsAwaitedAt, Key, Lease, List, LiveEntry, None, Open, Patch, Phase, Reply, Request}
 use Rattle.lease_laws.proofs.Words.{Share, Some, Status, World, ℕ, ⊎_elim, ⊤, [], ap, arith, connected_again, eq-eqb, false}
-use Rattle.lease_laws.proofs.Words.{has_key, inl, inr, is_key, key_eq, key_expired, key_of, lease_after, lease_key, machine_key}
-use Rattle.lease_laws.proofs.Words.{map, new_open, not, opened_count, opens_dropped, own_key, put, refl, refusal_of, subst, sym}
-use Rattle.lease_laws.proofs.Words.{true, was_opened, with_opens}
+use Rattle.lease_laws.proofs.Words.{has_key, inl, inr, is_key, key_eq, key_of, lease_after, lease_key, machine_key}
+use Rattle.lease_laws.proofs.Words.{map, new_open, not, opened_count, own_key, put, refl, refusal_of, subst, sym}
+use Rattle.lease_laws.proofs.Words.{true, was_opened}
 use Rattle.lease_laws.proofs.client.Thin.{put_same}
 use Rattle.lease_laws.proofs.server.Keys.{put_key-cases, is_key-one, is_key-refl, key_eq-refl}
 use Rattle.lease_laws.proofs.server.Lists.{if_cases, either, clash, not_true, among_before, among_behind, among_filtered}

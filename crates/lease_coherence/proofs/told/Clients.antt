@@ -2,11 +2,11 @@
 use Rattle.lease_laws.proofs.Words.{◌&&◌, ◌++◌, ◌+◌, ◌==◌, ◌||◌, ◌∙◌, ◌∷◌, ◌≡◌, ◌≢◌, ◌⊎◌, Answer, Bool, BreakNotice, Client}
 use Rattle.lease_laws.proofs.Words.{CreateAnswer, Entry, Fact, FileRequest, IsSoundClient, List, LiveEntry, None, Option, Pending}
 use Rattle.lease_laws.proofs.Words.{Phase, Reply, Request, Some, State, Step, Turn, ℕ, ⊎_elim, ⊤, [], acknowledgment, ap, arith}
-use Rattle.lease_laws.proofs.Words.{belief_lowered, bytes_eq, bytes_eq-Decides, cached_read, closed_by_server, create_request}
-use Rattle.lease_laws.proofs.Words.{eq-eqb, eqb-true, false, flush_on_live, flushed, inl, inr, is_asking, is_key_of, lease_key}
-use Rattle.lease_laws.proofs.Words.{meet, next_write, not, opened_anew, opened_turn, parked_closed, phase_with, promoted_turn}
-use Rattle.lease_laws.proofs.Words.{put, quiet_step, read_turn, reconnected_turn, refl, subst, sym, true, true≢false, turned}
-use Rattle.lease_laws.proofs.Words.{write_buffered, write_done_turn, write_requests, write_sent, wrote_step}
+use Rattle.lease_laws.proofs.Words.{belief_lowered, bytes_eq, bytes_eq-Decides, create_request}
+use Rattle.lease_laws.proofs.Words.{eq-eqb, eqb-true, false, flushed, inl, inr, is_asking, is_key_of, lease_key}
+use Rattle.lease_laws.proofs.Words.{meet, next_write, not, parked_closed, phase_with}
+use Rattle.lease_laws.proofs.Words.{put, quiet_step, refl, subst, sym, true, true≢false, turned}
+use Rattle.lease_laws.proofs.Words.{write_requests, wrote_step}
 use Rattle.lease_laws.proofs.client.Thin.{put_same, put_other}
 use Rattle.lease_laws.proofs.server.Lists.{if_cases, either, clash, and_parts, or_true, not_true}
 use Rattle.lease_laws.proofs.world.Links.{by_client}

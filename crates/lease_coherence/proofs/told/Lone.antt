@@ -2,11 +2,11 @@
 -- the lease holds no handles.
 use Rattle.lease_laws.proofs.Words.{◌&&◌, ◌++◌, ◌==◌, ◌||◌, ◌∙◌, ◌∷◌, ◌≡◌, ◌⊎◌, Access, Bool, Client, CreateAsk, Event}
 use Rattle.lease_laws.proofs.Words.{FileRequest, Key, Lease, LeaseOf, Link, List, None, Open, Reply, Server, Setup, Share, Some}
-use Rattle.lease_laws.proofs.Words.{State, Status, Step, World, ℕ, ⊎_elim, ⊤, [], after, all_turned, ap, break_notice, bytes_eq}
+use Rattle.lease_laws.proofs.Words.{State, Status, Step, World, ℕ, ⊎_elim, ⊤, [], after, ap, break_notice, bytes_eq}
 use Rattle.lease_laws.proofs.Words.{bytes_eq-Decides, commanded, connection_made, eq-eqb, false, first_world, granted_form_of}
-use Rattle.lease_laws.proofs.Words.{has_key, inl, inr, is_state_within, joined, key_eq, key_expired, key_of, lease_after}
+use Rattle.lease_laws.proofs.Words.{has_key, inl, inr, is_state_within, key_eq, key_of, lease_after}
 use Rattle.lease_laws.proofs.Words.{lease_key, lease_put, list_any, machine_key, needs_acknowledgment, no_lease, not}
-use Rattle.lease_laws.proofs.Words.{nothing_cached, noticed, opens_dropped, put, refl, refusal_of, stepped_in, subst, sym, taken}
+use Rattle.lease_laws.proofs.Words.{nothing_cached, noticed, put, refl, refusal_of, stepped_in, subst, sym, taken}
 use Rattle.lease_laws.proofs.Words.{true, true≢false, with_opens, without}
 use Rattle.lease_laws.proofs.client.Forms.{commanded-stays, taken-stays}
 use Rattle.lease_laws.proofs.client.Thin.{put_same}

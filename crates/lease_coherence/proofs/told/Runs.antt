@@ -1,7 +1,7 @@
 -- Every move leaves each break told, of each client that hasn't strayed, while its link is up.
 use Rattle.lease_laws.proofs.Words.{◌++◌, ◌+◌, ◌∙◌, ◌∷◌, ◌≡◌, Among, Client, FileRequest, IsSound, Link, List, LiveEntry, Open}
 use Rattle.lease_laws.proofs.Words.{Phase, Reply, Request, Server, Some, Status, Step, World, ℕ, ⊎_elim, ap, arith, commanded}
-use Rattle.lease_laws.proofs.Words.{connection_made, false, has_file, has_key, has_strayed, inl, inr, is_breaking, is_up, joined}
+use Rattle.lease_laws.proofs.Words.{connection_made, false, has_file, has_key, has_strayed, inl, inr, is_breaking, is_up}
 use Rattle.lease_laws.proofs.Words.{key_of, lease_key, machine_key, noticed, put, refl, stepped_in, subst, sym, taken, true}
 use Rattle.lease_laws.proofs.Words.{true≢false}
 use Rattle.lease_laws.proofs.client.Forms.{commanded-stays, taken-stays}

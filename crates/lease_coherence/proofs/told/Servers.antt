@@ -3,10 +3,10 @@ use Rattle.lease_laws.proofs.Words.{◌&&◌, ◌++◌, ◌+◌, ◌==◌, ◌�
 use Rattle.lease_laws.proofs.Words.{IsInTurn, IsSound, Key, Lease, LeaseOf, List, MayLower, MayRefuse, None, Ok, Open, Option}
 use Rattle.lease_laws.proofs.Words.{Patch, Reply, Request, Server, Share, SmallStep, Some, State, Status, World, ℕ, ⊎_elim, []}
 use Rattle.lease_laws.proofs.Words.{ap, arith, break_notice, bytes_eq, bytes_eq-Decides, connected_again, eq-eqb, eqb-true, false}
-use Rattle.lease_laws.proofs.Words.{file_asked, file_of_create, granted_form_of, has_file, has_key, has_lease, held_of, inl, inr}
-use Rattle.lease_laws.proofs.Words.{is_breaking, is_state_within, key_eq, key_expired, key_of, lease_after, lease_granted}
+use Rattle.lease_laws.proofs.Words.{file_of_create, granted_form_of, has_file, has_key, has_lease, held_of, inl, inr}
+use Rattle.lease_laws.proofs.Words.{is_breaking, is_state_within, key_eq, key_of, lease_after, lease_granted}
 use Rattle.lease_laws.proofs.Words.{lease_key, lease_put, list_any, machine_key, needs_acknowledgment, new_open, no_lease, not}
-use Rattle.lease_laws.proofs.Words.{opens_dropped, put, refl, refusal_of, subst, sym, true, true≢false, with_opens, without}
+use Rattle.lease_laws.proofs.Words.{put, refl, refusal_of, subst, sym, true, true≢false, with_opens, without}
 use Rattle.lease_laws.proofs.client.Thin.{put_same}
 use Rattle.lease_laws.proofs.server.Goes.{one_id}
 use Rattle.lease_laws.proofs.server.Keys.{put_key-cases}

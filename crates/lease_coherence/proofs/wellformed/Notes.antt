@@ -1,12 +1,11 @@
 -- The notes of a client name files that it knows, and writes that end within the limit.
 use Rattle.lease_laws.proofs.Words.{◌++◌, ◌∙◌, ◌∷◌, ◌≡◌, Access, Among, Bool, Client, ClientCall, Entry, IsSoundClient, List}
 use Rattle.lease_laws.proofs.Words.{LiveEntry, Note, Parted, Pending, Phase, Settlement, Share, State, Step, Turn, ℕ, ⊤, []}
-use Rattle.lease_laws.proofs.Words.{all_turned, ap, belief, belief_lowered, belief_of, believes_noted, cached_read, client_called}
-use Rattle.lease_laws.proofs.Words.{closed_by_server, connect_turn, connection_made, false, first_belief, flat_map, flush_on_live}
+use Rattle.lease_laws.proofs.Words.{all_turned, ap, belief, belief_of, believes_noted, client_called}
+use Rattle.lease_laws.proofs.Words.{connect_turn, false, first_belief, flat_map}
 use Rattle.lease_laws.proofs.Words.{if◌then◌else◌, inl, inr, is_key_of, is_within_limit, knows_file, lease_key, notice_turn}
-use Rattle.lease_laws.proofs.Words.{noticed, numbers_to, opened_anew, opened_turn, parked_closed, promoted_belief, promoted_turn}
-use Rattle.lease_laws.proofs.Words.{put, read_turn, reconnected_turn, refl, same_state, settled_as, sym, true, turned}
-use Rattle.lease_laws.proofs.Words.{write_buffered, write_done_turn, write_sent}
+use Rattle.lease_laws.proofs.Words.{numbers_to, promoted_belief}
+use Rattle.lease_laws.proofs.Words.{put, refl, same_state, settled_as, sym, true, turned}
 use Rattle.lease_laws.proofs.client.cases.Files.{numbers_known, found_known}
 use Rattle.lease_laws.proofs.client.Thin.{put_same}
 use Rattle.lease_laws.proofs.server.Lists.{if_cases, not_false}

@@ -1,13 +1,13 @@
 -- Every record of a run is well formed.
 use Rattle.lease_laws.proofs.Words.{◌&&◌, ◌+◌, ◌<◌, ◌==◌, ◌||◌, ◌∙◌, ◌∷◌, ◌≡◌, ◌≢◌, ◌≤◌, ◌⊎◌, Among, Bool, Client, ClientCall}
 use Rattle.lease_laws.proofs.Words.{EachFact, Event, Fact, FileRequest, IsSoundClient, Link, List, Note, Reply, Server, Setup}
-use Rattle.lease_laws.proofs.Words.{TellNumbers, WellFormed, World, ℕ, ⊎_elim, [], after, all_turned, ap, arith, client_called}
-use Rattle.lease_laws.proofs.Words.{client_forgotten, connection_made, eq-eqb, eqb-true, false, first_world, has_file, has_joined}
-use Rattle.lease_laws.proofs.Words.{inl, inr, is_allowed_setup, is_started, is_up, is_well_formed, is_within_limit, joined}
-use Rattle.lease_laws.proofs.Words.{key_expired, knows_file, last_file_number, lease_after, lease_put, length, nat_le, nat_lt}
-use Rattle.lease_laws.proofs.Words.{new_client, new_server, not, noticed, opens_disconnected, opens_dropped, put, refl}
+use Rattle.lease_laws.proofs.Words.{TellNumbers, WellFormed, World, ℕ, ⊎_elim, [], after, ap, arith, client_called}
+use Rattle.lease_laws.proofs.Words.{eq-eqb, eqb-true, false, first_world, has_file, has_joined}
+use Rattle.lease_laws.proofs.Words.{inl, inr, is_allowed_setup, is_started, is_up, is_well_formed, is_within_limit}
+use Rattle.lease_laws.proofs.Words.{knows_file, last_file_number, lease_after, lease_put, length, nat_le, nat_lt}
+use Rattle.lease_laws.proofs.Words.{new_client, new_server, not, put, refl}
 use Rattle.lease_laws.proofs.Words.{requests_sent, reverse-reverse, reverse_aux, sendings, starts_from, stepped_in, subst, suc}
-use Rattle.lease_laws.proofs.Words.{sym, takings, true, true≢false, with_opens}
+use Rattle.lease_laws.proofs.Words.{sym, takings, true, true≢false}
 use Rattle.lease_model.specs.records.Past.{has_number}
 use Rattle.lease_laws.proofs.client.Forms.{commanded-stays, taken-stays}
 use Rattle.lease_laws.proofs.client.Notes.{called_tells}

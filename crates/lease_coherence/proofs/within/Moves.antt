@@ -1,11 +1,11 @@
 -- What the server does keeps the beliefs of a client within its leases.
 use Rattle.lease_laws.proofs.Words.{◌&&◌, ◌++◌, ◌+◌, ◌==◌, ◌||◌, ◌∙◌, ◌∷◌, ◌≡◌, Access, Bool, Client, CreateAsk, FileRequest}
 use Rattle.lease_laws.proofs.Words.{Held, IsLowered, IsSound, Key, Lease, LeaseOf, List, MayLower, None, Option, Patch, Phase}
-use Rattle.lease_laws.proofs.Words.{Reply, Request, Server, Share, Some, State, World, ℕ, ⊎_elim, [], allowed, ap, arith}
+use Rattle.lease_laws.proofs.Words.{Reply, Request, Server, Share, Some, State, World, ℕ, ⊎_elim, [], ap, arith}
 use Rattle.lease_laws.proofs.Words.{break_notice, bytes_eq, bytes_eq-Decides, connected_again, eq-eqb, false, given_state}
 use Rattle.lease_laws.proofs.Words.{granted_form_of, inl, is_breaking, is_other_on, is_state_within, is_up, key_eq, key_of}
 use Rattle.lease_laws.proofs.Words.{lease_after, lease_granted, lease_key, list_any, machine_key, needs_acknowledgment, new_open}
-use Rattle.lease_laws.proofs.Words.{not, nothing_cached, offered, put_key, refl, same_state, subst, sym, true, true≢false}
+use Rattle.lease_laws.proofs.Words.{not, nothing_cached, put_key, refl, same_state, subst, sym, true, true≢false}
 use Rattle.lease_laws.proofs.client.Thin.{put_same}
 use Rattle.lease_laws.proofs.server.Keys.{put_key-cases, key_eq-refl}
 use Rattle.lease_laws.proofs.server.Lists.{if_cases, either, clash, and_parts, and_both, among_before}

@@ -1,8 +1,8 @@
 -- Every move keeps the beliefs of each client that hasn't strayed within its leases.
 use Rattle.lease_laws.proofs.Words.{◌++◌, ◌==◌, ◌∙◌, ◌∷◌, ◌≡◌, Among, Bool, Client, FileRequest, Held, Key, Lease, LeaseOf, Link}
 use Rattle.lease_laws.proofs.Words.{List, Open, Option, Reply, Request, Server, Some, Status, Step, World, ℕ, [], ap, ap₂}
-use Rattle.lease_laws.proofs.Words.{commanded, false, has_key, has_strayed, is_breaking, is_up, key_expired, key_of, lease_key}
-use Rattle.lease_laws.proofs.Words.{list_any, machine_key, no_lease, not, noticed, opens_dropped, put, put_key, refl, refusal_of}
+use Rattle.lease_laws.proofs.Words.{commanded, false, has_key, has_strayed, is_breaking, is_up, key_of, lease_key}
+use Rattle.lease_laws.proofs.Words.{list_any, machine_key, no_lease, not, noticed, put, put_key, refl, refusal_of}
 use Rattle.lease_laws.proofs.Words.{stepped_in, subst, sym, taken, true, true≢false, with_opens, without}
 use Rattle.lease_laws.proofs.client.Forms.{commanded-stays, taken-stays}
 use Rattle.lease_laws.proofs.client.Thin.{put_same}

@@ -2,11 +2,11 @@
 use Rattle.lease_laws.proofs.Words.{◌++◌, ◌+◌, ◌==◌, ◌∙◌, ◌∷◌, ◌≡◌, ◌≢◌, Among, Bool, Client, ClientCall, Command, Entry, Err}
 use Rattle.lease_laws.proofs.Words.{Fact, FileRequest, Held, IsSoundEntry, IsSoundPhase, Link, List, None, Ok, Open, Option}
 use Rattle.lease_laws.proofs.Words.{Patch, Pending, Phase, Reply, Request, Result, Server, Some, Status, Step, TellNumbers, World}
-use Rattle.lease_laws.proofs.Words.{ℕ, ⊎_elim, [], all_turned, ap, ap₂, arith, break_notice, commanded, connect_turn}
+use Rattle.lease_laws.proofs.Words.{ℕ, ⊎_elim, [], ap, ap₂, arith, break_notice, commanded, connect_turn}
 use Rattle.lease_laws.proofs.Words.{connected_open, connection_made, eq-eqb, eqb-true, false, file_asked, file_of_open, flat_map}
-use Rattle.lease_laws.proofs.Words.{granted_form_of, has_written, is_down, is_up, joined, key_expired, key_of, knows_file}
-use Rattle.lease_laws.proofs.Words.{lease_after, not, noticed, numbers_to, opens_dropped, put, refl, refusal_of, sent_over}
-use Rattle.lease_laws.proofs.Words.{stepped_in, subst, sym, taken, true, true≢false, was_opened, with_opens}
+use Rattle.lease_laws.proofs.Words.{granted_form_of, has_written, is_down, is_up, key_of, knows_file}
+use Rattle.lease_laws.proofs.Words.{lease_after, not, noticed, numbers_to, put, refl, refusal_of, sent_over}
+use Rattle.lease_laws.proofs.Words.{stepped_in, subst, sym, taken, true, true≢false, was_opened}
 use Rattle.lease_model.specs.records.Past.{has_number}
 use Rattle.lease_laws.proofs.client.Forms.{commanded-stays, taken-stays}
 use Rattle.lease_laws.proofs.client.Notes.{called_tells}

@@ -2,12 +2,12 @@
 use Rattle.lease_laws.proofs.Words.{◌&&◌, ◌++◌, ◌+◌, ◌<◌, ◌==◌, ◌∙◌, ◌∷◌, ◌≡◌, ◌≢◌, ◌≤◌, ◌⊎◌, Among, Answer, Asked, Bool}
 use Rattle.lease_laws.proofs.Words.{BreakNotice, Client, Entry, Fact, FileRequest, Held, List, LiveEntry, None, Note, Option}
 use Rattle.lease_laws.proofs.Words.{Patch, Pending, Phase, Reply, Request, Some, State, Step, TellNumbers, Turn, World, ℕ, ⊎_elim}
-use Rattle.lease_laws.proofs.Words.{[], ap, ap₂, arith, belief_lowered, cached_read, closed_by_server, eqb-true, fact_of, false}
-use Rattle.lease_laws.proofs.Words.{file_where, flush_on_live, flushed, gives_up, has_sent, has_written, if◌then◌else◌, inl, inr}
-use Rattle.lease_laws.proofs.Words.{is_numbered, is_up, knows_file, list_any, nat_le, next_write, opened_anew, opened_turn}
-use Rattle.lease_laws.proofs.Words.{parked_closed, promoted_turn, put, quiet_step, read_turn, reconnected_turn, refl}
-use Rattle.lease_laws.proofs.Words.{sent_without, subst, sym, true, true≢false, turned, without_open, write_buffered}
-use Rattle.lease_laws.proofs.Words.{write_done_turn, write_requests, write_sent, wrote_step}
+use Rattle.lease_laws.proofs.Words.{[], ap, ap₂, arith, belief_lowered, eqb-true, fact_of, false}
+use Rattle.lease_laws.proofs.Words.{file_where, flushed, gives_up, has_sent, has_written, if◌then◌else◌, inl, inr}
+use Rattle.lease_laws.proofs.Words.{is_numbered, is_up, knows_file, list_any, nat_le, next_write}
+use Rattle.lease_laws.proofs.Words.{put, quiet_step, refl}
+use Rattle.lease_laws.proofs.Words.{sent_without, subst, sym, true, true≢false, turned, without_open}
+use Rattle.lease_laws.proofs.Words.{write_requests, wrote_step}
 use Rattle.lease_model.specs.records.Past.{has_number}
 use Rattle.lease_laws.proofs.client.Thin.{put_same, put_other}
 use Rattle.lease_laws.proofs.server.Lists.{either, clash, or_true, and_parts, not_true}

@@ -2,14 +2,14 @@
 use Rattle.lease_laws.proofs.Words.{◌&&◌, ◌++◌, ◌==◌, ◌||◌, ◌∙◌, ◌∷◌, ◌≡◌, ◌≢◌, Among, Answer, Asked, Bool, Client, ClientCall}
 use Rattle.lease_laws.proofs.Words.{Entry, Fact, IsSoundClient, IsSoundLive, IsSoundPhase, Link, List, LiveEntry, None, Note}
 use Rattle.lease_laws.proofs.Words.{Option, Out, Pending, Phase, Settlement, Some, Step, Turn, World, ℕ, ⊎_elim, [], all_turned}
-use Rattle.lease_laws.proofs.Words.{ap, ap₂, are_rising, arith, begun, belief_lowered, belief_of, cached_read, client_called}
-use Rattle.lease_laws.proofs.Words.{closed_by_server, connect_turn, connection_made, eq-eqb, eqb-true, fact_of, false, filter}
-use Rattle.lease_laws.proofs.Words.{first_belief, flat_map, flush_on_live, gives_up, has_number, if◌then◌else◌, joined}
-use Rattle.lease_laws.proofs.Words.{knows_file, lease_key, meet, next_write, not, notice_turn, noticed, numbers_to, offline_turn}
-use Rattle.lease_laws.proofs.Words.{open_writes, opened_anew, opened_turn, parked_closed, parted_from, phase_with}
-use Rattle.lease_laws.proofs.Words.{promoted_belief, promoted_turn, put, read_turn, reconnected_turn, refl, requests_sent}
+use Rattle.lease_laws.proofs.Words.{ap, ap₂, are_rising, arith, begun, belief_of, client_called}
+use Rattle.lease_laws.proofs.Words.{connect_turn, eq-eqb, eqb-true, fact_of, false, filter}
+use Rattle.lease_laws.proofs.Words.{first_belief, flat_map, gives_up, has_number, if◌then◌else◌}
+use Rattle.lease_laws.proofs.Words.{knows_file, lease_key, meet, next_write, not, notice_turn, numbers_to, offline_turn}
+use Rattle.lease_laws.proofs.Words.{open_writes, parted_from, phase_with}
+use Rattle.lease_laws.proofs.Words.{promoted_belief, put, refl, requests_sent}
 use Rattle.lease_laws.proofs.Words.{sent_without, settled_as, step_taken, stepped_in, subst, sym, true, true≢false, unanswered_in}
-use Rattle.lease_laws.proofs.Words.{unsent_in, without, without_open, write_buffered, write_done_turn, write_sent, wrote_step}
+use Rattle.lease_laws.proofs.Words.{unsent_in, without, without_open, wrote_step}
 use Rattle.lease_laws.proofs.client.Forms.{commanded-stays, taken-stays}
 use Rattle.lease_laws.proofs.client.Thin.{put_same, put_other}
 use Rattle.lease_laws.proofs.server.Lists.{if_cases, either, clash, or_true, true_or, not_true}
