@@ -14,7 +14,7 @@ closed_place zero n = refl
 closed_place (suc files) zero = refl
 closed_place (suc files) (suc n) = closed_place files n
 
-closed_number : (files n : ℕ) → numbered (closed_entry []) (replicate files (closed_entry [])) n ≡ closed_entry []
+pub closed_number : (files n : ℕ) → numbered (closed_entry []) (replicate files (closed_entry [])) n ≡ closed_entry []
 unfolding numbered
 closed_number files zero = refl
 closed_number files (suc n) = closed_place files n

@@ -6,7 +6,8 @@ use Rattle.lease_model.specs.client.Step as model
 use Rattle.lease_model.specs.client.Step.{refused_step}
 use Rattle.lease_model.specs.messages.ToBytes.{request_written}
 use Rattle.lease_client.specs.Answers.{answer_of, note_of}
-use Rattle.lease_client.specs.Known.{client_of}
+use Rattle.lease_client.specs.Known.{Known, client_of}
+use Rattle.lease_client.specs.Turns.{Given, IsAfter}
 use Rattle.lease_client.specs.declared.step.Step.{Step}
 
 -- The call came to this step of the rules. The bytes of a request are the canonical text of its create
@@ -21,3 +22,8 @@ pub record IsStep (step : Step) (after : model.Step) : Type 0 where
 abbrev pub RefusesQuietly : Client → Step → Type 0
 RefusesQuietly client step = (refusal : commands.Refusal) → answer_of step.answer ≡ commands.Answer.Refused refusal
     → IsStep step (refused_step client refusal)
+
+-- the same of a client that is called in its place
+abbrev pub RefusesInPlace : Client → Known → Given → Type 0
+RefusesInPlace client known given = (refusal : commands.Refusal) → given.answer ≡ commands.Answer.Refused refusal
+    → IsAfter known given (refused_step client refusal)

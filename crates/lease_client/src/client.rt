@@ -1,4 +1,4 @@
-ghost use Rattle.std.specs.Prelude.{◌≡◌, true, IfOk, IsOk};
+ghost use Rattle.std.specs.Prelude.{◌≡◌, true, IfOk, IsOk, OnErr, OnOk};
 ghost use Rattle.lease_state.specs.State.{state_of};
 ghost use Rattle.lease_laws.specs.client.Laws.{IsSoundClient};
 ghost use Rattle.lease_model.specs.client.State as model;
@@ -12,9 +12,10 @@ ghost use Rattle.lease_client.specs.Calls.{is_idle};
 ghost use Rattle.lease_model.specs.client.Commanded.{is_refused};
 ghost use Rattle.lease_client.specs.Known.{client_of};
 ghost use Rattle.lease_client.specs.Links.{linked};
-ghost use Rattle.lease_client.specs.Steps.{IsStep, RefusesQuietly};
+ghost use Rattle.lease_client.specs.Steps.{IsStep, RefusesInPlace, RefusesQuietly};
+ghost use Rattle.lease_client.specs.Turns.{IsAfter};
 
-use crate::command::{Answer, Command};
+use crate::command::Command;
 use crate::links::Link;
 use crate::machine::Machine;
 use crate::step::Step;
@@ -92,21 +93,35 @@ impl Client {
         ensures quiet { IfOk result (λ step. RefusesQuietly (client_of self) step) }
         ensures beliefs { IfOk result (λ step. NoneRose (client_of self) (client_of step.client)) }
     {
+        let mut client = self;
+        let mut given = client.nothing_given();
+        client.app_in_place(command, &mut given)?;
+        Ok(Step::of(client, given))
+    }
+
+    /// A command comes from the application, as to `app`, and the client is changed in its place (profile). What the call gives
+    /// out is in `given` afterwards, whatever was there.
+    ///
+    /// # Errors
+    ///
+    /// `Memory` where there is none left, and never where the command is refused. The client has forgotten its files then, and
+    /// `given` has nothing of worth.
+    #[inline(always)]
+    pub fn app_in_place(&mut self, command: Command, given: &mut Given) -> Result<(), Memory>
+        ensures step { OnOk result (IsAfter self.new given.new (commanded (client_of self.old) (command_of command))) }
+        ensures refused { is_refused (commanded (client_of self.old) (command_of command)).answer ≡ true → IsOk result }
+        ensures quiet { OnOk result (RefusesInPlace (client_of self.old) self.new given.new) }
+        ensures beliefs { OnOk result (NoneRose (client_of self.old) (client_of self.new)) }
+        ensures forgotten { OnErr result ((client_of self.new).files ≡ 0) }
+    {
         clients_are_sound();
-        let Client { mut machine } = self;
-        let mut given = Given::answer(machine.alloc(), Answer::Quiet);
-        machine.app(command, &mut given)?;
-        let Given {
-            answer,
-            requests,
-            notes,
-        } = given;
-        Ok(Step {
-            client: Client { machine },
-            answer,
-            requests,
-            notes,
-        })
+        match self.machine.app(command, given) {
+            Ok(()) => Ok(()),
+            Err(fault) => {
+                self.machine.forget();
+                Err(fault)
+            }
+        }
     }
 
     /// A message comes from the server (MS-SMB2 3.2.5). What fits no entry, and contexts or
@@ -122,21 +137,34 @@ impl Client {
         ensures idle { is_idle reply ≡ true → IsOk result }
         ensures beliefs { IfOk result (λ step. RoseBy (reply_of reply) (client_of self) (client_of step.client)) }
     {
+        let mut client = self;
+        let mut given = client.nothing_given();
+        client.take_in_place(reply, &mut given)?;
+        Ok(Step::of(client, given))
+    }
+
+    /// A message comes from the server, as to `take`, and the client is changed in its place (MS-SMB2 3.2.5). What the call gives
+    /// out is in `given` afterwards, whatever was there.
+    ///
+    /// # Errors
+    ///
+    /// `Memory` where there is none left, and never where a Close or an acknowledgment is answered. The client has forgotten its
+    /// files then, and `given` has nothing of worth.
+    #[inline(always)]
+    pub fn take_in_place(&mut self, reply: Reply, given: &mut Given) -> Result<(), Memory>
+        ensures step { OnOk result (IsAfter self.new given.new (taken (client_of self.old) (reply_of reply))) }
+        ensures idle { is_idle reply ≡ true → IsOk result }
+        ensures beliefs { OnOk result (RoseBy (reply_of reply) (client_of self.old) (client_of self.new)) }
+        ensures forgotten { OnErr result ((client_of self.new).files ≡ 0) }
+    {
         clients_are_sound();
-        let Client { mut machine } = self;
-        let mut given = Given::answer(machine.alloc(), Answer::Quiet);
-        machine.take(reply, &mut given)?;
-        let Given {
-            answer,
-            requests,
-            notes,
-        } = given;
-        Ok(Step {
-            client: Client { machine },
-            answer,
-            requests,
-            notes,
-        })
+        match self.machine.take(reply, given) {
+            Ok(()) => Ok(()),
+            Err(fault) => {
+                self.machine.forget();
+                Err(fault)
+            }
+        }
     }
 
     /// The client notices that its connection is lost (MS-SMB2 3.2.7.1). Live durable opens wait for the
@@ -149,7 +177,24 @@ impl Client {
         ensures step { IfOk result (λ step. IsStep step (noticed (client_of self))) }
         ensures beliefs { IfOk result (λ step. NoneRose (client_of self) (client_of step.client)) }
     {
-        self.link(Link::Lost)
+        let mut client = self;
+        let mut given = client.nothing_given();
+        client.notice_in_place(&mut given)?;
+        Ok(Step::of(client, given))
+    }
+
+    /// The client notices that its connection is lost, as by `notice`, and is changed in its place (MS-SMB2 3.2.7.1). What the
+    /// call gives out is in `given` afterwards, whatever was there.
+    ///
+    /// # Errors
+    ///
+    /// `Memory` where there is none left. The client has forgotten its files then, and `given` has nothing of worth.
+    pub fn notice_in_place(&mut self, given: &mut Given) -> Result<(), Memory>
+        ensures step { OnOk result (IsAfter self.new given.new (noticed (client_of self.old))) }
+        ensures beliefs { OnOk result (NoneRose (client_of self.old) (client_of self.new)) }
+        ensures forgotten { OnErr result ((client_of self.new).files ≡ 0) }
+    {
+        self.link(Link::Lost, given)
     }
 
     /// The client connects (3.2.4.4): a create is sent for each open that waits for it.
@@ -161,27 +206,43 @@ impl Client {
         ensures step { IfOk result (λ step. IsStep step (connection_made (client_of self))) }
         ensures beliefs { IfOk result (λ step. NoneRose (client_of self) (client_of step.client)) }
     {
-        self.link(Link::Made)
+        let mut client = self;
+        let mut given = client.nothing_given();
+        client.connect_in_place(&mut given)?;
+        Ok(Step::of(client, given))
     }
 
-    fn link(self, link: Link) -> Result<Step, Memory>
-        ensures step { IfOk result (λ step. IsStep step (linked (client_of self) link)) }
-        ensures beliefs { IfOk result (λ step. NoneRose (client_of self) (client_of step.client)) }
+    /// The client connects, as by `connect`, and is changed in its place (3.2.4.4). What the call gives out is in `given`
+    /// afterwards, whatever was there.
+    ///
+    /// # Errors
+    ///
+    /// `Memory` where there is none left. The client has forgotten its files then, and `given` has nothing of worth.
+    pub fn connect_in_place(&mut self, given: &mut Given) -> Result<(), Memory>
+        ensures step { OnOk result (IsAfter self.new given.new (connection_made (client_of self.old))) }
+        ensures beliefs { OnOk result (NoneRose (client_of self.old) (client_of self.new)) }
+        ensures forgotten { OnErr result ((client_of self.new).files ≡ 0) }
+    {
+        self.link(Link::Made, given)
+    }
+
+    fn link(&mut self, link: Link, given: &mut Given) -> Result<(), Memory>
+        ensures step { OnOk result (IsAfter self.new given.new (linked (client_of self.old) link)) }
+        ensures beliefs { OnOk result (NoneRose (client_of self.old) (client_of self.new)) }
+        ensures forgotten { OnErr result ((client_of self.new).files ≡ 0) }
     {
         clients_are_sound();
-        let Client { mut machine } = self;
-        let mut given = Given::answer(machine.alloc(), Answer::Quiet);
-        machine.link(link, &mut given)?;
-        let Given {
-            answer,
-            requests,
-            notes,
-        } = given;
-        Ok(Step {
-            client: Client { machine },
-            answer,
-            requests,
-            notes,
-        })
+        match self.machine.link(link, given) {
+            Ok(()) => Ok(()),
+            Err(fault) => {
+                self.machine.forget();
+                Err(fault)
+            }
+        }
+    }
+
+    // What a call is passed that gives out something for the first time.
+    fn nothing_given(&self) -> Given {
+        Given::new(self.machine.alloc())
     }
 }

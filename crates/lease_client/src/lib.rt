@@ -62,3 +62,4 @@ pub use key::lease_key;
 pub use note::{Note, Settlement};
 pub use shared_bytes::SharedBytes;
 pub use step::Step;
+pub use turn::Given;

@@ -65,7 +65,7 @@ impl Machine {
         let mut requests = Vec::new(alloc);
         let mut notes = Vec::new(alloc);
         for index in 0..self.files() {
-            let mut own = Given::answer(alloc, Answer::Quiet);
+            let mut own = Given::new(alloc);
             self.link_file(FileNo(index + 1), link, &mut own)?;
             own.join(&mut requests, &mut notes)?;
         }

@@ -76,6 +76,13 @@ impl Machine {
         })
     }
 
+    /// The files are forgotten: there is none any more.
+    pub fn forget(&mut self)
+        ensures { self.new ≡ record self.old { entries = [] } }
+    {
+        self.entries.clear();
+    }
+
     /// The allocator of the machine.
     pub fn alloc(&self) -> Global {
         *self.entries.allocator()

@@ -1,6 +1,10 @@
+ghost use Rattle.std.specs.Prelude.{◌≡◌, map};
+ghost use Rattle.lease_client.specs.Answers.{answer_of, note_of};
+
 use crate::client::Client;
 use crate::command::Answer;
 use crate::note::Note;
+use crate::turn::Given;
 use lease_state::Request;
 
 /// What a call of a client comes to (profile): the client after it, the answer to the application,
@@ -11,4 +15,26 @@ pub struct Step {
     pub answer: Answer,
     pub requests: Vec<Request>,
     pub notes: Vec<Note>,
+}
+
+impl Step {
+    /// The client after a call, and what the call gave out.
+    pub(crate) fn of(client: Client, given: Given) -> Step
+        ensures client { result.client ≡ client }
+        ensures answer { answer_of result.answer ≡ given.answer }
+        ensures requests { result.requests.items ≡ given.requests }
+        ensures notes { map note_of result.notes.items ≡ given.notes }
+    {
+        let Given {
+            answer,
+            requests,
+            notes,
+        } = given;
+        Step {
+            client,
+            answer,
+            requests,
+            notes,
+        }
+    }
 }

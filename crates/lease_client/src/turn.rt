@@ -1,5 +1,6 @@
 ghost use Rattle.std.specs.Prelude.{◌≡◌, ◌++◌, [], IsOk, OnOk, true, map};
 ghost use Rattle.lease_state.specs.State.{state_of};
+ghost use Rattle.lease_model.specs.client.Commands as model;
 ghost use Rattle.lease_model.specs.client.Step.{believes_noted};
 ghost use Rattle.lease_model.specs.values.LeaseStates.{same_state};
 ghost use Rattle.lease_client.specs.Answers.{answer_of, note_of};
@@ -38,7 +39,9 @@ impl Model for Turn {
     } };
 }
 
-/// What a call gives out. The functions that are passed it put there what they give out, whatever was there.
+/// What a call of a client gives out (profile): the answer to the application, the requests to be sent to the server and the
+/// notes for the program, each in order. A call that is passed it puts there what it gives out, whatever was there. Its lists
+/// keep their memory from call to call.
 #[derive(Debug, Drop)]
 pub struct Given {
     pub answer: Answer,
@@ -61,12 +64,12 @@ impl Model for Given {
 }
 
 impl Given {
-    /// An answer, with nothing sent or noted. Allocates nothing.
-    pub fn answer(alloc: Global, answer: Answer) -> Given
-        ensures { result ≡ record { answer = answer_of answer; requests = []; notes = [] } }
+    /// Nothing is given out yet (profile): the answer is `Quiet`, and nothing is sent or noted. Allocates nothing.
+    pub fn new(alloc: Global) -> Given
+        ensures { result ≡ record { answer = model.Answer.Quiet; requests = []; notes = [] } }
     {
         Given {
-            answer,
+            answer: Answer::Quiet,
             requests: Vec::new(alloc),
             notes: Vec::new(alloc),
         }
