@@ -1,4 +1,4 @@
-ghost use Rattle.std.specs.Prelude.{◌≡◌, [], true, false, IsOk, IfOk, OnOk};
+ghost use Rattle.std.specs.Prelude.{◌≡◌, [], true, false, IsOk, OnOk};
 ghost use Rattle.std.specs.List.{list_any};
 ghost use Rattle.lease_model.specs.messages.FromBytes.{request_of};
 ghost use Rattle.lease_model.specs.server.Calls as rules;
@@ -30,30 +30,35 @@ pub fn join(tables: &mut Tables, client: ClientNo) -> Result<(), Memory>
 
 /// A request of a client comes.
 #[tactic(auto, unfolding(lease_model::specs::server::Calls::receive))]
-pub fn receive(tables: &mut Tables, client: ClientNo, request: Request) -> Result<Outs, Memory>
-    ensures step { IfOk result (λ outs. progress_of tables.new outs
+pub fn receive(
+    tables: &mut Tables,
+    outs: &mut Outs,
+    client: ClientNo,
+    request: Request,
+) -> Result<(), Memory>
+    requires { outs.old ≡ [] }
+    ensures step { OnOk result (progress_of tables.new outs.new
         ≡ rules.receive (server_of tables.old) client.0 (request_of request)) }
     ensures idle { (server_of tables.old).present client.0 ≡ false → IsOk result }
 {
-    let mut outs = Outs::new(tables.alloc());
     if tables.is_present(client) {
-        arrive(tables, &mut outs, client, request)?;
+        arrive(tables, outs, client, request)?;
     }
-    Ok(outs)
+    Ok(())
 }
 
 /// A client's connection is lost.
 #[tactic(auto)]
-pub fn cut(tables: &mut Tables, client: ClientNo) -> Result<Outs, Memory>
-    ensures step { IfOk result (λ outs. progress_of tables.new outs ≡ rules.cut (server_of tables.old) client.0) }
+pub fn cut(tables: &mut Tables, outs: &mut Outs, client: ClientNo) -> Result<(), Memory>
+    requires { outs.old ≡ [] }
+    ensures step { OnOk result (progress_of tables.new outs.new ≡ rules.cut (server_of tables.old) client.0) }
     ensures idle { (server_of tables.old).present client.0 ≡ false → IsOk result }
 {
-    let mut outs = Outs::new(tables.alloc());
     if tables.is_present(client) {
         lose(tables, client)?;
-        try_all(tables, &mut outs)?;
+        try_all(tables, outs)?;
     }
-    Ok(outs)
+    Ok(())
 }
 
 // The client's opens that don't outlive its connection are closed, the others disconnected, and the
@@ -70,16 +75,16 @@ fn lose(tables: &mut Tables, client: ClientNo) -> Result<(), Memory>
 
 /// The timer of a lease break runs out.
 #[tactic(auto, unfolding(lease_model::specs::server::Calls::expire))]
-pub fn expire(tables: &mut Tables, key: Key) -> Result<Outs, Memory>
-    ensures step { IfOk result (λ outs. progress_of tables.new outs ≡ rules.expire (server_of tables.old) key) }
+pub fn expire(tables: &mut Tables, outs: &mut Outs, key: Key) -> Result<(), Memory>
+    requires { outs.old ≡ [] }
+    ensures step { OnOk result (progress_of tables.new outs.new ≡ rules.expire (server_of tables.old) key) }
     ensures idle { is_breaking ((server_of tables.old).leases key) ≡ false → IsOk result }
 {
-    let mut outs = Outs::new(tables.alloc());
     if tables.lease(key).is_breaking() {
         end_lease(tables, key)?;
-        try_all(tables, &mut outs)?;
+        try_all(tables, outs)?;
     }
-    Ok(outs)
+    Ok(())
 }
 
 // All opens of the lease are closed, and the key is expired.
@@ -94,16 +99,16 @@ fn end_lease(tables: &mut Tables, key: Key) -> Result<(), Memory>
 
 /// The timer of a durable open runs out.
 #[tactic(auto, unfolding(lease_model::specs::server::Calls::scavenge))]
-pub fn scavenge(tables: &mut Tables, fid: FileId) -> Result<Outs, Memory>
-    ensures step { IfOk result (λ outs. progress_of tables.new outs ≡ rules.scavenge (server_of tables.old) fid.0) }
+pub fn scavenge(tables: &mut Tables, outs: &mut Outs, fid: FileId) -> Result<(), Memory>
+    requires { outs.old ≡ [] }
+    ensures step { OnOk result (progress_of tables.new outs.new ≡ rules.scavenge (server_of tables.old) fid.0) }
     ensures idle { list_any (rules.is_left_behind fid.0) (server_of tables.old).opens ≡ false → IsOk result }
 {
-    let mut outs = Outs::new(tables.alloc());
     if tables.has_left_behind(fid) {
         end_open(tables, fid)?;
-        try_all(tables, &mut outs)?;
+        try_all(tables, outs)?;
     }
-    Ok(outs)
+    Ok(())
 }
 
 // The open that was left behind is closed.

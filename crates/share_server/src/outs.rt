@@ -39,13 +39,13 @@ impl Model for Outs {
 }
 
 impl Outs {
-    /// Nothing yet. Allocates nothing.
-    pub fn new(alloc: Global) -> Outs
+    /// Nothing yet, in the memory of a list, whatever was on it.
+    pub fn over(list: Vec<Out>) -> Outs
         ensures { result ≡ [] }
     {
-        Outs {
-            items: Vec::new(alloc),
-        }
+        let mut items = list;
+        items.clear();
+        Outs { items }
     }
 
     /// One more, which is written as what is read in it.

@@ -1,4 +1,4 @@
-ghost use Rattle.std.specs.Prelude.{◌≡◌, true, false, IfOk, IsOk};
+ghost use Rattle.std.specs.Prelude.{◌≡◌, [], true, false, IfOk, IsOk, OnErr, OnOk};
 ghost use Rattle.std.specs.List.{list_any};
 ghost use Rattle.std.specs.Option.{option_map};
 ghost use Rattle.lease_state.specs.State.{state_of};
@@ -15,11 +15,13 @@ ghost use Rattle.share_server.specs.Table.{server_of};
 use crate::calls;
 use crate::key::Key;
 use crate::out::Out;
+use crate::outs::Outs;
 use crate::tables::Tables;
 use lease_laws::laws_of_servers;
 use lease_state::{ClientNo, Content, FileId, FileNo, LeaseKey, LeaseState, Memory, Request};
 use std::alloc::Global;
 use std::marker::Model;
+use std::mem;
 
 /// A file server of leases and durable opens: the files with their bytes, the opens, the leases and
 /// the requests that wait for a break. Every server keeps the laws of leases and of opens.
@@ -65,11 +67,33 @@ impl Server {
         ensures after { IfOk result (λ r. IsAfter r.0 r.1.items (rules.join (server_of self) client.0)) }
         ensures idle { (server_of self).present client.0 ≡ true → IsOk result }
     {
+        let mut server = self;
+        let mut outs = Vec::new(server.tables.alloc());
+        server.join_in_place(client, &mut outs)?;
+        Ok((server, outs))
+    }
+
+    /// A client connects, as by `join`, and the server is changed in its place (MS-SMB2 3.3.5.1). What the call gives
+    /// out is on the list afterwards, whatever was there.
+    ///
+    /// # Errors
+    ///
+    /// `Memory` where there is none left, and never where the client is connected. The server has forgotten its opens then, and
+    /// the list has nothing of worth.
+    pub fn join_in_place(&mut self, client: ClientNo, outs: &mut Vec<Out>) -> Result<(), Memory>
+        ensures after { OnOk result (IsAfter self.new outs.new.items (rules.join (server_of self.old) client.0)) }
+        ensures idle { (server_of self.old).present client.0 ≡ true → IsOk result }
+        ensures forgotten { OnErr result ((server_of self.new).opens ≡ []) }
+    {
         laws_of_servers();
-        let Server { mut tables } = self;
-        calls::join(&mut tables, client)?;
-        let outs = Vec::new(tables.alloc());
-        Ok((Server { tables }, outs))
+        outs.clear();
+        match calls::join(&mut self.tables, client) {
+            Ok(()) => Ok(()),
+            Err(fault) => {
+                self.tables.forget_opens();
+                Err(fault)
+            }
+        }
     }
 
     /// A request of a client comes (MS-SMB2 3.3.5). It is refused at once where its create contexts
@@ -88,11 +112,41 @@ impl Server {
             (rules.receive (server_of self) client.0 (request_of request))) }
         ensures idle { (server_of self).present client.0 ≡ false → IsOk result }
     {
+        let mut server = self;
+        let mut outs = Vec::new(server.tables.alloc());
+        server.receive_in_place(client, request, &mut outs)?;
+        Ok((server, outs))
+    }
+
+    /// A request of a client comes, as to `receive`, and the server is changed in its place (MS-SMB2 3.3.5). What the call gives
+    /// out is on the list afterwards, whatever was there.
+    ///
+    /// # Errors
+    ///
+    /// `Memory` where there is none left, and never where the client isn't connected. The server has forgotten its opens then, and
+    /// the list has nothing of worth.
+    pub fn receive_in_place(
+        &mut self,
+        client: ClientNo,
+        request: Request,
+        outs: &mut Vec<Out>,
+    ) -> Result<(), Memory>
+        ensures after { OnOk result (IsAfter self.new outs.new.items (rules.receive (server_of self.old) client.0 (request_of request))) }
+        ensures idle { (server_of self.old).present client.0 ≡ false → IsOk result }
+        ensures forgotten { OnErr result ((server_of self.new).opens ≡ []) }
+    {
         laws_of_servers();
-        let Server { mut tables } = self;
-        let outs = calls::receive(&mut tables, client, request)?;
-        let outs = outs.into_vec();
-        Ok((Server { tables }, outs))
+        let mut given = Outs::over(taken_out(outs));
+        match calls::receive(&mut self.tables, &mut given, client, request) {
+            Ok(()) => {
+                *outs = given.into_vec();
+                Ok(())
+            }
+            Err(fault) => {
+                self.tables.forget_opens();
+                Err(fault)
+            }
+        }
     }
 
     /// A client's connection is lost (MS-SMB2 3.3.7.1). Its opens that are durable, and whose lease
@@ -107,11 +161,36 @@ impl Server {
         ensures after { IfOk result (λ r. IsAfter r.0 r.1.items (rules.cut (server_of self) client.0)) }
         ensures idle { (server_of self).present client.0 ≡ false → IsOk result }
     {
+        let mut server = self;
+        let mut outs = Vec::new(server.tables.alloc());
+        server.cut_in_place(client, &mut outs)?;
+        Ok((server, outs))
+    }
+
+    /// A client's connection is lost, as by `cut`, and the server is changed in its place (MS-SMB2 3.3.7.1). What the call gives
+    /// out is on the list afterwards, whatever was there.
+    ///
+    /// # Errors
+    ///
+    /// `Memory` where there is none left, and never where the client isn't connected. The server has forgotten its opens then, and
+    /// the list has nothing of worth.
+    pub fn cut_in_place(&mut self, client: ClientNo, outs: &mut Vec<Out>) -> Result<(), Memory>
+        ensures after { OnOk result (IsAfter self.new outs.new.items (rules.cut (server_of self.old) client.0)) }
+        ensures idle { (server_of self.old).present client.0 ≡ false → IsOk result }
+        ensures forgotten { OnErr result ((server_of self.new).opens ≡ []) }
+    {
         laws_of_servers();
-        let Server { mut tables } = self;
-        let outs = calls::cut(&mut tables, client)?;
-        let outs = outs.into_vec();
-        Ok((Server { tables }, outs))
+        let mut given = Outs::over(taken_out(outs));
+        match calls::cut(&mut self.tables, &mut given, client) {
+            Ok(()) => {
+                *outs = given.into_vec();
+                Ok(())
+            }
+            Err(fault) => {
+                self.tables.forget_opens();
+                Err(fault)
+            }
+        }
     }
 
     /// The timer of a lease break runs out (MS-SMB2 3.3.6.5): the opens of the client's lease of
@@ -127,11 +206,41 @@ impl Server {
             (rules.expire (server_of self) (key_of client.0 key.0))) }
         ensures idle { queries.breaking (server_of self) (key_of client.0 key.0) ≡ false → IsOk result }
     {
+        let mut server = self;
+        let mut outs = Vec::new(server.tables.alloc());
+        server.expire_in_place(client, key, &mut outs)?;
+        Ok((server, outs))
+    }
+
+    /// The timer of a lease break runs out, as by `expire`, and the server is changed in its place (MS-SMB2 3.3.6.5). What the call gives
+    /// out is on the list afterwards, whatever was there.
+    ///
+    /// # Errors
+    ///
+    /// `Memory` where there is none left, and never where the lease isn't breaking. The server has forgotten its opens then, and
+    /// the list has nothing of worth.
+    pub fn expire_in_place(
+        &mut self,
+        client: ClientNo,
+        key: LeaseKey,
+        outs: &mut Vec<Out>,
+    ) -> Result<(), Memory>
+        ensures after { OnOk result (IsAfter self.new outs.new.items (rules.expire (server_of self.old) (key_of client.0 key.0))) }
+        ensures idle { queries.breaking (server_of self.old) (key_of client.0 key.0) ≡ false → IsOk result }
+        ensures forgotten { OnErr result ((server_of self.new).opens ≡ []) }
+    {
         laws_of_servers();
-        let Server { mut tables } = self;
-        let outs = calls::expire(&mut tables, Key { client, bytes: key })?;
-        let outs = outs.into_vec();
-        Ok((Server { tables }, outs))
+        let mut given = Outs::over(taken_out(outs));
+        match calls::expire(&mut self.tables, &mut given, Key { client, bytes: key }) {
+            Ok(()) => {
+                *outs = given.into_vec();
+                Ok(())
+            }
+            Err(fault) => {
+                self.tables.forget_opens();
+                Err(fault)
+            }
+        }
     }
 
     /// The timer of a durable open runs out (MS-SMB2 3.3.6.2): the open of this FileId is closed, if it
@@ -145,11 +254,36 @@ impl Server {
         ensures after { IfOk result (λ r. IsAfter r.0 r.1.items (rules.scavenge (server_of self) fid.0)) }
         ensures idle { list_any (rules.is_left_behind fid.0) (server_of self).opens ≡ false → IsOk result }
     {
+        let mut server = self;
+        let mut outs = Vec::new(server.tables.alloc());
+        server.scavenge_in_place(fid, &mut outs)?;
+        Ok((server, outs))
+    }
+
+    /// The timer of a durable open runs out, as by `scavenge`, and the server is changed in its place (MS-SMB2 3.3.6.2). What the call gives
+    /// out is on the list afterwards, whatever was there.
+    ///
+    /// # Errors
+    ///
+    /// `Memory` where there is none left, and never where no such open waits. The server has forgotten its opens then, and
+    /// the list has nothing of worth.
+    pub fn scavenge_in_place(&mut self, fid: FileId, outs: &mut Vec<Out>) -> Result<(), Memory>
+        ensures after { OnOk result (IsAfter self.new outs.new.items (rules.scavenge (server_of self.old) fid.0)) }
+        ensures idle { list_any (rules.is_left_behind fid.0) (server_of self.old).opens ≡ false → IsOk result }
+        ensures forgotten { OnErr result ((server_of self.new).opens ≡ []) }
+    {
         laws_of_servers();
-        let Server { mut tables } = self;
-        let outs = calls::scavenge(&mut tables, fid)?;
-        let outs = outs.into_vec();
-        Ok((Server { tables }, outs))
+        let mut given = Outs::over(taken_out(outs));
+        match calls::scavenge(&mut self.tables, &mut given, fid) {
+            Ok(()) => {
+                *outs = given.into_vec();
+                Ok(())
+            }
+            Err(fault) => {
+                self.tables.forget_opens();
+                Err(fault)
+            }
+        }
     }
 
     /// What holds of every server, whatever was asked of it. Where a lease caches writes, every open on a
@@ -224,4 +358,12 @@ fn own_key(client: ClientNo, bytes: Option<LeaseKey>) -> Option<Key>
     ensures { result ≡ key_under client.0 (option_map (λ bytes. bytes.0) bytes) }
 {
     bytes.map(|bytes| Key { client, bytes })
+}
+
+// Takes a list out of its place, where an empty one stays. Allocates nothing.
+fn taken_out(outs: &mut Vec<Out>) -> Vec<Out>
+    ensures { result.items ≡ outs.old.items }
+{
+    let none = Vec::new(*outs.allocator());
+    mem::replace(outs, none)
 }

@@ -191,6 +191,16 @@ impl Tables {
         })
     }
 
+    /// The opens are forgotten, and the leases with them.
+    pub fn forget_opens(&mut self)
+        ensures { self.new ≡ record self.old { opens = []; leases = [] } }
+    {
+        let alloc = self.alloc();
+        self.opens = Opens::new(alloc);
+        self.summaries = Summaries::new(alloc);
+        self.waiting = Waiting::new(alloc);
+    }
+
     /// The allocator of the tables.
     pub fn alloc(&self) -> Global {
         *self.present.allocator()
