@@ -1,6 +1,7 @@
 mod asking;
 mod cache;
 mod example;
+mod in_place;
 mod parting;
 mod replies;
 mod setting;

@@ -2,7 +2,8 @@
 //! threads or clocks. A program that embeds it makes a [`Client`] of its ClientGuid and the number of
 //! its files, and calls it for each command of an application, each message of the server, and each
 //! connection that is made or lost. A call takes the client and gives a [`Step`]: the client after it, what the
-//! application is answered, the requests that go to the server and the notes, each in order.
+//! application is answered, the requests that go to the server and the notes, each in order. `app_in_place` and its like change
+//! a client where it is, and put the rest of the step into a [`Given`] that they are passed.
 //!
 //! ```
 //! let (guid, file, all) = ([0x11; 16], FileNo(1), LeaseState::from_wire(7));

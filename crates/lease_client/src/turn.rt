@@ -77,7 +77,7 @@ impl Given {
 
     /// An answer in place of what was there, with nothing sent or noted yet. Allocates nothing.
     #[inline(always)]
-    pub fn begin(&mut self, answer: Answer)
+    pub(crate) fn begin(&mut self, answer: Answer)
         ensures { self.new ≡ record { answer = answer_of answer; requests = []; notes = [] } }
     {
         self.answer = answer;
@@ -90,7 +90,7 @@ impl Given {
     /// # Errors
     ///
     /// `Memory` where there is none left for them.
-    pub fn join(self, requests: &mut Vec<Request>, notes: &mut Vec<Note>) -> Result<(), Memory>
+    pub(crate) fn join(self, requests: &mut Vec<Request>, notes: &mut Vec<Note>) -> Result<(), Memory>
         ensures requests { OnOk result (requests.new.items ≡ requests.old.items ++ self.requests) }
         ensures notes { OnOk result (map note_of notes.new.items ≡ map note_of notes.old.items ++ self.notes) }
     {
@@ -110,7 +110,7 @@ impl Given {
     /// # Errors
     ///
     /// `Memory` where there is none left for that note, and never where the belief is the old one.
-    pub fn note_belief(
+    pub(crate) fn note_belief(
         &mut self,
         file: FileNo,
         old: LeaseState,

@@ -22,7 +22,7 @@ use crate::world::delivering::{deliver, tell_notes};
 use crate::world::link::Link;
 use crate::world::messages::Messages;
 use crate::world::seat::Seat;
-use lease_client::{Command, lease_key};
+use lease_client::{Command, Given, lease_key};
 use lease_facts::{Event, Fact, Setup};
 use lease_state::{ClientNo, FileId, FileNo, LeaseKey, Memory, Reply, Request};
 use share_server::{Out, Server};
@@ -44,6 +44,8 @@ pub struct World {
     seats: Vec<Seat>,
     facts: Vec<Fact>,
     messages: Messages,
+    // What clients give out, call by call.
+    given: Given,
 }
 
 impl Model for World {
@@ -80,6 +82,7 @@ impl World {
             seats,
             facts,
             messages,
+            given: Given::new(alloc),
         })
     }
 
@@ -136,8 +139,8 @@ impl World {
     {
         let command = copy_command(command)?;
         let seat = &mut self.seats[place_of(client)];
-        let notes = seat.app(command)?;
-        tell_notes(&mut self.facts, client, notes)
+        seat.app(command, &mut self.given)?;
+        tell_notes(&mut self.facts, client, &mut self.given)
     }
 
     // A fact is recorded.
@@ -268,8 +271,8 @@ impl World {
                 self.keep(&reply)?;
                 self.tell(Fact::Took(client))?;
                 let seat = &mut self.seats[place_of(client)];
-                let notes = seat.take(reply)?;
-                tell_notes(&mut self.facts, client, notes)
+                seat.take(reply, &mut self.given)?;
+                tell_notes(&mut self.facts, client, &mut self.given)
             }
             None => Ok(()),
         }
@@ -300,8 +303,8 @@ impl World {
         }
         self.set_link(client, Link::Down);
         let seat = &mut self.seats[place_of(client)];
-        let notes = seat.notice()?;
-        tell_notes(&mut self.facts, client, notes)
+        seat.notice(&mut self.given)?;
+        tell_notes(&mut self.facts, client, &mut self.given)
     }
 
     // A client whose link is down connects.
@@ -318,8 +321,8 @@ impl World {
         let (server, outs) = server.join(client)?;
         self.put_back(server, outs)?;
         let seat = &mut self.seats[place_of(client)];
-        let notes = seat.connect()?;
-        tell_notes(&mut self.facts, client, notes)
+        seat.connect(&mut self.given)?;
+        tell_notes(&mut self.facts, client, &mut self.given)
     }
 
     // The timer of the lease of a client's key of a file runs out, where its break waits.

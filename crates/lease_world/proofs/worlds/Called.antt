@@ -1,7 +1,5 @@
 -- What a world of the code stands for after one of its machines was called.
-use Rattle.lease_laws.proofs.Words.{◌++◌, ◌∙◌, ◌≡◌, Call, ClientCall, List, ℕ, ap, called, length, map, subst, sym}
-use Rattle.lease_client.specs.Answers.{note_of}
-use Rattle.lease_client.specs.declared.note.Note.{Note}
+use Rattle.lease_laws.proofs.Words.{◌++◌, ◌∙◌, ◌≡◌, Call, ClientCall, List, Note, ℕ, ap, called, length, map, subst, sym}
 use Rattle.lease_facts.specs.Facts.{fact_of}
 use Rattle.lease_model.specs.world.World as model
 use Rattle.lease_world.specs.world.Seats.{IsPresent, ChangesSeat, StepsSeat}
@@ -36,7 +34,7 @@ served_count old away new taken after outs out delivers = delivers.count ∙ ap 
 -- a client was called in its seat, and what it noted is recorded
 pub steps_in : (old new : Seen) (number : ℕ) (call : ClientCall) (notes : List Note) → new.server ≡ old.server
     → new.messages ≡ old.messages → ChangesSeat (StepsSeat call notes) number old.seats new.seats
-    → map fact_of new.facts ≡ map fact_of old.facts ++ map (model.fact_of number) (map note_of notes)
+    → map fact_of new.facts ≡ map fact_of old.facts ++ map (model.fact_of number) notes
     → IsPresent number old.seats → StepsIn number call old new
 steps_in old new number call notes server messages seats facts there = (
   messages,

@@ -1,12 +1,9 @@
 -- A client's seat that changes in its place, and a client that is called there.
 use Rattle.lease_laws.proofs.Words.{◌+◌, ◌<◌, ◌==◌, ◌∙◌, ◌≡◌, ◌≢◌, ClientCall, List, ℕ, ap, arith, client_called, false, get_or}
 use Rattle.lease_laws.proofs.Words.{length, length-set, map, refl, slice_set, subst, suc, sym, true, zero}
-use Rattle.lease_client.specs.Answers.{note_of}
 use Rattle.lease_client.specs.Known.{Known, client_of}
-use Rattle.lease_client.specs.Steps.{IsStep}
-use Rattle.lease_client.specs.declared.note.Note.{Note}
-use Rattle.lease_client.specs.declared.step.Step.{Step}
-use Rattle.lease_world.specs.world.Seats.{Seat, seat_in, no_client, no_seat, queued, with_requests, IsPresent, ChangesSeat}
+use Rattle.lease_client.specs.Turns.{Given, IsAfter}
+use Rattle.lease_world.specs.world.Seats.{Seat, seat_in, no_seat, queued, with_requests, IsPresent, ChangesSeat}
 use Rattle.lease_world.specs.world.Seats.{StepsSeat}
 use Rattle.lease_world.proofs.Places.{value_put, value_there}
 
@@ -42,19 +39,9 @@ seat_changed Changes seats number place read new at there is changes =
 pub still_there : (old new : List Seat) (number : ℕ) → length new ≡ length old → IsPresent number old → IsPresent number new
 still_there old new number count there = (there.0, omega (arith, there.1, count))
 
--- a client is taken out, called and put back
-pub steps_seat : (old away new : Seat) (call : ClientCall) (client : Known) (step : Step) (notes : List Note)
-    → (client ≡ old.client) × (away ≡ record old { client = no_client }) → IsStep step (client_called (client_of client) call)
-    → notes ≡ step.notes.items → new ≡ with_requests step.requests.items (record away { client = step.client })
-    → StepsSeat call notes old new
-steps_seat old away new call client step notes taken is noted put =
-    let same : IsStep step (client_called (client_of old.client) call) =
-    subst (λ (c : Known). IsStep step (client_called (client_of c) call)) taken.0 is in
-    rw (put, taken.1) (
-      same.client,
-      refl,
-      ap (λ requests. queued old.link old.requests requests) same.requests,
-      refl,
-      ap (λ ns. map note_of ns) noted ∙ same.notes,
-      refl,
-    )
+-- a client is called in its place, and what it sends is queued
+pub steps_seat : (old new : Seat) (call : ClientCall) (client : Known) (given : Given)
+    → IsAfter client given (client_called (client_of old.client) call)
+    → new ≡ with_requests given.requests (record old { client = client }) → StepsSeat call given.notes old new
+steps_seat old new call client given is put =
+    rw put (is.client, refl, ap (λ requests. queued old.link old.requests requests) is.requests, refl, is.notes, refl)

@@ -1,13 +1,11 @@
 -- What a world of the code stands for after each thing that happens in it.
 use Rattle.lease_laws.proofs.Words.{◌++◌, ◌<◌, ◌==◌, ◌∙◌, ◌∷◌, ◌≡◌, ◌≢◌, Bool, Call, CallHasFileId, CallHasFullKey, Client}
-use Rattle.lease_laws.proofs.Words.{ClientCall, Fact, IsWriting, Link, List, Option, Progress, Reply, Request, Some, Step, World}
+use Rattle.lease_laws.proofs.Words.{ClientCall, Fact, IsWriting, Link, List, Note, Option, Progress, Reply, Request, Some, Step, World}
 use Rattle.lease_laws.proofs.Words.{ℕ, [], all_delivered, all_turned, ap, arith, called, client_called, connection_made, false}
 use Rattle.lease_laws.proofs.Words.{happened, if◌then◌else◌, length, map, map-append, noted, noticed, option_map, put, refl}
 use Rattle.lease_laws.proofs.Words.{reply_of, request_of, request_written, requests_sent, reverse, reverse-append, sent_over}
 use Rattle.lease_laws.proofs.Words.{served, slice_get, stepped_in, suc, sym, true, unwrap_or, zero}
-use Rattle.lease_client.specs.Answers.{note_of}
 use Rattle.lease_client.specs.Known.{client_of}
-use Rattle.lease_client.specs.declared.note.Note as code_note
 use Rattle.lease_laws.proofs.messages.ClientBytes.{requests_have_bytes}
 use Rattle.lease_laws.proofs.client.Forms.{commanded-stays, taken-stays}
 use Rattle.lease_laws.proofs.messages.ReadBack as readback
@@ -143,9 +141,9 @@ same_guid client (ClientCall.Taken reply) = (taken-stays client reply).guid
 same_guid client ClientCall.Noticed = refl
 same_guid client ClientCall.Connected = refl
 
-pub stepped_stands : (old new : Seen) (number : ℕ) (call : ClientCall) (notes : List code_note.Note) → new.server ≡ old.server
+pub stepped_stands : (old new : Seen) (number : ℕ) (call : ClientCall) (notes : List Note) → new.server ≡ old.server
     → ChangesSeat (StepsSeat call notes) number old.seats new.seats
-    → map fact_of new.facts ≡ map fact_of old.facts ++ map (fact_noted number) (map note_of notes)
+    → map fact_of new.facts ≡ map fact_of old.facts ++ map (fact_noted number) notes
     → IsPresent number old.seats → CallHasFileId call → (world : World) → Stands old world
     → Stands new (stepped_in world number (client_called (world.clients number) call))
 unfolding stepped_in requests_sent put
@@ -182,7 +180,7 @@ stepped_stands old new number call notes server seats facts there fits world s =
           (λ m ne. off_place m number (sent_over (world.links number) (world.requests number) step.requests) (world.requests m)
           ne)
           (λ m ne. refl);
-      facts = facts ∙ (ap (λ (xs : List Fact). xs ++ map (fact_noted number) (map note_of notes)) s.facts
+      facts = facts ∙ (ap (λ (xs : List Fact). xs ++ map (fact_noted number) notes) s.facts
           ∙ (ap (λ ns. reverse world.past ++ map (fact_noted number) ns) (notes_are ∙ ap (λ (t : Step). t.notes) same)
           ∙ sym n.past));
       sound = s.sound;

@@ -1,10 +1,9 @@
 -- Clients of a world, as plain data, by their numbers from 1.
 use Rattle.std.specs.Prelude.{◌≡◌, ◌≢◌, ℕ, zero, suc, ◌≤◌, Bool, true, false, Option, None, List, [], ◌∷◌, ◌++◌, if◌then◌else◌, ◌==◌, slice_get, unwrap_or, length, map, MatchOption}
 use Rattle.std.specs.Option.{option_map}
-use Rattle.lease_client.specs.Answers.{note_of}
 use Rattle.lease_client.specs.Known.{Known, client_of}
-use Rattle.lease_client.specs.declared.note.Note.{Note}
 use Rattle.lease_model.specs.client.Calls.{ClientCall, client_called}
+use Rattle.lease_model.specs.client.Commands.{Note}
 use Rattle.lease_model.specs.messages.ToBytes.{request_written}
 use Rattle.lease_model.specs.records.Facts as model
 use Rattle.lease_state.specs.declared.request.Request.{Request}
@@ -110,7 +109,7 @@ StepsSeat call notes old new = (client_of new.client ≡ (client_called (client_
     × (new.link ≡ old.link)
     × (new.requests ≡ queued old.link old.requests (map request_written (client_called (client_of old.client) call).requests))
     × (new.replies ≡ old.replies)
-    × (map note_of notes ≡ (client_called (client_of old.client) call).notes)
+    × (notes ≡ (client_called (client_of old.client) call).notes)
     × (new.guid ≡ old.guid)
 
 abbrev pub is_link : Link → Link → Bool

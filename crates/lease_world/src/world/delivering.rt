@@ -6,7 +6,7 @@ ghost use Rattle.lease_world.specs.world.Seats.{HasSeat, HasReplies, HasKept, fa
 
 use crate::world::messages::Messages;
 use crate::world::seat::Seat;
-use lease_client::Note;
+use lease_client::{Given, Note};
 use lease_facts::Fact;
 use lease_state::{ClientNo, Memory, Reply};
 use share_server::Out;
@@ -71,16 +71,16 @@ fn push_reply(seats: &mut Vec<Seat>, client: ClientNo, reply: Reply) -> Result<(
     Ok(())
 }
 
-/// Records what a client notes, in order.
+/// Records what a client noted, in order.
 ///
 /// # Errors
 ///
 /// `Memory` where there is none left for the record.
-pub fn tell_notes(facts: &mut Vec<Fact>, client: ClientNo, notes: Vec<Note>) -> Result<(), Memory>
+pub fn tell_notes(facts: &mut Vec<Fact>, client: ClientNo, given: &mut Given) -> Result<(), Memory>
     ensures { OnOk result (map fact_of facts.new.items
-        ≡ map fact_of facts.old.items ++ map (model.fact_of client.0) (map note_of notes.items)) }
+        ≡ map fact_of facts.old.items ++ map (model.fact_of client.0) given.old.notes) }
 {
-    for note in notes {
+    for note in given.notes.drain(..) {
         facts.push(fact_noted(client, note))?;
     }
     Ok(())

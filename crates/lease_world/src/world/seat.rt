@@ -1,11 +1,11 @@
-ghost use Rattle.std.specs.Prelude.{◌≡◌, ◌++◌, [], ◌∷◌, OnOk, IfOk, MatchOption};
+ghost use Rattle.std.specs.Prelude.{◌≡◌, ◌++◌, [], ◌∷◌, OnOk, MatchOption};
 ghost use Rattle.lease_model.specs.client.Calls.{ClientCall};
 ghost use Rattle.lease_model.specs.messages.FromBytes.{reply_of};
 ghost use Rattle.lease_client.specs.Answers.{command_of};
-ghost use Rattle.lease_world.specs.world.Seats.{is_link, no_client, queued, with_replies, with_requests, PopsRequest, PopsReply, StepsSeat};
+ghost use Rattle.lease_world.specs.world.Seats.{is_link, queued, with_replies, with_requests, PopsRequest, PopsReply, StepsSeat};
 
 use crate::world::link::Link;
-use lease_client::{Client, Command, Note, Step};
+use lease_client::{Client, Command, Given};
 use lease_state::{Memory, Reply, Request};
 use std::alloc::Global;
 use std::collections::VecDeque;
@@ -15,22 +15,20 @@ use std::marker::Model;
 #[derive(Debug, Drop)]
 pub struct Seat {
     guid: [u8; 16],
-    // `None` once a call of it found no memory; no call finds any from then on.
-    client: Option<Client>,
+    client: Client,
     link: Link,
     requests: VecDeque<Request>,
     replies: VecDeque<Reply>,
 }
 
 impl Model for Seat {
-    ghost use Rattle.std.specs.Prelude as prelude;
     ghost use Rattle.lease_world.specs.world.Seats as seats;
 
     ghost Value = { seats.Seat };
 
     ghost view = { λ seat. record {
       guid = seat.guid;
-      client = prelude.unwrap_or seat.client seats.no_client;
+      client = seat.client;
       link = seat.link;
       requests = seat.requests.items;
       replies = seat.replies.items;
@@ -44,7 +42,7 @@ impl Seat {
     {
         Seat {
             guid,
-            client: Some(client),
+            client,
             link: Link::Down,
             requests: VecDeque::new(alloc),
             replies: VecDeque::new(alloc),
@@ -90,12 +88,11 @@ impl Seat {
     /// # Errors
     ///
     /// `Memory` where there is none left.
-    pub fn app(&mut self, command: Command) -> Result<Vec<Note>, Memory>
-        ensures { IfOk result (λ notes. StepsSeat (ClientCall.Commanded (command_of command)) notes.items self.old self.new) }
+    pub fn app(&mut self, command: Command, given: &mut Given) -> Result<(), Memory>
+        ensures { OnOk result (StepsSeat (ClientCall.Commanded (command_of command)) given.new.notes self.old self.new) }
     {
-        let client = self.take_client()?;
-        let step = client.app(command)?;
-        self.put_back(step)
+        self.client.app_in_place(command, given)?;
+        self.send_all(given)
     }
 
     /// The client takes a reply, and what it sends is on its way. Its notes are given.
@@ -103,12 +100,11 @@ impl Seat {
     /// # Errors
     ///
     /// `Memory` where there is none left.
-    pub fn take(&mut self, reply: Reply) -> Result<Vec<Note>, Memory>
-        ensures { IfOk result (λ notes. StepsSeat (ClientCall.Taken (reply_of reply)) notes.items self.old self.new) }
+    pub fn take(&mut self, reply: Reply, given: &mut Given) -> Result<(), Memory>
+        ensures { OnOk result (StepsSeat (ClientCall.Taken (reply_of reply)) given.new.notes self.old self.new) }
     {
-        let client = self.take_client()?;
-        let step = client.take(reply)?;
-        self.put_back(step)
+        self.client.take_in_place(reply, given)?;
+        self.send_all(given)
     }
 
     /// The client notices that its connection is lost, and what it sends is on its way. Its notes are
@@ -117,12 +113,11 @@ impl Seat {
     /// # Errors
     ///
     /// `Memory` where there is none left.
-    pub fn notice(&mut self) -> Result<Vec<Note>, Memory>
-        ensures { IfOk result (λ notes. StepsSeat ClientCall.Noticed notes.items self.old self.new) }
+    pub fn notice(&mut self, given: &mut Given) -> Result<(), Memory>
+        ensures { OnOk result (StepsSeat ClientCall.Noticed given.new.notes self.old self.new) }
     {
-        let client = self.take_client()?;
-        let step = client.notice()?;
-        self.put_back(step)
+        self.client.notice_in_place(given)?;
+        self.send_all(given)
     }
 
     /// The client is connected, and what it sends is on its way. Its notes are given.
@@ -130,35 +125,22 @@ impl Seat {
     /// # Errors
     ///
     /// `Memory` where there is none left.
-    pub fn connect(&mut self) -> Result<Vec<Note>, Memory>
-        ensures { IfOk result (λ notes. StepsSeat ClientCall.Connected notes.items self.old self.new) }
+    pub fn connect(&mut self, given: &mut Given) -> Result<(), Memory>
+        ensures { OnOk result (StepsSeat ClientCall.Connected given.new.notes self.old self.new) }
     {
-        let client = self.take_client()?;
-        let step = client.connect()?;
-        self.put_back(step)
+        self.client.connect_in_place(given)?;
+        self.send_all(given)
     }
 
-    // Takes the client out, to be called.
-    fn take_client(&mut self) -> Result<Client, Memory>
-        ensures { IfOk result (λ client. (client ≡ self.old.client) × (self.new ≡ record self.old { client = no_client })) }
+    // The requests that the client gave out are on their way, where its link is up; else they are lost.
+    fn send_all(&mut self, given: &mut Given) -> Result<(), Memory>
+        ensures sent { OnOk result (self.new ≡ with_requests given.old.requests self.old) }
+        ensures notes { given.new.notes ≡ given.old.notes }
     {
-        self.client.take().ok_or(Memory)
-    }
-
-    // Puts the client back after a call, and sends what it sends. The notes are given.
-    fn put_back(&mut self, step: Step) -> Result<Vec<Note>, Memory>
-        ensures notes { IfOk result (λ notes. notes ≡ step.notes) }
-        ensures seat { OnOk result (self.new ≡ with_requests step.requests.items (record self.old { client = step.client })) }
-    {
-        let Step {
-            client,
-            requests,
-            notes,
-            ..
-        } = step;
-        self.client = Some(client);
-        send_over(self.link, &mut self.requests, requests)?;
-        Ok(notes)
+        if self.link == Link::Up {
+            push_all(&mut self.requests, given)?;
+        }
+        Ok(())
     }
 
     /// A reply is on its way to the client.
@@ -202,25 +184,12 @@ impl Seat {
     }
 }
 
-// Puts requests into the queue of a link that is up; else they are lost.
-fn send_over(
-    link: Link,
-    queue: &mut VecDeque<Request>,
-    requests: Vec<Request>,
-) -> Result<(), Memory>
-    ensures { OnOk result (queue.new.items ≡ queued link queue.old.items requests.items) }
-{
-    if link == Link::Up {
-        push_all(queue, requests)?;
-    }
-    Ok(())
-}
-
 // Puts requests after those that are in the queue.
-fn push_all(queue: &mut VecDeque<Request>, requests: Vec<Request>) -> Result<(), Memory>
-    ensures { OnOk result (queue.new.items ≡ queue.old.items ++ requests.items) }
+fn push_all(queue: &mut VecDeque<Request>, given: &mut Given) -> Result<(), Memory>
+    ensures requests { OnOk result (queue.new.items ≡ queue.old.items ++ given.old.requests) }
+    ensures notes { given.new.notes ≡ given.old.notes }
 {
-    for request in requests {
+    for request in given.requests.drain(..) {
         queue.push_back(request)?;
     }
     Ok(())

@@ -9,8 +9,8 @@ use Rattle.lease_world.proofs.worlds.Events.{client_took, client_took_nothing}
 use Rattle.lease_world.proofs.worlds.Seats.{seat_changed, still_there}
 use Rattle.lease_world.proofs.world.World.client_takes.Goals as goal
 
-pub returns-in_ok-notes-in-Some : goal.returns-in_ok-notes-in-Some
-returns-in_ok-notes-in-Some c =
+pub returns-in_ok-take-in-Some : goal.returns-in_ok-take-in-Some
+returns-in_ok-take-in-Some c =
     let old : Seen = the_view c.self.inside in
     let there : IsPresent c.args.client.0 old.seats =
     subst (λ (w : Seen). IsPresent c.args.client.0 w.seats) (sym c.self.view_is) c.requires in
@@ -28,14 +28,14 @@ returns-in_ok-notes-in-Some c =
       facts = c.tell_notes.new.facts.items;
     } in
     let call : ClientCall = ClientCall.Taken (reply_of c.in-Some.reply) in
-    let changed = seat_changed (StepsSeat call c.in_ok-notes-in-Some.notes.items) told.seats c.args.client.0
+    let changed = seat_changed (StepsSeat call c.take.new.given.notes) told.seats c.args.client.0
     c.place_of-in-Some.result c.index_mut-seat-in-Some.result.now c.take.new.self c.place_of-in-Some.ensures here
-    c.index_mut-seat-in-Some.ensures.value c.in_ok-notes-in-Some.ensures in
+    c.index_mut-seat-in-Some.ensures.value c.in_ok-take-in-Some.ensures in
     rw (← c.self.view_is) (on_ok_weaker c.tell_notes.result (λ noted.
     client_took old popped c.keep.new.self c.tell.new.self new c.args.client.0 c.in-Some.reply (refl, refl, refl) popping there
     c.has_its_field.ensures c.in_ok-keep-in-Some.ensures.becomes c.in_ok-keep-in-Some.ensures.kept
     c.in_ok-tell-in-Some.ensures.becomes (subst (λ (w : Seen). StepsIn c.args.client.0 call w new) c.self-in-Some.view_is
-    (steps_in told new c.args.client.0 call c.in_ok-notes-in-Some.notes.items refl refl changed noted here)))
+    (steps_in told new c.args.client.0 call c.take.new.given.notes refl refl changed noted here)))
     c.tell_notes.ensures)
 
 pub returns-in-None : goal.returns-in-None

@@ -18,9 +18,9 @@ returns c =
       facts = c.tell_notes.new.facts.items;
     } in
     let call : ClientCall = ClientCall.Commanded (command_of c.in_ok-command.command) in
-    let changed = seat_changed (StepsSeat call c.in_ok-notes.notes.items) old.seats c.args.client.0 c.place_of.result
-    c.index_mut-seat.result.now c.app.new.self c.place_of.ensures there c.index_mut-seat.ensures.value c.in_ok-notes.ensures in
+    let changed = seat_changed (StepsSeat call c.app.new.given.notes) old.seats c.args.client.0 c.place_of.result
+    c.index_mut-seat.result.now c.app.new.self c.place_of.ensures there c.index_mut-seat.ensures.value c.in_ok-app.ensures in
     rw (← c.self.view_is) (on_ok_weaker c.tell_notes.result (λ told.
-    let steps = steps_in old new c.args.client.0 call c.in_ok-notes.notes.items refl refl changed told there in
+    let steps = steps_in old new c.args.client.0 call c.app.new.given.notes refl refl changed told there in
     command_applies old new c.args.client.0 (command_of c.args.command.now) (rw c.in_ok-command.ensures at steps))
     c.tell_notes.ensures)

@@ -26,9 +26,9 @@ returns c =
       seats = slice_set joined.seats c.place_of.result c.connect.new.self;
       facts = c.tell_notes.new.facts.items;
     } in
-    let changed = seat_changed (StepsSeat ClientCall.Connected c.in_ok-notes.notes.items) joined.seats c.args.client.0
+    let changed = seat_changed (StepsSeat ClientCall.Connected c.connect.new.given.notes) joined.seats c.args.client.0
     c.place_of.result c.index_mut-seat.result.now c.connect.new.self c.place_of.ensures there c.index_mut-seat.ensures.value
-    c.in_ok-notes.ensures in
+    c.in_ok-connect.ensures in
     on_ok_weaker c.tell_notes.result (λ told.
     connect_one c.args.self.now c.set_link.new.self c.tell.new.self c.put_back.new.self new c.args.client.0 c.requires
     (sym c.has_link.ensures ∙ c.if-not-has_link.false) c.set_link.ensures.becomes c.in_ok-tell.ensures.becomes
@@ -36,5 +36,5 @@ returns c =
     c.in_ok-server.server c.in_ok-server-2.server c.in_ok-server-2.outs.items
     c.in_ok-server.ensures c.in_ok-server-2.ensures.after delivers)
     (subst (λ (w : Seen). StepsIn c.args.client.0 ClientCall.Connected w new) c.self.view_is
-    (steps_in joined new c.args.client.0 ClientCall.Connected c.in_ok-notes.notes.items refl refl changed told there)))
+    (steps_in joined new c.args.client.0 ClientCall.Connected c.connect.new.given.notes refl refl changed told there)))
     c.tell_notes.ensures

@@ -22,11 +22,11 @@ returns c =
       seats = slice_set linked.seats c.place_of.result c.notice.new.self;
       facts = c.tell_notes.new.facts.items;
     } in
-    let changed = seat_changed (StepsSeat ClientCall.Noticed c.in_ok-notes.notes.items) linked.seats c.args.client.0
+    let changed = seat_changed (StepsSeat ClientCall.Noticed c.notice.new.given.notes) linked.seats c.args.client.0
     c.place_of.result c.index_mut-seat.result.now c.notice.new.self c.place_of.ensures there c.index_mut-seat.ensures.value
-    c.in_ok-notes.ensures in
+    c.in_ok-notice.ensures in
     on_ok_weaker c.tell_notes.result (λ told. notice_one c.args.self.now c.set_link.new.self new c.args.client.0 c.requires
     (sym c.has_link.ensures ∙ c.if-not-has_link.false) c.set_link.ensures.becomes
     (subst (λ (w : Seen). StepsIn c.args.client.0 ClientCall.Noticed w new) c.self.view_is
-    (steps_in linked new c.args.client.0 ClientCall.Noticed c.in_ok-notes.notes.items refl refl changed told there)))
+    (steps_in linked new c.args.client.0 ClientCall.Noticed c.notice.new.given.notes refl refl changed told there)))
     c.tell_notes.ensures
