@@ -3,7 +3,7 @@ ghost use Rattle.lease_laws.specs.messages.Written.{CallHasFileId};
 ghost use Rattle.lease_model.specs.client.Calls.{ClientCall};
 ghost use Rattle.lease_model.specs.messages.FromBytes.{request_of, reply_of};
 ghost use Rattle.lease_model.specs.world.Events as model;
-ghost use Rattle.lease_world.specs.world.Stands.{link_of, no_server, Stands};
+ghost use Rattle.lease_world.specs.world.Stands.{link_of, Stands};
 ghost use Rattle.lease_world.specs.world.Worlds.{Happens, Tells, Delivers, Links, CutsLink, Sends, Applies};
 ghost use Rattle.lease_world.specs.world.Seats.{IsPresent, HasKept, is_link, seat_in};
 ghost use Rattle.std.specs.Option.{option_map};
@@ -39,26 +39,26 @@ mod seat;
 /// they are kept.
 #[derive(Debug, Drop)]
 pub struct World {
-    // `None` once a call of it found no memory; no call finds any from then on.
-    server: Option<Server>,
+    server: Server,
     seats: Vec<Seat>,
     facts: Vec<Fact>,
     messages: Messages,
-    // What clients give out, call by call.
+    // What the server and clients give out, call by call.
+    outs: Vec<Out>,
     given: Given,
 }
 
 impl Model for World {
-    ghost use Rattle.std.specs.Prelude as prelude;
     ghost use Rattle.lease_world.specs.world.Stands as stands;
 
     ghost Value = { stands.Seen };
 
     ghost view = { λ world. record {
-      server = prelude.unwrap_or world.server stands.no_server;
+      server = world.server;
       seats = world.seats.items;
       facts = world.facts.items;
       messages = world.messages;
+      outs = world.outs.items;
     } };
 }
 
@@ -78,10 +78,11 @@ impl World {
         let server = Server::new(alloc, first::copy_contents(alloc, contents)?)?;
         let seats = first::seats(alloc, &setup.clients, contents.len() as u8)?;
         Ok(World {
-            server: Some(server),
+            server,
             seats,
             facts,
             messages,
+            outs: Vec::new(alloc),
             given: Given::new(alloc),
         })
     }
@@ -160,19 +161,16 @@ impl World {
         self.messages.push(message)
     }
 
-    // Takes the server out, to be called.
-    fn take_server(&mut self) -> Result<Server, Memory>
-        ensures { IfOk result (λ server. (server ≡ self.old.server) × (self.new ≡ record self.old { server = no_server })) }
+    // Delivers what the server gave out.
+    fn deliver(&mut self) -> Result<(), Memory>
+        ensures { OnOk result (Delivers self.old self.new) }
     {
-        self.server.take().ok_or(Memory)
-    }
-
-    // Puts the server back after a call, and delivers what it gave out.
-    fn put_back(&mut self, server: Server, outs: Vec<Out>) -> Result<(), Memory>
-        ensures { OnOk result (Delivers server outs.items self.old self.new) }
-    {
-        self.server = Some(server);
-        deliver(&mut self.seats, &mut self.facts, &mut self.messages, outs)?;
+        deliver(
+            &mut self.seats,
+            &mut self.facts,
+            &mut self.messages,
+            &mut self.outs,
+        )?;
         Ok(())
     }
 
@@ -199,20 +197,14 @@ impl World {
         ensures { result ≡ (is_some (content (server_of self.now.server) file.0)
             && breaking (server_of self.now.server) (key_of client.0 key.0)) }
     {
-        match &self.server {
-            Some(server) => server.content(file).is_some() && server.breaking(client, key),
-            None => false,
-        }
+        self.server.content(file).is_some() && self.server.breaking(client, key)
     }
 
     // The FileId of a client's lowest kept open of a file.
     fn kept(&self, client: ClientNo, file: FileNo) -> Option<FileId>
         ensures { option_map (λ file_id. file_id.0) result ≡ kept (server_of self.now.server) client.0 file.0 }
     {
-        match &self.server {
-            Some(server) => server.kept(client, file),
-            None => None,
-        }
+        self.server.kept(client, file)
     }
 
     // The link of a client is this from now on.
@@ -251,9 +243,9 @@ impl World {
         let seat = &mut self.seats[place_of(client)];
         match seat.pop_request() {
             Some(request) => {
-                let server = self.take_server()?;
-                let (server, outs) = server.receive(client, request)?;
-                self.put_back(server, outs)
+                self.server
+                    .receive_in_place(client, request, &mut self.outs)?;
+                self.deliver()
             }
             None => Ok(()),
         }
@@ -288,9 +280,8 @@ impl World {
         }
         self.cut_link(client);
         self.tell(Fact::Dropped(client))?;
-        let server = self.take_server()?;
-        let (server, outs) = server.cut(client)?;
-        self.put_back(server, outs)
+        self.server.cut_in_place(client, &mut self.outs)?;
+        self.deliver()
     }
 
     // A client whose link is cut notices that.
@@ -317,9 +308,8 @@ impl World {
         }
         self.set_link(client, Link::Up);
         self.tell(Fact::Joined(client))?;
-        let server = self.take_server()?;
-        let (server, outs) = server.join(client)?;
-        self.put_back(server, outs)?;
+        self.server.join_in_place(client, &mut self.outs)?;
+        self.deliver()?;
         let seat = &mut self.seats[place_of(client)];
         seat.connect(&mut self.given)?;
         tell_notes(&mut self.facts, client, &mut self.given)
@@ -335,9 +325,8 @@ impl World {
             return Ok(());
         }
         self.tell(Fact::Expired(client, file))?;
-        let server = self.take_server()?;
-        let (server, outs) = server.expire(client, key)?;
-        self.put_back(server, outs)
+        self.server.expire_in_place(client, key, &mut self.outs)?;
+        self.deliver()
     }
 
     // The timer of a client's lowest kept open of a file runs out, where there is one.
@@ -346,9 +335,8 @@ impl World {
     {
         match self.kept(client, file) {
             Some(fid) => {
-                let server = self.take_server()?;
-                let (server, outs) = server.scavenge(fid)?;
-                self.put_back(server, outs)
+                self.server.scavenge_in_place(fid, &mut self.outs)?;
+                self.deliver()
             }
             None => Ok(()),
         }

@@ -247,3 +247,9 @@ one_more_event old new first kept events n d lt held happens =
       subst (λ (rs : List Reply). KeepsBehind kept rs new) (sym (messages_one_more first before event))
           (behind_more old new kept (messages_from first before) (messages_in (after first before) event) held.1 one.1),
     )
+
+-- a run ends where no event is left
+pub no_event_left : (code : Seen) (first : World) (events : List code_event.Event) (index : ℕ) → length events ≤ index
+    → Stands code (after first (take index (map event_of events))) → Stands code (after first (map event_of events))
+no_event_left code first events index end stands =
+    rw (take_all (map event_of events) index (omega (arith, end, length-map events event_of))) at stands

@@ -12,16 +12,14 @@ use Rattle.lease_world.specs.declared.world.link.Link as code
 use Rattle.lease_world.specs.world.Seats.{Seat, seat_in, IsPresent}
 use Rattle.lease_state.specs.declared.reply.Reply.{Reply}
 use Rattle.share_server.specs.Table.{Table, server_of}
+use Rattle.share_server.specs.declared.out.Out.{Out}
 
 pub record Seen : Type 0 where
   pub server : Table
   pub seats : List Seat
   pub facts : List Fact
   pub messages : Option (List Reply)
-
--- no file is there, and no client
-abbrev pub no_server : Table
-no_server = record { files = []; count = 0; opens = []; leases = []; present = []; expired = []; last_id = 0 }
+  pub outs : List Out
 
 abbrev pub link_of : code.Link → model.Link
 link_of code.TheVariants.Down = model.Link.Down

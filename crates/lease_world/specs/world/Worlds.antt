@@ -40,13 +40,13 @@ IsQuiet old new = new.messages ≡ old.messages
 
 -- ---- what happens
 
--- the server is this one, and what it gave out is recorded, delivered and kept, where messages are
-pub record Delivers (table : Table) (outs : List Out) (old new : Seen) : Type 0 where
-  pub server : new.server ≡ table
-  pub replies : HasReplies old.seats new.seats outs
+-- what the server gave out is recorded, delivered and kept, where messages are
+pub record Delivers (old new : Seen) : Type 0 where
+  pub server : new.server ≡ old.server
+  pub replies : HasReplies old.seats new.seats old.outs
   pub count : length new.seats ≡ length old.seats
-  pub facts : map fact_of new.facts ≡ map fact_of old.facts ++ map fact_given outs
-  pub kept : HasKept old.messages new.messages (replies_among outs)
+  pub facts : map fact_of new.facts ≡ map fact_of old.facts ++ map fact_given old.outs
+  pub kept : HasKept old.messages new.messages (replies_among old.outs)
 
 abbrev pub Tells : Fact → Seen → Seen → Type 0
 Tells fact old new = IsQuiet old new × ((world : World) → Stands old world → Stands new (happened world fact))
