@@ -48,7 +48,7 @@ pub fn receive(
 }
 
 /// A client's connection is lost.
-#[tactic(auto)]
+#[tactic(auto, using(lease_laws::proofs::server::cases::Calls::cuts_nothing))]
 pub fn cut(tables: &mut Tables, outs: &mut Outs, client: ClientNo) -> Result<(), Memory>
     requires { outs.old ≡ [] }
     ensures step { OnOk result (progress_of tables.new outs.new ≡ rules.cut (server_of tables.old) client.0) }
