@@ -15,7 +15,8 @@ pub created_nowhere : (known : Known) (n file_id : ℕ) (answer : Option CreateA
     → create_answered (client_of known) n file_id answer ≡ quiet_step (client_of known)
 created_nowhere known n file_id None is = unread_create (client_of known) n file_id
 created_nowhere known n file_id (Some answer) is = created_by (client_of known) n file_id answer
-    ∙ ap (λ entry. turned (client_of known) n (created_turn (lease_key known.guid n) file_id answer entry)) (unknown_file known n is)
+    ∙ ap (λ entry. turned (client_of known) n (created_turn (lease_key known.guid n) file_id answer entry))
+    (unknown_file known n is)
     ∙ sym (still_quiet (client_of known) n (closed_entry []) (unknown_file known n is))
 
 pub not_created_nowhere : (known : Known) (n : ℕ) (status : Status) → knows_file (client_of known) n ≡ false

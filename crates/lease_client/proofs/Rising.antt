@@ -1,5 +1,6 @@
 -- No call raises a belief, but a reply to a create that tells of no break in progress.
-use Rattle.lease_laws.proofs.Words.{inl, inr, ◌&&◌, ◌==◌, ◌≡◌, ◌⊎◌, Asked, Bool, Client, Command, CreateAnswer, Entry, LeaseGiven, List}
+use Rattle.lease_laws.proofs.Words.{inl, inr, ◌&&◌, ◌==◌, ◌≡◌, ◌⊎◌, Asked, Bool, Client, Command, CreateAnswer, Entry}
+use Rattle.lease_laws.proofs.Words.{LeaseGiven, List}
 use Rattle.lease_laws.proofs.Words.{LiveEntry, Option, Pending, Phase, Reply, Some, State, Turn, ℕ, arith, belief_in}
 use Rattle.lease_laws.proofs.Words.{belief_of, commanded, false, given_state, is_state_within, lease_key, meet}
 use Rattle.lease_laws.proofs.Words.{nothing_cached, phase_with, sent_without, promoted_belief, put, refl, subst, sym, taken, true}

@@ -10,7 +10,8 @@ use Rattle.lease_laws.proofs.Words.{Finding, Status, asked_finding, has_file, wi
 use Rattle.lease_laws.proofs.Words.{zero}
 use Rattle.std.specs.List.{slice_get}
 use Rattle.lease_laws.proofs.server.Lists.{either, clash, and_parts, not_parts}
-use Rattle.lease_laws.proofs.server.cases.Findings.{finds_malformed, look_for_close, look_for_create, look_for_read, look_for_write}
+use Rattle.lease_laws.proofs.server.cases.Findings.{finds_malformed, look_for_close, look_for_create, look_for_read}
+use Rattle.lease_laws.proofs.server.cases.Findings.{look_for_write}
 use Rattle.lease_laws.proofs.server.cases.Tries.{met_in_order, nothing_met}
 use Rattle.share_server.specs.Passing.{pass_at}
 use Rattle.share_server.specs.Summaries.{file_order}

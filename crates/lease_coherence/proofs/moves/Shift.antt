@@ -5,7 +5,8 @@ use Rattle.lease_laws.proofs.Words.{acknowledged, ap, begun, concluded}
 use Rattle.lease_laws.proofs.Words.{held_left}
 use Rattle.lease_laws.proofs.Words.{refl, replied, step_taken, sym}
 use Rattle.lease_laws.proofs.Words.{subst}
-use Rattle.lease_laws.proofs.server.cases.Ends.{any_end, ends_again, ends_changed, ends_closed, ends_full, ends_granted, ends_left, ends_read}
+use Rattle.lease_laws.proofs.server.cases.Ends.{any_end, ends_again, ends_changed, ends_closed, ends_full, ends_granted}
+use Rattle.lease_laws.proofs.server.cases.Ends.{ends_left, ends_read}
 use Rattle.lease_laws.proofs.server.cases.Judgements.{any_judgement, ends_break, is_refused}
 
 -- what comes of a call under way, and what comes of its state alone
@@ -32,7 +33,8 @@ concluded_follows : (client : ℕ) (request : FileRequest) (outcome : Outcome) (
     → Follows progress.outs (concluded client request progress outcome) (concluded client request (begun progress.server) outcome)
 concluded_follows client request outcome progress =
     let fresh = begun progress.server in
-    any_end client progress (λ request outcome after. Follows progress.outs after (concluded client request fresh outcome)) (record {
+    any_end client progress
+    (λ request outcome after. Follows progress.outs after (concluded client request fresh outcome)) (record {
       refused = λ request status. reply_follows client _ progress;
       left = λ request outcome why. by_form progress.outs progress fresh _ (sym (ends_left client request fresh outcome why))
           (same_follows progress);

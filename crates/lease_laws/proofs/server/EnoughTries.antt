@@ -11,7 +11,8 @@ use Rattle.lease_laws.proofs.Words.{true, wants_met, without_handle, without_wri
 use Rattle.lease_laws.proofs.server.EnoughRounds.{IsAfterBreaks, IsRoundDone, NoneIs, IsRoundBroken, AllBreakToNone, is_wanted}
 use Rattle.lease_laws.proofs.server.EnoughRounds.{nothing_wanted, round_done, round_broken}
 use Rattle.lease_laws.proofs.server.Lists.{either, clash, not_true, any_has, has_any}
-use Rattle.lease_laws.proofs.server.cases.Findings.{IsAtHome, any_finding, finds_all, finds_handles, finds_violation, finds_writes}
+use Rattle.lease_laws.proofs.server.cases.Findings.{IsAtHome, any_finding, finds_all, finds_handles, finds_violation}
+use Rattle.lease_laws.proofs.server.cases.Findings.{finds_writes}
 use Rattle.lease_laws.proofs.server.cases.Tries.{any_rounds, round_ends, round_fails, round_goes_on, round_waits}
 
 -- ---- so many rounds are enough for a try

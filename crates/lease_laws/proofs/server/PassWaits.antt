@@ -7,7 +7,8 @@ use Rattle.lease_laws.proofs.Words.{pass_answered, put, refl, subst, suc}
 use Rattle.lease_laws.proofs.Words.{sym, tried, tried_again, true, true≢false, zero}
 use Rattle.lease_laws.proofs.server.FileReady.{ready-file}
 use Rattle.lease_laws.proofs.server.Goes.{file_frame, Goes, concluded-goes, goes-same}
-use Rattle.lease_laws.proofs.server.Held.{answered-fewer, begun-in, SameHeld, InPass, left_waiting-in, pass_answered-in, concluded-held}
+use Rattle.lease_laws.proofs.server.Held.{answered-fewer, begun-in, SameHeld, InPass, left_waiting-in, pass_answered-in}
+use Rattle.lease_laws.proofs.server.Held.{concluded-held}
 use Rattle.lease_laws.proofs.server.Keeps.{Kept, Anywhere, Elsewhere, waits_keep, concluded-kept, keeps-same}
 use Rattle.lease_laws.proofs.server.Lists.{if_cases, either, clash, and_parts, among_append, among_before, among_behind, find_has}
 use Rattle.lease_laws.proofs.server.Orderly.{IsHeldWell, held_well, IsFine, IsTry, any_try, fine_try, fine_concluded}

@@ -1,6 +1,7 @@
 -- What a world of the code stands for after each thing that happens in it.
 use Rattle.lease_laws.proofs.Words.{◌++◌, ◌<◌, ◌==◌, ◌∙◌, ◌∷◌, ◌≡◌, ◌≢◌, Bool, Call, CallHasFileId, CallHasFullKey, Client}
-use Rattle.lease_laws.proofs.Words.{ClientCall, Fact, IsWriting, Link, List, Note, Option, Progress, Reply, Request, Some, Step, World}
+use Rattle.lease_laws.proofs.Words.{ClientCall, Fact, IsWriting, Link, List, Note, Option, Progress, Reply, Request, Some, Step}
+use Rattle.lease_laws.proofs.Words.{World}
 use Rattle.lease_laws.proofs.Words.{ℕ, [], all_delivered, all_turned, ap, arith, called, client_called, connection_made, false}
 use Rattle.lease_laws.proofs.Words.{happened, if◌then◌else◌, length, map, map-append, noted, noticed, option_map, put, refl}
 use Rattle.lease_laws.proofs.Words.{reply_of, request_of, request_written, requests_sent, reverse, reverse-append, sent_over}

@@ -1,7 +1,9 @@
 -- Turns of one entry that come to simpler steps: what leaves the entry as it is, and a write that takes a number.
-use Rattle.lease_laws.proofs.Words.{◌++◌, ◌∙◌, ◌∷◌, ◌≡◌, Answer, Bool, Client, Entry, List, Note, Pending, Refusal, Request, State}
+use Rattle.lease_laws.proofs.Words.{◌++◌, ◌∙◌, ◌∷◌, ◌≡◌, Answer, Bool, Client, Entry, List, Note, Pending, Refusal, Request}
+use Rattle.lease_laws.proofs.Words.{State}
 use Rattle.lease_laws.proofs.Words.{Step, Turn, ℕ, [], ap, arith, belief_of, believes_noted, beq, fun_ext, is_refused, false}
-use Rattle.lease_laws.proofs.Words.{nat_tests, number_after, put, quiet_step, quiet_turn, refl, refused_step, refused_turn, same_state}
+use Rattle.lease_laws.proofs.Words.{nat_tests, number_after, put, quiet_step, quiet_turn, refl, refused_step, refused_turn}
+use Rattle.lease_laws.proofs.Words.{same_state}
 use Rattle.lease_laws.proofs.Words.{cached_read, cached_turn, subst, sym, true, turned, wrote_step, wrote_turn}
 use Rattle.lease_model.specs.client.Step.{with_number}
 

@@ -1,6 +1,7 @@
 -- What the end of a request makes of a call under way: each of the forms, with what is known of it. Whatever holds of
 -- each form holds of every end.
-use Rattle.lease_laws.proofs.Words.{◌∙◌, ◌&&◌, ◌==◌, ◌≡◌, Access, Among, CreateAsk, FileRequest, None, Open, Option, Outcome, Patch}
+use Rattle.lease_laws.proofs.Words.{◌∙◌, ◌&&◌, ◌==◌, ◌≡◌, Access, Among, CreateAsk, FileRequest, None, Open, Option, Outcome}
+use Rattle.lease_laws.proofs.Words.{Patch}
 use Rattle.lease_laws.proofs.Words.{Progress, Reply, Server, Share, Some, Status, ℕ, answered, changed, closed, concluded}
 use Rattle.lease_laws.proofs.Words.{connected_open, created, eqb-true, granted_with, lease_after}
 use Rattle.lease_laws.proofs.Words.{last_file_id, opens_dropped, read_done, reconnected, refl, refusal_of, replied, subst, true}
@@ -115,7 +116,8 @@ pub ends_changed : (client file_id number : ℕ) (patch : Patch) (one : Open) (p
 unfolding answered
 ends_changed client file_id number patch one progress found = rw (found) refl
 
-pub ends_closed : (client file_id : ℕ) (one : Open) (progress : Progress) → connected_open progress.server client file_id ≡ Some one
+pub ends_closed : (client file_id : ℕ) (one : Open) (progress : Progress)
+    → connected_open progress.server client file_id ≡ Some one
     → concluded client (FileRequest.Close file_id) progress Outcome.Ready ≡ closed client file_id progress
 unfolding answered
 ends_closed client file_id one progress found = rw (found) refl
@@ -139,7 +141,8 @@ create_end client progress P h file access share ask (Some file_id) some =
 
 open_end : (client : ℕ) (progress : Progress) (P : FileRequest → Outcome → Progress → Type 0)
     → (request : FileRequest) (file_id : ℕ) (found : Option Open) → connected_open progress.server client file_id ≡ found
-    → (connected_open progress.server client file_id ≡ None → P request Outcome.Ready (concluded client request progress Outcome.Ready))
+    → (connected_open progress.server client file_id ≡ None
+    → P request Outcome.Ready (concluded client request progress Outcome.Ready))
     → ((one : Open) → IsFoundOpen progress.server client file_id one
     → P request Outcome.Ready (concluded client request progress Outcome.Ready))
     → P request Outcome.Ready (concluded client request progress Outcome.Ready)

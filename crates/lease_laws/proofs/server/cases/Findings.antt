@@ -213,7 +213,8 @@ again_found : (server : Server) (client : ℕ) (P : FileRequest → Finding → 
     → (file : ℕ) (access : Access) (share : Share) (ask : CreateAsk) → has_file server file ≡ true
     → (again : Option ℕ) → ask.reconnect ≡ again → P (FileRequest.Create file access share (Some ask))
     (finding server client (FileRequest.Create file access share (Some ask)))
-again_found server client P h file access share ask there None anew = anew_found server client P h file access share ask there anew
+again_found server client P h file access share ask there None anew =
+    anew_found server client P h file access share ask there anew
 again_found server client P h file access share ask there (Some file_id) again =
     let request = FileRequest.Create file access share (Some ask) in
     either (list_any (awaits client file (own_key client ask.lease) file_id) server.opens)
@@ -228,7 +229,8 @@ read_found : (server : Server) (client : ℕ) (P : FileRequest → Finding → T
 read_found server client P h file_id one is =
     let own = found_open server client file_id one is in
     either (may_read one.access)
-    (λ may. subst (P (FileRequest.Read file_id)) (sym (finds_read server client file_id one is may)) (h.reads file_id one own may))
+    (λ may. subst (P (FileRequest.Read file_id)) (sym (finds_read server client file_id one is may))
+    (h.reads file_id one own may))
     (λ not. subst (P (FileRequest.Read file_id)) (sym (finds_unread server client file_id one is not))
     (h.unread file_id one own not))
 

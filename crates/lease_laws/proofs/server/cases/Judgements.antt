@@ -54,7 +54,8 @@ pub is_refused : (client : ℕ) (given : Option LeaseOf) (progress : Progress) �
 unfolding acknowledged
 is_refused client None progress why = refl
 is_refused client (Some given) progress why = either (has_lease progress.server (key_of client given.key))
-    (λ there. rw (there) (judged_so client given progress (progress.server.leases (key_of client given.key)).broken_to (why there)))
+    (λ there. rw (there)
+    (judged_so client given progress (progress.server.leases (key_of client given.key)).broken_to (why there)))
     (λ gone. rw (gone) refl)
 
 -- ---- every acknowledgment has one of them

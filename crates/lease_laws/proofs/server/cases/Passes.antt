@@ -150,9 +150,11 @@ any_passes InPass OfFile OfFiles h progress = any_files InPass OfFile OfFiles h 
 
 -- what each try keeps all passes keep
 pub passes_keep : (P : Progress → Type 0)
-    → ((file : ℕ) (one : Held) (waiting : List Held) (pass : Pass) → P pass.progress → P (tried_again file one waiting pass).progress)
+    → ((file : ℕ) (one : Held) (waiting : List Held) (pass : Pass) → P pass.progress
+    → P (tried_again file one waiting pass).progress)
     → (progress : Progress) → P progress → P (all_passes progress)
-passes_keep P goes = any_passes (λ file start waiting pass. P start → P pass.progress) (λ count file start after. P start → P after)
+passes_keep P goes = any_passes (λ file start waiting pass. P start → P pass.progress)
+    (λ count file start after. P start → P after)
     (λ files start after. P start → P after) (record {
       begins = λ file start p. p;
       goes = λ file start one waiting pass kept p. goes file one waiting pass (kept p);
