@@ -1,3 +1,7 @@
+ghost use Rattle.std.specs.Prelude.{◌≡◌};
+ghost use Rattle.lease_facts.specs.Facts.{fact_of, client_about, client_number, kind_of, client_of, client_word, client_deed, client_fact, client_named, kind_word, facts_listed};
+
+use crate::words::is;
 use lease_client::{Settlement, SharedBytes};
 use lease_state::{Bytes, ClientNo, FileNo, LeaseState, Patch};
 
@@ -31,4 +35,160 @@ pub enum Fact {
     CachedRead(ClientNo, FileNo, SharedBytes),
     /// A request was sent in the client's name that its machine didn't make.
     Strayed(ClientNo),
+}
+
+/// The kind of a fact that says no more than which client it is about.
+#[derive(Clone, Copy, Debug, PartialEq, Eq)]
+pub enum ClientFact {
+    Sent,
+    Took,
+    Joined,
+    Dropped,
+    Strayed,
+}
+
+/// The kind of a fact.
+#[derive(Clone, Copy, Debug, PartialEq, Eq)]
+pub enum FactKind {
+    Client(ClientFact),
+    Start,
+    Expired,
+    Opened,
+    Changed,
+    Wrote,
+    Settled,
+    Believes,
+    CachedRead,
+}
+
+impl Fact {
+    /// Its kind.
+    pub fn kind(&self) -> FactKind
+        ensures { result ≡ kind_of self.now }
+    {
+        match self {
+            Fact::Start(_, _) => FactKind::Start,
+            Fact::Joined(_) => FactKind::Client(ClientFact::Joined),
+            Fact::Dropped(_) => FactKind::Client(ClientFact::Dropped),
+            Fact::Expired(_, _) => FactKind::Expired,
+            Fact::Sent(_) => FactKind::Client(ClientFact::Sent),
+            Fact::Took(_) => FactKind::Client(ClientFact::Took),
+            Fact::Opened(_, _) => FactKind::Opened,
+            Fact::Changed(_, _, _, _) => FactKind::Changed,
+            Fact::Wrote(_, _, _, _, _) => FactKind::Wrote,
+            Fact::Settled(_, _, _) => FactKind::Settled,
+            Fact::Believes(_, _, _) => FactKind::Believes,
+            Fact::CachedRead(_, _, _) => FactKind::CachedRead,
+            Fact::Strayed(_) => FactKind::Client(ClientFact::Strayed),
+        }
+    }
+
+    /// The client that it is about, if it is about one.
+    pub fn client(&self) -> Option<ClientNo>
+        ensures value { result ≡ client_of self.now }
+        ensures number { client_number result ≡ client_about (fact_of self.now) }
+    {
+        match self {
+            Fact::Start(_, _) => None,
+            Fact::Joined(client)
+            | Fact::Dropped(client)
+            | Fact::Expired(client, _)
+            | Fact::Sent(client)
+            | Fact::Took(client)
+            | Fact::Opened(_, client)
+            | Fact::Changed(_, client, _, _)
+            | Fact::Wrote(client, _, _, _, _)
+            | Fact::Settled(client, _, _)
+            | Fact::Believes(client, _, _)
+            | Fact::CachedRead(client, _, _)
+            | Fact::Strayed(client) => Some(*client),
+        }
+    }
+}
+
+impl ClientFact {
+    /// The word that the line of such a fact begins with.
+    pub fn word(self) -> &'static str
+        ensures { result.now ≡ client_word self }
+    {
+        match self {
+            ClientFact::Sent => "sent",
+            ClientFact::Took => "took",
+            ClientFact::Joined => "joined",
+            ClientFact::Dropped => "dropped",
+            ClientFact::Strayed => "strayed",
+        }
+    }
+
+    /// What the client does.
+    pub fn deed(self) -> &'static str
+        ensures { result.now ≡ client_deed self }
+    {
+        match self {
+            ClientFact::Sent => "is sent a message",
+            ClientFact::Took => "takes a message",
+            ClientFact::Joined => "joins",
+            ClientFact::Dropped => "loses its connection",
+            ClientFact::Strayed => "strays",
+        }
+    }
+
+    /// The kind that has this word.
+    #[tactic(auto, unfolding(crate::specs::Facts::client_named_among))]
+    pub fn named(word: &[u8]) -> Option<ClientFact>
+        ensures { result ≡ client_named word.now }
+    {
+        if is(word, b"sent") {
+            Some(ClientFact::Sent)
+        } else if is(word, b"took") {
+            Some(ClientFact::Took)
+        } else if is(word, b"joined") {
+            Some(ClientFact::Joined)
+        } else if is(word, b"dropped") {
+            Some(ClientFact::Dropped)
+        } else if is(word, b"strayed") {
+            Some(ClientFact::Strayed)
+        } else {
+            None
+        }
+    }
+
+    /// The fact of this kind about a client.
+    pub fn of(self, client: ClientNo) -> Fact
+        ensures { result ≡ client_fact self client }
+    {
+        match self {
+            ClientFact::Sent => Fact::Sent(client),
+            ClientFact::Took => Fact::Took(client),
+            ClientFact::Joined => Fact::Joined(client),
+            ClientFact::Dropped => Fact::Dropped(client),
+            ClientFact::Strayed => Fact::Strayed(client),
+        }
+    }
+}
+
+impl FactKind {
+    /// The word that the line of such a fact begins with.
+    pub fn word(self) -> &'static str
+        ensures { result.now ≡ kind_word self }
+    {
+        match self {
+            FactKind::Client(told) => told.word(),
+            FactKind::Start => "start",
+            FactKind::Expired => "expired",
+            FactKind::Opened => "opened",
+            FactKind::Changed => "changed",
+            FactKind::Wrote => "wrote",
+            FactKind::Settled => "settled",
+            FactKind::Believes => "believes",
+            FactKind::CachedRead => "cachedread",
+        }
+    }
+
+    /// All these words.
+    pub fn listed() -> &'static str
+        ensures { result.now ≡ facts_listed }
+    {
+        "start, joined, dropped, expired, sent, took, opened, changed, wrote, settled, believes, cachedread or strayed"
+    }
 }

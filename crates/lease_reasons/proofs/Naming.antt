@@ -1,9 +1,9 @@
 -- The clients that facts are about.
 use Rattle.lease_laws.proofs.Words.{◌++◌, ◌+◌, ◌<◌, ◌==◌, ◌||◌, ◌∙◌, ◌∷◌, ◌≡◌, Bool, ClientNo, Fact, List, Some, ℕ, [], ap, false}
 use Rattle.lease_laws.proofs.Words.{get_or, length, list_any, map-append, refl, take, true}
-use Rattle.lease_facts.specs.Facts.{fact_of}
+use Rattle.lease_facts.specs.Facts.{client_about, fact_of}
 use Rattle.lease_facts.specs.declared.fact.Fact as code
-use Rattle.lease_reasons.specs.Extent.{client_of, with_client, clients_named, numbers}
+use Rattle.lease_reasons.specs.Extent.{with_client, clients_named, numbers}
 use Rattle.lease_reasons.specs.Places.{past_of}
 use Rattle.lease_reasons.proofs.Pasts.{past-next}
 
@@ -24,11 +24,11 @@ pub named-none : clients_named [] ≡ []
 unfolding clients_named
 named-none = refl
 
-named-more : (fact : Fact) (past : List Fact) → clients_named (fact ∷ past) ≡ with_client (clients_named past) (client_of fact)
+named-more : (fact : Fact) (past : List Fact) → clients_named (fact ∷ past) ≡ with_client (clients_named past) (client_about fact)
 unfolding clients_named
 named-more fact past = refl
 
 pub named-next : (xs : List code.Fact) (i : ℕ) (x : code.Fact) → i < length xs → x ≡ get_or xs i x
-    → clients_named (past_of (take (i + 1) xs)) ≡ with_client (clients_named (past_of (take i xs))) (client_of (fact_of x))
+    → clients_named (past_of (take (i + 1) xs)) ≡ with_client (clients_named (past_of (take i xs))) (client_about (fact_of x))
 named-next xs i x inside is =
     ap (λ (ys : List Fact). clients_named ys) (past-next xs i x inside is) ∙ named-more (fact_of x) (past_of (take i xs))

@@ -1,6 +1,7 @@
 -- How much of a record was judged: how many facts, of which clients.
 use Rattle.std.specs.Prelude.{◌≡◌, ℕ, List, [], ◌∷◌, ◌++◌, Option, Some, None, if◌then◌else◌, ◌==◌, not, length, map, take, min}
 use Rattle.std.specs.List.{list_any, filter}
+use Rattle.lease_facts.specs.Facts.{client_about}
 use Rattle.lease_facts.specs.declared.fact.Fact as code
 use Rattle.lease_model.specs.records.Past.{has_joined, has_strayed}
 use Rattle.lease_state.specs.declared.number.ClientNo.{ClientNo}
@@ -10,22 +11,6 @@ use Rattle.lease_model.specs.records.Facts.{Fact}
 use Rattle.lease_world.specs.declared.verdict.Verdict.{Verdict}
 use Rattle.lease_world.specs.declared.verdict.Verdict.TheVariants as verdict
 
--- the client that a fact is about
-abbrev pub client_of : Fact → Option ℕ
-client_of (Fact.Start file bytes) = None
-client_of (Fact.Joined client) = Some client
-client_of (Fact.Dropped client) = Some client
-client_of (Fact.Expired client file) = Some client
-client_of (Fact.Sent client) = Some client
-client_of (Fact.Took client) = Some client
-client_of (Fact.Opened file client) = Some client
-client_of (Fact.Changed file client number patch) = Some client
-client_of (Fact.Wrote client file number patch buffered) = Some client
-client_of (Fact.Settled client number outcome) = Some client
-client_of (Fact.Believes client file state) = Some client
-client_of (Fact.CachedRead client file bytes) = Some client
-client_of (Fact.Strayed client) = Some client
-
 abbrev pub with_client : List ℕ → Option ℕ → List ℕ
 with_client clients None = clients
 with_client clients (Some client) = if list_any (λ other. other == client) clients then clients else clients ++ client ∷ []
@@ -33,11 +18,7 @@ with_client clients (Some client) = if list_any (λ other. other == client) clie
 -- the clients that facts are about, each once, in the order in which they come
 unfoldable pub clients_named : List Fact → List ℕ
 clients_named [] = []
-clients_named (fact ∷ past) = with_client (clients_named past) (client_of fact)
-
-abbrev pub client_number : Option ClientNo → Option ℕ
-client_number None = None
-client_number (Some client) = Some client.0
+clients_named (fact ∷ past) = with_client (clients_named past) (client_about fact)
 
 abbrev pub numbers : List ClientNo → List ℕ
 numbers clients = map (λ client. client.0) clients

@@ -1,9 +1,8 @@
 ghost use Rattle.std.specs.Prelude.{◌≡◌, map, not, OnOk, IfOk};
 ghost use Rattle.std.specs.List.{filter};
-ghost use Rattle.lease_facts.specs.Facts.{fact_of};
 ghost use Rattle.lease_model.specs.records.Past.{has_joined, has_strayed};
 ghost use Rattle.lease_world.specs.Verdicts.{verdict_of};
-ghost use Rattle.lease_reasons.specs.Extent.{client_of, with_client, clients_named, judged_count, IsExtent};
+ghost use Rattle.lease_reasons.specs.Extent.{with_client, clients_named, judged_count, IsExtent};
 ghost use Rattle.lease_reasons.specs.Places.{past_of};
 
 use crate::marks::Mark;
@@ -26,27 +25,6 @@ pub struct Extent {
     pub strayed: Vec<ClientNo>,
 }
 
-/// The client that a fact is about, if it is about one.
-pub fn client_of(fact: &Fact) -> Option<ClientNo>
-    ensures { client_number result ≡ client_of (fact_of fact.now) }
-{
-    match fact {
-        Fact::Start(_, _) => None,
-        Fact::Joined(client)
-        | Fact::Dropped(client)
-        | Fact::Expired(client, _)
-        | Fact::Sent(client)
-        | Fact::Took(client)
-        | Fact::Opened(_, client)
-        | Fact::Changed(_, client, _, _)
-        | Fact::Wrote(client, _, _, _, _)
-        | Fact::Settled(client, _, _)
-        | Fact::Believes(client, _, _)
-        | Fact::CachedRead(client, _, _)
-        | Fact::Strayed(client) => Some(*client),
-    }
-}
-
 fn note_client(clients: &mut Vec<ClientNo>, told: Option<ClientNo>) -> Result<(), Memory>
     ensures { OnOk result (numbers clients.new.items ≡ with_client (numbers clients.old.items) (client_number told)) }
 {
@@ -59,7 +37,8 @@ fn note_client(clients: &mut Vec<ClientNo>, told: Option<ClientNo>) -> Result<()
     Ok(())
 }
 
-ghost use Rattle.lease_reasons.specs.Extent.{client_number, numbers};
+ghost use Rattle.lease_facts.specs.Facts.{client_number};
+ghost use Rattle.lease_reasons.specs.Extent.{numbers};
 
 // The clients that facts are about.
 fn clients_named(alloc: Global, facts: &[Fact]) -> Result<Vec<ClientNo>, Memory>
@@ -67,7 +46,7 @@ fn clients_named(alloc: Global, facts: &[Fact]) -> Result<Vec<ClientNo>, Memory>
 {
     let mut clients = Vec::new(alloc);
     for fact in facts {
-        note_client(&mut clients, client_of(fact))?;
+        note_client(&mut clients, fact.client())?;
     }
     Ok(clients)
 }

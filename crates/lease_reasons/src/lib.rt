@@ -12,6 +12,6 @@ mod reason;
 mod writes;
 
 pub use explaining::explain;
-pub use extent::{Extent, client_of, extent_of};
+pub use extent::{Extent, extent_of};
 pub use messages::Messages;
 pub use reason::{Belief, Expected, Reason};

@@ -3,6 +3,8 @@ use Rattle.std.specs.Prelude.{ℕ, ◌+◌, ◌==◌, ◌++◌, Bool, true, fals
 use Rattle.std.specs.Fmt.{decimal}
 use Rattle.std.specs.List.{list_any}
 use Rattle.uuid.specs.Text.{parsed}
+use Rattle.lease_facts.specs.Facts.{client_named as client_fact_named, facts_listed}
+use Rattle.lease_facts.specs.Setups.{client_named as client_event_named, parts_listed}
 use Rattle.lease_texts.specs.Fields.{ordinal_in, number_in, offset_in, bytes_in, content_in, access_in, share_in, state_in}
 use Rattle.lease_texts.specs.Pieces.{fields_of}
 use Rattle.lease_texts.specs.Quoting.{quoted}
@@ -21,43 +23,44 @@ unfoldable pub fields_behind : List Row → List ℕ → Option (List Expected)
 fields_behind [] word = None
 fields_behind (row ∷ rows) word = if bytes_eq word row.0 then Some row.1 else fields_behind rows word
 
--- the kinds of facts
+-- the kinds of facts that are about more than a client
 abbrev pub fact_rows : List Row
 fact_rows =
-    (codes "sent", field.Client ∷ [])
-    ∷ (codes "took", field.Client ∷ [])
-    ∷ (codes "changed", field.File ∷ field.Client ∷ field.Number ∷ field.Offset ∷ field.Bytes ∷ [])
+    (codes "changed", field.File ∷ field.Client ∷ field.Number ∷ field.Offset ∷ field.Bytes ∷ [])
     ∷ (codes "wrote", field.Client ∷ field.File ∷ field.Number ∷ field.Offset ∷ field.Bytes ∷ field.Way ∷ [])
     ∷ (codes "settled", field.Client ∷ field.Number ∷ field.Outcome ∷ [])
     ∷ (codes "believes", field.Client ∷ field.File ∷ field.State ∷ [])
     ∷ (codes "opened", field.File ∷ field.Client ∷ [])
     ∷ (codes "cachedread", field.Client ∷ field.File ∷ field.Bytes ∷ [])
-    ∷ (codes "joined", field.Client ∷ [])
-    ∷ (codes "dropped", field.Client ∷ [])
     ∷ (codes "expired", field.Client ∷ field.File ∷ [])
-    ∷ (codes "strayed", field.Client ∷ [])
     ∷ (codes "start", field.File ∷ field.Content ∷ [])
     ∷ []
 
--- the kinds of lines of schedules
+-- the kinds of lines of schedules, but for events of a client alone
 abbrev pub part_rows : List Row
 part_rows =
     (codes "file", field.Content ∷ [])
     ∷ (codes "client", field.Guid ∷ [])
-    ∷ (codes "serve", field.Client ∷ [])
-    ∷ (codes "take", field.Client ∷ [])
     ∷ (codes "write", field.Client ∷ field.File ∷ field.Offset ∷ field.Bytes ∷ [])
     ∷ (codes "read", field.Client ∷ field.File ∷ [])
     ∷ (codes "open", field.Client ∷ field.File ∷ field.Access ∷ field.Share ∷ field.State ∷ field.Durable ∷ [])
     ∷ (codes "close", field.Client ∷ field.File ∷ [])
     ∷ (codes "flush", field.Client ∷ field.File ∷ [])
-    ∷ (codes "cut", field.Client ∷ [])
-    ∷ (codes "notice", field.Client ∷ [])
-    ∷ (codes "connect", field.Client ∷ [])
     ∷ (codes "expire", field.Client ∷ field.File ∷ [])
     ∷ (codes "scavenge", field.Client ∷ field.File ∷ [])
     ∷ (codes "raw", field.Client ∷ field.Request ∷ [])
     ∷ []
+
+-- where a word is that of a kind of a client alone, and else as a table has it
+abbrev pub client_or : {A : Type 0} → Option A → Option (List Expected) → Option (List Expected)
+client_or (Some told) others = Some (field.Client ∷ [])
+client_or None others = others
+
+abbrev pub fact_fields : List ℕ → Option (List Expected)
+fact_fields word = client_or (client_fact_named word) (fields_behind fact_rows word)
+
+abbrev pub part_fields : List ℕ → Option (List Expected)
+part_fields word = client_or (client_event_named word) (fields_behind part_rows word)
 
 -- what may be asked in a client's name
 abbrev pub request_rows : List Row
@@ -99,8 +102,8 @@ if_fits false rest = None
 
 -- the fields that are expected after a word, where the word is one that was expected
 abbrev pub behind : Expected → List ℕ → List Expected → Option (List Expected)
-behind field.FactKind word rest = fields_behind fact_rows word
-behind field.PartKind word rest = fields_behind part_rows word
+behind field.FactKind word rest = fact_fields word
+behind field.PartKind word rest = part_fields word
 behind field.Request word rest = fields_behind request_rows word
 behind other word rest = if_fits (fits other word) rest
 
@@ -145,28 +148,35 @@ part_complaint line = leaves 1 (field.PartKind ∷ []) (fields_of line)
 
 -- ---- in words
 
+-- the words of the kinds that are expected, where a kind is
+abbrev pub expected_list : Expected → List ℕ
+expected_list field.FactKind = facts_listed
+expected_list field.PartKind = parts_listed
+expected_list other = []
+
+abbrev pub expected_begin : Expected → List ℕ
+expected_begin field.FactKind = codes "a kind of fact, which is "
+expected_begin field.PartKind = codes "a kind of line, which is "
+expected_begin field.Request = codes "a request, which is create, read, close, write or ack"
+expected_begin field.Client = codes "a client, which is a number from 1 to 255 without leading zeros"
+expected_begin field.File = codes "a file, which is a number from 1 to 255 without leading zeros"
+expected_begin field.FileId = codes "a FileId, which is a number of at most 64 bits without leading zeros"
+expected_begin field.Number = codes "the number of a write, of at most 64 bits without leading zeros"
+expected_begin field.Offset = codes "an offset, which is a number of at most 32 bits without leading zeros"
+expected_begin field.Bytes = codes "bytes, of two hexadecimal digits each, or - for none"
+expected_begin field.Content = codes "at most 1048576 bytes, of two hexadecimal digits each, or - for none"
+expected_begin field.State = codes "a state, which is none or letters of RWH in that order"
+expected_begin field.Access = codes "an access, which is r, w or rw"
+expected_begin field.Share = codes "what is shared, which is -, r, w or rw"
+expected_begin field.Way = codes "the way of a write, which is buffered or through"
+expected_begin field.Outcome = codes "an outcome, which is done, failed, unknown or lost"
+expected_begin field.Guid = codes "a GUID of 32 hexadecimal digits, hyphenated, in braces or as a URN"
+expected_begin field.Message = codes "an acknowledgment of 36 bytes, which are 72 hexadecimal digits"
+expected_begin field.Durable = codes "the word durable or the line's end"
+expected_begin field.End = codes "the line's end"
+
 abbrev pub expected_words : Expected → List ℕ
-expected_words field.FactKind =
-    codes "a kind of fact, which is start, joined, dropped, expired, sent, took, opened, changed, wrote, settled, believes, cachedread or strayed"
-expected_words field.PartKind =
-    codes "a kind of line, which is file, client, open, close, read, flush, write, serve, take, cut, notice, connect, expire, scavenge or raw"
-expected_words field.Request = codes "a request, which is create, read, close, write or ack"
-expected_words field.Client = codes "a client, which is a number from 1 to 255 without leading zeros"
-expected_words field.File = codes "a file, which is a number from 1 to 255 without leading zeros"
-expected_words field.FileId = codes "a FileId, which is a number of at most 64 bits without leading zeros"
-expected_words field.Number = codes "the number of a write, of at most 64 bits without leading zeros"
-expected_words field.Offset = codes "an offset, which is a number of at most 32 bits without leading zeros"
-expected_words field.Bytes = codes "bytes, of two hexadecimal digits each, or - for none"
-expected_words field.Content = codes "at most 1048576 bytes, of two hexadecimal digits each, or - for none"
-expected_words field.State = codes "a state, which is none or letters of RWH in that order"
-expected_words field.Access = codes "an access, which is r, w or rw"
-expected_words field.Share = codes "what is shared, which is -, r, w or rw"
-expected_words field.Way = codes "the way of a write, which is buffered or through"
-expected_words field.Outcome = codes "an outcome, which is done, failed, unknown or lost"
-expected_words field.Guid = codes "a GUID of 32 hexadecimal digits, hyphenated, in braces or as a URN"
-expected_words field.Message = codes "an acknowledgment of 36 bytes, which are 72 hexadecimal digits"
-expected_words field.Durable = codes "the word durable or the line's end"
-expected_words field.End = codes "the line's end"
+expected_words expected = expected_begin expected ++ expected_list expected
 
 abbrev pub has : ℕ → List ℕ → Bool
 has byte word = list_any (λ other. other == byte) word

@@ -9,6 +9,11 @@ use Rattle.lease_client.specs.declared.note.Settlement.{Settlement}
 use Rattle.lease_client.specs.declared.note.Settlement.TheVariants as settlement
 use Rattle.lease_facts.specs.declared.fact.Fact.{Fact}
 use Rattle.lease_facts.specs.declared.fact.Fact.TheVariants as fact
+use Rattle.lease_facts.specs.declared.fact.ClientFact.{ClientFact}
+use Rattle.lease_facts.specs.declared.fact.FactKind.{FactKind}
+use Rattle.lease_facts.specs.declared.fact.FactKind.TheVariants as kind
+use Rattle.lease_facts.specs.Facts.{client_fact, client_named, client_of, client_word, kind_of}
+use Rattle.lease_state.specs.declared.number.ClientNo.{ClientNo}
 use Rattle.lease_texts.specs.Pieces.{fields_of, lines_of}
 use Rattle.lease_texts.specs.Fields.{Taking, and_then, one, whole, ordinal_in, number_in, bytes_in, content_in, state_in, patch_in}
 use Rattle.lease_texts.specs.Reading.{reads_on, is_passed_over}
@@ -40,14 +45,15 @@ pair_words first second = decimal first ++ codes " " ++ decimal second ++ codes 
 unfoldable pub read_words : ℕ → ℕ → List ℕ
 read_words client file = codes "cachedread " ++ pair_words client file
 
+-- the line of a fact that says no more than which client it is about
+abbrev pub client_line : FactKind → Option ClientNo → List ℕ
+client_line (kind.Client told) (Some client) = client_word told ++ codes " " ++ decimal client.0 ++ 10 ∷ []
+client_line _ _ = []
+
 -- the line of a fact, with its line feed
 abbrev pub fact_line : Fact → List ℕ
 fact_line (fact.Start file bytes) = codes "start " ++ decimal file.0 ++ codes " " ++ digits_word bytes ++ 10 ∷ []
-fact_line (fact.Joined client) = codes "joined " ++ decimal client.0 ++ 10 ∷ []
-fact_line (fact.Dropped client) = codes "dropped " ++ decimal client.0 ++ 10 ∷ []
 fact_line (fact.Expired client file) = codes "expired " ++ decimal client.0 ++ codes " " ++ decimal file.0 ++ 10 ∷ []
-fact_line (fact.Sent client) = codes "sent " ++ decimal client.0 ++ 10 ∷ []
-fact_line (fact.Took client) = codes "took " ++ decimal client.0 ++ 10 ∷ []
 fact_line (fact.Opened file client) = codes "opened " ++ decimal file.0 ++ codes " " ++ decimal client.0 ++ 10 ∷ []
 fact_line (fact.Changed file client number patch) =
     codes "changed " ++ decimal file.0 ++ codes " " ++ decimal client.0 ++ codes " " ++ decimal number
@@ -60,7 +66,7 @@ fact_line (fact.Settled client number outcome) =
 fact_line (fact.Believes client file state) =
     codes "believes " ++ decimal client.0 ++ codes " " ++ decimal file.0 ++ codes " " ++ state_word (state_of state) ++ 10 ∷ []
 fact_line (fact.CachedRead client file bytes) = read_words client.0 file.0 ++ digits_word bytes ++ 10 ∷ []
-fact_line (fact.Strayed client) = codes "strayed " ++ decimal client.0 ++ 10 ∷ []
+fact_line other = client_line (kind_of other) (client_of other)
 
 -- the text of a record
 abbrev pub record_text : List Fact → List ℕ
@@ -81,9 +87,9 @@ outcome_in field =
     else if bytes_eq field (codes "lost") then Some settlement.Lost
     else None
 
--- facts of a client, and of a client and a file, by the fields after the first
-abbrev pub of_client : (ℕ → Fact) → Taking Fact
-of_client tell words = and_then (one ordinal_in words) (λ client words. Some (tell client, words))
+-- facts of a client alone, and of a client and a file, by the fields after the first
+abbrev pub of_client : ClientFact → Taking Fact
+of_client told words = and_then (one ordinal_in words) (λ client words. Some (client_fact told (record { 0 = client }), words))
 
 abbrev pub of_both : (ℕ → ℕ → Fact) → Taking Fact
 of_both tell words = and_then (one ordinal_in words) (λ first words. and_then (one ordinal_in words) (λ second words.
@@ -124,23 +130,26 @@ read_in words =
     and_then (one bytes_in words) (λ bytes words.
     Some (fact.CachedRead (record { 0 = client }) (record { 0 = file }) bytes, words))))
 
--- the fact of a kind, by the fields after the one that names it
-unfoldable pub fact_named : List ℕ → Taking Fact
-fact_named kind words =
-    if bytes_eq kind (codes "sent") then of_client (λ c. fact.Sent (record { 0 = c })) words
-    else if bytes_eq kind (codes "took") then of_client (λ c. fact.Took (record { 0 = c })) words
-    else if bytes_eq kind (codes "changed") then changed_in words
-    else if bytes_eq kind (codes "wrote") then wrote_in words
-    else if bytes_eq kind (codes "settled") then settled_in words
-    else if bytes_eq kind (codes "believes") then believes_in words
-    else if bytes_eq kind (codes "opened") then of_both (λ f c. fact.Opened (record { 0 = f }) (record { 0 = c })) words
-    else if bytes_eq kind (codes "cachedread") then read_in words
-    else if bytes_eq kind (codes "joined") then of_client (λ c. fact.Joined (record { 0 = c })) words
-    else if bytes_eq kind (codes "dropped") then of_client (λ c. fact.Dropped (record { 0 = c })) words
-    else if bytes_eq kind (codes "expired") then of_both (λ c f. fact.Expired (record { 0 = c }) (record { 0 = f })) words
-    else if bytes_eq kind (codes "strayed") then of_client (λ c. fact.Strayed (record { 0 = c })) words
-    else if bytes_eq kind (codes "start") then start_in words
+-- of another fact, by its word and the fields after it
+unfoldable pub other_named : List ℕ → Taking Fact
+other_named word words =
+    if bytes_eq word (codes "changed") then changed_in words
+    else if bytes_eq word (codes "wrote") then wrote_in words
+    else if bytes_eq word (codes "settled") then settled_in words
+    else if bytes_eq word (codes "believes") then believes_in words
+    else if bytes_eq word (codes "opened") then of_both (λ f c. fact.Opened (record { 0 = f }) (record { 0 = c })) words
+    else if bytes_eq word (codes "cachedread") then read_in words
+    else if bytes_eq word (codes "expired") then of_both (λ c f. fact.Expired (record { 0 = c }) (record { 0 = f })) words
+    else if bytes_eq word (codes "start") then start_in words
     else None
+
+abbrev pub client_or : Option ClientFact → List ℕ → Taking Fact
+client_or (Some told) word words = of_client told words
+client_or None word words = other_named word words
+
+-- the fact of a kind, by its word and the fields after it
+unfoldable pub fact_named : List ℕ → Taking Fact
+fact_named word words = client_or (client_named word) word words
 
 abbrev pub fact_told : Taking Fact
 fact_told [] = None

@@ -17,6 +17,8 @@ use Rattle.lease_client.specs.declared.command.Command.{Command}
 use Rattle.lease_client.specs.declared.command.Command.TheVariants as command
 use Rattle.lease_facts.specs.declared.setup.Event.{Event}
 use Rattle.lease_facts.specs.declared.setup.Event.TheVariants as event
+use Rattle.lease_facts.specs.declared.setup.ClientEvent.{ClientEvent}
+use Rattle.lease_facts.specs.Setups.{client_event, client_event_of, client_named, client_word, event_client}
 use Rattle.lease_texts.specs.Pieces.{fields_of, lines_of}
 use Rattle.lease_texts.specs.Fields.{Taking, and_then, with_rest, one, whole, ordinal_in, number_in, bytes_in, content_in, access_in, share_in, state_in, patch_in}
 use Rattle.lease_texts.specs.Reading.{reads_on, is_passed_over}
@@ -74,22 +76,25 @@ request_in (kind ∷ words) = request_named kind words
 abbrev pub on_file : (ℕ → Event) → Taking Event
 on_file tell words = and_then (one ordinal_in words) (λ file words. Some (tell file, words))
 
-unfoldable pub event_of : List ℕ → ℕ → Taking Event
-event_of kind client words =
-    if bytes_eq kind (codes "serve") then Some (event.ServerTakes (record { 0 = client }), words)
-    else if bytes_eq kind (codes "take") then Some (event.ClientTakes (record { 0 = client }), words)
-    else if bytes_eq kind (codes "write") then and_then (write_in words) (λ asked words. Some (event.App (record { 0 = client }) asked, words))
+-- of an event of more than a client
+unfoldable pub other_of : List ℕ → ℕ → Taking Event
+other_of kind client words =
+    if bytes_eq kind (codes "write") then and_then (write_in words) (λ asked words. Some (event.App (record { 0 = client }) asked, words))
     else if bytes_eq kind (codes "read") then on_file (λ f. event.App (record { 0 = client }) (command.Read (record { 0 = f }))) words
     else if bytes_eq kind (codes "open") then and_then (open_in words) (λ asked words. Some (event.App (record { 0 = client }) asked, words))
     else if bytes_eq kind (codes "close") then on_file (λ f. event.App (record { 0 = client }) (command.Close (record { 0 = f }))) words
     else if bytes_eq kind (codes "flush") then on_file (λ f. event.App (record { 0 = client }) (command.Flush (record { 0 = f }))) words
-    else if bytes_eq kind (codes "cut") then Some (event.Cut (record { 0 = client }), words)
-    else if bytes_eq kind (codes "notice") then Some (event.Notice (record { 0 = client }), words)
-    else if bytes_eq kind (codes "connect") then Some (event.Connect (record { 0 = client }), words)
     else if bytes_eq kind (codes "expire") then on_file (λ f. event.Expire (record { 0 = client }) (record { 0 = f })) words
     else if bytes_eq kind (codes "scavenge") then on_file (λ f. event.Scavenge (record { 0 = client }) (record { 0 = f })) words
     else if bytes_eq kind (codes "raw") then and_then (request_in words) (λ asked words. Some (event.Raw (record { 0 = client }) asked, words))
     else None
+
+abbrev pub client_or : Option ClientEvent → List ℕ → ℕ → Taking Event
+client_or (Some happens) kind client words = Some (client_event happens (record { 0 = client }), words)
+client_or None kind client words = other_of kind client words
+
+unfoldable pub event_of : List ℕ → ℕ → Taking Event
+event_of kind client words = client_or (client_named kind) kind client words
 
 unfoldable pub event_named : List ℕ → Taking Event
 event_named kind words = and_then (one ordinal_in words) (event_of kind)
@@ -170,6 +175,11 @@ request_words (request.Write fid number patch) =
 request_words (request.Close fid) = codes "close " ++ decimal fid.0
 request_words (request.Ack message) = codes "ack " ++ encode_lower message
 
+-- the line of an event that says no more than which client it is about
+abbrev pub client_event_line : Option ClientEvent → ℕ → List ℕ
+client_event_line (Some happens) client = client_word happens ++ codes " " ++ decimal client ++ 10 ∷ []
+client_event_line None client = []
+
 -- the line of an event, with its line feed
 abbrev pub event_line : Event → List ℕ
 event_line (event.App client (command.Open file access share want durable)) =
@@ -183,14 +193,10 @@ event_line (event.App client (command.Write file patch)) =
     codes "write " ++ decimal client.0 ++ codes " " ++ decimal file.0 ++ codes " " ++ patch_words patch ++ 10 ∷ []
 event_line (event.App client (command.Flush file)) =
     codes "flush " ++ decimal client.0 ++ codes " " ++ decimal file.0 ++ 10 ∷ []
-event_line (event.ServerTakes client) = codes "serve " ++ decimal client.0 ++ 10 ∷ []
-event_line (event.ClientTakes client) = codes "take " ++ decimal client.0 ++ 10 ∷ []
-event_line (event.Cut client) = codes "cut " ++ decimal client.0 ++ 10 ∷ []
-event_line (event.Notice client) = codes "notice " ++ decimal client.0 ++ 10 ∷ []
-event_line (event.Connect client) = codes "connect " ++ decimal client.0 ++ 10 ∷ []
 event_line (event.Expire client file) = codes "expire " ++ decimal client.0 ++ codes " " ++ decimal file.0 ++ 10 ∷ []
 event_line (event.Scavenge client file) = codes "scavenge " ++ decimal client.0 ++ codes " " ++ decimal file.0 ++ 10 ∷ []
 event_line (event.Raw client asked) = codes "raw " ++ decimal client.0 ++ codes " " ++ request_words asked ++ 10 ∷ []
+event_line other = client_event_line (client_event_of other) (event_client other).0
 
 -- the lines of a file and of a client
 abbrev pub file_line : List ℕ → List ℕ

@@ -1,4 +1,4 @@
-ghost use Rattle.std.specs.Prelude.{◌≡◌, ◌≢◌, ◌+◌, bytes_eq, ◌<◌, ◌^◌, ℕ, Some, None, Ok, [], ◌∷◌, IfOk, IfErr, MatchResult, MatchBool, ◌≤◌, IsTrue, ◌↔◌, OnErr, IsSome};
+ghost use Rattle.std.specs.Prelude.{◌≡◌, ◌≢◌, ◌+◌, ◌<◌, ◌^◌, ℕ, Some, None, Ok, [], ◌∷◌, IfOk, IfErr, MatchResult, MatchBool, ◌≤◌, IsTrue, ◌↔◌, OnErr, IsSome};
 ghost use Rattle.std.specs.Option.{option_map};
 ghost use Rattle.lease_texts.specs.Pieces.{fields_of};
 ghost use Rattle.lease_texts.specs.Fields.{one, number_in, number_after, digit_behind, ordinal_in, offset_in, bytes_in, content_in, access_in, share_in, state_in, patch_in};
@@ -206,23 +206,6 @@ pub(crate) fn state_named(field: &[u8]) -> Option<LeaseState>
         b"RWH" => Some(state_of(7)),
         _ => None,
     }
-}
-
-/// Whether a field is this word. The word is mostly known where this is called, and short, so that its
-/// bytes are compared one by one.
-#[inline(always)]
-pub fn is(field: &[u8], word: &[u8]) -> bool
-    ensures { result ≡ bytes_eq field.now word.now }
-{
-    if field.len() != word.len() {
-        return false;
-    }
-    for place in 0..word.len() {
-        if field[place] != word[place] {
-            return false;
-        }
-    }
-    true
 }
 
 // Bytes as digits, or a hyphen for none.

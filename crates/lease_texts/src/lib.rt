@@ -18,7 +18,8 @@ mod words;
 
 pub use complaints::{Complaint, Expected, fact_complaint, part_complaint, push_complaint};
 pub use fault::{LineFault, TextFault};
-pub use fields::{Fields, is, read_patch};
+pub use fields::{Fields, read_patch};
+pub use lease_facts::is;
 pub use lines::{first_line, is_passed_over};
 pub use quoting::push_quoted;
 pub use records::{digits_of, push_fact, push_patch, read_fact};

@@ -1,11 +1,10 @@
 ghost use Rattle.std.specs.Prelude.{◌≡◌, ◌≤◌, length, bytes_eq, true};
 ghost use Rattle.std.specs.List.{list_any, list_all};
 ghost use Rattle.lease_model.specs.world.Allowed.{are_apart, is_allowed_setup, is_content};
-ghost use Rattle.lease_model.specs.world.Events.{client_of};
-ghost use Rattle.lease_facts.specs.Setups.{event_of, setup_of};
+ghost use Rattle.lease_facts.specs.Setups.{setup_of};
 
-use lease_facts::{Event, Setup};
-use lease_state::{ClientNo, Content};
+use lease_facts::Setup;
+use lease_state::Content;
 use thiserror::Error;
 
 // The most files and the most clients of a setup.
@@ -61,23 +60,6 @@ fn has_guid(guids: &[[u8; 16]], guid: &[u8; 16]) -> bool
     ensures { result ≡ list_any (bytes_eq guid.now) guids.now }
 {
     guids.iter().any(|other| guid == other)
-}
-
-/// The client that the event is about.
-pub fn client_of(event: &Event) -> ClientNo
-    ensures { result.0 ≡ client_of (event_of event.now) }
-{
-    match event {
-        Event::App(client, _)
-        | Event::ServerTakes(client)
-        | Event::ClientTakes(client)
-        | Event::Cut(client)
-        | Event::Notice(client)
-        | Event::Connect(client)
-        | Event::Expire(client, _)
-        | Event::Scavenge(client, _)
-        | Event::Raw(client, _) => *client,
-    }
 }
 
 /// Why there is no record of a run (profile).

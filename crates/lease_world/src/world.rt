@@ -17,7 +17,6 @@ ghost use Rattle.lease_facts.specs.Setups.{event_of, setup_of};
 ghost use Rattle.lease_model.specs.world.World.{first_world};
 
 use crate::copies::{copy_command, copy_request};
-use crate::setup::client_of;
 use crate::world::delivering::{deliver, tell_notes};
 use crate::world::link::Link;
 use crate::world::messages::Messages;
@@ -95,7 +94,7 @@ impl World {
     pub fn happen(&mut self, event: &Event) -> Result<(), Memory>
         ensures { OnOk result (Happens (event_of event.now) self.old self.new) }
     {
-        let client = client_of(event);
+        let client = event.client();
         if !self.has(client) {
             return Ok(());
         }

@@ -1,10 +1,9 @@
 -- Records that are written as they are made.
 use Rattle.lease_laws.proofs.Words.{◌++◌, ◌∙◌, ◌∷◌, ◌≡◌, Appends, Bool, Err, List, None, Ok, Option, Result, Some, ℕ, [], ap}
-use Rattle.lease_laws.proofs.Words.{append-nil, append_assoc, false, inl, inr, refl, string_bytes, subst, sym, true}
+use Rattle.lease_laws.proofs.Words.{append-nil, append_assoc, arith, false, inl, inr, refl, string_bytes, subst, sym, true}
 use Rattle.std.specs.Prelude.{IfErr}
 use Rattle.std.specs.Io.KnownBytes.{Keeps}
 use Rattle.lease_facts.specs.declared.fact.Fact.{Fact}
-use Rattle.lease_facts.specs.declared.fact.Fact.TheVariants as fact
 use Rattle.lease_state.specs.declared.reply.Reply.{Reply}
 use Rattle.lease_texts.specs.Records.{fact_line, record_text}
 use Rattle.leasecheck.proofs.Puts.{appends_more}
@@ -96,19 +95,7 @@ unwritten_whole first current new gathered told (Err why) has begins =
 
 no_message : (one : Fact) → (message_before one [] ≡ []) × (messages_behind one [] ≡ [])
 unfolding message_before messages_behind
-no_message (fact.Start file bytes) = (refl, refl)
-no_message (fact.Joined client) = (refl, refl)
-no_message (fact.Dropped client) = (refl, refl)
-no_message (fact.Expired client file) = (refl, refl)
-no_message (fact.Sent client) = (refl, refl)
-no_message (fact.Took client) = (refl, refl)
-no_message (fact.Opened file client) = (refl, refl)
-no_message (fact.Changed file client number patch) = (refl, refl)
-no_message (fact.Wrote client file number patch buffered) = (refl, refl)
-no_message (fact.Settled client number outcome) = (refl, refl)
-no_message (fact.Believes client file state) = (refl, refl)
-no_message (fact.CachedRead client file bytes) = (refl, refl)
-no_message (fact.Strayed client) = (refl, refl)
+no_message x1 = grind arith
 
 pub told_alone : (facts : List Fact) → record_with_messages facts [] ≡ record_text facts
 unfolding record_with_messages

@@ -1,9 +1,10 @@
-use lease_reasons::{Messages, client_of, explain, extent_of};
+use lease_reasons::{Messages, explain, extent_of};
 use lease_state::ClientNo;
 use lease_world::judge;
 use reason_texts::{bad_places, push_explanation, push_fact_words, push_reasoned, read_placed};
 use record_pictures::{
-    Caption, Kind, Look, Mark, Picture, PictureFault, Point, Shape, Size, picture_of, push_picture,
+    Caption, ClientFact, FactKind, Look, Mark, Picture, PictureFault, Point, Shape, Size,
+    picture_of, push_picture,
 };
 use std::test::Fail;
 
@@ -21,7 +22,7 @@ fn words_are_escaped(rt: HostRuntime) -> Result<(), Fail> {
     let mark = Mark {
         caption: Caption {
             place: 1,
-            kind: Kind::Sent,
+            kind: FactKind::Client(ClientFact::Sent),
             is_bad: true,
             words: String::from_str(alloc, "a\tb")?,
         },
@@ -69,7 +70,7 @@ fn a_bad_fact_is_marked(rt: HostRuntime) -> Result<(), Fail> {
     assert_eq!(rt; once.as_str(), again.as_str());
     let picture = picture_of(alloc, facts, bad.as_slice(), once, &[])?;
     assert_eq!(rt; picture.marks.len(), 5);
-    assert_eq!(rt; picture.marks[4].caption.kind, Kind::Settled);
+    assert_eq!(rt; picture.marks[4].caption.kind, FactKind::Settled);
     assert!(rt; picture.marks[4].caption.is_bad);
     assert!(rt; !picture.marks[3].caption.is_bad);
     assert_eq!(rt;
@@ -90,7 +91,7 @@ fn facts_are_told_in_words(rt: HostRuntime) -> Result<(), Fail> {
     let mut text = String::new(alloc);
     push_fact_words(alloc, &mut text, fact)?;
     assert_eq!(rt; text.as_str(), "a message is sent to client 1");
-    assert_eq!(rt; client_of(fact), Some(ClientNo(1)));
+    assert_eq!(rt; fact.client(), Some(ClientNo(1)));
     let messages = Messages::of(alloc, placed.facts.as_slice(), ClientNo(1))?;
     assert_eq!(rt; (messages.sent(), messages.taken()), (1, 1));
     assert_eq!(rt; messages.last_sent(), Some(3));

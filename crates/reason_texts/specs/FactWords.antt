@@ -1,11 +1,15 @@
 -- Facts in words.
-use Rattle.std.specs.Prelude.{ℕ, ◌++◌, Bool, true, false, List, codes, if◌then◌else◌, nat_le, length, take}
+use Rattle.std.specs.Prelude.{ℕ, ◌++◌, Bool, true, false, List, [], Option, Some, codes, if◌then◌else◌, nat_le, length, take}
 use Rattle.std.specs.Fmt.{decimal}
 use Rattle.hex.specs.Hex.{encode_lower}
 use Rattle.lease_state.specs.State.{state_of}
+use Rattle.lease_state.specs.declared.number.ClientNo.{ClientNo}
 use Rattle.lease_state.specs.declared.patch.Patch.{Patch}
 use Rattle.lease_facts.specs.declared.fact.Fact.{Fact}
 use Rattle.lease_facts.specs.declared.fact.Fact.TheVariants as fact
+use Rattle.lease_facts.specs.declared.fact.FactKind.{FactKind}
+use Rattle.lease_facts.specs.declared.fact.FactKind.TheVariants as kind
+use Rattle.lease_facts.specs.Facts.{client_deed, client_of, kind_of}
 use Rattle.lease_texts.specs.Records.{digits_word, outcome_word}
 use Rattle.lease_texts.specs.Words.{state_word}
 
@@ -40,16 +44,18 @@ abbrev pub way_words : Bool → List ℕ
 way_words true = codes ", buffered"
 way_words false = codes ", sent on"
 
+-- what a client does, where that is all that a fact says
+abbrev pub deed_words : FactKind → Option ClientNo → List ℕ
+deed_words (kind.Client told) (Some client) = codes "client " ++ (decimal client.0 ++ (codes " " ++ client_deed told))
+deed_words _ _ = []
+
 -- a fact in words
 abbrev pub fact_words : Fact → List ℕ
 fact_words (fact.Start file bytes) = started_words file.0 ++ shown_bytes bytes
-fact_words (fact.Joined client) = codes "client " ++ (decimal client.0 ++ codes " joins")
-fact_words (fact.Dropped client) = codes "client " ++ (decimal client.0 ++ codes " loses its connection")
 fact_words (fact.Expired client file) =
     codes "client " ++ (decimal client.0 ++ (codes " lets the timer of a break of file " ++ (decimal file.0 ++ codes
     " run out")))
 fact_words (fact.Sent client) = codes "a message is sent to client " ++ decimal client.0
-fact_words (fact.Took client) = codes "client " ++ (decimal client.0 ++ codes " takes a message")
 fact_words (fact.Opened file client) =
     codes "file " ++ (decimal file.0 ++ (codes " is opened for client " ++ decimal client.0))
 fact_words (fact.Changed file client number patch) = changed_words file.0 client.0 number ++ shown_patch patch
@@ -62,4 +68,4 @@ fact_words (fact.Believes client file state) =
     codes "client " ++ (decimal client.0 ++ (codes " believes " ++ (state_word (state_of state) ++ (codes " of file " ++
     decimal file.0))))
 fact_words (fact.CachedRead client file bytes) = read_words client.0 file.0 ++ shown_bytes bytes
-fact_words (fact.Strayed client) = codes "client " ++ (decimal client.0 ++ codes " strays")
+fact_words other = deed_words (kind_of other) (client_of other)

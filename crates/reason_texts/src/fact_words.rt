@@ -2,11 +2,11 @@ ghost use Rattle.std.specs.Prelude.{◌≡◌, ◌++◌, OnOk};
 ghost use Rattle.std.specs.String.{string_bytes};
 ghost use Rattle.lease_facts.specs.declared.fact.Fact.TheVariants as fact;
 ghost use Rattle.lease_texts.specs.Records.{outcome_word};
-ghost use Rattle.reason_texts.specs.FactWords.{shown_bytes, shown_patch, changed_words, wrote_words, started_words, read_words, way_words, fact_words};
+ghost use Rattle.reason_texts.specs.FactWords.{shown_bytes, shown_patch, changed_words, wrote_words, started_words, read_words, way_words, deed_words, fact_words};
 
 use lease_client::Settlement;
-use lease_facts::Fact;
-use lease_state::Patch;
+use lease_facts::{Fact, FactKind};
+use lease_state::{ClientNo, Patch};
 use lease_texts::{digits_of, state_letters};
 use std::alloc::{AllocError, Global};
 
@@ -100,6 +100,17 @@ fn push_read(text: &mut String, client: u8, file: u8) -> Result<(), AllocError>
     )
 }
 
+// What a client does, where that is all that a fact says.
+fn push_deed(text: &mut String, kind: FactKind, client: Option<ClientNo>) -> Result<(), AllocError>
+    ensures { OnOk result (string_bytes text.new ≡ string_bytes text.old ++ deed_words kind client) }
+{
+    let (FactKind::Client(told), Some(client)) = (kind, client) else {
+        return Ok(());
+    };
+    let (client, deed) = (client.0, told.deed());
+    write!(text, "client {client} {deed}")
+}
+
 /// Adds a fact in words.
 pub fn push_fact_words(alloc: Global, text: &mut String, fact: &Fact) -> Result<(), AllocError>
     ensures { OnOk result (string_bytes text.new ≡ string_bytes text.old ++ fact_words fact.now) }
@@ -109,14 +120,6 @@ pub fn push_fact_words(alloc: Global, text: &mut String, fact: &Fact) -> Result<
             push_started(text, file.0)?;
             push_bytes(alloc, text, bytes.as_slice())
         }
-        Fact::Joined(client) => {
-            let client = client.0;
-            write!(text, "client {client} joins")
-        },
-        Fact::Dropped(client) => {
-            let client = client.0;
-            write!(text, "client {client} loses its connection")
-        },
         Fact::Expired(client, file) => {
             let (client, file) = (client.0, file.0);
             write!(
@@ -127,10 +130,6 @@ pub fn push_fact_words(alloc: Global, text: &mut String, fact: &Fact) -> Result<
         Fact::Sent(client) => {
             let client = client.0;
             write!(text, "a message is sent to client {client}")
-        },
-        Fact::Took(client) => {
-            let client = client.0;
-            write!(text, "client {client} takes a message")
         },
         Fact::Opened(file, client) => {
             let (file, client) = (file.0, client.0);
@@ -160,9 +159,6 @@ pub fn push_fact_words(alloc: Global, text: &mut String, fact: &Fact) -> Result<
             push_read(text, client.0, file.0)?;
             push_bytes(alloc, text, bytes.as_slice())
         }
-        Fact::Strayed(client) => {
-            let client = client.0;
-            write!(text, "client {client} strays")
-        },
+        _ => push_deed(text, fact.kind(), fact.client()),
     }
 }

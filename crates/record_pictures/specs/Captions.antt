@@ -3,17 +3,16 @@ use Rattle.std.specs.Prelude.{ℕ, ◌+◌, ◌==◌, Bool, List, [], ◌∷◌}
 use Rattle.std.specs.List.{list_any}
 use Rattle.std.specs.String.{string_bytes}
 use Rattle.lease_facts.specs.declared.fact.Fact.{Fact}
-use Rattle.lease_facts.specs.declared.fact.Fact.TheVariants as fact
+use Rattle.lease_facts.specs.declared.fact.FactKind.{FactKind}
+use Rattle.lease_facts.specs.Facts.{kind_of}
 use Rattle.reason_texts.specs.FactWords.{fact_words}
 use Rattle.record_pictures.specs.declared.picture.Caption.{Caption}
-use Rattle.record_pictures.specs.declared.picture.Kind.{Kind}
-use Rattle.record_pictures.specs.declared.picture.Kind.TheVariants as kind
 use Rattle.record_pictures.specs.declared.picture.Mark.{Mark}
 
 -- a caption, with its words as bytes
 pub record Seen : Type 0 where
   pub place : ℕ
-  pub kind : Kind
+  pub kind : FactKind
   pub is_bad : Bool
   pub words : List ℕ
 
@@ -23,21 +22,6 @@ seen_caption caption =
 
 abbrev pub seen_mark : Mark → Seen
 seen_mark mark = seen_caption mark.caption
-
-abbrev pub kind_of : Fact → Kind
-kind_of (fact.Start file bytes) = kind.Start
-kind_of (fact.Joined client) = kind.Joined
-kind_of (fact.Dropped client) = kind.Dropped
-kind_of (fact.Expired client file) = kind.Expired
-kind_of (fact.Sent client) = kind.Sent
-kind_of (fact.Took client) = kind.Took
-kind_of (fact.Opened file client) = kind.Opened
-kind_of (fact.Changed file client number patch) = kind.Changed
-kind_of (fact.Wrote client file number patch buffered) = kind.Wrote
-kind_of (fact.Settled client number outcome) = kind.Settled
-kind_of (fact.Believes client file state) = kind.Believes
-kind_of (fact.CachedRead client file bytes) = kind.CachedRead
-kind_of (fact.Strayed client) = kind.Strayed
 
 -- what is said of the fact at a place, where these places are bad
 abbrev pub caption_of : List ℕ → ℕ → Fact → Seen

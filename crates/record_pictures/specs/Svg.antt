@@ -3,10 +3,9 @@ use Rattle.std.specs.Prelude.{ℕ, ◌++◌, ◌==◌, nat_le, nat_lt, ◌&&◌,
 use Rattle.std.specs.Fmt.{decimal}
 use Rattle.std.specs.List.{flat_map}
 use Rattle.std.specs.String.{string_bytes}
+use Rattle.lease_facts.specs.Facts.{kind_word}
 use Rattle.lease_texts.specs.Pieces.{lines_of}
 use Rattle.record_pictures.specs.declared.picture.Caption.{Caption}
-use Rattle.record_pictures.specs.declared.picture.Kind.{Kind}
-use Rattle.record_pictures.specs.declared.picture.Kind.TheVariants as kind
 use Rattle.record_pictures.specs.declared.picture.Mark.{Mark}
 use Rattle.record_pictures.specs.declared.picture.Picture.{Picture}
 use Rattle.record_pictures.specs.declared.shape.Look.{Look}
@@ -37,22 +36,6 @@ look_word look.Loss = codes "loss"
 look_word look.Accepted = codes "accepted"
 look_word look.CachedRead = codes "cachedread"
 look_word look.Stray = codes "stray"
-
--- the word with which the fact begins in a record
-abbrev pub kind_word : Kind → List ℕ
-kind_word kind.Start = codes "start"
-kind_word kind.Joined = codes "joined"
-kind_word kind.Dropped = codes "dropped"
-kind_word kind.Expired = codes "expired"
-kind_word kind.Sent = codes "sent"
-kind_word kind.Took = codes "took"
-kind_word kind.Opened = codes "opened"
-kind_word kind.Changed = codes "changed"
-kind_word kind.Wrote = codes "wrote"
-kind_word kind.Settled = codes "settled"
-kind_word kind.Believes = codes "believes"
-kind_word kind.CachedRead = codes "cachedread"
-kind_word kind.Strayed = codes "strayed"
 
 unfoldable pub line_text : Look → Point → Point → List ℕ
 line_text seen from to =

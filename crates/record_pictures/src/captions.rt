@@ -1,31 +1,11 @@
 ghost use Rattle.std.specs.Prelude.{◌≡◌, IfOk, ◌==◌};
 ghost use Rattle.std.specs.List.{list_any};
-ghost use Rattle.record_pictures.specs.Captions.{kind_of, caption_of, seen_caption};
+ghost use Rattle.record_pictures.specs.Captions.{caption_of, seen_caption};
 
-use crate::picture::{Caption, Kind};
+use crate::picture::Caption;
 use lease_facts::Fact;
 use reason_texts::push_fact_words;
 use std::alloc::{AllocError, Global};
-
-fn kind_of(fact: &Fact) -> Kind
-    ensures { result ≡ kind_of fact.now }
-{
-    match fact {
-        Fact::Start(_, _) => Kind::Start,
-        Fact::Joined(_) => Kind::Joined,
-        Fact::Dropped(_) => Kind::Dropped,
-        Fact::Expired(_, _) => Kind::Expired,
-        Fact::Sent(_) => Kind::Sent,
-        Fact::Took(_) => Kind::Took,
-        Fact::Opened(_, _) => Kind::Opened,
-        Fact::Changed(_, _, _, _) => Kind::Changed,
-        Fact::Wrote(_, _, _, _, _) => Kind::Wrote,
-        Fact::Settled(_, _, _) => Kind::Settled,
-        Fact::Believes(_, _, _) => Kind::Believes,
-        Fact::CachedRead(_, _, _) => Kind::CachedRead,
-        Fact::Strayed(_) => Kind::Strayed,
-    }
-}
 
 fn is_among(places: &[usize], place: usize) -> bool
     ensures { result ≡ list_any (λ one. one == place) places.now }
@@ -46,7 +26,7 @@ pub fn caption_of(
     push_fact_words(alloc, &mut words, fact)?;
     Ok(Caption {
         place,
-        kind: kind_of(fact),
+        kind: fact.kind(),
         is_bad: is_among(bad, place),
         words,
     })

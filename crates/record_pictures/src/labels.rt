@@ -1,5 +1,5 @@
 use lease_client::Settlement;
-use lease_facts::Fact;
+use lease_facts::{Fact, FactKind};
 use lease_state::{Bytes, FileNo, Reply};
 use lease_texts::state_letters;
 use lease_wire::{Notification, read_create_reply};
@@ -83,8 +83,6 @@ fn push_message_or(
 // Adds what a fact on a client's lane says, in a few words.
 fn push_client_label(text: &mut String, fact: &Fact) -> Result<(), AllocError> {
     match fact {
-        Fact::Joined(_) => text.push_str("joins"),
-        Fact::Dropped(_) => text.push_str("loses its connection"),
         Fact::Wrote(_, file, number, _, buffered) => {
             let (file, way) = (file.0, if *buffered { "buffered" } else { "sent on" });
             write!(text, "write {number} of file {file}, {way}")
@@ -101,8 +99,10 @@ fn push_client_label(text: &mut String, fact: &Fact) -> Result<(), AllocError> {
             let file = file.0;
             write!(text, "cached read of file {file}")
         }
-        Fact::Strayed(_) => text.push_str("strays"),
-        _ => Ok(()),
+        _ => match fact.kind() {
+            FactKind::Client(told) => text.push_str(told.deed()),
+            _ => Ok(()),
+        },
     }
 }
 

@@ -1,6 +1,5 @@
 use crate::shape::Point;
 use lease_facts::Fact;
-use lease_reasons::client_of;
 use lease_state::ClientNo;
 use std::alloc::{AllocError, Global};
 
@@ -27,7 +26,7 @@ pub struct Lanes {
 }
 
 fn is_named(facts: &[Fact], client: ClientNo) -> bool {
-    facts.iter().any(|fact| client_of(fact) == Some(client))
+    facts.iter().any(|fact| fact.client() == Some(client))
 }
 
 impl Lanes {

@@ -16,6 +16,7 @@ mod svg;
 
 pub use fault::PictureFault;
 pub use layout::{MOST_FACTS, picture_of};
-pub use picture::{Caption, Kind, Mark, Picture};
+pub use lease_facts::{ClientFact, FactKind};
+pub use picture::{Caption, Mark, Picture};
 pub use shape::{Look, Point, Shape, Size};
 pub use svg::push_picture;

@@ -2,7 +2,7 @@ use crate::labels::label_of;
 use crate::lanes::{Lanes, at, down, line_of, spot, words_at};
 use crate::shape::{Look, Point, Shape, Size};
 use lease_facts::Fact;
-use lease_reasons::{Messages, client_of};
+use lease_reasons::Messages;
 use lease_state::{ClientNo, FileNo, LeaseState, Memory, Reply};
 use std::alloc::{AllocError, Global};
 
@@ -14,7 +14,7 @@ fn lane_of(lanes: &Lanes, fact: &Fact) -> u16 {
         | Fact::Sent(_)
         | Fact::Opened(_, _)
         | Fact::Changed(_, _, _, _) => lanes.server(),
-        _ => match client_of(fact) {
+        _ => match fact.client() {
             Some(client) => lanes.client(client),
             None => lanes.server(),
         },

@@ -1,29 +1,12 @@
 use crate::shape::{Shape, Size};
-
-/// The kind of a fact.
-#[derive(Clone, Copy, Debug, PartialEq, Eq)]
-pub enum Kind {
-    Start,
-    Joined,
-    Dropped,
-    Expired,
-    Sent,
-    Took,
-    Opened,
-    Changed,
-    Wrote,
-    Settled,
-    Believes,
-    CachedRead,
-    Strayed,
-}
+use lease_facts::FactKind;
 
 /// What a mark says of its fact.
 #[derive(Debug, Drop, PartialEq, Eq)]
 pub struct Caption {
     /// The place of the fact, from 1.
     pub place: usize,
-    pub kind: Kind,
+    pub kind: FactKind,
     /// Whether it is one of the facts that make the record bad.
     pub is_bad: bool,
     /// The fact in words.

@@ -2,9 +2,9 @@ ghost use Rattle.std.specs.Prelude.{◌≡◌, ◌≢◌, ◌++◌, ◌∷◌, [
 ghost use Rattle.std.specs.List.{flat_map};
 ghost use Rattle.std.specs.String.{string_bytes};
 ghost use Rattle.lease_texts.specs.Pieces.{lines_of};
-ghost use Rattle.record_pictures.specs.Svg.{escaped, look_word, kind_word, line_text, rectangle_text, circle_text, words_begin, shape_text, badness, caption_begin, caption_text, mark_text, note_begin, note_text, notes_text, size_text, style_text, picture_text};
+ghost use Rattle.record_pictures.specs.Svg.{escaped, look_word, line_text, rectangle_text, circle_text, words_begin, shape_text, badness, caption_begin, caption_text, mark_text, note_begin, note_text, notes_text, size_text, style_text, picture_text};
 
-use crate::picture::{Caption, Kind, Mark, Picture};
+use crate::picture::{Caption, Mark, Picture};
 use crate::shape::{Look, Point, Shape, Size};
 use lease_texts::first_line;
 use std::alloc::AllocError;
@@ -53,26 +53,6 @@ fn look_word(look: Look) -> &'static str
         Look::Accepted => "accepted",
         Look::CachedRead => "cachedread",
         Look::Stray => "stray",
-    }
-}
-
-fn kind_word(kind: Kind) -> &'static str
-    ensures { result.now ≡ kind_word kind }
-{
-    match kind {
-        Kind::Start => "start",
-        Kind::Joined => "joined",
-        Kind::Dropped => "dropped",
-        Kind::Expired => "expired",
-        Kind::Sent => "sent",
-        Kind::Took => "took",
-        Kind::Opened => "opened",
-        Kind::Changed => "changed",
-        Kind::Wrote => "wrote",
-        Kind::Settled => "settled",
-        Kind::Believes => "believes",
-        Kind::CachedRead => "cachedread",
-        Kind::Strayed => "strayed",
     }
 }
 
@@ -169,7 +149,7 @@ fn push_caption_begin(
 fn push_caption(text: &mut String, caption: &Caption) -> Result<(), AllocError>
     ensures { OnOk result (string_bytes text.new ≡ string_bytes text.old ++ caption_text caption.now) }
 {
-    let (kind, bad) = (kind_word(caption.kind), badness(caption.is_bad));
+    let (kind, bad) = (caption.kind.word(), badness(caption.is_bad));
     push_caption_begin(text, caption.place, kind, bad)?;
     push_escaped(text, caption.words.as_bytes())?;
     text.push_str("</title>\n")

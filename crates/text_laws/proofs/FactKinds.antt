@@ -1,14 +1,16 @@
 -- The facts that lines are read as are those that they mean.
-use Rattle.lease_laws.proofs.Words.{◌∷◌, ◌≡◌, ClientNo, FileNo, List, None, Option, ℕ, [], arith, drop, refl, true}
+use Rattle.lease_laws.proofs.Words.{◌∷◌, ◌≡◌, ClientNo, FileNo, List, None, Option, Some, ℕ, [], arith, drop, map, refl, true}
 use Rattle.lease_state.specs.declared.state.LeaseState.{LeaseState}
+use Rattle.lease_facts.specs.Facts.{client_facts, client_named, client_named_among, client_word}
+use Rattle.lease_facts.specs.declared.fact.ClientFact.{ClientFact}
 use Rattle.lease_facts.specs.declared.fact.Fact.{Fact}
 use Rattle.lease_facts.specs.declared.fact.Fact.TheVariants as fact
 use Rattle.lease_texts.specs.Fields.{Words, whole, ordinal_in, number_in, offset_in, bytes_in, content_in, state_in}
 use Rattle.lease_texts.specs.Pieces.{fields_of}
-use Rattle.lease_texts.specs.Records.{way_in, outcome_in, of_client, of_both, start_in, changed_in, wrote_in, settled_in}
-use Rattle.lease_texts.specs.Records.{believes_in, read_in, fact_named, fact_told, fact_in}
+use Rattle.lease_texts.specs.Records.{believes_in, changed_in, fact_in, fact_named, of_both, other_named, outcome_in, read_in}
+use Rattle.lease_texts.specs.Records.{settled_in, start_in, way_in, wrote_in}
 use Rattle.text_laws.specs.Kinds.{Field}
-use Rattle.text_laws.specs.FactKinds.{fact_kinds, LinesTellFacts}
+use Rattle.text_laws.specs.FactKinds.{client_kind, fact_kinds, LinesTellFacts}
 use Rattle.text_laws.specs.Told.{Each}
 use Rattle.text_laws.proofs.Apart.{word_of, differ, fields_apart, apart, all_apart}
 use Rattle.text_laws.proofs.Grammar.{Reads, Goes, ends, step, Alone, all_alone, Unnamed, by_fields, reads_exactly}
@@ -52,9 +54,6 @@ outcome_reads : Reads Field.Outcome outcome_in (λ outcome. outcome)
 outcome_reads = record { says = λ word value e. e; read_as = λ word outcome e. (outcome, e, refl) }
 
 -- ---- kinds
-
-of_one : (tell : ClientNo → Fact) → Goes (λ words. whole (of_client (λ c. tell (client_no c)) words)) (Field.Client ∷ []) tell
-of_one tell = step client_reads refl (λ word words none. rw none refl) (λ word client c. ends (λ words. rw c refl))
 
 expired_goes : Goes (λ words. whole (of_both (λ c f. fact.Expired (client_no c) (file_no f)) words))
     (Field.Client ∷ Field.File ∷ []) fact.Expired
@@ -122,27 +121,48 @@ cached_read_goes = step client_reads refl (λ word words none. rw none refl) (λ
 named : List ℕ → Words → Option Fact
 named name words = whole (fact_named name words)
 
-of_writes : Each (Alone named) (drop 7 fact_kinds)
-unfolding named fact_named
-of_writes = (changed_goes, (wrote_goes, (settled_goes, (believes_goes, (cached_read_goes, (of_one fact.Strayed, tt))))))
+-- the kind of a fact of a client alone is found by its word
+client_found : (told : ClientFact) → client_named (client_word told) ≡ Some told
+unfolding client_named_among
+client_found x1 = grind arith
 
-of_messages : Each (Alone named) (drop 3 fact_kinds)
+client_goes : (told : ClientFact) → Alone named (client_kind told)
 unfolding named fact_named
-of_messages = (expired_goes, (of_one fact.Sent, (of_one fact.Took, (opened_goes, of_writes))))
+client_goes told = step client_reads (rw (client_found told) refl) (λ word words none. rw (client_found told, none) refl)
+    (λ word client c. ends (λ words. rw (client_found told, c) refl))
+
+each_client : (kinds : List ClientFact) → Each (Alone named) (map client_kind kinds)
+each_client [] = tt
+each_client (told ∷ others) = (client_goes told, each_client others)
+
+of_writes : Each (Alone named) (drop 3 fact_kinds)
+unfolding named fact_named other_named client_named_among
+of_writes = (changed_goes, (wrote_goes, (settled_goes, (believes_goes, (cached_read_goes, each_client client_facts)))))
 
 each_goes : Each (Alone named) fact_kinds
-unfolding named fact_named
-each_goes = (start_goes, (of_one fact.Joined, (of_one fact.Dropped, of_messages)))
+unfolding named fact_named other_named client_named_among
+each_goes = (start_goes, (expired_goes, (opened_goes, of_writes)))
 
 by_names : (line : List ℕ) → fact_in line ≡ by_fields named (fields_of line)
 unfolding named fact_in
 by_names line = grind arith
 
-refuses : (name : List ℕ) (words : Words) → Each (Unnamed name) fact_kinds → named name words ≡ None
+none_named : (kinds : List ClientFact) (name : List ℕ) → Each (Unnamed name) (map client_kind kinds)
+    → client_named_among kinds name ≡ None
+unfolding client_named_among
+none_named [] name each = refl
+none_named (told ∷ others) name each = rw (each.0) (none_named others name each.1)
+
+none_other : (name : List ℕ) (words : Words) → client_named name ≡ None → other_named name words ≡ None
+    → named name words ≡ None
 unfolding named fact_named
-refuses name words
-    (start, (join, (drop, (expire, (send, (take, (opens, (change, (write, (settle, (believe, (read, (stray, _))))))))))))) =
-    rw (start, join, drop, expire, send, take, opens, change, write, settle, believe, read, stray) refl
+none_other name words client other = rw (client, other) refl
+
+refuses : (name : List ℕ) (words : Words) → Each (Unnamed name) fact_kinds → named name words ≡ None
+unfolding other_named
+refuses name words (start, (expire, (opens, (change, (write, (settle, (believe, (read, others)))))))) =
+    none_other name words (none_named client_facts name others)
+    (rw (start, expire, opens, change, write, settle, believe, read) refl)
 
 are_apart : all_apart fact_kinds ≡ true
 unfolding word_of differ fields_apart apart all_apart

@@ -1,13 +1,14 @@
 -- In the record of every run what the server gives out names clients that have joined.
-use Rattle.lease_laws.proofs.Words.{◌==◌, ◌∙◌, ◌∷◌, ◌≡◌, Bool, Decides-eqb, EachFact, Event, Fact, FileRequest, Key, List}
-use Rattle.lease_laws.proofs.Words.{MayLower, None, Note, Option, Setup, Some, Step, World, ℕ, [], after, ap, arith, bytes_eq}
-use Rattle.lease_laws.proofs.Words.{first_world, has_joined, has_key, is_allowed_setup, is_key, is_start, list_all, refl}
-use Rattle.lease_laws.proofs.Words.{requests_sent, reverse_aux, starts_from, stepped_in, subst, sym, true, true≢false}
+use Rattle.lease_laws.proofs.Words.{◌∙◌, ◌∷◌, ◌≡◌, Bool, EachFact, Event, Fact, FileRequest, Key, List, MayLower, Note, Option}
+use Rattle.lease_laws.proofs.Words.{Setup, Step, World, ℕ, [], after, arith, first_world, has_joined, has_key, is_allowed_setup}
+use Rattle.lease_laws.proofs.Words.{is_key, is_start, list_all, refl, requests_sent, reverse_aux, starts_from, stepped_in, subst}
+use Rattle.lease_laws.proofs.Words.{sym, true}
 use Rattle.lease_laws.proofs.records.Runs.{all_starts}
-use Rattle.lease_laws.proofs.server.Lists.{any_has, and_parts}
+use Rattle.lease_laws.proofs.server.Lists.{any_has}
+use Rattle.lease_laws.proofs.world.cases.Events.{IsTold}
 use Rattle.lease_coherence.proofs.moves.Deeds.{HasDeeds, IsSource, step_deed}
 use Rattle.lease_coherence.proofs.moves.Events.{Ground, IsMoved, Move, Both, carried_both, runs_have}
-use Rattle.lease_coherence.proofs.moves.Frames.{from_source, stepped_past}
+use Rattle.lease_coherence.proofs.moves.Frames.{stepped_past}
 use Rattle.lease_coherence.proofs.moves.Ground.{ground_carried, first_ground}
 use Rattle.lease_coherence.proofs.records.Later.{past_noted}
 use Rattle.lease_coherence.proofs.wellformed.WellFormed.{IsWell, well_moves, first_well}
@@ -16,16 +17,7 @@ unfoldable pub is_joined : Fact → List Fact → Bool
 is_joined (Fact.Sent client) past = has_joined client past
 is_joined (Fact.Opened file client) past = has_joined client past
 is_joined (Fact.Changed file client number patch) past = has_joined client past
-is_joined (Fact.Start file bytes) past = true
-is_joined (Fact.Joined client) past = true
-is_joined (Fact.Dropped client) past = true
-is_joined (Fact.Expired client file) past = true
-is_joined (Fact.Took client) past = true
-is_joined (Fact.Wrote client file number patch buffered) past = true
-is_joined (Fact.Settled client number outcome) past = true
-is_joined (Fact.Believes client file state) past = true
-is_joined (Fact.CachedRead client file bytes) past = true
-is_joined (Fact.Strayed client) past = true
+is_joined _ past = true
 
 abbrev pub Joined : Fact → List Fact → Type 0
 Joined fact past = is_joined fact past ≡ true
@@ -90,8 +82,13 @@ stepped_joined : (world : World) (client : ℕ) (step : Step) → HasJoined worl
 stepped_joined world client step h =
     subst (EachFact Joined) (sym (stepped_past world client step)) (noted_joined client world.past step.notes h)
 
+told_joined : (client : ℕ) (fact : Fact) (past : List Fact) → IsTold client fact → Joined fact past
+unfolding is_joined
+told_joined client x2 past is = grind arith
+
 joined_moves : IsMoved (Both Ground IsWell) HasJoined
 unfolding is_joined requests_sent
+joined_moves world (Move.Told client fact) is v h = (told_joined client fact world.past is, h)
 joined_moves world (Move.Step step) next v h = step_deed world HasJoined (deeds_joined world v h) step next
 joined_moves world (Move.Cut client) up v h = (refl, h)
 joined_moves world (Move.Expire client file) (on, breaks) v h = (refl, h)
@@ -100,7 +97,7 @@ joined_moves world (Move.Connect client) down v h = stepped_joined _ client _ (r
 joined_moves world (Move.Commanded client command) may v h = stepped_joined world client _ h
 joined_moves world (Move.Take client reply queue) first v h = stepped_joined _ client _ (refl, h)
 joined_moves world (Move.Notice client) cut v h = stepped_joined _ client _ h
-joined_moves world (Move.Stray client request) up v h = (refl, h)
+joined_moves world (Move.Stray client request) may v h = h
 
 -- ---- every run
 

@@ -1,24 +1,28 @@
 -- The line of each fact is read as that fact.
-use Rattle.lease_laws.proofs.Words.{◌++◌, ◌<◌, ◌∷◌, ◌≡◌, ClientNo, FileNo, List, ℕ, [], ap, append_assoc, arith, codes, decimal}
-use Rattle.lease_laws.proofs.Words.{drop, false, refl, subst, true}
+use Rattle.lease_laws.proofs.Words.{◌++◌, ◌<◌, ◌∷◌, ◌≡◌, Among, ClientNo, FileNo, List, Some, ℕ, [], ap, append_assoc, arith}
+use Rattle.lease_laws.proofs.Words.{codes, decimal, drop, false, inl, inr, map, refl, subst, true}
 use Rattle.lease_state.specs.declared.state.LeaseState.{LeaseState}
+use Rattle.lease_facts.proofs.Alone.{alone_in, client_in}
+use Rattle.lease_facts.specs.Facts.{client_fact, client_facts, client_of, client_word, kind_of}
+use Rattle.lease_facts.specs.declared.fact.ClientFact.{ClientFact}
+use Rattle.lease_facts.specs.declared.fact.FactKind.TheVariants as kind
 use Rattle.lease_facts.specs.declared.fact.Fact.{Fact}
 use Rattle.lease_facts.specs.declared.fact.Fact.TheVariants as fact
 use Rattle.lease_texts.proofs.Cut.{bits_named}
 use Rattle.lease_texts.specs.Reading.{is_passed_over}
-use Rattle.lease_texts.specs.Records.{fact_line, fact_in, digits_word, read_words, pair_words}
-use Rattle.text_laws.specs.FactKinds.{fact_kinds}
+use Rattle.lease_texts.specs.Records.{client_line, fact_line, fact_in, digits_word, read_words, pair_words}
+use Rattle.text_laws.specs.FactKinds.{client_kind, fact_kinds}
 use Rattle.text_laws.specs.Kinds.{Kind}
-use Rattle.text_laws.specs.Told.{CanBeNamed, CanBeTold, IsLettered, IsReadAs, as_lettered}
+use Rattle.text_laws.specs.Told.{CanBeNamed, CanBeTold, IsLettered, IsOrdinal, IsReadAs, as_lettered}
 use Rattle.text_laws.proofs.Bytes.{all_above}
 use Rattle.text_laws.proofs.FactKinds.{facts_told}
-use Rattle.text_laws.proofs.Spoken.{AllSpoken, Said, ◌&◌, told_of, words_of, line_of, IsLine, row_line, two_behind, client_said}
-use Rattle.text_laws.proofs.Spoken.{file_said, number_said, offset_said, bytes_said, content_said, letters_said, way_said}
-use Rattle.text_laws.proofs.Spoken.{outcome_said}
+use Rattle.text_laws.proofs.Spoken.{◌&◌, AllSpoken, IsLine, Said, bytes_said, client_said, content_said, file_said, kind_line}
+use Rattle.text_laws.proofs.Spoken.{letters_said, line_of, number_said, offset_said, outcome_said, row_line, told_of, two_behind}
+use Rattle.text_laws.proofs.Spoken.{way_said, words_of}
 
-row : {text : List ℕ} (place : ℕ) {kind : Kind Fact} {rest : List (Kind Fact)} → drop place fact_kinds ≡ kind ∷ rest
-    → all_above 32 kind.name ≡ true → is_passed_over kind.name ≡ false → (said : AllSpoken kind.fields)
-    → text ≡ line_of kind.name (words_of kind.fields said) ++ 10 ∷ [] → IsLine fact_in text (told_of kind.fields kind.tells said)
+row : {text : List ℕ} (place : ℕ) {one : Kind Fact} {rest : List (Kind Fact)} → drop place fact_kinds ≡ one ∷ rest
+    → all_above 32 one.name ≡ true → is_passed_over one.name ≡ false → (said : AllSpoken one.fields)
+    → text ≡ line_of one.name (words_of one.fields said) ++ 10 ∷ [] → IsLine fact_in text (told_of one.fields one.tells said)
 row place e above counts said written = row_line facts_told place e above counts said written
 
 wrote_written : (front offset digits way : List ℕ)
@@ -30,41 +34,60 @@ read_written : (front client file digits : List ℕ) → front ++ (client ++ cod
     ≡ front ++ client ++ codes " " ++ file ++ codes " " ++ digits ++ 10 ∷ []
 read_written front client file digits = simp append_assoc
 
+-- ---- facts of a client alone
+
+client_above : (told : ClientFact) → (all_above 32 (client_word told) ≡ true) × (is_passed_over (client_word told) ≡ false)
+client_above x1 = grind arith
+
+client_among : (told : ClientFact) → Among told client_facts
+client_among x1 = grind arith
+
+mapped_among : (kinds : List ClientFact) (told : ClientFact) → Among told kinds → Among (client_kind told) (map client_kind kinds)
+mapped_among [] told is = absurd is
+mapped_among (one ∷ others) told (inl same) = inl (ap client_kind same)
+mapped_among (one ∷ others) told (inr later) = inr (mapped_among others told later)
+
+client_row : (told : ClientFact) → Among (client_kind told) fact_kinds
+client_row told = inr (inr (inr (inr (inr (inr (inr (inr (mapped_among client_facts told (client_among told)))))))))
+
+client_back : (told : ClientFact) (client : ClientNo) → IsOrdinal client.0
+    → IsLine fact_in (client_line (kind.Client told) (Some client)) (client_fact told client)
+client_back told client is = kind_line facts_told (client_kind told) (client_row told) (client_above told).0 (client_above told).1
+    (client_said client is & Said) refl
+
+-- ---- any fact
+
 fact_back : (told : Fact) → CanBeNamed told → IsLine fact_in (fact_line told) (as_lettered told)
 unfolding read_words pair_words
 fact_back (fact.Start file bytes) (is_file, are, fit) =
     row 0 refl refl refl (file_said file is_file & content_said bytes are fit & Said) refl
-fact_back (fact.Joined client) can = row 1 refl refl refl (client_said client can & Said) refl
-fact_back (fact.Dropped client) can = row 2 refl refl refl (client_said client can & Said) refl
 fact_back (fact.Expired client file) (is_client, is_file) =
-    row 3 refl refl refl (client_said client is_client & file_said file is_file & Said) refl
-fact_back (fact.Sent client) can = row 4 refl refl refl (client_said client can & Said) refl
-fact_back (fact.Took client) can = row 5 refl refl refl (client_said client can & Said) refl
+    row 1 refl refl refl (client_said client is_client & file_said file is_file & Said) refl
 fact_back (fact.Opened file client) (is_file, is_client) =
-    row 6 refl refl refl (file_said file is_file & client_said client is_client & Said) refl
+    row 2 refl refl refl (file_said file is_file & client_said client is_client & Said) refl
 fact_back (fact.Changed file client number patch) (is_file, is_client, fits, (small, are)) =
-    row 7 refl refl refl (file_said file is_file & client_said client is_client & number_said number fits
+    row 3 refl refl refl (file_said file is_file & client_said client is_client & number_said number fits
     & offset_said patch.offset small & bytes_said patch.bytes are & Said)
     (two_behind (line_of (codes "changed") (decimal file.0 ∷ decimal client.0 ∷ decimal number ∷ [])) (decimal patch.offset)
     (digits_word patch.bytes))
 fact_back (fact.Wrote client file number patch true) (is_client, is_file, fits, (small, are)) =
-    row 8 refl refl refl (client_said client is_client & file_said file is_file & number_said number fits
+    row 4 refl refl refl (client_said client is_client & file_said file is_file & number_said number fits
     & offset_said patch.offset small & bytes_said patch.bytes are & way_said true & Said)
     (wrote_written (line_of (codes "wrote") (decimal client.0 ∷ decimal file.0 ∷ decimal number ∷ [])) (decimal patch.offset)
     (digits_word patch.bytes) (codes "buffered"))
 fact_back (fact.Wrote client file number patch false) (is_client, is_file, fits, (small, are)) =
-    row 8 refl refl refl (client_said client is_client & file_said file is_file & number_said number fits
+    row 4 refl refl refl (client_said client is_client & file_said file is_file & number_said number fits
     & offset_said patch.offset small & bytes_said patch.bytes are & way_said false & Said)
     (wrote_written (line_of (codes "wrote") (decimal client.0 ∷ decimal file.0 ∷ decimal number ∷ [])) (decimal patch.offset)
     (digits_word patch.bytes) (codes "through"))
 fact_back (fact.Settled client number outcome) (is_client, fits) =
-    row 9 refl refl refl (client_said client is_client & number_said number fits & outcome_said outcome & Said) refl
+    row 5 refl refl refl (client_said client is_client & number_said number fits & outcome_said outcome & Said) refl
 fact_back (fact.Believes client file state) (is_client, is_file) =
-    row 10 refl refl refl (client_said client is_client & file_said file is_file & letters_said state & Said) refl
+    row 6 refl refl refl (client_said client is_client & file_said file is_file & letters_said state & Said) refl
 fact_back (fact.CachedRead client file bytes) (is_client, is_file, are) =
-    row 11 refl refl refl (client_said client is_client & file_said file is_file & bytes_said bytes are & Said)
+    row 7 refl refl refl (client_said client is_client & file_said file is_file & bytes_said bytes are & Said)
     (read_written (codes "cachedread ") (decimal client.0) (decimal file.0) (digits_word bytes))
-fact_back (fact.Strayed client) can = row 12 refl refl refl (client_said client can & Said) refl
+fact_back other can = client_back (alone_in (kind_of other)) (client_in (client_of other)) can
 
 pub named_back : (told : Fact) → CanBeNamed told → IsReadAs told (as_lettered told)
 named_back told can =

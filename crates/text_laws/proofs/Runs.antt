@@ -1,9 +1,9 @@
 -- The record of a run can be written as lines, and is read back as a record that is safe.
 use Rattle.lease_laws.proofs.Words.{◌&&◌, ◌++◌, ◌+◌, ◌==◌, ◌∙◌, ◌∷◌, ◌≡◌, ◌≤◌, Bool, EachFact, Event, List, Ok, Safe, Setup}
 use Rattle.lease_laws.proofs.Words.{State, Verdict, WellFormed, ℕ, ⊎_elim, [], after, ap, append-nil, append_assoc, arith, codes}
-use Rattle.lease_laws.proofs.Words.{eqb-true, false, first_world, has_joined, is_allowed_setup, is_content, is_started}
-use Rattle.lease_laws.proofs.Words.{is_well_formed, length, list_all, map, nat_le, nat_tests, refl, reverse-reverse, reverse_aux}
-use Rattle.lease_laws.proofs.Words.{subst, sym, true, verdict}
+use Rattle.lease_laws.proofs.Words.{eqb-true, first_world, has_joined, is_allowed_setup, is_content, is_started, is_well_formed}
+use Rattle.lease_laws.proofs.Words.{length, list_all, map, nat_le, nat_tests, refl, reverse-reverse, reverse_aux, subst, sym}
+use Rattle.lease_laws.proofs.Words.{true, verdict}
 use Rattle.lease_model.specs.records.Facts as model
 use Rattle.lease_model.specs.world.Events.{recorded}
 use Rattle.lease_state.specs.State.{state_of_bits, bits_of_state}
@@ -11,7 +11,7 @@ use Rattle.lease_laws.proofs.records.VerdictLemmas.{safe-verdict}
 use Rattle.lease_laws.proofs.server.Lists.{and_parts, and_both, or_true}
 use Rattle.lease_coherence.specs.Parts.{EveryRunIsSafe}
 use Rattle.lease_coherence.proofs.wellformed.WellFormed.{runs_are_well_formed}
-use Rattle.lease_facts.specs.Facts.{fact_of}
+use Rattle.lease_facts.specs.Facts.{client_about, fact_of}
 use Rattle.lease_facts.specs.declared.fact.Fact.{Fact}
 use Rattle.lease_facts.specs.declared.fact.Fact.TheVariants as fact
 use Rattle.lease_texts.specs.Pieces.{pieces, longer, lines_of}
@@ -20,25 +20,20 @@ use Rattle.lease_texts.specs.Records.{with_line, record_text, record_in}
 use Rattle.text_laws.specs.Told.{CanBeNamed, Each, as_lettered}
 use Rattle.text_laws.specs.Runs.{IsTyped, AreOfRun, RunsAreReadBack, RunsAreJudgedSafe, ReplaysAreJudgedSafe}
 use Rattle.text_laws.proofs.Joined.{is_joined, Joined, run_joined}
-use Rattle.text_laws.proofs.Named.{is_named, run_named}
+use Rattle.text_laws.proofs.Named.{is_named, is_numbered, run_named}
 use Rattle.text_laws.proofs.Texts.{reads_all}
 
 -- ---- clients and files of a run's facts are numbered from 1
 
 is_placed : model.Fact → Bool
 is_placed (model.Fact.Start file bytes) = nat_le 1 file && is_content bytes
-is_placed (model.Fact.Joined client) = nat_le 1 client
-is_placed (model.Fact.Dropped client) = nat_le 1 client
 is_placed (model.Fact.Expired client file) = nat_le 1 client && nat_le 1 file
-is_placed (model.Fact.Sent client) = nat_le 1 client
-is_placed (model.Fact.Took client) = nat_le 1 client
 is_placed (model.Fact.Opened file client) = nat_le 1 file && nat_le 1 client
 is_placed (model.Fact.Changed file client number patch) = nat_le 1 file && nat_le 1 client
 is_placed (model.Fact.Wrote client file number patch buffered) = nat_le 1 client && nat_le 1 file
-is_placed (model.Fact.Settled client number outcome) = nat_le 1 client
 is_placed (model.Fact.Believes client file state) = nat_le 1 client && nat_le 1 file
 is_placed (model.Fact.CachedRead client file bytes) = nat_le 1 client && nat_le 1 file
-is_placed (model.Fact.Strayed client) = nat_le 1 client
+is_placed other = is_numbered (client_about other)
 
 started_placed : (file : ℕ) (past : List model.Fact) → list_all is_named past ≡ true → is_started file past ≡ true
     → nat_le 1 file ≡ true
@@ -68,21 +63,17 @@ placed : (one : model.Fact) (past : List model.Fact) → is_named one ≡ true �
     → Joined one past → WellFormed one past → is_placed one ≡ true
 unfolding is_named is_joined is_well_formed is_placed
 placed (model.Fact.Start file bytes) past own named came well = own
-placed (model.Fact.Joined client) past own named came well = own
-placed (model.Fact.Dropped client) past own named came well = own
 placed (model.Fact.Expired client file) past own named came well = and_both _ _ own (started_placed file past named well)
 placed (model.Fact.Sent client) past own named came well = joined_placed client past named came
-placed (model.Fact.Took client) past own named came well = own
 placed (model.Fact.Opened file client) past own named came well =
     and_both _ _ (started_placed file past named well) (joined_placed client past named came)
 placed (model.Fact.Changed file client number patch) past own named came well =
     and_both _ _ (started_placed file past named (and_parts _ _ well).0) (joined_placed client past named came)
 placed (model.Fact.Wrote client file number patch buffered) past own named came well =
     and_both _ _ own (started_placed file past named (and_parts _ _ (and_parts _ _ well).0).0)
-placed (model.Fact.Settled client number outcome) past own named came well = own
 placed (model.Fact.Believes client file state) past own named came well = and_both _ _ own (started_placed file past named well)
 placed (model.Fact.CachedRead client file bytes) past own named came well = and_both _ _ own (started_placed file past named well)
-placed (model.Fact.Strayed client) past own named came well = own
+placed other past own named came well = own
 
 all_placed : (past : List model.Fact) → list_all is_named past ≡ true → EachFact Joined past → EachFact WellFormed past
     → list_all is_placed past ≡ true

@@ -1,6 +1,6 @@
 -- Words that say the values of fields, and the lines that they are.
-use Rattle.lease_laws.proofs.Words.{◌++◌, ◌<◌, ◌∙◌, ◌∷◌, ◌≡◌, ◌≤◌, Access, Bool, ClientNo, FILE_LIMIT, FileNo, List, Option}
-use Rattle.lease_laws.proofs.Words.{Share, Some, ℕ, ⊤, [], ap, append_assoc, arith, codes, decimal, drop, false, inl, length}
+use Rattle.lease_laws.proofs.Words.{◌++◌, ◌<◌, ◌∙◌, ◌∷◌, ◌≡◌, ◌≤◌, Access, Among, Bool, ClientNo, FILE_LIMIT, FileNo, List}
+use Rattle.lease_laws.proofs.Words.{Option, Share, Some, ℕ, [], ap, append_assoc, arith, codes, decimal, drop, false, inl, length}
 use Rattle.lease_laws.proofs.Words.{refl, state_of, subst, sym, true}
 use Rattle.std.proofs.Common.{◌^◌, All}
 use Rattle.std.proofs.lemmas.List.{get_or_default}
@@ -10,8 +10,6 @@ use Rattle.uuid.specs.Text.{hyphenated_text, lower, parsed}
 use Rattle.uuid.proofs.RoundTrips.{parses_hyphenated}
 use Rattle.lease_client.specs.declared.note.Settlement.{Settlement}
 use Rattle.lease_state.specs.State.{bits_of_state}
-use Rattle.lease_state.specs.declared.access.Access.TheVariants as access
-use Rattle.lease_state.specs.declared.access.Share.TheVariants as share
 use Rattle.lease_state.specs.declared.number.FileId.{FileId}
 use Rattle.lease_state.specs.declared.state.LeaseState.{LeaseState}
 use Rattle.lease_texts.proofs.Cut.{bits_named}
@@ -24,11 +22,11 @@ use Rattle.lease_texts.specs.Words.{state_word}
 use Rattle.text_laws.specs.Kinds.{Field, Value, Says, Telling, Kind, Say, ReadsExactly}
 use Rattle.text_laws.specs.Schedules.{IsGuid}
 use Rattle.text_laws.specs.Told.{IsNumber, IsOrdinal}
-use Rattle.text_laws.proofs.Bytes.{all_above, above-append, above-line, hexadecimal_above, hyphenated_above, piece_first}
+use Rattle.text_laws.proofs.Bytes.{above-append, above-line, all_above, hexadecimal_above, hyphenated_above, piece_first}
 use Rattle.text_laws.proofs.Bytes.{piece_last}
 use Rattle.text_laws.proofs.Either.{among_at}
-use Rattle.text_laws.proofs.Numbers.{ordinal_back, number_back, offset_back, bytes_back, content_back, state_back, outcome_back}
-use Rattle.text_laws.proofs.Numbers.{decimal_above, digits_above, state_above, outcome_above}
+use Rattle.text_laws.proofs.Numbers.{bytes_back, content_back, decimal_above, digits_above, number_back, offset_back}
+use Rattle.text_laws.proofs.Numbers.{ordinal_back, outcome_above, outcome_back, state_above, state_back}
 
 -- ---- words that say a value
 
@@ -108,12 +106,12 @@ pub record IsLine {A : Type 0} (read : List ℕ → Option A) (text : List ℕ) 
   pub counts : is_passed_over line ≡ false
   pub says : read line ≡ Some told
 
--- the line of a kind, by its place in a table
-pub row_line : {A : Type 0} {kinds : List (Kind A)} {read : List ℕ → Option A} {text : List ℕ} → ReadsExactly kinds read
-    → (place : ℕ) {row : Kind A} {rest : List (Kind A)} → drop place kinds ≡ row ∷ rest
+-- the line of a kind in a table
+pub kind_line : {A : Type 0} {kinds : List (Kind A)} {read : List ℕ → Option A} {text : List ℕ} → ReadsExactly kinds read
+    → (row : Kind A) → Among row kinds
     → all_above 32 row.name ≡ true → is_passed_over row.name ≡ false → (said : AllSpoken row.fields)
     → text ≡ line_of row.name (words_of row.fields said) ++ 10 ∷ [] → IsLine read text (told_of row.fields row.tells said)
-row_line {A} {kinds} {read} {text} exact place {row} e above counts said written =
+kind_line {A} {kinds} {read} {text} exact row is above counts said written =
     let words = words_of row.fields said in let line = line_of row.name words in record {
       line = line;
       written = written;
@@ -123,13 +121,21 @@ row_line {A} {kinds} {read} {text} exact place {row} e above counts said written
       counts = line_counts row.name words counts;
       says = (exact.told line (told_of row.fields row.tells said)).1 (record {
         kind = row;
-        is_one = among_at kinds place e;
+        is_one = is;
         words = words;
         are_fields = ap (λ (whole : List ℕ). fields_of whole) (line_joined row.name words)
             ∙ fields_joined row.name row.fields said above;
         say = they_say A row.fields row.tells said;
       });
     }
+
+-- the same by its place
+pub row_line : {A : Type 0} {kinds : List (Kind A)} {read : List ℕ → Option A} {text : List ℕ} → ReadsExactly kinds read
+    → (place : ℕ) {row : Kind A} {rest : List (Kind A)} → drop place kinds ≡ row ∷ rest
+    → all_above 32 row.name ≡ true → is_passed_over row.name ≡ false → (said : AllSpoken row.fields)
+    → text ≡ line_of row.name (words_of row.fields said) ++ 10 ∷ [] → IsLine read text (told_of row.fields row.tells said)
+row_line {A} {kinds} {read} {text} exact place {row} e above counts said written =
+    kind_line exact row (among_at kinds place e) above counts said written
 
 -- two words that were put together behind a front
 pub two_behind : (front first second : List ℕ) → front ++ codes " " ++ (first ++ codes " " ++ second) ++ 10 ∷ []

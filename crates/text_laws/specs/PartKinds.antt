@@ -1,7 +1,9 @@
 -- The lines of schedules: one row a kind of line; where a word may stand or not, one for each.
-use Rattle.std.specs.Prelude.{true, false, List, [], ◌∷◌, codes}
+use Rattle.std.specs.Prelude.{true, false, List, [], ◌∷◌, codes, map}
 use Rattle.lease_client.specs.declared.command.Command.{Command}
 use Rattle.lease_client.specs.declared.command.Command.TheVariants as command
+use Rattle.lease_facts.specs.Setups.{client_event, client_events, client_word}
+use Rattle.lease_facts.specs.declared.setup.ClientEvent.{ClientEvent}
 use Rattle.lease_facts.specs.declared.setup.Event.TheVariants as event
 use Rattle.lease_state.specs.declared.number.ClientNo.{ClientNo}
 use Rattle.lease_state.specs.declared.request.Request.{Request}
@@ -15,6 +17,10 @@ app client asked = Part.Happens (event.App client asked)
 
 abbrev pub raw : ClientNo → Request → Part
 raw client asked = Part.Happens (event.Raw client asked)
+
+-- of an event that says no more than which client it is about
+abbrev pub client_kind : ClientEvent → Kind Part
+client_kind happens = kind (client_word happens) (Field.Client ∷ []) (λ client. Part.Happens (client_event happens client))
 
 abbrev pub part_kinds : List (Kind Part)
 part_kinds =
@@ -30,11 +36,6 @@ part_kinds =
     ∷ kind (codes "flush") (Field.Client ∷ Field.File ∷ []) (λ client file. app client (command.Flush file))
     ∷ kind (codes "write") (Field.Client ∷ Field.File ∷ Field.Offset ∷ Field.Bytes ∷ [])
     (λ client file offset bytes. app client (command.Write file (record { offset = offset; bytes = bytes })))
-    ∷ kind (codes "serve") (Field.Client ∷ []) (λ client. Part.Happens (event.ServerTakes client))
-    ∷ kind (codes "take") (Field.Client ∷ []) (λ client. Part.Happens (event.ClientTakes client))
-    ∷ kind (codes "cut") (Field.Client ∷ []) (λ client. Part.Happens (event.Cut client))
-    ∷ kind (codes "notice") (Field.Client ∷ []) (λ client. Part.Happens (event.Notice client))
-    ∷ kind (codes "connect") (Field.Client ∷ []) (λ client. Part.Happens (event.Connect client))
     ∷ kind (codes "expire") (Field.Client ∷ Field.File ∷ []) (λ client file. Part.Happens (event.Expire client file))
     ∷ kind (codes "scavenge") (Field.Client ∷ Field.File ∷ []) (λ client file. Part.Happens (event.Scavenge client file))
     ∷ kind (codes "raw")
@@ -50,7 +51,7 @@ part_kinds =
     raw client (request.Write file_id number (record { offset = offset; bytes = bytes })))
     ∷ kind (codes "raw") (Field.Client ∷ Field.Word (codes "ack") ∷ Field.Message ∷ [])
     (λ client ack message. raw client (request.Ack message))
-    ∷ []
+    ∷ map client_kind client_events
 
 -- What is read in a line is the part of a schedule that the line tells.
 abbrev pub LinesTellParts : Type 0

@@ -1,31 +1,32 @@
 -- Records of runs as texts: what a run is printed as is read as its record, and judged to be safe.
-use Rattle.std.specs.Prelude.{◌≡◌, ◌++◌, ◌<◌, ◌^◌, ℕ, true, map, List, [], ◌∷◌, codes, Ok}
+use Rattle.std.specs.Prelude.{◌≡◌, ◌++◌, ◌<◌, ◌^◌, ⊤, ℕ, Option, None, Some, true, map, List, [], ◌∷◌, codes, Ok}
 use Rattle.hex.specs.Hex.{IsBytes}
 use Rattle.lease_model.specs.records.Verdict.{Verdict, verdict}
 use Rattle.lease_model.specs.world.Allowed.{is_allowed_setup}
 use Rattle.lease_model.specs.world.Events.{Event, recorded}
 use Rattle.lease_model.specs.world.World.{Setup}
-use Rattle.lease_facts.specs.Facts.{fact_of}
+use Rattle.lease_state.specs.declared.number.ClientNo.{ClientNo}
+use Rattle.lease_facts.specs.Facts.{client_of, fact_of}
 use Rattle.lease_facts.specs.declared.fact.Fact.{Fact}
 use Rattle.lease_facts.specs.declared.fact.Fact.TheVariants as fact
 use Rattle.lease_texts.specs.Records.{record_text, record_in}
 use Rattle.text_laws.specs.Told.{Each, IsPatch}
 
+abbrev pub IsTypedClient : Option ClientNo → Type 0
+IsTypedClient None = ⊤
+IsTypedClient (Some client) = client.0 < 256
+
 -- What the types of a fact's parts give: clients and files are numbers of 8 bits, numbers of writes have 64, offsets 32, bytes 8.
 abbrev pub IsTyped : Fact → Type 0
 IsTyped (fact.Start file bytes) = (file.0 < 256) × IsBytes bytes
-IsTyped (fact.Joined client) = client.0 < 256
-IsTyped (fact.Dropped client) = client.0 < 256
 IsTyped (fact.Expired client file) = (client.0 < 256) × (file.0 < 256)
-IsTyped (fact.Sent client) = client.0 < 256
-IsTyped (fact.Took client) = client.0 < 256
 IsTyped (fact.Opened file client) = (file.0 < 256) × (client.0 < 256)
 IsTyped (fact.Changed file client number patch) = (file.0 < 256) × (client.0 < 256) × (number < 2 ^ 64) × IsPatch patch
 IsTyped (fact.Wrote client file number patch buffered) = (client.0 < 256) × (file.0 < 256) × (number < 2 ^ 64) × IsPatch patch
 IsTyped (fact.Settled client number outcome) = (client.0 < 256) × (number < 2 ^ 64)
 IsTyped (fact.Believes client file state) = (client.0 < 256) × (file.0 < 256)
 IsTyped (fact.CachedRead client file bytes) = (client.0 < 256) × (file.0 < 256) × IsBytes bytes
-IsTyped (fact.Strayed client) = client.0 < 256
+IsTyped other = IsTypedClient (client_of other)
 
 -- These facts are the record of the run of this setup by these events.
 pub record AreOfRun (setup : Setup) (events : List Event) (facts : List Fact) : Type 0 where

@@ -6,6 +6,7 @@ use Rattle.lease_client.specs.declared.command.Command.TheVariants as command
 use Rattle.lease_state.specs.declared.content.TheConstants.{FILE_LIMIT}
 use Rattle.lease_state.specs.declared.request.Request.{Request}
 use Rattle.lease_state.specs.declared.request.Request.TheVariants as request
+use Rattle.lease_facts.specs.Setups.{event_client}
 use Rattle.lease_facts.specs.declared.setup.Event.{Event}
 use Rattle.lease_facts.specs.declared.setup.Event.TheVariants as event
 use Rattle.lease_texts.specs.Schedules.{Draft, schedule_text, schedule_in}
@@ -31,14 +32,10 @@ CanBeGiven (command.Flush file) = IsOrdinal file.0
 -- the same of an event, whose client is numbered from 1 to 255
 abbrev pub CanHappen : Event → Type 0
 CanHappen (event.App client given) = IsOrdinal client.0 × CanBeGiven given
-CanHappen (event.ServerTakes client) = IsOrdinal client.0
-CanHappen (event.ClientTakes client) = IsOrdinal client.0
-CanHappen (event.Cut client) = IsOrdinal client.0
-CanHappen (event.Notice client) = IsOrdinal client.0
-CanHappen (event.Connect client) = IsOrdinal client.0
 CanHappen (event.Expire client file) = IsOrdinal client.0 × IsOrdinal file.0
 CanHappen (event.Scavenge client file) = IsOrdinal client.0 × IsOrdinal file.0
 CanHappen (event.Raw client asked) = IsOrdinal client.0 × CanBeSent asked
+CanHappen other = IsOrdinal (event_client other).0
 
 -- the first bytes of a file
 abbrev pub IsFile : List ℕ → Type 0

@@ -1,9 +1,11 @@
 -- Facts that a text can state, and that it is read back as them.
-use Rattle.std.specs.Prelude.{◌≡◌, ◌++◌, ◌≤◌, ◌<◌, ◌^◌, ⊤, ℕ, false, List, [], ◌∷◌, ◌+◌, length, Some, Ok}
+use Rattle.std.specs.Prelude.{◌≡◌, ◌++◌, ◌≤◌, ◌<◌, ◌^◌, ⊤, ℕ, false, List, [], ◌∷◌, ◌+◌, length, Option, None, Some, Ok}
 use Rattle.hex.specs.Hex.{IsBytes}
 use Rattle.lease_state.specs.State.{state_of, bits_of_state}
 use Rattle.lease_state.specs.declared.content.TheConstants.{FILE_LIMIT}
+use Rattle.lease_state.specs.declared.number.ClientNo.{ClientNo}
 use Rattle.lease_state.specs.declared.patch.Patch.{Patch}
+use Rattle.lease_facts.specs.Facts.{client_of}
 use Rattle.lease_facts.specs.declared.fact.Fact.{Fact}
 use Rattle.lease_facts.specs.declared.fact.Fact.TheVariants as fact
 use Rattle.lease_texts.specs.Pieces.{lines_of}
@@ -21,14 +23,15 @@ IsNumber number = number < 2 ^ 64
 abbrev pub IsPatch : Patch → Type 0
 IsPatch patch = (patch.offset < 2 ^ 32) × IsBytes patch.bytes
 
+-- the number of the client, if there is one
+abbrev pub IsOrdinalClient : Option ClientNo → Type 0
+IsOrdinalClient None = ⊤
+IsOrdinalClient (Some client) = IsOrdinal client.0
+
 -- The fact can be told, but for its state.
 abbrev pub CanBeNamed : Fact → Type 0
 CanBeNamed (fact.Start file bytes) = IsOrdinal file.0 × IsBytes bytes × (length bytes ≤ FILE_LIMIT)
-CanBeNamed (fact.Joined client) = IsOrdinal client.0
-CanBeNamed (fact.Dropped client) = IsOrdinal client.0
 CanBeNamed (fact.Expired client file) = IsOrdinal client.0 × IsOrdinal file.0
-CanBeNamed (fact.Sent client) = IsOrdinal client.0
-CanBeNamed (fact.Took client) = IsOrdinal client.0
 CanBeNamed (fact.Opened file client) = IsOrdinal file.0 × IsOrdinal client.0
 CanBeNamed (fact.Changed file client number patch) =
     IsOrdinal file.0 × IsOrdinal client.0 × IsNumber number × IsPatch patch
@@ -37,7 +40,7 @@ CanBeNamed (fact.Wrote client file number patch buffered) =
 CanBeNamed (fact.Settled client number outcome) = IsOrdinal client.0 × IsNumber number
 CanBeNamed (fact.Believes client file state) = IsOrdinal client.0 × IsOrdinal file.0
 CanBeNamed (fact.CachedRead client file bytes) = IsOrdinal client.0 × IsOrdinal file.0 × IsBytes bytes
-CanBeNamed (fact.Strayed client) = IsOrdinal client.0
+CanBeNamed other = IsOrdinalClient (client_of other)
 
 -- a state has no bits but those with a letter
 abbrev pub IsLettered : Fact → Type 0

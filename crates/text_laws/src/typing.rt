@@ -1,6 +1,6 @@
 ghost use Rattle.hex.specs.Hex.{IsBytes};
 ghost use Rattle.std.specs.Prelude.{◌<◌, ◌^◌};
-ghost use Rattle.text_laws.specs.Runs.{IsTyped};
+ghost use Rattle.text_laws.specs.Runs.{IsTyped, IsTypedClient};
 ghost use Rattle.text_laws.specs.Told.{Each, IsPatch};
 
 use lease_state::{Bytes, ClientNo, FileNo, Patch};
@@ -27,6 +27,14 @@ fn client_is_typed(client: ClientNo)
     ensures { client.0 < 256 }
 {}
 
+fn any_client_is_typed(client: Option<ClientNo>)
+    ensures { IsTypedClient client }
+{
+    if let Some(client) = client {
+        client_is_typed(client);
+    }
+}
+
 fn file_is_typed(file: FileNo)
     ensures { file.0 < 256 }
 {}
@@ -43,11 +51,6 @@ fn fact_is_typed(fact: &Fact)
             file_is_typed(*file);
             bytes_are_typed(bytes);
         }
-        Fact::Joined(client) => client_is_typed(*client),
-        Fact::Dropped(client) => client_is_typed(*client),
-        Fact::Sent(client) => client_is_typed(*client),
-        Fact::Took(client) => client_is_typed(*client),
-        Fact::Strayed(client) => client_is_typed(*client),
         Fact::Expired(client, file) => {
             client_is_typed(*client);
             file_is_typed(*file);
@@ -81,6 +84,7 @@ fn fact_is_typed(fact: &Fact)
             file_is_typed(*file);
             are_bytes(bytes.as_slice());
         }
+        _ => any_client_is_typed(fact.client()),
     }
 }
 

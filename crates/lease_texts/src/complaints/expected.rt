@@ -1,5 +1,6 @@
 ghost use Rattle.std.specs.Prelude.{◌≡◌};
 
+use lease_facts::{ClientEvent, FactKind};
 use std::fmt;
 
 /// What a field of a line is to hold.
@@ -34,16 +35,14 @@ pub enum Expected {
 }
 
 impl Expected {
-    ghost use Rattle.lease_texts.specs.Complaints.{expected_words};
+    ghost use Rattle.lease_texts.specs.Complaints.{expected_begin, expected_list};
 
-    fn words(self) -> &'static str
-        ensures { result.now ≡ expected_words self }
+    fn begin(self) -> &'static str
+        ensures { result.now ≡ expected_begin self }
     {
         match self {
-            Expected::FactKind =>
-                "a kind of fact, which is start, joined, dropped, expired, sent, took, opened, changed, wrote, settled, believes, cachedread or strayed",
-            Expected::PartKind =>
-                "a kind of line, which is file, client, open, close, read, flush, write, serve, take, cut, notice, connect, expire, scavenge or raw",
+            Expected::FactKind => "a kind of fact, which is ",
+            Expected::PartKind => "a kind of line, which is ",
             Expected::Request => "a request, which is create, read, close, write or ack",
             Expected::Client => "a client, which is a number from 1 to 255 without leading zeros",
             Expected::File => "a file, which is a number from 1 to 255 without leading zeros",
@@ -66,6 +65,17 @@ impl Expected {
             Expected::End => "the line's end",
         }
     }
+
+    // The words of the kinds that are expected, where a kind is.
+    fn list(self) -> &'static str
+        ensures { result.now ≡ expected_list self }
+    {
+        match self {
+            Expected::FactKind => FactKind::listed(),
+            Expected::PartKind => ClientEvent::listed(),
+            _ => "",
+        }
+    }
 }
 
 impl fmt::Display for Expected {
@@ -75,6 +85,7 @@ impl fmt::Display for Expected {
     ghost output = { λ expected. Some (expected_words expected) };
 
     fn fmt<W: fmt::Write>(&self, f: &mut fmt::Formatter<W>) -> fmt::Result {
-        f.write_str(self.words())
+        f.write_str(self.begin())?;
+        f.write_str(self.list())
     }
 }

@@ -7,9 +7,10 @@ ghost use Rattle.lease_texts.specs.Complaining.{complaint_of};
 
 use crate::complaints::Expected;
 use crate::fault::LineFault;
-use crate::fields::{Fields, access_named, bytes_of, is, number, share_named, state_named};
+use crate::fields::{Fields, access_named, bytes_of, number, share_named, state_named};
 use crate::records::{outcome_named, way_named};
 use crate::schedules::{guid_of, message_of};
+use lease_facts::{ClientEvent, ClientFact, is};
 use lease_state::FILE_LIMIT;
 use std::alloc::Global;
 
@@ -27,16 +28,12 @@ pub struct Complaint<'a> {
 
 // ---- the table
 
-// The fields after the word for a kind of fact.
+// The fields after the word for a kind of fact of more than a client.
 #[tactic(auto, unfolding(crate::specs::Complaints::fields_behind))]
-fn fact_fields(word: &[u8]) -> Option<&'static [Expected]>
+fn other_fact_fields(word: &[u8]) -> Option<&'static [Expected]>
     ensures { option_map (λ fields. fields.now) result ≡ complaints.fields_behind complaints.fact_rows word.now }
 {
-    if is(word, b"sent") {
-        Some(&[Expected::Client])
-    } else if is(word, b"took") {
-        Some(&[Expected::Client])
-    } else if is(word, b"changed") {
+    if is(word, b"changed") {
         Some(&[
             Expected::File,
             Expected::Client,
@@ -61,14 +58,8 @@ fn fact_fields(word: &[u8]) -> Option<&'static [Expected]>
         Some(&[Expected::File, Expected::Client])
     } else if is(word, b"cachedread") {
         Some(&[Expected::Client, Expected::File, Expected::Bytes])
-    } else if is(word, b"joined") {
-        Some(&[Expected::Client])
-    } else if is(word, b"dropped") {
-        Some(&[Expected::Client])
     } else if is(word, b"expired") {
         Some(&[Expected::Client, Expected::File])
-    } else if is(word, b"strayed") {
-        Some(&[Expected::Client])
     } else if is(word, b"start") {
         Some(&[Expected::File, Expected::Content])
     } else {
@@ -76,19 +67,25 @@ fn fact_fields(word: &[u8]) -> Option<&'static [Expected]>
     }
 }
 
-// The same for a kind of line of a schedule.
+// The fields after the word for a kind of fact.
+fn fact_fields(word: &[u8]) -> Option<&'static [Expected]>
+    ensures { option_map (λ fields. fields.now) result ≡ complaints.fact_fields word.now }
+{
+    match ClientFact::named(word) {
+        Some(_) => Some(&[Expected::Client]),
+        None => other_fact_fields(word),
+    }
+}
+
+// The same for a kind of line of a schedule, but for events of a client alone.
 #[tactic(auto, unfolding(crate::specs::Complaints::fields_behind))]
-fn part_fields(word: &[u8]) -> Option<&'static [Expected]>
+fn other_part_fields(word: &[u8]) -> Option<&'static [Expected]>
     ensures { option_map (λ fields. fields.now) result ≡ complaints.fields_behind complaints.part_rows word.now }
 {
     if is(word, b"file") {
         Some(&[Expected::Content])
     } else if is(word, b"client") {
         Some(&[Expected::Guid])
-    } else if is(word, b"serve") {
-        Some(&[Expected::Client])
-    } else if is(word, b"take") {
-        Some(&[Expected::Client])
     } else if is(word, b"write") {
         Some(&[
             Expected::Client,
@@ -111,12 +108,6 @@ fn part_fields(word: &[u8]) -> Option<&'static [Expected]>
         Some(&[Expected::Client, Expected::File])
     } else if is(word, b"flush") {
         Some(&[Expected::Client, Expected::File])
-    } else if is(word, b"cut") {
-        Some(&[Expected::Client])
-    } else if is(word, b"notice") {
-        Some(&[Expected::Client])
-    } else if is(word, b"connect") {
-        Some(&[Expected::Client])
     } else if is(word, b"expire") {
         Some(&[Expected::Client, Expected::File])
     } else if is(word, b"scavenge") {
@@ -125,6 +116,16 @@ fn part_fields(word: &[u8]) -> Option<&'static [Expected]>
         Some(&[Expected::Client, Expected::Request])
     } else {
         None
+    }
+}
+
+// The same for a kind of line of a schedule.
+fn part_fields(word: &[u8]) -> Option<&'static [Expected]>
+    ensures { option_map (λ fields. fields.now) result ≡ complaints.part_fields word.now }
+{
+    match ClientEvent::named(word) {
+        Some(_) => Some(&[Expected::Client]),
+        None => other_part_fields(word),
     }
 }
 

@@ -1,12 +1,12 @@
 ghost use Rattle.std.specs.Prelude.{◌≡◌, Some, None, MatchResult};
 ghost use Rattle.lease_texts.specs.Fields.{one};
 ghost use Rattle.lease_texts.specs.Takes.{Takes};
-ghost use Rattle.lease_texts.specs.Records.{way_in, outcome_in, start_in, changed_in, wrote_in, settled_in, believes_in, read_in, fact_named, fact_told, fact_in};
+ghost use Rattle.lease_texts.specs.Records.{way_in, outcome_in, start_in, changed_in, wrote_in, settled_in, believes_in, read_in, other_named, fact_named, fact_told, fact_in};
 
 use crate::fault::LineFault;
-use crate::fields::{Fields, is, read_patch};
+use crate::fields::{Fields, read_patch};
 use lease_client::{Settlement, SharedBytes};
-use lease_facts::Fact;
+use lease_facts::{ClientFact, Fact, is};
 use std::alloc::Global;
 
 // The last word of a write.
@@ -109,47 +109,48 @@ fn read_cached_read(alloc: Global, fields: &mut Fields) -> Result<Fact, LineFaul
     Ok(Fact::CachedRead(client, file, bytes))
 }
 
-// The fact of a kind, by the fields after the one that names it.
-#[tactic(auto, unfolding(crate::specs::Records::fact_named))]
-fn read_named(alloc: Global, kind: &[u8], fields: &mut Fields) -> Result<Fact, LineFault>
-    ensures { Takes (λ fact. fact) (fact_named kind.now) fields.old fields.new result }
+// A fact of more than a client, by its word and the fields after it.
+#[tactic(auto, unfolding(crate::specs::Records::other_named))]
+fn read_other(alloc: Global, word: &[u8], fields: &mut Fields) -> Result<Fact, LineFault>
+    ensures { Takes (λ fact. fact) (other_named word.now) fields.old fields.new result }
 {
-    if is(kind, b"sent") {
-        Ok(Fact::Sent(fields.client()?))
-    } else if is(kind, b"took") {
-        Ok(Fact::Took(fields.client()?))
-    } else if is(kind, b"changed") {
+    if is(word, b"changed") {
         read_changed(alloc, fields)
-    } else if is(kind, b"wrote") {
+    } else if is(word, b"wrote") {
         read_wrote(alloc, fields)
-    } else if is(kind, b"settled") {
+    } else if is(word, b"settled") {
         read_settled(fields)
-    } else if is(kind, b"believes") {
+    } else if is(word, b"believes") {
         read_believes(fields)
-    } else if is(kind, b"opened") {
+    } else if is(word, b"opened") {
         Ok(Fact::Opened(fields.file()?, fields.client()?))
-    } else if is(kind, b"cachedread") {
+    } else if is(word, b"cachedread") {
         read_cached_read(alloc, fields)
-    } else if is(kind, b"joined") {
-        Ok(Fact::Joined(fields.client()?))
-    } else if is(kind, b"dropped") {
-        Ok(Fact::Dropped(fields.client()?))
-    } else if is(kind, b"expired") {
+    } else if is(word, b"expired") {
         Ok(Fact::Expired(fields.client()?, fields.file()?))
-    } else if is(kind, b"strayed") {
-        Ok(Fact::Strayed(fields.client()?))
-    } else if is(kind, b"start") {
+    } else if is(word, b"start") {
         read_start(alloc, fields)
     } else {
         Err(LineFault::Refused)
     }
 }
 
+// The fact of a kind, by its word and the fields after it.
+#[tactic(auto, unfolding(crate::specs::Records::fact_named))]
+fn read_named(alloc: Global, word: &[u8], fields: &mut Fields) -> Result<Fact, LineFault>
+    ensures { Takes (λ fact. fact) (fact_named word.now) fields.old fields.new result }
+{
+    match ClientFact::named(word) {
+        Some(told) => Ok(told.of(fields.client()?)),
+        None => read_other(alloc, word, fields),
+    }
+}
+
 fn read_fields(alloc: Global, fields: &mut Fields) -> Result<Fact, LineFault>
     ensures { Takes (λ fact. fact) fact_told fields.old fields.new result }
 {
-    let kind = fields.next()?;
-    read_named(alloc, kind, fields)
+    let word = fields.next()?;
+    read_named(alloc, word, fields)
 }
 
 /// The fact that a line of a record is.

@@ -2,11 +2,11 @@ ghost use Rattle.std.specs.Prelude.{◌≡◌, ◌<◌, ◌+◌, ◌++◌, ◌�
 ghost use Rattle.std.specs.Fmt.{decimal};
 ghost use Rattle.std.specs.String.{string_bytes};
 ghost use Rattle.lease_facts.specs.declared.fact.Fact.TheVariants as fact;
-ghost use Rattle.lease_texts.specs.Records.{digits_word, outcome_word, patch_words, pair_words, read_words, fact_line};
+ghost use Rattle.lease_texts.specs.Records.{digits_word, outcome_word, patch_words, pair_words, read_words, client_line, fact_line};
 
 use crate::words::state_letters;
 use lease_client::{Settlement, SharedBytes};
-use lease_facts::Fact;
+use lease_facts::{Fact, FactKind};
 use lease_state::{ClientNo, FileNo, LeaseState, Patch};
 use std::alloc::{AllocError, Global};
 
@@ -55,14 +55,6 @@ fn push_next(text: &mut String, number: u64) -> Result<(), AllocError>
 {
     text.push_str(" ")?;
     push_number(text, number)
-}
-
-// A line of a word and a number.
-fn push_one(text: &mut String, word: &str, number: u8) -> Result<(), AllocError>
-    ensures { OnOk result (string_bytes text.new ≡ string_bytes text.old ++ (word.now ++ decimal number ++ 10 ∷ [])) }
-{
-    push_first(text, word, u64::from(number))?;
-    text.push_str("\n")
 }
 
 // A line of a word and two numbers.
@@ -207,6 +199,22 @@ fn push_believed(
     text.push_str("\n")
 }
 
+// The line of a fact that says no more than which client it is about.
+fn push_client(
+    text: &mut String,
+    kind: FactKind,
+    client: Option<ClientNo>,
+) -> Result<(), AllocError>
+    ensures { OnOk result (string_bytes text.new ≡ string_bytes text.old ++ client_line kind client) }
+{
+    let (FactKind::Client(told), Some(client)) = (kind, client) else {
+        return Ok(());
+    };
+    text.push_str(told.word())?;
+    push_next(text, u64::from(client.0))?;
+    text.push_str("\n")
+}
+
 /// Adds the line of a fact.
 pub fn push_fact(alloc: Global, text: &mut String, fact: &Fact) -> Result<(), AllocError>
     ensures { OnOk result (string_bytes text.new ≡ string_bytes text.old ++ fact_line fact.now) }
@@ -217,11 +225,7 @@ pub fn push_fact(alloc: Global, text: &mut String, fact: &Fact) -> Result<(), Al
             let file = file.0;
             writeln!(text, "start {file} {digits}")
         }
-        Fact::Joined(client) => push_one(text, "joined ", client.0),
-        Fact::Dropped(client) => push_one(text, "dropped ", client.0),
         Fact::Expired(client, file) => push_two(text, "expired ", client.0, file.0),
-        Fact::Sent(client) => push_one(text, "sent ", client.0),
-        Fact::Took(client) => push_one(text, "took ", client.0),
         Fact::Opened(file, client) => push_two(text, "opened ", file.0, client.0),
         Fact::Changed(file, client, number, patch) => {
             push_changed(alloc, text, *file, *client, *number, patch)
@@ -234,6 +238,6 @@ pub fn push_fact(alloc: Global, text: &mut String, fact: &Fact) -> Result<(), Al
         Fact::CachedRead(client, file, bytes) => {
             push_cached_read(alloc, text, *client, *file, bytes)
         }
-        Fact::Strayed(client) => push_one(text, "strayed ", client.0),
+        _ => push_client(text, fact.kind(), fact.client()),
     }
 }

@@ -1,13 +1,13 @@
 ghost use Rattle.std.specs.Prelude.{◌≡◌, Some, None, MatchResult};
 ghost use Rattle.lease_texts.specs.Fields.{one};
 ghost use Rattle.lease_texts.specs.Takes.{Takes};
-ghost use Rattle.lease_texts.specs.Schedules.{durable_in, open_in, write_in, create_in, raw_write_in, message_in, request_named, request_in, event_of, event_named};
+ghost use Rattle.lease_texts.specs.Schedules.{durable_in, open_in, write_in, create_in, raw_write_in, message_in, request_named, request_in, other_of, event_of, event_named};
 
 use crate::fault::LineFault;
-use crate::fields::{Fields, is, read_patch};
+use crate::fields::{Fields, read_patch};
 use hex::FromHex;
 use lease_client::Command;
-use lease_facts::Event;
+use lease_facts::{ClientEvent, Event, is};
 use lease_state::{ClientNo, FileId, Request};
 use std::alloc::Global;
 
@@ -121,22 +121,18 @@ pub fn read_request(alloc: Global, fields: &mut Fields) -> Result<Request, LineF
     read_request_of(alloc, kind, fields)
 }
 
-// The event of a client, by the fields after those that name it and the client.
-#[tactic(auto, unfolding(crate::specs::Schedules::event_of))]
+// An event of more than a client, by the fields after those that name it and the client.
+#[tactic(auto, unfolding(crate::specs::Schedules::other_of))]
 #[inline(always)]
-fn read_event_of(
+fn read_other(
     alloc: Global,
     kind: &[u8],
     client: ClientNo,
     fields: &mut Fields,
 ) -> Result<Event, LineFault>
-    ensures { Takes (λ event. event) (event_of kind.now client.0) fields.old fields.new result }
+    ensures { Takes (λ event. event) (other_of kind.now client.0) fields.old fields.new result }
 {
-    if is(kind, b"serve") {
-        Ok(Event::ServerTakes(client))
-    } else if is(kind, b"take") {
-        Ok(Event::ClientTakes(client))
-    } else if is(kind, b"write") {
+    if is(kind, b"write") {
         Ok(Event::App(client, read_write(alloc, fields)?))
     } else if is(kind, b"read") {
         let file = fields.file()?;
@@ -149,12 +145,6 @@ fn read_event_of(
     } else if is(kind, b"flush") {
         let file = fields.file()?;
         Ok(Event::App(client, Command::Flush { file }))
-    } else if is(kind, b"cut") {
-        Ok(Event::Cut(client))
-    } else if is(kind, b"notice") {
-        Ok(Event::Notice(client))
-    } else if is(kind, b"connect") {
-        Ok(Event::Connect(client))
     } else if is(kind, b"expire") {
         Ok(Event::Expire(client, fields.file()?))
     } else if is(kind, b"scavenge") {
@@ -163,6 +153,23 @@ fn read_event_of(
         Ok(Event::Raw(client, read_request(alloc, fields)?))
     } else {
         Err(LineFault::Refused)
+    }
+}
+
+// The event of a client, by the fields after those that name it and the client.
+#[tactic(auto, unfolding(crate::specs::Schedules::event_of))]
+#[inline(always)]
+fn read_event_of(
+    alloc: Global,
+    kind: &[u8],
+    client: ClientNo,
+    fields: &mut Fields,
+) -> Result<Event, LineFault>
+    ensures { Takes (λ event. event) (event_of kind.now client.0) fields.old fields.new result }
+{
+    match ClientEvent::named(kind) {
+        Some(happens) => Ok(happens.of(client)),
+        None => read_other(alloc, kind, client, fields),
     }
 }
 

@@ -7,10 +7,10 @@ ghost use Rattle.lease_texts.specs.Schedules.{part_named, part_told, part_in, wi
 ghost use Rattle.lease_texts.specs.Drafts.{part_of, draft_of, RefusesLine};
 
 use crate::fault::{LineFault, TextFault};
-use crate::fields::{Fields, is};
+use crate::fields::Fields;
 use crate::lines::{first_line, is_passed_over};
 use crate::schedules::events::read_event;
-use lease_facts::{Event, Setup};
+use lease_facts::{Event, Setup, is};
 use lease_state::Content;
 use std::alloc::Global;
 use uuid::Uuid;

@@ -5,12 +5,12 @@ ghost use Rattle.lease_client.specs.declared.command.Command.TheVariants as comm
 ghost use Rattle.lease_state.specs.declared.request.Request.TheVariants as request;
 ghost use Rattle.lease_facts.specs.declared.setup.Event.TheVariants as event;
 ghost use Rattle.lease_texts.specs.Records.{digits_word};
-ghost use Rattle.lease_texts.specs.Schedules.{access_word, share_word, terms_words, request_words, event_line, file_line, client_line, setup_lines};
+ghost use Rattle.lease_texts.specs.Schedules.{access_word, share_word, terms_words, request_words, client_event_line, event_line, file_line, client_line, setup_lines};
 
 use crate::records::{digits_of, push_patch};
 use crate::words::state_letters;
 use lease_client::Command;
-use lease_facts::{Event, Setup};
+use lease_facts::{ClientEvent, Event, Setup};
 use lease_state::{
     Access, Bytes, ClientNo, Content, FileId, FileNo, LeaseState, Patch, Request, Share,
 };
@@ -194,32 +194,27 @@ fn push_raw(
     text.push_str("\n")
 }
 
+// The line of an event that says no more than which client it is about.
+fn push_client_event(
+    text: &mut String,
+    happens: Option<ClientEvent>,
+    client: ClientNo,
+) -> Result<(), AllocError>
+    ensures { OnOk result (string_bytes text.new ≡ string_bytes text.old ++ client_event_line happens client.0) }
+{
+    let Some(happens) = happens else {
+        return Ok(());
+    };
+    let (word, client) = (happens.word(), client.0);
+    writeln!(text, "{word} {client}")
+}
+
 /// Adds the line of an event.
 pub fn push_event(alloc: Global, text: &mut String, happening: &Event) -> Result<(), AllocError>
     ensures { OnOk result (string_bytes text.new ≡ string_bytes text.old ++ event_line happening.now) }
 {
     match happening {
         Event::App(client, command) => push_command(alloc, text, *client, command),
-        Event::ServerTakes(client) => {
-            let client = client.0;
-            writeln!(text, "serve {client}")
-        }
-        Event::ClientTakes(client) => {
-            let client = client.0;
-            writeln!(text, "take {client}")
-        }
-        Event::Cut(client) => {
-            let client = client.0;
-            writeln!(text, "cut {client}")
-        }
-        Event::Notice(client) => {
-            let client = client.0;
-            writeln!(text, "notice {client}")
-        }
-        Event::Connect(client) => {
-            let client = client.0;
-            writeln!(text, "connect {client}")
-        }
         Event::Expire(client, file) => {
             let (client, file) = (client.0, file.0);
             writeln!(text, "expire {client} {file}")
@@ -229,6 +224,7 @@ pub fn push_event(alloc: Global, text: &mut String, happening: &Event) -> Result
             writeln!(text, "scavenge {client} {file}")
         }
         Event::Raw(client, asked) => push_raw(alloc, text, *client, asked),
+        _ => push_client_event(text, happening.client_event(), happening.client()),
     }
 }
 

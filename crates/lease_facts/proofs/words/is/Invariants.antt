@@ -1,6 +1,6 @@
 use Rattle.std.proofs.Common.{◌≡◌, drop}
 use Rattle.std.specs.Str.{bytes_eq}
-use Rattle.lease_texts.proofs.fields.is.Given as goal
+use Rattle.lease_facts.proofs.words.is.Given as goal
 
 -- what is left gives the whole
 abbrev pub invariant-loop-place : goal.invariant-loop-place
