@@ -219,7 +219,8 @@ impl World {
     // The link of a client is cut: nothing is on its way any more.
     fn cut_link(&mut self, client: ClientNo)
         requires { IsPresent client.0 self.old.seats }
-        ensures { CutsLink client.0 self.old self.new }
+        ensures becomes { CutsLink client.0 self.old self.new }
+        ensures count { length self.new.seats ≡ length self.old.seats }
     {
         let seat = &mut self.seats[place_of(client)];
         seat.cut();
@@ -272,7 +273,8 @@ impl World {
     // The connection of a client whose link is up is lost.
     fn cut(&mut self, client: ClientNo) -> Result<(), Memory>
         requires { IsPresent client.0 self.old.seats }
-        ensures { OnOk result (Applies (model.Event.Cut client.0) self.old self.new) }
+        ensures applies { OnOk result (Applies (model.Event.Cut client.0) self.old self.new) }
+        ensures count { OnOk result (length self.new.seats ≡ length self.old.seats) }
     {
         if !self.has_link(client, Link::Up) {
             return Ok(());

@@ -12,19 +12,17 @@ touches file _ = false
 
 -- the fact is about the client
 abbrev pub concerns : ℕ → Fact → Bool
-concerns client (Fact.Start file bytes) = false
 concerns client (Fact.Joined other) = other == client
 concerns client (Fact.Dropped other) = other == client
 concerns client (Fact.Expired other file) = other == client
 concerns client (Fact.Sent other) = other == client
 concerns client (Fact.Took other) = other == client
-concerns client (Fact.Opened file other) = false
 concerns client (Fact.Changed file other number patch) = other == client
 concerns client (Fact.Wrote other file number patch buffered) = other == client
 concerns client (Fact.Settled other number outcome) = other == client
 concerns client (Fact.Believes other file state) = other == client
-concerns client (Fact.CachedRead other file bytes) = false
 concerns client (Fact.Strayed other) = other == client
+concerns client _ = false
 
 -- ---- files
 

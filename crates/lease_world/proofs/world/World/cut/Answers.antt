@@ -6,16 +6,16 @@ use Rattle.lease_world.proofs.worlds.Called.{served_by}
 use Rattle.lease_world.proofs.worlds.Events.{cut_one, cut_nothing}
 use Rattle.lease_world.proofs.world.World.cut.Goals as goal
 
-pub returns-then-not-has_link : goal.returns-then-not-has_link
-returns-then-not-has_link c =
+pub returns-then-not-has_link-clause-applies : goal.returns-then-not-has_link-clause-applies
+returns-then-not-has_link-clause-applies c =
     cut_nothing c.args.self.now c.args.client.0 c.requires (sym c.has_link.ensures ∙ c.if-not-has_link.true)
 
-pub returns : goal.returns
-returns c =
+pub returns-clause-applies : goal.returns-clause-applies
+returns-clause-applies c =
     let call : Call = Call.Cut c.args.client.0 in
     on_ok_weaker c.deliver.result (λ delivers.
     cut_one c.args.self.now c.cut_link.new.self c.tell.new.self c.deliver.new.self c.args.client.0 c.requires
-    (sym c.has_link.ensures ∙ c.if-not-has_link.false) c.cut_link.ensures c.in_ok-tell.ensures.becomes
+    (sym c.has_link.ensures ∙ c.if-not-has_link.false) c.cut_link.ensures.becomes c.in_ok-tell.ensures.becomes
     (subst (λ (w : Seen). Serves call w c.deliver.new.self) c.self.view_is
     (served_by (the_view c.self.inside) c.deliver.new.self call c.cut_in_place.new.self c.cut_in_place.new.outs.items
     c.in_ok-cut_in_place.ensures.after delivers))) c.deliver.ensures

@@ -7,8 +7,8 @@ use Rattle.lease_world.proofs.worlds.Happening.{cut_stands}
 use Rattle.lease_world.proofs.worlds.Seats.{seat_changed}
 use Rattle.lease_world.proofs.world.World.cut_link.Goals as goal
 
-pub returns : goal.returns
-returns c =
+pub returns-clause-becomes : goal.returns-clause-becomes
+returns-clause-becomes c =
     let old : Seen = the_view c.self.inside in
     let there : IsPresent c.args.client.0 old.seats =
     subst (λ (w : Seen). IsPresent c.args.client.0 w.seats) (sym c.self.view_is) c.requires in

@@ -31,7 +31,7 @@ pub returns-in-Cut : goal.returns-in-Cut
 returns-in-Cut c =
     let same = rw c.in-Cut.is at c.client-client.ensures.number in
     rw c.in-Cut.is (told_happens c.cut.result c.args.self.now c.cut.new.self c.client-client.result.0
-    c.in-Cut.field-0.0 Event.Cut same same (sym c.has.ensures.value ∙ c.if-not-has.false) c.cut.ensures)
+    c.in-Cut.field-0.0 Event.Cut same same (sym c.has.ensures.value ∙ c.if-not-has.false) c.cut.ensures.applies)
 
 pub returns-in-Notice : goal.returns-in-Notice
 returns-in-Notice c =
