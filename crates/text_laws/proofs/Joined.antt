@@ -87,7 +87,7 @@ unfolding is_joined
 told_joined client x2 past is = grind arith
 
 joined_moves : IsMoved (Both Ground IsWell) HasJoined
-unfolding is_joined requests_sent
+unfolding is_joined
 joined_moves world (Move.Told client fact) is v h = (told_joined client fact world.past is, h)
 joined_moves world (Move.Step step) next v h = step_deed world HasJoined (deeds_joined world v h) step next
 joined_moves world (Move.Cut client) up v h = (refl, h)

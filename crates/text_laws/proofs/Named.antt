@@ -27,7 +27,7 @@ IsNamed world = list_all is_named world.past ≡ true
 -- ---- what the server gives out, and what a client notes
 
 delivered_named : (world : World) (out : Out) → IsNamed world → IsNamed (delivered world out)
-unfolding delivered is_named
+unfolding is_named
 delivered_named world x2 n = grind arith
 
 all_delivered_named : (world : World) (outs : List Out) → IsNamed world → IsNamed (all_delivered world outs)
@@ -36,7 +36,6 @@ all_delivered_named world [] n = n
 all_delivered_named world (out ∷ outs) n = all_delivered_named (delivered world out) outs (delivered_named world out n)
 
 served_named : (world : World) (progress : Progress) → IsNamed world → IsNamed (served world progress)
-unfolding served
 served_named world progress n = all_delivered_named (record world { server = progress.server }) progress.outs n
 
 noted_named : (world : World) (client : ℕ) (notes : List Note) → nat_le 1 client ≡ true → IsNamed world
@@ -55,7 +54,6 @@ noted_named world client (Note.CachedRead file bytes ∷ notes) some n =
 
 stepped_named : (world : World) (client : ℕ) (step : Step) → nat_le 1 client ≡ true → IsNamed world
     → IsNamed (stepped_in world client step)
-unfolding stepped_in requests_sent
 stepped_named world client step some n = noted_named
     (requests_sent (record world { clients = put world.clients client step.client }) client step.requests) client step.notes
     some n
@@ -67,7 +65,7 @@ unfolding is_named
 told_named client x2 some is = grind arith
 
 named_forms : HasForms (Keeps IsNamed)
-unfolding is_named requests_sent
+unfolding is_named
 named_forms = record {
   told = λ world client fact some is n. and_both _ _ (told_named client fact some is) n;
   command = λ world client command some n. stepped_named world client _ some n;

@@ -3,7 +3,7 @@ use Rattle.lease_laws.proofs.Words.{◌++◌, ◌+◌, ◌==◌, ◌∙◌, ◌�
 use Rattle.lease_laws.proofs.Words.{Step, World, ℕ, ⊎_elim, [], after, ap, arith, commanded, connected_again}
 use Rattle.lease_laws.proofs.Words.{connected_open, connection_made, disconnected, false, first_world, has_key, is_left_behind}
 use Rattle.lease_laws.proofs.Words.{is_lost, lease_after, machine_key, map, new_open, not, noticed}
-use Rattle.lease_laws.proofs.Words.{refl, requests_sent, stepped_in, subst, sym, taken, true}
+use Rattle.lease_laws.proofs.Words.{refl, stepped_in, subst, sym, taken, true}
 use Rattle.lease_laws.proofs.Words.{with_opens, without}
 use Rattle.lease_laws.proofs.server.Lists.{if_cases, among_append, among_filter, among_map}
 use Rattle.lease_laws.proofs.world.FileIds.{run_counted}
@@ -97,7 +97,6 @@ stepped_gone : (id : ℕ) (world : World) (c : ℕ) (step : Step) → IsGone id 
 stepped_gone id world c step g = subst (IsGoneFrom id) (sym (stepped_server world c step)) g
 
 gone_moves : (id : ℕ) → IsMoved HasLeases (IsGone id)
-unfolding requests_sent
 gone_moves id world (Move.Told c fact) is v g = g
 gone_moves id world (Move.Step step) next v g = step_deed world (IsGone id) (deeds_gone id world g) step next
 gone_moves id world (Move.Cut c) up v g = let left = fewer_gone id world.server (is_lost world.server c) g in

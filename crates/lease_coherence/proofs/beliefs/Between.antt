@@ -5,7 +5,7 @@ use Rattle.lease_laws.proofs.Words.{Fact, IsSoundClient, IsSoundPhase, Link, Lis
 use Rattle.lease_laws.proofs.Words.{Setup, State, World, ℕ, ⊎_elim, ⊤, [], after, ap, arith, belief, belief_in, believed}
 use Rattle.lease_laws.proofs.Words.{client_called, cut, eq-eqb, eqb-true, expire, fact_of, false, first_world, happened}
 use Rattle.lease_laws.proofs.Words.{has_strayed, if◌then◌else◌, inl, inr, is_down, is_good, is_served, is_start, join, list_all}
-use Rattle.lease_laws.proofs.Words.{machine_key, not, nothing_cached, put, receive, refl, requests_sent, reverse, reverse-reverse}
+use Rattle.lease_laws.proofs.Words.{machine_key, not, nothing_cached, put, receive, refl, reverse, reverse-reverse}
 use Rattle.lease_laws.proofs.Words.{scavenge, served, starts_from, stepped_in, subst, sym, true, true≢false}
 use Rattle.lease_laws.proofs.client.Thin.{put_same}
 use Rattle.lease_laws.proofs.records.Runs.{all_starts, all_reversed}
@@ -94,7 +94,6 @@ told_always past (out ∷ outs) a =
     told_always (fact_told out ∷ past) outs (neutral_always (fact_told out) past (told_neutral out) a)
 
 served_always : (world : World) (progress : Progress) → Always world.past → Always (served world progress).past
-unfolding served
 served_always world progress a = subst Always (sym (all_delivered_past (record world { server = progress.server }) progress.outs))
     (told_always world.past progress.outs a)
 
@@ -310,7 +309,6 @@ step_always world middle client call same r n a = stepped_always middle client c
     (cache_in (call_stepped middle client call) n) (agrees_in (call_stepped middle client call) n client)
 
 always_forms : HasForms (KeepsWhere IsReached AlwaysIn)
-unfolding requests_sent
 always_forms = record {
   told = λ world client fact some is r n a. neutral_always fact world.past (told_fact client fact is) a;
   command = λ world client command some r n a. step_always world world client (ClientCall.Commanded command) refl r n a;

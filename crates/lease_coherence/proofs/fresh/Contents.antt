@@ -1,8 +1,8 @@
 -- At every point of a run the contents of the server are those of the record.
 use Rattle.lease_laws.proofs.Words.{◌==◌, ◌∙◌, ◌∷◌, ◌≡◌, Fact, FileRequest, Link, List, Note, Patch, Server, Step, World, ℕ, []}
 use Rattle.lease_laws.proofs.Words.{ap, arith, content_of, eq-eqb, eqb-true, fact_of, if◌then◌else◌}
-use Rattle.lease_laws.proofs.Words.{lease_after, put, refl, requests_sent}
-use Rattle.lease_laws.proofs.Words.{stepped_in, subst, sym}
+use Rattle.lease_laws.proofs.Words.{lease_after, put, refl}
+use Rattle.lease_laws.proofs.Words.{commanded, connection_made, noticed, stepped_in, subst, sym, taken}
 use Rattle.lease_state.specs.Content.{patch as patched}
 use Rattle.lease_laws.proofs.client.Thin.{put_same, put_other}
 use Rattle.lease_laws.proofs.server.Lists.{either, clash}
@@ -78,14 +78,16 @@ unfolding content_of
 told_content client x2 past file is = grind arith
 
 pub contents_moves : IsMoved Ground HasContents
-unfolding requests_sent content_of
+unfolding content_of
 contents_moves world (Move.Told client fact) is g h = λ file. h file ∙ sym (told_content client fact world.past file is)
 contents_moves world (Move.Step step) next g h = step_deed world HasContents (deeds_contents world h) step next
 contents_moves world (Move.Expire client file) (on, breaks) g h = h
 contents_moves world (Move.Scavenge file_id) may g h = h
-contents_moves world (Move.Connect client) down g h = stepped_contents (come_back world client) client _ h
-contents_moves world (Move.Commanded client command) may g h = stepped_contents world client _ h
-contents_moves world (Move.Take client reply queue) first g h = stepped_contents (reply_gone world client queue) client _ h
+contents_moves world (Move.Connect client) down g h = stepped_contents (come_back world client) client (connection_made (world.clients client)) h
+contents_moves world (Move.Commanded client command) may g h =
+    stepped_contents world client (commanded (world.clients client) command) h
+contents_moves world (Move.Take client reply queue) first g h =
+    stepped_contents (reply_gone world client queue) client (taken (world.clients client) reply) h
 contents_moves world (Move.Notice client) cut g h =
-    stepped_contents (record world { links = put world.links client Link.Down }) client _ h
+    stepped_contents (record world { links = put world.links client Link.Down }) client (noticed (world.clients client)) h
 contents_moves world move up g h = h

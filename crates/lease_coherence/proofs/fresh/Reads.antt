@@ -4,7 +4,7 @@ use Rattle.lease_laws.proofs.Words.{IsSoundClient, Link, List, LiveEntry, Note, 
 use Rattle.lease_laws.proofs.Words.{[], after, ap, ap₂, arith, client_called, cut, expire, fact_of, false, first_world, happened}
 use Rattle.lease_laws.proofs.Words.{has_strayed, inl, inr, is_allowed_setup, is_good, is_served, is_start, join, last_of}
 use Rattle.lease_laws.proofs.Words.{last_sending, list_all, machine_key, not, patches, patches_of, put, receive, refl}
-use Rattle.lease_laws.proofs.Words.{requests_sent, reverse, reverse-reverse, scavenge, sendings, served, slice_get, starts_from}
+use Rattle.lease_laws.proofs.Words.{reverse, reverse-reverse, scavenge, sendings, served, slice_get, starts_from}
 use Rattle.lease_laws.proofs.Words.{stepped_in, subst, suc, sym, takings, true, unsent_in, view, zero}
 use Rattle.lease_laws.proofs.records.Content.{content_when_sent}
 use Rattle.lease_laws.proofs.records.Given.{Given, given_kept, first_given}
@@ -101,7 +101,6 @@ told_fresh past (Out.Changed file client number patch ∷ outs) a =
     told_fresh (Fact.Changed file client number patch ∷ past) outs (tt, a)
 
 served_fresh : (world : World) (progress : Progress) → AllFresh world.past → AllFresh (served world progress).past
-unfolding served
 served_fresh world progress a = subst AllFresh
     (sym (all_delivered_past (record world { server = progress.server }) progress.outs)) (told_fresh world.past progress.outs a)
 
@@ -156,7 +155,6 @@ sound_in : (world : World) → IsReached world → (c : ℕ) → IsSoundClient (
 sound_in world r = (ground_of world (r.0).1).clients
 
 fresh_forms : HasForms (KeepsWhere IsReached FreshIn)
-unfolding requests_sent
 fresh_forms = record {
   told = λ world client fact some is r n a. (told_one client fact world.past is, a);
   command = λ world client command some r n a. commanded_fresh world client _

@@ -2,7 +2,7 @@
 use Rattle.lease_laws.proofs.Words.{◌+◌, ◌∙◌, ◌∷◌, ◌≡◌, Among, EachFact, Event, Fact, FileRequest, Link, List, NoLateWrite, Note}
 use Rattle.lease_laws.proofs.Words.{Open, Patch, Request, Setup, Some, Step, World, ℕ, [], after, ap, arith, commanded}
 use Rattle.lease_laws.proofs.Words.{connected_open, connection_made, fact_of, false, first_world, has_strayed, is_allowed_setup}
-use Rattle.lease_laws.proofs.Words.{is_touched, noticed, put, refl, requests_sent, reverse-reverse, reverse_aux, starts_from}
+use Rattle.lease_laws.proofs.Words.{is_touched, noticed, put, refl, reverse-reverse, reverse_aux, starts_from}
 use Rattle.lease_laws.proofs.Words.{stepped_in, subst, sym, taken, true}
 use Rattle.lease_coherence.specs.Parts.{InRuns}
 use Rattle.lease_coherence.proofs.late.Runs.{ground_in}
@@ -86,7 +86,6 @@ told_none : (client : ℕ) (fact : Fact) (past : List Fact) → IsTold client fa
 told_none client x2 past is = grind arith
 
 none_moves : IsMoved HasRecord NoneLate
-unfolding requests_sent
 none_moves world (Move.Told client fact) is v l = (told_none client fact world.past is, l)
 none_moves world (Move.Step step) next v l = step_deed world NoneLate (deeds_none world v l) step next
 none_moves world (Move.Expire client file) (on, breaks) v l = (tt, l)

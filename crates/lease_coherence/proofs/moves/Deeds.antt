@@ -5,7 +5,7 @@ use Rattle.lease_laws.proofs.Words.{IsAwaitedAt, IsFree, IsInTurn, Key, Lease, L
 use Rattle.lease_laws.proofs.Words.{MayHold, MayLower, MayRefuse, None, Ok, Open, Option, Outcome, Patch}
 use Rattle.lease_laws.proofs.Words.{Reply, Request, Server, Share, SmallStep, Some, State, Status, World, ℕ, [], acknowledged}
 use Rattle.lease_laws.proofs.Words.{all_delivered, begun, break_notice}
-use Rattle.lease_laws.proofs.Words.{concluded, connected_again, connected_open, delivered, false, file_asked}
+use Rattle.lease_laws.proofs.Words.{concluded, connected_again, connected_open, false, file_asked}
 use Rattle.lease_laws.proofs.Words.{granted_form_of, has_file, has_lease, held_of, inl}
 use Rattle.lease_laws.proofs.Words.{inr, is_behind, is_left_open, is_state_within, key_of, lease_after, lease_given}
 use Rattle.lease_laws.proofs.Words.{lease_put, map, may_read, needs_acknowledgment, new_open}
@@ -198,7 +198,7 @@ of_found server client file_id may one has found = subst may (same has.one one (
 request_deed : (world off : World) (P : World → Type 0) → HasDeeds world P → (client : ℕ) (request : FileRequest)
     (outcome : Outcome) → IsSource world off client request → MayEnd off.server client request outcome
     → P (served off (concluded client request (begun off.server) outcome))
-unfolding served all_delivered delivered
+unfolding all_delivered
 request_deed world off P h client request outcome = any_end client (begun off.server)
     (λ request outcome after. IsSource world off client request → MayEnd off.server client request outcome → P (served off after))
     (record {
@@ -220,7 +220,7 @@ request_deed world off P h client request outcome = any_end client (begun off.se
 acknowledged_deed : (world : World) (P : World → Type 0) → HasDeeds world P → (client : ℕ) (given : Option LeaseOf)
     → IsOldest world client (Request.Acknowledge given) → world.server.present client ≡ true
     → P (served (popped world client) (acknowledged client given (begun world.server)))
-unfolding served all_delivered delivered
+unfolding all_delivered
 acknowledged_deed world P h client given oldest up = any_judgement client (begun world.server)
     (λ given after. IsOldest world client (Request.Acknowledge given) → P (served (popped world client) after)) (record {
       failed = λ given why oldest. h.ack_failed client given (ack_fault world.server client given) oldest up why;
@@ -230,7 +230,7 @@ acknowledged_deed world P h client given oldest up = any_judgement client (begun
 -- any step
 pub step_deed : (world : World) (P : World → Type 0) → HasDeeds world P → (step : SmallStep) → IsNext world step
     → P (moved world step)
-unfolding served all_delivered delivered
+unfolding all_delivered
 step_deed world P h (SmallStep.Answer client request outcome) next =
     request_deed world (popped world client) P h client request outcome (record {
       up = up_of outcome next.guarded;

@@ -139,7 +139,7 @@ carried_both V P v p world move may both = (v world move may both.0, p world mov
 -- nothing was given out
 nothing_given : (world : World) (progress : Progress) → progress.outs ≡ []
     → served world progress ≡ record world { server = progress.server }
-unfolding served all_delivered
+unfolding all_delivered
 nothing_given world progress e = ap (λ outs. all_delivered (record world { server = progress.server }) outs) e
 
 -- a call that takes no request
@@ -169,7 +169,7 @@ request_call : (V : World → Type 0) → IsCarried V → (world : World) (clien
     (queue : List Request) → IsFine world.server → WaitsWell world.server → world.server.present client ≡ true
     → world.requests client ≡ request ∷ queue → V world
     → V (served (record world { requests = put world.requests client queue }) (receive world.server client request))
-unfolding served all_delivered
+unfolding all_delivered
 request_call V k world client request queue f w up first v =
     let call = Call.Receive client request in
     let go = called-steps world.server call f.sound w in
@@ -216,7 +216,7 @@ cut_moves V k world client g w up v =
 connect_moves : (V : World → Type 0) → IsCarried V → (world : World) (client : ℕ) → Ground world
     → world.links client ≡ Link.Down → V world → V (stepped_in (call_served (link_made world client) (Call.Join client)) client
     (client_called (world.clients client) ClientCall.Connected))
-unfolding served all_delivered
+unfolding all_delivered
 connect_moves V k world client g down v =
     subst (λ (p : Progress). V (stepped_in (served (link_made world client) p) client (connection_made (world.clients client))))
     (sym (joins world.server client ((g.tied client).present ∙ ap is_up down))) (k world (Move.Connect client) down v)

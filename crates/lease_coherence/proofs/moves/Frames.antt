@@ -29,7 +29,6 @@ noted_past world client (note ∷ notes) = noted_past (happened world (fact_of c
 
 pub stepped_past : (world : World) (client : ℕ) (step : Step)
     → (stepped_in world client step).past ≡ past_noted client world.past step.notes
-unfolding stepped_in requests_sent
 stepped_past world client step = noted_past
     (requests_sent (record world { clients = put world.clients client step.client }) client step.requests) client step.notes
 
@@ -46,11 +45,9 @@ noted_replies world client (note ∷ notes) = noted_replies (happened world (fac
 
 pub stepped_requests : (world : World) (client : ℕ) (step : Step) → (stepped_in world client step).requests
     ≡ put world.requests client (sent_over (world.links client) (world.requests client) step.requests)
-unfolding stepped_in requests_sent
 stepped_requests world client step = noted_requests
     (requests_sent (record world { clients = put world.clients client step.client }) client step.requests) client step.notes
 
 pub stepped_replies : (world : World) (client : ℕ) (step : Step) → (stepped_in world client step).replies ≡ world.replies
-unfolding stepped_in requests_sent
 stepped_replies world client step = noted_replies
     (requests_sent (record world { clients = put world.clients client step.client }) client step.requests) client step.notes

@@ -8,7 +8,7 @@ use Rattle.lease_laws.proofs.Words.{acknowledged, ap, arith, begun, breaking, ca
 use Rattle.lease_laws.proofs.Words.{commanded, concluded, eq-eqb, eqb-true, fact_of, false}
 use Rattle.lease_laws.proofs.Words.{first_world, happened, held_left, inl, inr, is_down, is_left_behind, is_served, is_up}
 use Rattle.lease_laws.proofs.Words.{length, machine_key, not, noted}
-use Rattle.lease_laws.proofs.Words.{put, refl, requests_sent, sendings, served, step_taken}
+use Rattle.lease_laws.proofs.Words.{put, refl, requests_sent, sendings, step_taken}
 use Rattle.lease_laws.proofs.Words.{stepped_in, subst, sym, takings, true}
 use Rattle.lease_laws.proofs.client.Entries.{first_entries, called_entries}
 use Rattle.lease_laws.proofs.client.Forms.{commanded-stays, taken-stays}
@@ -127,13 +127,11 @@ moved_links world step = served_links (taken_off step world) (step_taken step (b
 
 pub moved_past : (world : World) (step : SmallStep)
     → (moved world step).past ≡ told world.past (step_taken step (begun world.server)).outs
-unfolding served
 moved_past world step = let p = step_taken step (begun world.server) in
     all_delivered_past (record (taken_off step world) { server = p.server }) p.outs
     ∙ ap (λ past. told past p.outs) (off_past step world)
 
 moved_tied : (world : World) (step : SmallStep) → Ground world → IsNext world step → (c : ℕ) → IsTied (moved world step) c
-unfolding served
 moved_tied world step g next c =
     let p = step_taken step (begun world.server) in
     let go = step-goes step (begun world.server) g.fine.sound next.guarded in
@@ -185,7 +183,6 @@ stepped_ground : (world : World) (client : ℕ) (call : ClientCall) → IsFine w
     → (client_called (world.clients client) call).client.is_online ≡ not (is_down (world.links client))
     → ((c : ℕ) → c ≢ client → IsOnline world c) → ((c : ℕ) → IsSoundClient (world.clients c))
     → Ground (stepped_in world client (client_called (world.clients client) call))
-unfolding stepped_in requests_sent
 stepped_ground world client call f c tied here there sound =
     let step = client_called (world.clients client) call in
     let sent = requests_sent (record world { clients = put world.clients client step.client }) client step.requests in
@@ -329,7 +326,6 @@ notice_ground world client g e = stepped_ground (record world { links = put worl
     (λ c ne. g.online c ∙ ap (λ k. not (is_down k)) (sym (put_other world.links client Link.Down c ne))) g.clients
 
 stray_ground : (world : World) (client : ℕ) (request : Request) → Ground world → Ground (strayed world client request)
-unfolding requests_sent
 stray_ground world client request g = record {
   fine = g.fine;
   counted = g.counted;

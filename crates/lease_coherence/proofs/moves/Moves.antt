@@ -49,7 +49,6 @@ with_rest world server requests = record world { server = server; requests = req
 
 delivered_rest : (world : World) (server : Server) (requests : ℕ → List Request) (out : Out)
     → delivered (with_rest world server requests) out ≡ with_rest (delivered world out) server requests
-unfolding delivered
 delivered_rest world server requests (Out.Sent client reply) = refl
 delivered_rest world server requests out = refl
 
@@ -67,7 +66,6 @@ all_delivered_append world [] more = refl
 all_delivered_append world (out ∷ outs) more = all_delivered_append (delivered world out) outs more
 
 delivered_requests : (world : World) (out : Out) → (delivered world out).requests ≡ world.requests
-unfolding delivered
 delivered_requests world (Out.Sent client reply) = refl
 delivered_requests world out = refl
 
@@ -77,13 +75,11 @@ all_delivered_requests world [] = refl
 all_delivered_requests world (out ∷ outs) = all_delivered_requests (delivered world out) outs ∙ delivered_requests world out
 
 pub served_requests : (world : World) (progress : Progress) → (served world progress).requests ≡ world.requests
-unfolding served
 served_requests world progress = all_delivered_requests (record world { server = progress.server }) progress.outs
 
 -- what a step gives out behind what a call gave out before
 served_twice : (base : World) (progress : Progress) (step : SmallStep)
     → served (served base progress) (step_taken step (begun progress.server)) ≡ served base (step_taken step progress)
-unfolding served
 served_twice base progress step =
     let f = step_follows step progress in
     let fresh = step_taken step (begun progress.server) in
@@ -97,7 +93,6 @@ served_twice base progress step =
 -- requests leave their queue whatever is given out
 popped_served : (base : World) (progress : Progress) (client : ℕ)
     → popped (served base progress) client ≡ served (popped base client) progress
-unfolding served
 popped_served base progress client =
     let start : World = record base { server = progress.server } in
     let queues = put base.requests client (rest_of (base.requests client)) in

@@ -7,8 +7,8 @@ use Rattle.lease_laws.proofs.Words.{commanded, connected_again, connected_open, 
 use Rattle.lease_laws.proofs.Words.{granted_form_of, happened, has_file, has_key, has_lease, has_strayed, is_left_behind}
 use Rattle.lease_laws.proofs.Words.{is_left_open, is_lost, is_state_within, key_of, lease_after, machine_key}
 use Rattle.lease_laws.proofs.Words.{map, may_read, needs_acknowledgment, not, own_key, put}
-use Rattle.lease_laws.proofs.Words.{refl, refusal_of, requests_sent, step_taken, stepped_in, subst, sym, true, was_opened}
-use Rattle.lease_laws.proofs.Words.{without}
+use Rattle.lease_laws.proofs.Words.{refl, refusal_of, step_taken, stepped_in, subst, sym, true, was_opened}
+use Rattle.lease_laws.proofs.Words.{connection_made, noticed, taken, without}
 use Rattle.lease_laws.proofs.client.Thin.{put_other}
 use Rattle.lease_laws.proofs.server.Keys.{put_key-cases}
 use Rattle.lease_laws.proofs.server.Lists.{if_cases, clash, and_parts, not_true, not_parts}
@@ -325,7 +325,6 @@ unmoved_link world client link c ne = let s = unmoved_same world c in record {
 
 unmoved_strayed : (world : World) (client : ℕ) (request : Request) (c : ℕ) → client ≢ c
     → IsUnmoved world (strayed world client request) c
-unfolding requests_sent
 unmoved_strayed world client request c ne = let s = unmoved_same world c in record {
   later = s.later;
   spared = s.spared;
@@ -381,7 +380,6 @@ then_later a b c h k = later_then a b c h k
 stray_all : (V : World → Type 0) (A : World → ℕ → Type 0) → IsOwnMoved V A → (world : World) (client : ℕ)
     (request : Request) → has_strayed client world.past ≡ true → V world → OfGood A world
     → OfGood A (strayed world client request)
-unfolding requests_sent
 stray_all V A k world client request has v a c good = k.unmoved world (strayed world client request) c v good
     (unmoved_strayed world client request c
     (λ e. clash (has_strayed c world.past) (ap (λ d. has_strayed d world.past) (sym e) ∙ has) good)) (a c good)
@@ -406,24 +404,24 @@ own_moves V A ground k world (Move.Scavenge file_id) may v a = λ c good. k.drop
     (λ one e. not_parts one.connected (and_parts (one.file_id == file_id) (not one.connected) e).1) (a c good)
 own_moves V A ground k world (Move.Connect client) down v a = moved_all V A k world (connected world client) client v a
     (then_later world.past (come_back world client).past (connected world client).past
-    (later_fact world.past (Fact.Joined client)) (stepped_later (come_back world client) client _))
+    (later_fact world.past (Fact.Joined client)) (stepped_later (come_back world client) client (connection_made (world.clients client))))
     (λ g x. k.connect world client v g down x)
     (λ c ne. unmoved_then world (come_back world client) _ c (unmoved_back world client c ne)
-    (unmoved_stepped (come_back world client) client _ c ne))
+    (unmoved_stepped (come_back world client) client (connection_made (world.clients client)) c ne))
 own_moves V A ground k world (Move.Commanded client command) may v a = moved_all V A k world _ client v a
     (stepped_later world client (commanded (world.clients client) command))
-    (λ g x. k.command world client command v g x) (λ c ne. unmoved_stepped world client _ c ne)
+    (λ g x. k.command world client command v g x) (λ c ne. unmoved_stepped world client (commanded (world.clients client) command) c ne)
 own_moves V A ground k world (Move.Take client reply queue) first v a =
     moved_all V A k world (reply_taken world client reply queue) client v a
     (then_later world.past (reply_gone world client queue).past (reply_taken world client reply queue).past
-    (later_fact world.past (Fact.Took client)) (stepped_later (reply_gone world client queue) client _))
+    (later_fact world.past (Fact.Took client)) (stepped_later (reply_gone world client queue) client (taken (world.clients client) reply)))
     (λ g x. k.take world client reply queue v g first x)
     (λ c ne. unmoved_then world (reply_gone world client queue) _ c (unmoved_gone world client queue c ne)
-    (unmoved_stepped (reply_gone world client queue) client _ c ne))
+    (unmoved_stepped (reply_gone world client queue) client (taken (world.clients client) reply) c ne))
 own_moves V A ground k world (Move.Notice client) cut v a = moved_all V A k world (noticed_by world client) client v a
-    (stepped_later (record world { links = put world.links client Link.Down }) client _)
+    (stepped_later (record world { links = put world.links client Link.Down }) client (noticed (world.clients client)))
     (λ g x. k.notice world client v g cut x)
     (λ c ne. unmoved_then world (record world { links = put world.links client Link.Down }) _ c
     (unmoved_link world client Link.Down c ne)
-    (unmoved_stepped (record world { links = put world.links client Link.Down }) client _ c ne))
+    (unmoved_stepped (record world { links = put world.links client Link.Down }) client (noticed (world.clients client)) c ne))
 own_moves V A ground k world (Move.Stray client request) (up, has) v a = stray_all V A k world client request has v a

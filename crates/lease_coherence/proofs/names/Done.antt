@@ -4,7 +4,7 @@ use Rattle.lease_laws.proofs.Words.{NoFalseDone, Note, Open, Out, Reply, Request
 use Rattle.lease_laws.proofs.Words.{World, ℕ, [], after, ap, arith, begun, client_called}
 use Rattle.lease_laws.proofs.Words.{disconnected, false, first_world, happened, has_key, has_strayed}
 use Rattle.lease_laws.proofs.Words.{is_left_behind, is_lost, machine_key, new_client, new_server, not}
-use Rattle.lease_laws.proofs.Words.{put, refl, requests_sent, reverse-reverse}
+use Rattle.lease_laws.proofs.Words.{put, refl, reverse-reverse}
 use Rattle.lease_laws.proofs.Words.{reverse_aux, sent_over, starts_from, step_taken, stepped_in, subst, sym, true}
 use Rattle.lease_laws.proofs.Words.{without}
 use Rattle.lease_laws.proofs.client.Forms.{commanded-stays, taken-stays}
@@ -182,7 +182,6 @@ fact_named world fact n c good =
 
 strayed_named : (world : World) (client : ℕ) (request : Request) → has_strayed client world.past ≡ true → IsNamed world
     → IsNamed (strayed world client request)
-unfolding requests_sent
 strayed_named world client request has n c good =
     let m = n c good in
     at_later world (strayed world client request) c (later_same world.past) refl
@@ -263,7 +262,6 @@ told_true_done : (client : ℕ) (fact : Fact) (past : List Fact) → IsTold clie
 told_true_done client x2 past is = grind arith
 
 pub true_moves : IsMoved Ground HasTrueNames
-unfolding requests_sent
 true_moves world (Move.Told client fact) is g t =
     (fact_named world fact t.0, (told_true_done client fact world.past is, t.1))
 true_moves world (Move.Step step) next g t = moved_true world step g next t

@@ -6,7 +6,7 @@ use Rattle.lease_laws.proofs.Words.{eq-eqb, eqb-true, false, first_world, has_fi
 use Rattle.lease_laws.proofs.Words.{inl, inr, is_allowed_setup, is_started, is_up, is_well_formed, is_within_limit}
 use Rattle.lease_laws.proofs.Words.{knows_file, last_file_number, lease_after, lease_put, length, nat_le, nat_lt}
 use Rattle.lease_laws.proofs.Words.{new_client, new_server, not, put, refl}
-use Rattle.lease_laws.proofs.Words.{requests_sent, reverse-reverse, reverse_aux, sendings, starts_from, stepped_in, subst, suc}
+use Rattle.lease_laws.proofs.Words.{reverse-reverse, reverse_aux, sendings, starts_from, stepped_in, subst, suc}
 use Rattle.lease_laws.proofs.Words.{sym, takings, true, true≢false}
 use Rattle.lease_model.specs.records.Past.{has_number}
 use Rattle.lease_laws.proofs.client.Forms.{commanded-stays, taken-stays}
@@ -290,7 +290,7 @@ unfolding has_number
 told_numbers client x2 past c number is = grind arith
 
 pub well_moves : IsMoved Ground IsWell
-unfolding is_well_formed has_number requests_sent has_joined
+unfolding is_well_formed has_number has_joined
 well_moves world (Move.Told client fact) is g w = more_well world.past fact world.clients world.links world.server world.server
     refl (told_well client fact world.past is) (λ c n. told_numbers client fact world.past c n is) w
 well_moves world (Move.Step step) next g w = step_deed world IsWell (deeds_well world g w) step next

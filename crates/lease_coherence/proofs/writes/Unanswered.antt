@@ -7,7 +7,7 @@ use Rattle.lease_laws.proofs.Words.{connect_turn, eq-eqb, eqb-true, fact_of, fal
 use Rattle.lease_laws.proofs.Words.{first_belief, flat_map, gives_up, has_number, if◌then◌else◌}
 use Rattle.lease_laws.proofs.Words.{knows_file, lease_key, meet, next_write, not, notice_turn, numbers_to, offline_turn}
 use Rattle.lease_laws.proofs.Words.{open_writes, parted_from, phase_with}
-use Rattle.lease_laws.proofs.Words.{promoted_belief, put, refl, requests_sent}
+use Rattle.lease_laws.proofs.Words.{promoted_belief, put, refl}
 use Rattle.lease_laws.proofs.Words.{sent_without, settled_as, step_taken, stepped_in, subst, sym, true, true≢false, unanswered_in}
 use Rattle.lease_laws.proofs.Words.{unsent_in, without, without_open, wrote_step}
 use Rattle.lease_laws.proofs.client.Forms.{commanded-stays, taken-stays}
@@ -416,7 +416,7 @@ unfolding open_writes
 told_one client x2 past c file is = grind arith
 
 pub writes_moves : IsMoved Ground HasWrites
-unfolding open_writes requests_sent
+unfolding open_writes
 writes_moves world (Move.Told client fact) is g h = λ c file known.
     told_one client fact world.past c file is ∙ h c file known
 writes_moves world (Move.Step step) next g h = λ c file known. ap (open_writes c file) (moved_past world step)

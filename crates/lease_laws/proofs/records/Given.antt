@@ -134,7 +134,6 @@ happened_given clients past fact plain g = record {
 
 -- what the server gives out is plain
 delivered_given : (world : World) (out : Out) → Given world → Given (delivered world out)
-unfolding delivered
 delivered_given world (Out.Sent client reply) g = happened_given world.clients world.past (Fact.Sent client) refl g
 delivered_given world (Out.Opened file client) g = happened_given world.clients world.past (Fact.Opened file client) refl g
 delivered_given world (Out.Changed file client number patch) g =
@@ -148,13 +147,11 @@ all_delivered_given world (out ∷ outs) g = all_delivered_given (delivered worl
 
 -- a call of the server
 served_given : (world : World) (progress : Progress) → Given world → Given (served world progress)
-unfolding served
 served_given world progress g = all_delivered_given (record world { server = progress.server }) progress.outs g
 
 -- a step of a client
 stepped_given : (world : World) (client : ℕ) (step : Step) → Given world → IsSoundClient step.client
     → TellNumbers (world.clients client).last_number step.notes step.client.last_number → Given (stepped_in world client step)
-unfolding stepped_in requests_sent
 stepped_given world client step g sound tells =
     let middle : World = requests_sent (record world { clients = put world.clients client step.client }) client step.requests in
     let past : List Fact = (noted middle client step.notes).past in

@@ -1,7 +1,7 @@
 -- In the record of a run the files are started first.
 use Rattle.lease_laws.proofs.Words.{◌+◌, ◌∷◌, ◌≡◌, Fact, List, Note, Out, RunsStartFirst, Setup, World, ℕ, [], all_delivered}
 use Rattle.lease_laws.proofs.Words.{called, client_called, delivered, first_world, happened, is_start, list_all, noted, refl}
-use Rattle.lease_laws.proofs.Words.{requests_sent, reverse, reverse_aux, served, starts_first, starts_from, stepped_in, true}
+use Rattle.lease_laws.proofs.Words.{reverse, reverse_aux, starts_first, starts_from, true}
 use Rattle.std.proofs.Common.{arith}
 use Rattle.lease_laws.proofs.records.Content.{all_first}
 use Rattle.lease_laws.proofs.world.Kept.{IsKept, IsOfWorld, after-kept}
@@ -25,7 +25,7 @@ pub record IsBegun (world : World) : Type 0 where
 
 -- facts that aren't of the world alone are no starts either where the server or a client tells them
 delivered_begun : (world : World) (out : Out) → IsBegun world → IsBegun (delivered world out)
-unfolding delivered starts_first
+unfolding starts_first
 delivered_begun world x2 b = grind arith
 
 all_delivered_begun : (world : World) (outs : List Out) → IsBegun world → IsBegun (all_delivered world outs)
@@ -44,7 +44,6 @@ unfolding starts_first
 fact_begun world x2 of b = grind arith
 
 pub begun_kept : IsKept IsBegun
-unfolding served stepped_in requests_sent
 begun_kept = record {
   messages = λ world requests replies links b. record { first = b.first };
   fact = fact_begun;

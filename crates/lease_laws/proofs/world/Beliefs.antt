@@ -27,7 +27,7 @@ of_world client file x3 past of = grind arith
 -- nor do outs
 delivered_believed : (client file : ℕ) (world : World) (out : Out)
     → believed client file (delivered world out).past ≡ believed client file world.past
-unfolding delivered believed
+unfolding believed
 delivered_believed client file world x4 = grind arith
 
 all_believed : (client file : ℕ) (world : World) (outs : List Out)
@@ -39,7 +39,6 @@ all_believed client file world (out ∷ outs) = all_believed client file (delive
 
 served_believed : (client file : ℕ) (world : World) (progress : Progress)
     → believed client file (served world progress).past ≡ believed client file world.past
-unfolding served
 served_believed client file world progress = all_believed client file (record world { server = progress.server }) progress.outs
 
 -- a client's notes tell its own beliefs
@@ -68,7 +67,6 @@ noted_other client other file world (note ∷ notes) apart =
 stepped_agrees : (world : World) (client : ℕ) (step : Step) → Agrees world → InFiles step.client
     → ((file : ℕ) → believed_after file (belief (world.clients client) file) step.notes ≡ belief step.client file)
     → Agrees (stepped_in world client step)
-unfolding stepped_in requests_sent
 stepped_agrees world client step a inside tells =
     let start : World = requests_sent (record world { clients = put world.clients client step.client }) client step.requests in
     let clients = stepped_clients world client step in

@@ -37,7 +37,6 @@ told_append past [] more = refl
 told_append past (out ∷ outs) more = told_append (fact_told out ∷ past) outs more
 
 delivered_past : (world : World) (out : Out) → (delivered world out).past ≡ fact_told out ∷ world.past
-unfolding delivered
 delivered_past world x2 = grind arith
 
 pub all_delivered_past : (world : World) (outs : List Out) → (all_delivered world outs).past ≡ told world.past outs
@@ -242,14 +241,12 @@ noted_counted world client (note ∷ notes) server c = noted_counted (happened w
 
 stepped_counted : (world : World) (client : ℕ) (step : Step) → IsCounted world.past world.server
     → IsCounted (stepped_in world client step).past (stepped_in world client step).server
-unfolding stepped_in requests_sent
 stepped_counted world client step c =
     subst (λ s. IsCounted (stepped_in world client step).past s) (sym (stepped_server world client step)) (noted_counted
     (requests_sent (record world { clients = _ }) client step.requests) client step.notes world.server c)
 
 served_counted : (world : World) (call : Call) → IsSound world.server → WaitsWell world.server → IsCounted world.past world.server
     → IsCounted (served world (called world.server call)).past (served world (called world.server call)).server
-unfolding served
 served_counted world call s w c =
     let progress = called world.server call in
     let next : World = record world { server = progress.server } in

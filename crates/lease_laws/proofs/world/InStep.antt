@@ -45,7 +45,6 @@ noted_contents world client (note ∷ notes) server has = noted_contents (happen
 
 stepped_contents : (world : World) (client : ℕ) (step : Step) → HasContents world.past world.server
     → HasContents (stepped_in world client step).past (stepped_in world client step).server
-unfolding stepped_in requests_sent
 stepped_contents world client step has =
     subst (HasContents (stepped_in world client step).past) (sym (stepped_server world client step)) (noted_contents
     (requests_sent (record world { clients = put world.clients client step.client }) client step.requests) client
@@ -60,7 +59,6 @@ stepped_true world client step t = record {
 -- a call, in a world with counted FileIds
 served_true : (world : World) (call : Call) → IsCountedWorld world → IsTrue world
     → IsTrue (served world (called world.server call))
-unfolding served
 served_true world call n t =
     let progress = called world.server call in
     let next : World = record world { server = progress.server } in record {
@@ -99,7 +97,7 @@ fact_true world fact plain none t = record {
 }
 
 true_forms : HasForms (KeepsWhere IsReady IsTrue)
-unfolding sendings takings requests_sent
+unfolding sendings takings
 true_forms = record {
   told = λ world client fact some is r n t.
       let plain = told_plain client fact is in fact_true world fact plain.0 plain.1 t;

@@ -2,7 +2,7 @@
 -- what speaks of the server, the clients and the record, and not of queues and links.
 use Rattle.lease_laws.proofs.Words.{◌∙◌, ◌∷◌, ◌≡◌, Call, Client, ClientCall, Event, Fact, Link, List, Out, Progress, Reply}
 use Rattle.lease_laws.proofs.Words.{Request, World, ℕ, [], after, all_delivered, called, client_called, delivered, happened}
-use Rattle.lease_laws.proofs.Words.{happens, machine_key, put, refl, requests_sent, served, stepped_in, subst}
+use Rattle.lease_laws.proofs.Words.{happens, machine_key, put, refl, served, stepped_in, subst}
 use Rattle.std.proofs.Common.{arith}
 use Rattle.lease_laws.proofs.world.cases.Events.{HasForms, IsTold, Keeps, call_served, kept_by_event, kept_by_run}
 
@@ -32,7 +32,6 @@ pub record IsKept (P : World → Type 0) : Type 0 where
 
 -- outs change no client
 delivered_clients : (world : World) (out : Out) → (delivered world out).clients ≡ world.clients
-unfolding delivered
 delivered_clients world x2 = grind arith
 
 all_delivered_clients : (world : World) (outs : List Out) → (all_delivered world outs).clients ≡ world.clients
@@ -41,12 +40,10 @@ all_delivered_clients world [] = refl
 all_delivered_clients world (out ∷ outs) = all_delivered_clients (delivered world out) outs ∙ delivered_clients world out
 
 pub served-clients : (world : World) (progress : Progress) → (served world progress).clients ≡ world.clients
-unfolding served
 served-clients world progress = all_delivered_clients (record world { server = progress.server }) progress.outs
 
 -- nor the server
 delivered_server : (world : World) (out : Out) → (delivered world out).server ≡ world.server
-unfolding delivered
 delivered_server world x2 = grind arith
 
 all_delivered_server : (world : World) (outs : List Out) → (all_delivered world outs).server ≡ world.server
@@ -55,13 +52,11 @@ all_delivered_server world [] = refl
 all_delivered_server world (out ∷ outs) = all_delivered_server (delivered world out) outs ∙ delivered_server world out
 
 pub served-server : (world : World) (progress : Progress) → (served world progress).server ≡ progress.server
-unfolding served
 served-server world progress = all_delivered_server (record world { server = progress.server }) progress.outs
 
 -- ---- events
 
 pub kept_forms : (P : World → Type 0) → IsKept P → HasForms (Keeps P)
-unfolding requests_sent
 kept_forms P k = record {
   told = λ world client fact some is p. k.fact world fact (told_of_world client fact is) p;
   command = λ world client command some p. k.step world client (ClientCall.Commanded command) p;

@@ -1,10 +1,10 @@
 -- Links, queues and connections in every run, and what the record says of them.
 use Rattle.lease_laws.proofs.Words.{◌++◌, ◌+◌, ◌==◌, ◌∙◌, ◌∷◌, ◌≡◌, ◌≢◌, Call, Client, ClientCall, EachOut, Fact, IsOnline}
 use Rattle.lease_laws.proofs.Words.{IsSound, IsTied, IsToPresent, Link, LinksOfRuns, List, Note, Out, Progress, Reply, Request}
-use Rattle.lease_laws.proofs.Words.{Server, Setup, Step, WaitsWell, World, ℕ, ⊤, [], all_delivered, all_turned, ap, arith, called}
+use Rattle.lease_laws.proofs.Words.{Server, Setup, Step, WaitsWell, World, ℕ, ⊤, [], all_delivered, ap, arith, called}
 use Rattle.lease_laws.proofs.Words.{client_called, connection_made, cut, delivered, eq-eqb, fact_of, false, first_world, happened}
 use Rattle.lease_laws.proofs.Words.{is_down, is_served, is_start, is_up, join, length, length-append, list_all, machine_key}
-use Rattle.lease_laws.proofs.Words.{new_client, new_server, not, noted, noticed, put, refl, requests_sent, reverse, sendings}
+use Rattle.lease_laws.proofs.Words.{new_client, new_server, not, noted, put, refl, requests_sent, reverse, sendings}
 use Rattle.lease_laws.proofs.Words.{sent_over, served, starts_from, stepped_in, subst, sym, takings, true, true≢false}
 use Rattle.lease_laws.proofs.client.Forms.{commanded-stays, taken-stays}
 use Rattle.lease_laws.proofs.client.Thin.{put_same, put_other}
@@ -42,7 +42,7 @@ one_more xs x = length-append xs (x ∷ [])
 
 delivered_tied : (world : World) (out : Out) → Reaches world out → ((c : ℕ) → IsTied world c)
     → (c : ℕ) → IsTied (delivered world out) c
-unfolding delivered is_served sendings takings
+unfolding is_served sendings takings
 delivered_tied world (Out.Sent client reply) up tied c = by_client (IsTied (delivered world (Out.Sent client reply))) client c
     (let t = tied client in record {
       present = t.present;
@@ -70,7 +70,6 @@ reaching : (world : World) (server : Server) → ((c : ℕ) → server.present c
 reaching world server same x4 to = grind arith
 
 delivered_links : (world : World) (out : Out) → (delivered world out).links ≡ world.links
-unfolding delivered
 delivered_links world x2 = grind arith
 
 pub outs_links : (world : World) (outs : List Out) → (all_delivered world outs).links ≡ world.links
@@ -79,7 +78,6 @@ outs_links world [] = refl
 outs_links world (out ∷ outs) = outs_links (delivered world out) outs ∙ delivered_links world out
 
 pub served_links : (world : World) (progress : Progress) → (served world progress).links ≡ world.links
-unfolding served
 served_links world progress = outs_links (record world { server = progress.server }) progress.outs
 
 pub all_tied : (world : World) (server : Server) (outs : List Out)
@@ -97,7 +95,6 @@ all_tied world server (out ∷ outs) same each tied c = all_tied (delivered worl
 served_tied : (world : World) (call : Call) → IsSound world.server → WaitsWell world.server
     → ((c : ℕ) → IsTied (record world { server = (called world.server call).server }) c)
     → (c : ℕ) → IsTied (served world (called world.server call)) c
-unfolding served
 served_tied world call s w tied c =
     all_tied (record world { server = (called world.server call).server }) (called world.server call).server
     (called world.server call).outs (λ d. (tied d).present) (replies-find world.server call s w) tied c
@@ -133,7 +130,6 @@ sent_idle x1 queue requests idle e = grind arith
 
 pub sent_tied : (world : World) (client : ℕ) (requests : List Request) (c : ℕ) → IsTied world c
     → IsTied (requests_sent world client requests) c
-unfolding requests_sent
 sent_tied world client requests c t = by_client (λ d. IsTied world d → IsTied (requests_sent world client requests) d) client c
     (λ u. record {
       present = u.present;
@@ -148,14 +144,12 @@ sent_tied world client requests c t = by_client (λ d. IsTied world d → IsTied
 
 pub stepped_tied : (world : World) (client : ℕ) (step : Step) → ((c : ℕ) → IsTied world c) → (c : ℕ)
     → IsTied (stepped_in world client step) c
-unfolding stepped_in
 stepped_tied world client step tied c =
     let new : World = record world { clients = put world.clients client step.client } in
     noted_tied (requests_sent new client step.requests) client step.notes c
     (sent_tied new client step.requests c (carried world new c refl refl refl refl refl refl refl (tied c)))
 
 pub stepped_links : (world : World) (client : ℕ) (step : Step) → (stepped_in world client step).links ≡ world.links
-unfolding stepped_in requests_sent
 stepped_links world client step = noted_links
     (requests_sent (record world { clients = put world.clients client step.client }) client step.requests) client step.notes
 
@@ -345,7 +339,6 @@ told_tied world client x3 c is t = grind arith
 -- ---- events
 
 pub linked_forms : HasForms (Keeps IsLinked)
-unfolding requests_sent
 linked_forms = record {
   told = λ world client fact some is l. record {
     sound = l.sound;

@@ -34,13 +34,11 @@ noted_server world client [] = refl
 noted_server world client (note ∷ notes) = noted_server (happened world (fact_of client note)) client notes
 
 pub stepped_server : (world : World) (client : ℕ) (step : Step) → (stepped_in world client step).server ≡ world.server
-unfolding stepped_in requests_sent
 stepped_server world client step = noted_server
     (requests_sent (record world { clients = put world.clients client step.client }) client step.requests) client step.notes
 
 pub stepped_clients : (world : World) (client : ℕ) (step : Step)
     → (stepped_in world client step).clients ≡ put world.clients client step.client
-unfolding stepped_in requests_sent
 stepped_clients world client step = noted_clients
     (requests_sent (record world { clients = put world.clients client step.client }) client step.requests) client step.notes
 

@@ -58,7 +58,7 @@ carried_step world new c links replies sent took keeps up = grind arith
 
 sent_in_step : (world : World) (client : ℕ) (reply : Reply) → IsOfPlace client world.past reply
     → KeepsStep world client → KeepsStep (delivered world (Out.Sent client reply)) client
-unfolding delivered sendings takings
+unfolding sendings takings
 sent_in_step world client reply is keeps up =
     let was = keeps up in
     let count = takings client world.past in
@@ -73,7 +73,7 @@ sent_in_step world client reply is keeps up =
 
 delivered_in_step : (world : World) (out : Out) → FitsThere world.past out → ((c : ℕ) → KeepsStep world c)
     → (c : ℕ) → KeepsStep (delivered world out) c
-unfolding delivered sendings takings
+unfolding sendings takings
 delivered_in_step world (Out.Sent client reply) is keeps c =
     by_client (KeepsStep (delivered world (Out.Sent client reply))) client c (sent_in_step world client reply is (keeps client))
     (λ ne apart. carried_step world (delivered world (Out.Sent client reply)) c refl
@@ -84,7 +84,6 @@ delivered_in_step world (Out.Changed file client number patch) is keeps c =
     carried_step world (happened world (Fact.Changed file client number patch)) c refl refl refl refl (keeps c)
 
 delivered_past : (world : World) (out : Out) → (delivered world out).past ≡ fact_told out ∷ world.past
-unfolding delivered
 delivered_past world x2 = grind arith
 
 pub all_in_step : (world : World) (outs : List Out) → EachFits world.past outs → ((c : ℕ) → KeepsStep world c)
@@ -110,7 +109,6 @@ noted_in_step world client (note ∷ notes) c k =
 
 pub stepped_in_step : (world : World) (client : ℕ) (step : Step) (c : ℕ) → KeepsStep world c
     → KeepsStep (stepped_in world client step) c
-unfolding stepped_in requests_sent
 stepped_in_step world client step c k = noted_in_step
     (requests_sent (record world { clients = put world.clients client step.client }) client step.requests) client step.notes c
     (carried_step world (requests_sent (record world { clients = put world.clients client step.client }) client step.requests) c

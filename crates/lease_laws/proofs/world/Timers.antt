@@ -25,7 +25,7 @@ SameServed past new = (client : ℕ) → is_served client new ≡ is_served clie
 -- ---- outs and notes
 
 delivered_served : (world : World) (out : Out) → SameServed world.past (delivered world out).past
-unfolding delivered is_served
+unfolding is_served
 delivered_served world x2 c = grind arith
 
 all_delivered_served : (world : World) (outs : List Out) → SameServed world.past (all_delivered world outs).past
@@ -44,7 +44,6 @@ noted_served world client (note ∷ notes) c =
     noted_served (happened world (fact_of client note)) client notes c ∙ note_served world client note c
 
 stepped_served : (world : World) (client : ℕ) (step : Step) → SameServed world.past (stepped_in world client step).past
-unfolding stepped_in requests_sent
 stepped_served world client step c = noted_served (requests_sent (record world { clients = _ }) client step.requests)
     client step.notes c
 
@@ -58,7 +57,6 @@ stepped_told world client step told key e = stepped_served world client step key
 -- once its keys are told of, a call's outs change nothing
 served_told : (world : World) (call : Call) → AreTold (called world.server call).server.expired world.past
     → AreTold (served world (called world.server call)).server.expired (served world (called world.server call)).past
-unfolding served
 served_told world call told key e =
     let progress = called world.server call in
     all_delivered_served (record world { server = progress.server }) progress.outs key.client
@@ -104,7 +102,7 @@ timer_told world client file l told =
     (sym (called-expired world.server (Call.Expire own) l.sound l.waits)) ∙ e)))
 
 told_forms : HasForms (KeepsWhere IsLinked AreToldOf)
-unfolding is_served requests_sent
+unfolding is_served
 told_forms = record {
   told = λ world client fact some is l n told key e. told_unserved client fact world.past is key.client ∙ told key e;
   command = λ world client command some l n told.

@@ -35,11 +35,11 @@ pub data Event : Type 0 where
   Raw : (client : ℕ) (request : Request) → Event
 
 -- the server has taken a call: its outs are delivered in order
-unfoldable pub served : World → Progress → World
+abbrev pub served : World → Progress → World
 served world progress = all_delivered (record world { server = progress.server }) progress.outs
 
 -- a client has made a step: its notes are facts, and its requests are sent
-unfoldable pub stepped_in : World → ℕ → Step → World
+abbrev pub stepped_in : World → ℕ → Step → World
 stepped_in world client step = noted
     (requests_sent (record world { clients = put world.clients client step.client }) client step.requests)
     client step.notes
@@ -59,7 +59,7 @@ client_takes world client (reply ∷ queue) = stepped_in
     client (taken (world.clients client) reply)
 
 -- The connection is lost: all in flight is gone, and the server's part is cut.
-unfoldable pub link_cut : World → ℕ → World
+abbrev pub link_cut : World → ℕ → World
 link_cut world client = served
     (happened
     (record world {
@@ -74,7 +74,7 @@ abbrev pub cut_over : World → ℕ → Link → World
 cut_over world client Link.Up = link_cut world client
 cut_over world client link = world
 
-unfoldable pub link_noticed : World → ℕ → World
+abbrev pub link_noticed : World → ℕ → World
 link_noticed world client = stepped_in (record world { links = put world.links client Link.Down })
     client (noticed (world.clients client))
 
@@ -83,7 +83,7 @@ notice_over world client Link.Cut = link_noticed world client
 notice_over world client link = world
 
 -- the client connects: the server joins it, and then it notes
-unfoldable pub link_connected : World → ℕ → World
+abbrev pub link_connected : World → ℕ → World
 link_connected world client = stepped_in
     (served
     (happened (record world { links = put world.links client Link.Up }) (Fact.Joined client))
@@ -98,7 +98,7 @@ connect_over world client link = world
 abbrev pub machine_key : World → ℕ → ℕ → Key
 machine_key world client file = key_of client (lease_key (world.clients client).guid file)
 
-unfoldable pub timer_expired : World → ℕ → ℕ → World
+abbrev pub timer_expired : World → ℕ → ℕ → World
 timer_expired world client file = served (happened world (Fact.Expired client file))
     (expire world.server (machine_key world client file))
 
@@ -107,7 +107,7 @@ scavenged world None = world
 scavenged world (Some file_id) = served world (scavenge world.server file_id)
 
 -- a request that the client's machine didn't make is on its way
-unfoldable pub strayed_over : World → ℕ → Request → Link → World
+abbrev pub strayed_over : World → ℕ → Request → Link → World
 strayed_over world client request Link.Up =
     requests_sent (happened world (Fact.Strayed client)) client (request ∷ [])
 strayed_over world client request link = world

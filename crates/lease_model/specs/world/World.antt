@@ -54,7 +54,7 @@ abbrev pub has_client : World → ℕ → Bool
 has_client world client = nat_le 1 client && nat_le client world.count
 
 -- One out of the server is a fact, and a reply goes into its client's queue.
-unfoldable pub delivered : World → Out → World
+abbrev pub delivered : World → Out → World
 delivered world (Out.Sent client reply) = record world {
   replies = put world.replies client (world.replies client ++ reply ∷ []);
   past = Fact.Sent client ∷ world.past;
@@ -72,7 +72,7 @@ abbrev pub sent_over : Link → List Request → List Request → List Request
 sent_over Link.Up queue requests = queue ++ requests
 sent_over link queue requests = queue
 
-unfoldable pub requests_sent : World → ℕ → List Request → World
+abbrev pub requests_sent : World → ℕ → List Request → World
 requests_sent world client requests = record world {
   requests = put world.requests client (sent_over (world.links client) (world.requests client) requests);
 }

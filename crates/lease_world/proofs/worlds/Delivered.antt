@@ -46,7 +46,7 @@ reverse_cons fact past rest =
     ap (λ (xs : List Fact). xs ++ rest) (reverse-append (fact ∷ []) past) ∙ append_assoc (reverse past) (fact ∷ []) rest
 
 pub delivers : (world : World) (outs : List Out) → IsDelivered world (all_delivered world outs) outs
-unfolding all_delivered delivered
+unfolding all_delivered
 delivers world [] = record {
   count = refl;
   clients = refl;

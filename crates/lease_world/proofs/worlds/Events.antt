@@ -107,7 +107,7 @@ pub cut_one : (old middle told new : Seen) (number : ℕ) → IsPresent number o
     → is_link (seat_in old.seats number).link code.TheVariants.Up ≡ true
     → CutsLink number old middle → Tells (Fact.Dropped number) middle told → Serves (Call.Cut number) told new
     → Applies (Event.Cut number) old new
-unfolding applied messages_of link_cut
+unfolding applied messages_of
 cut_one old middle told new number there e cuts tells serves world s =
     let served = serves tt _ (tells.1 _ (cuts.1 world s)) in
     subst (λ (l : Link). Stands new (cut_over world number l) × Keeps (sent_by_cut world number l) old new)
@@ -130,7 +130,7 @@ notice_nothing old number there e world s = (
 pub notice_one : (old middle new : Seen) (number : ℕ) → IsPresent number old.seats
     → is_link (seat_in old.seats number).link code.TheVariants.Cut ≡ true
     → Links number Link.Down old middle → StepsIn number ClientCall.Noticed middle new → Applies (Event.Notice number) old new
-unfolding applied messages_of link_noticed
+unfolding applied messages_of
 notice_one old middle new number there e links steps world s = (
   subst (λ (l : Link). Stands new (notice_over world number l)) (sym (known_link old number code.TheVariants.Cut there world s e))
       (steps.1 tt _ (links.1 world s)),
@@ -153,14 +153,13 @@ connect_nothing old number there e world s =
 
 -- a call of the server leaves the clients alone
 same_clients : (world : World) (progress : Progress) → (served world progress).clients ≡ world.clients
-unfolding served
 same_clients world progress = (delivers (record world { server = progress.server }) progress.outs).clients
 
 pub connect_one : (old middle told joined new : Seen) (number : ℕ) → IsPresent number old.seats
     → is_link (seat_in old.seats number).link code.TheVariants.Down ≡ true
     → Links number Link.Up old middle → Tells (Fact.Joined number) middle told → Serves (Call.Join number) told joined
     → StepsIn number ClientCall.Connected joined new → Applies (Event.Connect number) old new
-unfolding applied messages_of link_connected
+unfolding applied messages_of
 connect_one old middle told joined new number there e links tells serves steps world s =
     let up : World = happened (record world { links = put world.links number Link.Up }) (Fact.Joined number) in
     let come : World = served up (called world.server (Call.Join number)) in
@@ -179,7 +178,6 @@ connect_one old middle told joined new number there e links tells serves steps w
 
 not_strayed : (old : Seen) (world : World) (number : ℕ) (request : Request) (l : code.Link)
     → is_link l code.TheVariants.Up ≡ false → Stands old world → Stands old (strayed_over world number request (link_of l))
-unfolding strayed_over
 not_strayed old world number request x5 e s = grind arith
 
 pub stray_nothing : (old : Seen) (number : ℕ) (request : Request) → IsPresent number old.seats
@@ -194,7 +192,7 @@ stray_nothing old number request there e world s = (
 pub stray_one : (old told new : Seen) (number : ℕ) (request : Request) → IsPresent number old.seats
     → is_link (seat_in old.seats number).link code.TheVariants.Up ≡ true
     → Tells (Fact.Strayed number) old told → Sends number request told new → Applies (Event.Raw number request) old new
-unfolding applied messages_of strayed_over
+unfolding applied messages_of
 stray_one old told new number request there e tells sends world s = (
   subst (λ (l : Link). Stands new (strayed_over world number request l)) (sym
       (known_link old number code.TheVariants.Up there world s e)) (sends.1 _ (tells.1 world s)),
@@ -247,7 +245,7 @@ pub expire_one : (old told new : Seen) (number file : ℕ) (key : List ℕ) → 
     → (is_some (content (server_of old.server) file) && breaking (server_of old.server) (key_of number key)) ≡ true
     → Tells (Fact.Expired number file) old told → Serves (Call.Expire (key_of number key)) told new
     → Applies (Event.Expire number file) old new
-unfolding applied messages_of timer_expired
+unfolding applied messages_of
 expire_one old told new number file key there k e tells serves world s =
     let told_world : World = happened world (Fact.Expired number file) in
     let has : Bool = has_file world.server file in

@@ -80,7 +80,7 @@ popped_reply old new number reply only seats there world s = grind arith
 pub sent_stands : (old new : Seen) (number : ℕ) (request : code_request.Request) → OnlySeats old new
     → ChangesSeat (λ before after. after ≡ with_requests (request ∷ []) before) number old.seats new.seats
     → (world : World) → Stands old world → Stands new (requests_sent world number (request_of request ∷ []))
-unfolding requests_sent put
+unfolding put
 sent_stands old new number request only seats world s = record {
   count = s.count ∙ sym seats.2;
   server = ap server_of only.0 ∙ s.server;

@@ -44,14 +44,12 @@ happened_says world fact = ap speaking (reverse-append (fact ∷ []) world.past)
 
 served_says : (world : World) (progress : Progress)
     → said (served world progress) ≡ said world + length (sent_among progress.outs)
-unfolding served
 served_says world progress =
     let d = delivers (record world { server = progress.server }) progress.outs in
     ap speaking d.past ∙ (speaking_both (reverse world.past) (map told progress.outs)
     ∙ ap (λ (n : ℕ). said world + n) (sent_speak progress.outs))
 
 stepped_says : (world : World) (client : ℕ) (step : Step) → said (stepped_in world client step) ≡ said world
-unfolding stepped_in requests_sent
 stepped_says world client step =
     let n = notes_told (requests_sent (record world { clients = put world.clients client step.client }) client step.requests)
     client step.notes in
@@ -75,7 +73,7 @@ client_says world client (reply ∷ queue) =
 
 cut_says : (world : World) (client : ℕ) (link : Link)
     → said (cut_over world client link) ≡ said world + length (sent_by_cut world client link)
-unfolding link_cut speaking
+unfolding speaking
 cut_says world client Link.Down = omega arith
 cut_says world client Link.Cut = omega arith
 cut_says world client Link.Up =
@@ -88,7 +86,6 @@ cut_says world client Link.Up =
     ∙ ap (λ (n : ℕ). n + length (sent_by_cut world client Link.Up)) (happened_says next (Fact.Dropped client) ∙ omega arith)
 
 notice_says : (world : World) (client : ℕ) (link : Link) → said (notice_over world client link) ≡ said world
-unfolding link_noticed
 notice_says world client Link.Down = refl
 notice_says world client Link.Up = refl
 notice_says world client Link.Cut = stepped_says (record world { links = put world.links client Link.Down }) client
@@ -96,7 +93,7 @@ notice_says world client Link.Cut = stepped_says (record world { links = put wor
 
 connect_says : (world : World) (client : ℕ) (link : Link)
     → said (connect_over world client link) ≡ said world + length (sent_by_join world client link)
-unfolding link_connected speaking
+unfolding speaking
 connect_says world client Link.Up = omega arith
 connect_says world client Link.Cut = omega arith
 connect_says world client Link.Down =
@@ -113,7 +110,7 @@ scavenge_says world (Some file_id) = served_says world (called world.server (Cal
 
 expire_says : (world : World) (client file : ℕ) → said (timer_expired world client file)
     ≡ said world + length (sent_among (called world.server (Call.Expire (machine_key world client file))).outs)
-unfolding timer_expired speaking
+unfolding speaking
 expire_says world client file =
     let next : World = happened world (Fact.Expired client file) in
     let outs = (called world.server (Call.Expire (machine_key world client file))).outs in
@@ -122,7 +119,7 @@ expire_says world client file =
 
 stray_says : (world : World) (client : ℕ) (request : Request) (link : Link)
     → said (strayed_over world client request link) ≡ said world
-unfolding strayed_over requests_sent speaking
+unfolding speaking
 stray_says world client request Link.Down = refl
 stray_says world client request Link.Cut = refl
 stray_says world client request Link.Up = happened_says world (Fact.Strayed client) ∙ omega arith

@@ -73,7 +73,6 @@ pub served_stands : (old new : Seen) (call : Call) (outs : List out.Out)
     → HasReplies old.seats new.seats outs → length new.seats ≡ length old.seats
     → map fact_of new.facts ≡ map fact_of old.facts ++ map fact_given outs
     → CallHasFullKey call → (world : World) → Stands old world → Stands new (served world (called world.server call))
-unfolding served
 served_stands old new call outs after replies count facts keyed world s =
     let progress : Progress = called world.server call in
     let same : called (server_of old.server) call ≡ progress = ap (λ server. called server call) s.server in
@@ -147,7 +146,7 @@ pub stepped_stands : (old new : Seen) (number : ℕ) (call : ClientCall) (notes 
     → map fact_of new.facts ≡ map fact_of old.facts ++ map (fact_noted number) notes
     → IsPresent number old.seats → CallHasFileId call → (world : World) → Stands old world
     → Stands new (stepped_in world number (client_called (world.clients number) call))
-unfolding stepped_in requests_sent put
+unfolding put
 stepped_stands old new number call notes server seats facts there fits world s =
     let (client_is, link_is, requests_are, replies_are, notes_are, guid_is) = seats.0 in
     let step : Step = client_called (world.clients number) call in

@@ -3,7 +3,7 @@
 use Rattle.lease_laws.proofs.Words.{◌==◌, ◌∷◌, ◌≡◌, Call, ClientCall, Command, Event, Fact, Link, List, None, Option, Reply}
 use Rattle.lease_laws.proofs.Words.{Request, Some, World, ℕ, [], after, applied, breaking, called, client_called, client_of}
 use Rattle.lease_laws.proofs.Words.{client_takes, connect_over, cut_over, eq-eqb, happened, happens, has_client, has_file}
-use Rattle.lease_laws.proofs.Words.{has_strayed, if◌then◌else◌, kept, link_connected, link_cut, link_noticed, machine_key, nat_le}
+use Rattle.lease_laws.proofs.Words.{has_strayed, if◌then◌else◌, kept, machine_key, nat_le}
 use Rattle.lease_laws.proofs.Words.{notice_over, put, refl, requests_sent, scavenged, served, server_takes, stepped_in}
 use Rattle.lease_laws.proofs.Words.{strayed_over, timer_expired, true}
 use Rattle.lease_laws.proofs.server.Lists.{if_cases, and_parts, true_or}
@@ -121,19 +121,16 @@ client_takes_form P h world client (reply ∷ queue) some e p = h.reply world cl
 
 cut_form : (P : World → Type 0) → HasForms (Keeps P) → (world : World) (client : ℕ) (link : Link)
     → nat_le 1 client ≡ true → world.links client ≡ link → P world → P (cut_over world client link)
-unfolding link_cut
 cut_form P h world client Link.Up some e p = h.cut world client some e p
 cut_form P h world client link some e p = p
 
 notice_form : (P : World → Type 0) → HasForms (Keeps P) → (world : World) (client : ℕ) (link : Link)
     → nat_le 1 client ≡ true → world.links client ≡ link → P world → P (notice_over world client link)
-unfolding link_noticed
 notice_form P h world client Link.Cut some e p = h.notice world client some e p
 notice_form P h world client link some e p = p
 
 connect_form : (P : World → Type 0) → HasForms (Keeps P) → (world : World) (client : ℕ) (link : Link)
     → nat_le 1 client ≡ true → world.links client ≡ link → P world → P (connect_over world client link)
-unfolding link_connected
 connect_form P h world client Link.Down some e p = h.connect world client some e p
 connect_form P h world client link some e p = p
 
@@ -144,7 +141,7 @@ scavenged_form P h world (Some file_id) p = h.scavenge world file_id p
 
 strayed_form : (P : World → Type 0) → HasForms (Keeps P) → (world : World) (client : ℕ) (request : Request) (link : Link)
     → nat_le 1 client ≡ true → world.links client ≡ link → P world → P (strayed_over world client request link)
-unfolding strayed_over has_strayed
+unfolding has_strayed
 strayed_form P h world client request Link.Up some e p = h.stray (happened world (Fact.Strayed client)) client request some e
     (true_or (client == client) (has_strayed client world.past) (eq-eqb client client refl))
     (h.told world client (Fact.Strayed client) some refl p)
@@ -152,7 +149,7 @@ strayed_form P h world client request link some e p = p
 
 applied_form : (P : World → Type 0) → HasForms (Keeps P) → (world : World) (event : Event)
     → nat_le 1 (client_of event) ≡ true → P world → P (applied world event)
-unfolding applied timer_expired
+unfolding applied
 applied_form P h world (Event.App client command) some p = h.command world client command some p
 applied_form P h world (Event.ServerTakes client) some p =
     server_takes_form P h world client (world.requests client) some refl p
