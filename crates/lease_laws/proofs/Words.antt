@@ -137,10 +137,10 @@ pub use Rattle.lease_model.specs.values.Sharing.{may_read, may_write, same_acces
 unfoldable pub use Rattle.lease_model.specs.values.Tables.{numbered, put, put_key}
 pub use Rattle.lease_model.specs.world.Allowed.{is_content}
 unfoldable pub use Rattle.lease_model.specs.world.Allowed.{is_allowed_setup}
-pub use Rattle.lease_model.specs.world.Events.{Event, client_of, client_takes, connect_over, cut_over, link_connected}
-pub use Rattle.lease_model.specs.world.Events.{link_cut, link_noticed, machine_key, notice_over, scavenged, served}
-pub use Rattle.lease_model.specs.world.Events.{server_takes, stepped_in, strayed_over, timer_expired}
-unfoldable pub use Rattle.lease_model.specs.world.Events.{after, applied, happens}
+pub use Rattle.lease_model.specs.world.Events.{Event, applied, client_of, client_takes, connect_over, cut_over, happens}
+pub use Rattle.lease_model.specs.world.Events.{link_connected, link_cut, link_noticed, machine_key, notice_over, scavenged}
+pub use Rattle.lease_model.specs.world.Events.{served, server_takes, stepped_in, strayed_over, timer_expired}
+unfoldable pub use Rattle.lease_model.specs.world.Events.{after}
 pub use Rattle.lease_model.specs.world.World.{Link, Setup, World, delivered, fact_of, happened, has_client, requests_sent}
 pub use Rattle.lease_model.specs.world.World.{sent_over}
 unfoldable pub use Rattle.lease_model.specs.world.World.{all_delivered, first_world, noted, starts_from}

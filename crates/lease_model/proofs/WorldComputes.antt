@@ -9,6 +9,6 @@ use Rattle.lease_model.proofs.ClientComputes.{the_client}
 use Rattle.lease_model.proofs.RecordsCompute.{the_records}
 
 unfoldable pub the_world : ⊤
-unfolding the_server the_client the_records are_apart is_allowed_setup are_too_many applied happens after starts_from
-    first_world all_delivered noted
+unfolding the_server the_client the_records are_apart is_allowed_setup are_too_many after starts_from first_world
+    all_delivered noted
 the_world = tt

@@ -83,7 +83,8 @@ contents_moves world (Move.Told client fact) is g h = λ file. h file ∙ sym (t
 contents_moves world (Move.Step step) next g h = step_deed world HasContents (deeds_contents world h) step next
 contents_moves world (Move.Expire client file) (on, breaks) g h = h
 contents_moves world (Move.Scavenge file_id) may g h = h
-contents_moves world (Move.Connect client) down g h = stepped_contents (come_back world client) client (connection_made (world.clients client)) h
+contents_moves world (Move.Connect client) down g h =
+    stepped_contents (come_back world client) client (connection_made (world.clients client)) h
 contents_moves world (Move.Commanded client command) may g h =
     stepped_contents world client (commanded (world.clients client) command) h
 contents_moves world (Move.Take client reply queue) first g h =

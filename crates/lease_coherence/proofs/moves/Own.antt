@@ -404,17 +404,20 @@ own_moves V A ground k world (Move.Scavenge file_id) may v a = λ c good. k.drop
     (λ one e. not_parts one.connected (and_parts (one.file_id == file_id) (not one.connected) e).1) (a c good)
 own_moves V A ground k world (Move.Connect client) down v a = moved_all V A k world (connected world client) client v a
     (then_later world.past (come_back world client).past (connected world client).past
-    (later_fact world.past (Fact.Joined client)) (stepped_later (come_back world client) client (connection_made (world.clients client))))
+    (later_fact world.past (Fact.Joined client))
+    (stepped_later (come_back world client) client (connection_made (world.clients client))))
     (λ g x. k.connect world client v g down x)
     (λ c ne. unmoved_then world (come_back world client) _ c (unmoved_back world client c ne)
     (unmoved_stepped (come_back world client) client (connection_made (world.clients client)) c ne))
 own_moves V A ground k world (Move.Commanded client command) may v a = moved_all V A k world _ client v a
     (stepped_later world client (commanded (world.clients client) command))
-    (λ g x. k.command world client command v g x) (λ c ne. unmoved_stepped world client (commanded (world.clients client) command) c ne)
+    (λ g x. k.command world client command v g x)
+    (λ c ne. unmoved_stepped world client (commanded (world.clients client) command) c ne)
 own_moves V A ground k world (Move.Take client reply queue) first v a =
     moved_all V A k world (reply_taken world client reply queue) client v a
     (then_later world.past (reply_gone world client queue).past (reply_taken world client reply queue).past
-    (later_fact world.past (Fact.Took client)) (stepped_later (reply_gone world client queue) client (taken (world.clients client) reply)))
+    (later_fact world.past (Fact.Took client))
+    (stepped_later (reply_gone world client queue) client (taken (world.clients client) reply)))
     (λ g x. k.take world client reply queue v g first x)
     (λ c ne. unmoved_then world (reply_gone world client queue) _ c (unmoved_gone world client queue c ne)
     (unmoved_stepped (reply_gone world client queue) client (taken (world.clients client) reply) c ne))

@@ -113,7 +113,7 @@ strayed_over world client request Link.Up =
 strayed_over world client request link = world
 
 -- what an event does that names a client of the setup; where it doesn't apply it does nothing
-unfoldable pub applied : World → Event → World
+abbrev pub applied : World → Event → World
 applied world (Event.App client command) =
     stepped_in world client (commanded (world.clients client) command)
 applied world (Event.ServerTakes client) = server_takes world client (world.requests client)
@@ -142,7 +142,7 @@ client_of (Event.Scavenge client file) = client
 client_of (Event.Raw client request) = client
 
 -- An event happens; one of a client that the setup lacks does nothing.
-unfoldable pub happens : World → Event → World
+abbrev pub happens : World → Event → World
 happens world event = if has_client world (client_of event) then applied world event else world
 
 unfoldable pub after : World → List Event → World

@@ -34,7 +34,7 @@ same_seats old new number x4 only seats same world s = grind arith
 pub server_took_nothing : (old new : Seen) (number : ℕ) → OnlySeats old new
     → ChangesSeat (PopsRequest None) number old.seats new.seats → IsPresent number old.seats
     → Applies (Event.ServerTakes number) old new
-unfolding applied messages_of
+unfolding messages_of
 server_took_nothing old new number only seats there world s =
     let (same, none) = seats.0 in
     subst (λ (rs : List Request). Stands new (server_takes world number rs) × Keeps (sent_by_oldest world number rs) old new)
@@ -44,7 +44,7 @@ server_took_nothing old new number only seats there world s =
 pub server_took : (old middle new : Seen) (number : ℕ) (request : code_request.Request) → OnlySeats old middle
     → ChangesSeat (PopsRequest (Some request)) number old.seats middle.seats → IsPresent number old.seats
     → Serves (Call.Receive number (request_of request)) middle new → Applies (Event.ServerTakes number) old new
-unfolding applied messages_of
+unfolding messages_of
 server_took old middle new number request only seats there serves world s =
     let p = popped_request old middle number request only seats there world s in
     let served = serves (request_keys number request) _ p.1 in
@@ -54,7 +54,7 @@ server_took old middle new number request only seats there serves world s =
 pub client_took_nothing : (old new : Seen) (number : ℕ) → OnlySeats old new
     → ChangesSeat (PopsReply None) number old.seats new.seats → IsPresent number old.seats
     → Applies (Event.ClientTakes number) old new
-unfolding applied messages_of
+unfolding messages_of
 client_took_nothing old new number only seats there world s =
     let (same, none) = seats.0 in
     subst (λ (rs : List Reply). Stands new (client_takes world number rs) × Keeps (oldest rs) old new)
@@ -72,7 +72,7 @@ pub client_took : (old middle kept told new : Seen) (number : ℕ) (reply : code
     → kept ≡ record middle { messages = kept.messages } → HasKept middle.messages kept.messages (reply ∷ [])
     → Tells (Fact.Took number) kept told → StepsIn number (ClientCall.Taken (reply_of reply)) told new
     → Applies (Event.ClientTakes number) old new
-unfolding applied messages_of
+unfolding messages_of
 client_took old middle kept told new number reply only seats there fits alike keeps tells steps world s =
     let p = popped_reply old middle number reply only seats there world s in
     subst (λ (rs : List Reply). Stands new (client_takes world number rs) × Keeps (oldest rs) old new) (sym p.0) (
@@ -98,7 +98,7 @@ not_cut old world number code.TheVariants.Cut e s = (s, quiet_keeps old old refl
 
 pub cut_nothing : (old : Seen) (number : ℕ) → IsPresent number old.seats
     → is_link (seat_in old.seats number).link code.TheVariants.Up ≡ false → Applies (Event.Cut number) old old
-unfolding applied messages_of
+unfolding messages_of
 cut_nothing old number there e world s =
     subst (λ (l : Link). Stands old (cut_over world number l) × Keeps (sent_by_cut world number l) old old)
     (s.seats number there).link (not_cut old world number (seat_in old.seats number).link e s)
@@ -107,7 +107,7 @@ pub cut_one : (old middle told new : Seen) (number : ℕ) → IsPresent number o
     → is_link (seat_in old.seats number).link code.TheVariants.Up ≡ true
     → CutsLink number old middle → Tells (Fact.Dropped number) middle told → Serves (Call.Cut number) told new
     → Applies (Event.Cut number) old new
-unfolding applied messages_of
+unfolding messages_of
 cut_one old middle told new number there e cuts tells serves world s =
     let served = serves tt _ (tells.1 _ (cuts.1 world s)) in
     subst (λ (l : Link). Stands new (cut_over world number l) × Keeps (sent_by_cut world number l) old new)
@@ -120,7 +120,7 @@ not_noticed old world number x4 e s = grind arith
 
 pub notice_nothing : (old : Seen) (number : ℕ) → IsPresent number old.seats
     → is_link (seat_in old.seats number).link code.TheVariants.Cut ≡ false → Applies (Event.Notice number) old old
-unfolding applied messages_of
+unfolding messages_of
 notice_nothing old number there e world s = (
   subst (λ (l : Link). Stands old (notice_over world number l)) (s.seats number there).link
       (not_noticed old world number (seat_in old.seats number).link e s),
@@ -130,7 +130,7 @@ notice_nothing old number there e world s = (
 pub notice_one : (old middle new : Seen) (number : ℕ) → IsPresent number old.seats
     → is_link (seat_in old.seats number).link code.TheVariants.Cut ≡ true
     → Links number Link.Down old middle → StepsIn number ClientCall.Noticed middle new → Applies (Event.Notice number) old new
-unfolding applied messages_of
+unfolding messages_of
 notice_one old middle new number there e links steps world s = (
   subst (λ (l : Link). Stands new (notice_over world number l)) (sym (known_link old number code.TheVariants.Cut there world s e))
       (steps.1 tt _ (links.1 world s)),
@@ -146,7 +146,7 @@ not_connected old world number code.TheVariants.Cut e s = (s, quiet_keeps old ol
 
 pub connect_nothing : (old : Seen) (number : ℕ) → IsPresent number old.seats
     → is_link (seat_in old.seats number).link code.TheVariants.Down ≡ false → Applies (Event.Connect number) old old
-unfolding applied messages_of
+unfolding messages_of
 connect_nothing old number there e world s =
     subst (λ (l : Link). Stands old (connect_over world number l) × Keeps (sent_by_join world number l) old old)
     (s.seats number there).link (not_connected old world number (seat_in old.seats number).link e s)
@@ -159,7 +159,7 @@ pub connect_one : (old middle told joined new : Seen) (number : ℕ) → IsPrese
     → is_link (seat_in old.seats number).link code.TheVariants.Down ≡ true
     → Links number Link.Up old middle → Tells (Fact.Joined number) middle told → Serves (Call.Join number) told joined
     → StepsIn number ClientCall.Connected joined new → Applies (Event.Connect number) old new
-unfolding applied messages_of
+unfolding messages_of
 connect_one old middle told joined new number there e links tells serves steps world s =
     let up : World = happened (record world { links = put world.links number Link.Up }) (Fact.Joined number) in
     let come : World = served up (called world.server (Call.Join number)) in
@@ -182,7 +182,7 @@ not_strayed old world number request x5 e s = grind arith
 
 pub stray_nothing : (old : Seen) (number : ℕ) (request : Request) → IsPresent number old.seats
     → is_link (seat_in old.seats number).link code.TheVariants.Up ≡ false → Applies (Event.Raw number request) old old
-unfolding applied messages_of
+unfolding messages_of
 stray_nothing old number request there e world s = (
   subst (λ (l : Link). Stands old (strayed_over world number request l)) (s.seats number there).link
       (not_strayed old world number request (seat_in old.seats number).link e s),
@@ -192,7 +192,7 @@ stray_nothing old number request there e world s = (
 pub stray_one : (old told new : Seen) (number : ℕ) (request : Request) → IsPresent number old.seats
     → is_link (seat_in old.seats number).link code.TheVariants.Up ≡ true
     → Tells (Fact.Strayed number) old told → Sends number request told new → Applies (Event.Raw number request) old new
-unfolding applied messages_of
+unfolding messages_of
 stray_one old told new number request there e tells sends world s = (
   subst (λ (l : Link). Stands new (strayed_over world number request l)) (sym
       (known_link old number code.TheVariants.Up there world s e)) (sends.1 _ (tells.1 world s)),
@@ -229,7 +229,7 @@ pub expire_nothing : (old : Seen) (number file : ℕ) (key : List ℕ) → IsPre
     → key ≡ lease_key (seat_in old.seats number).guid file
     → (is_some (content (server_of old.server) file) && breaking (server_of old.server) (key_of number key)) ≡ false
     → Applies (Event.Expire number file) old old
-unfolding applied messages_of
+unfolding messages_of
 expire_nothing old number file key there k e world s =
     let has : Bool = has_file world.server file in
     let waiting : Bool = breaking world.server (machine_key world number file) in
@@ -245,7 +245,7 @@ pub expire_one : (old told new : Seen) (number file : ℕ) (key : List ℕ) → 
     → (is_some (content (server_of old.server) file) && breaking (server_of old.server) (key_of number key)) ≡ true
     → Tells (Fact.Expired number file) old told → Serves (Call.Expire (key_of number key)) told new
     → Applies (Event.Expire number file) old new
-unfolding applied messages_of
+unfolding messages_of
 expire_one old told new number file key there k e tells serves world s =
     let told_world : World = happened world (Fact.Expired number file) in
     let has : Bool = has_file world.server file in
@@ -263,7 +263,7 @@ expire_one old told new number file key there k e tells serves world s =
 
 pub scavenge_nothing : (old : Seen) (number file : ℕ) → kept (server_of old.server) number file ≡ None
     → Applies (Event.Scavenge number file) old old
-unfolding applied messages_of
+unfolding messages_of
 scavenge_nothing old number file e world s =
     let none : kept world.server number file ≡ None = ap (λ (t : Server). kept t number file) (sym s.server) ∙ e in
     subst (λ (o : Option ℕ). Stands old (scavenged world o) × Keeps (sent_by_scavenge world o) old old) (sym none)
@@ -271,7 +271,7 @@ scavenge_nothing old number file e world s =
 
 pub scavenge_one : (old new : Seen) (number file fid : ℕ) → kept (server_of old.server) number file ≡ Some fid
     → Serves (Call.Scavenge fid) old new → Applies (Event.Scavenge number file) old new
-unfolding applied messages_of
+unfolding messages_of
 scavenge_one old new number file fid e serves world s = grind arith
 
 -- ---- any event
@@ -282,7 +282,7 @@ has_it old number b e world s = rw s.count e
 
 pub nothing_happens : (old : Seen) (number : ℕ) (event : Event) → number ≡ client_of event
     → (nat_le 1 number && nat_le number (length old.seats)) ≡ false → Happens event old old
-unfolding happens messages_in
+unfolding messages_in
 nothing_happens old number event n e world s =
     let has : (nat_le 1 (client_of event) && nat_le (client_of event) world.count) ≡ false =
     subst (λ (m : ℕ). (nat_le 1 m && nat_le m world.count) ≡ false) n (has_it old number false e world s) in
@@ -290,7 +290,7 @@ nothing_happens old number event n e world s =
 
 pub event_happens : (old new : Seen) (number : ℕ) (event : Event) → number ≡ client_of event
     → (nat_le 1 number && nat_le number (length old.seats)) ≡ true → Applies event old new → Happens event old new
-unfolding happens messages_in
+unfolding messages_in
 event_happens old new number event n e applies world s = grind arith
 
 -- the same of an event that names the number of its client, where a call says so if it succeeds
@@ -304,5 +304,5 @@ told_happens result old new number client tells same named has applies = on_ok_w
 
 pub command_applies : (old new : Seen) (number : ℕ) (command : Command) → StepsIn number (ClientCall.Commanded command) old new
     → Applies (Event.App number command) old new
-unfolding applied messages_of
+unfolding messages_of
 command_applies old new number command steps world s = (steps.1 tt world s, quiet_keeps old new steps.0)

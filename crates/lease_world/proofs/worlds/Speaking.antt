@@ -130,7 +130,7 @@ if_says : (b c : Bool) (world other : World) (messages : List Reply) → said ot
 if_says x1 x2 world other messages e = grind arith
 
 applied_says : (world : World) (event : Event) → said (applied world event) ≡ said world + length (messages_of world event)
-unfolding applied messages_of
+unfolding messages_of
 applied_says world (Event.App client command) = stepped_says world client _ ∙ omega arith
 applied_says world (Event.ServerTakes client) = server_says world client (world.requests client)
 applied_says world (Event.ClientTakes client) = client_says world client (world.replies client)
@@ -144,7 +144,7 @@ applied_says world (Event.Scavenge client file) = scavenge_says world (kept worl
 applied_says world (Event.Raw client request) = stray_says world client request (world.links client) ∙ omega arith
 
 happens_says : (world : World) (event : Event) → said (happens world event) ≡ said world + length (messages_in world event)
-unfolding happens messages_in
+unfolding messages_in
 happens_says world event = go (has_client world (client_of event))
   where
     go : (b : Bool) → said (if b then applied world event else world)

@@ -149,7 +149,6 @@ strayed_form P h world client request link some e p = p
 
 applied_form : (P : World → Type 0) → HasForms (Keeps P) → (world : World) (event : Event)
     → nat_le 1 (client_of event) ≡ true → P world → P (applied world event)
-unfolding applied
 applied_form P h world (Event.App client command) some p = h.command world client command some p
 applied_form P h world (Event.ServerTakes client) some p =
     server_takes_form P h world client (world.requests client) some refl p
@@ -167,7 +166,6 @@ applied_form P h world (Event.Raw client request) some p = strayed_form P h worl
 
 pub kept_by_event : (P : World → Type 0) → HasForms (Keeps P) → (world : World) (event : Event) → P world
     → P (happens world event)
-unfolding happens
 kept_by_event P h world event p = if_cases P (has_client world (client_of event)) (applied world event) world
     (λ has. applied_form P h world event (and_parts _ _ has).0 p) (λ lacks. p)
 
