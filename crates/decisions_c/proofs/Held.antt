@@ -8,7 +8,7 @@ use Rattle.decisions_c.specs.declared.tables.LeaseOpen.{LeaseOpen}
 
 with_one : (test : Open → Bool) (one : Option Open) (opens : List Open)
     → list_any test (before_opens one opens) ≡ (holds_of test one || list_any test opens)
-with_one test x2 opens = grind arith
+with_one test one opens = grind arith
 
 -- an open passes the test where one of those in the table does
 pub any_held : (test : Open → Bool) (opens : List LeaseOpen) → list_any test (opens_held opens) ≡ list_any (holds_at test) opens

@@ -32,7 +32,7 @@ want_at wish server key = record { key = key; lowered = lowered_for wish (server
 
 wants_are : (wish : Wish) (server : Server) (own : Option Key)
     → wants_where server (is_wanted wish server own) (lowered_for wish) ≡ wants_for wish server own
-wants_are x1 server own = grind arith
+wants_are wish server own = grind arith
 
 -- ---- the want of a key
 
@@ -65,7 +65,7 @@ lookup make key (want ∷ wants) b named each there none = either (key_eq key wa
     (λ e. rw e (lookup make key wants b named (λ w a. each w (inr a)) (λ t. behind e (there t)) (λ f w a. none f w (inr a))))
   where
     here : (c : Bool) → key ≡ want.key → (c ≡ false → ⊥) → Some want ≡ (if c then Some (make key) else None)
-    here x1 same never = grind arith
+    here c same never = grind arith
 
     behind : key_eq key want.key ≡ false → Among (make key) (want ∷ wants) → Among (make key) wants
     behind e (inl same) = absurd (clash (key_eq key want.key)
@@ -101,7 +101,7 @@ wanted_sees NoWrites server own one t = (and_parts (is_other_on own 1 one) (leas
 wanted_sees Nothing server own one t = (and_parts (is_other_on own 1 one) (holds_any (lease_of server one).state) t).1
 
 sees_none : (wish : Wish) → sees wish nothing_cached ≡ false
-sees_none x1 = grind arith
+sees_none wish = grind arith
 
 has_some_key : (wish : Wish) (server : Server) (client : ℕ) (bytes : Option (List ℕ))
     → sees wish (lease_by server client bytes).state ≡ true → (key : Key) × (is_key key client bytes ≡ true)
@@ -109,7 +109,7 @@ has_some_key wish server client None s = absurd (true≢false (sym s ∙ sees_no
 has_some_key wish server client (Some bytes) s = (key_of client bytes, is_key-refl client bytes)
 
 some_there : (want : Want) (wants : List Want) → Among want wants → is_empty wants ≡ false
-some_there want x2 a = grind arith
+some_there want wants a = grind arith
 
 none_there : (wants : List Want) → ((want : Want) → Among want wants → ⊥) → is_empty wants ≡ true
 none_there [] none = refl
@@ -138,7 +138,7 @@ not_elsewhere_at key (one ∷ opens) = with_access (access_of_bits one.access) (
         → list_any (λ (o : Open). has_key key o && not (o.file == 1)) (opens_held opens) ≡ false
         → list_any (λ (o : Open). has_key key o && not (o.file == 1)) (before_opens (open_with one access) (opens_held opens))
         ≡ false
-    with_access x1 later = grind arith
+    with_access access later = grind arith
 
 pub not_elsewhere : (own : Option Key) (opens : List LeaseOpen) (server : Server) → server.opens ≡ opens_held opens
     → is_leased_elsewhere server own 1 ≡ false

@@ -27,7 +27,7 @@ lease_is_held key expired lease = by_parts lease.state lease.broken_to
 
 judged_status : (key : Key) (state : State) (broken_to : Option State) (server : Server)
     → status_out (judged key state broken_to (begun server)).outs ≡ Some (acknowledged_status state broken_to)
-judged_status key state x3 server = grind arith
+judged_status key state broken_to server = grind arith
 
 judged_lease : (key : Key) (state : State) (broken_to : Option State) (server : Server)
     → (judged key state broken_to (begun server)).server.leases key ≡ lease_acknowledged state (server.leases key) broken_to

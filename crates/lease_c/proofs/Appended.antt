@@ -78,7 +78,7 @@ last_within end place last zero (byte ∷ bytes) before ends =
         → (next ≢ 0 → IfSome (last_among place (items_behind (place + next) (next - 1) bytes)) (λ found. found ≤ end))
         → IfSome (last_among last (item_before fault (context_at place (byte ∷ bytes)) next
         (items_behind (place + next) (next - 1) bytes))) (λ found. found ≤ end)
-    due x1 later = grind arith
+    due fault later = grind arith
 last_within end place last (suc skipped) (byte ∷ bytes) before ends = last_within end place last skipped bytes before
     (omega (arith, ends))
 

@@ -18,7 +18,7 @@ pub state_held : (s : State) → state_of_bits (bits_of_state s) ≡ s
 state_held s = grind arith
 
 pub flag_held : (b : Bool) → is_set (flag_of b) ≡ b
-flag_held x1 = grind arith
+flag_held b = grind arith
 
 pub notice_is_held : (v : Notice) → notice_held (notice_fields v) ≡ v
 notice_is_held v = rw (flag_held v.ack_required, state_held v.current, state_held v.new) refl

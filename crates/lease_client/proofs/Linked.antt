@@ -110,10 +110,10 @@ notes_more turn entries k = rw (add-one k) (flat_map_more (noted turn entries) [
 
 pub linked_is : (client : Client) (link : Link)
     → linked client link ≡ all_turned client (is_made link) (link_turn link client.guid)
-linked_is client x2 = grind arith
+linked_is client link = grind arith
 
 pub leaves_closed : (link : Link) (guid : List ℕ) → LeavesClosed (link_turn link guid)
-leaves_closed x1 guid file = grind arith
+leaves_closed link guid file = grind arith
 
 -- ---- one turn more of the machine
 

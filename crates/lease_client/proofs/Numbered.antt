@@ -21,7 +21,7 @@ step : (number : ℕ) (write : Pending) (writes : List Pending) (other : Pending
     → is_numbered number write ≡ here → IsTaken number writes other place
     → IsTaken number (write ∷ writes) other (cond here (Some 0) (option_map (λ n. suc n) place))
 unfolding sent_without
-step number write writes other x5 place e taken = grind arith
+step number write writes other here place e taken = grind arith
 
 taken_out : (number : ℕ) (writes : List Pending) (other : Pending) → IsTaken number writes other (place_in number writes)
 unfolding sent_without

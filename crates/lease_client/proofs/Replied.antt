@@ -30,7 +30,7 @@ not_created_nowhere known n status is = not_created_by (client_of known) n statu
 unread : (short other : Bool) (notice : Option BreakNotice) (fault one two : WireFault)
     → Some fault ≡ (if short then Some one else if other then None else Some two)
     → (if not short && other then notice else None) ≡ None
-unread x1 other notice fault one two is = grind arith
+unread short other notice fault one two is = grind arith
 
 pub no_notice : (bytes : List ℕ) (fault : WireFault) → Some fault ≡ message_fault 44 bytes → notice_in bytes ≡ None
 unfolding notice_in

@@ -78,11 +78,11 @@ commands_raise_none client = any_command client (λ step. NoneRose client step.c
 -- ---- replies
 
 either_free : (here free : Bool) → (here && free) ≡ false → (here ≡ false) ⊎ (free ≡ false)
-either_free x1 free is = grind arith
+either_free here free is = grind arith
 
 -- a create that tells of a break in progress gives nothing
 given_none : (key : List ℕ) (given : Option LeaseGiven) → is_free given ≡ false → given_state key given ≡ nothing_cached
-given_none key x2 free = grind arith
+given_none key given free = grind arith
 
 given_within : (key : List ℕ) (given : Option LeaseGiven) (state : State) → is_free given ≡ false
     → is_state_within (given_state key given) state ≡ true
@@ -90,7 +90,7 @@ given_within key given state free = rw (given_none key given free) refl
 
 promoted_within : (key : List ℕ) (given : Option LeaseGiven) (state : State) → is_free given ≡ false
     → is_state_within (promoted_belief key state given) state ≡ true
-promoted_within key x2 state free = grind arith
+promoted_within key given state free = grind arith
 
 -- what a reply to a create makes of an entry, where it grants it nothing
 create_rises : (client : Client) (file file_id : ℕ) (answer : CreateAnswer) (turn : Turn)
@@ -103,10 +103,10 @@ create_rises client file file_id answer turn lower n other = elim (either_free (
 
 -- an entry without its open believes nothing
 gone_lower : (phase : Phase) (asking : Option Asked) (sent : List Pending) → IsLower phase (belief_of (without_open asking sent))
-gone_lower phase x2 sent = grind arith
+gone_lower phase asking sent = grind arith
 
 kept_belief : (write : Option Pending) (phase : Phase) → belief_in (phase_with write phase) ≡ belief_in phase
-kept_belief write x2 = grind arith
+kept_belief write phase = grind arith
 
 pub replies_raise : (client : Client) (reply : Reply) → RoseBy reply client (taken client reply).client
 replies_raise client = any_reply client (λ reply step. RoseBy reply client step.client) (record {

@@ -17,7 +17,7 @@ call_of Lost = ClientCall.Noticed
 call_of Made = ClientCall.Connected
 
 called_is : (client : Client) (link : Link) → linked client link ≡ client_called client (call_of link)
-called_is client x2 = grind arith
+called_is client link = grind arith
 
 pub sound_linked : ClientsStaySound → (client : Client) (link : Link) (after : Client) → IsSoundClient client
     → after ≡ (linked client link).client → IsSoundClient after

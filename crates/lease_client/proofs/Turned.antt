@@ -82,7 +82,7 @@ nothing_after known answer given is = rw is (record { client = refl; answer = re
 -- ---- a refused command
 
 unsaid_if : (same : Bool) (file : ℕ) (new : State) → (if same then [] else Note.Believes file new ∷ []) ≡ [] → same ≡ true
-unsaid_if x1 file new none = grind arith
+unsaid_if same file new none = grind arith
 
 unsaid : (notes : List Note) (file : ℕ) (old new : State) → notes ++ believes_noted file old new ≡ [] → same_state old new ≡ true
 unsaid [] file old new none = unsaid_if (same_state old new) file new none

@@ -67,13 +67,13 @@ flaw_of place w t s l d = if not w then Verdict.Malformed place else (if t then 
     else Verdict.Safe))))
 
 malformed-of : (n p : ℕ) (w t s l d : Bool) → flaw_of n w t s l d ≡ Verdict.Malformed p → (p ≡ n) × (w ≡ false)
-malformed-of n p x3 t s l d e = grind arith
+malformed-of n p w t s l d e = grind arith
 
 abbrev ByRule : ℕ → Bool → Bool → Bool → Bool → Type 0
 ByRule r t s l d = ((r ≡ 1) × (t ≡ true)) ⊎ (((r ≡ 2) × (s ≡ true)) ⊎ (((r ≡ 3) × (l ≡ true)) ⊎ ((r ≡ 4) × (d ≡ true))))
 
 unsafe-of : (n p r : ℕ) (w t s l d : Bool) → flaw_of n w t s l d ≡ Verdict.Unsafe p r → (p ≡ n) × ByRule r t s l d
-unsafe-of n p r x4 t s l d e = grind arith
+unsafe-of n p r w t s l d e = grind arith
 
 -- ---- the fact at an index
 

@@ -10,7 +10,7 @@ use Rattle.lease_reasons.specs.Places.{last_place, first_place, earlier}
 use Rattle.lease_reasons.specs.declared.marks.Mark.TheVariants as mark
 
 here_or_before : (b r : Bool) (n : ℕ) (before : Option ℕ) → is_some before ≡ r → is_some (if b then Some n else before) ≡ (b || r)
-here_or_before x1 r n before e = grind arith
+here_or_before b r n before e = grind arith
 
 pub started_place : (file : FileNo) (past : List Fact) → is_some (last_place (fits (mark.Start file)) past) ≡ is_started file.0
     past
@@ -66,12 +66,12 @@ first-inside test behind (fact ∷ past) place e =
   where
     go : (before : Option ℕ) (b : Bool) → (before ≡ Some place → place ≤ length past)
         → earlier before (if b then Some (length past + 1) else None) ≡ Some place → place ≤ length past + 1
-    go x1 x2 inside e = grind arith
+    go before b inside e = grind arith
 
 -- there is one: here, or before
 first-or : (before : Option ℕ) (b r : Bool) (n : ℕ) → is_some before ≡ r
     → is_some (earlier before (if b then Some n else None)) ≡ (b || r)
-first-or x1 x2 r n e = grind arith
+first-or before b r n e = grind arith
 
 buffered-here : (client : ClientNo) (file : FileNo) (number : ℕ) (fact : Fact) (past : List Fact) (r : Bool)
     → is_some (first_place (fits (mark.Buffering client file number)) 0 past) ≡ r
@@ -115,10 +115,10 @@ touched-is : (client : ClientNo) (file : FileNo) (number : ℕ) (fact : Fact) (p
     → is_touched client.0 file.0 number (fact ∷ past)
     ≡ (fits (mark.Touch client file) fact && has_buffered client.0 file.0 number past || is_touched client.0 file.0 number past)
 unfolding fits is_touched
-touched-is client file number x4 past = grind arith
+touched-is client file number fact past = grind arith
 
 touch-or : (t h i r : Bool) → (t && h || i) ≡ true → (i ≡ true → r ≡ true) → (t || r) ≡ true
-touch-or x1 h i r e f = grind arith
+touch-or t h i r e f = grind arith
 
 -- the first that another client does to the file behind the buffered write
 pub touched-place : (client : ClientNo) (file : FileNo) (number : ℕ) (past : List Fact) (wrote : ℕ)

@@ -32,7 +32,7 @@ each-filter P t [] all = tt
 each-filter P t (x ∷ xs) all = go (t x) refl (each-filter P t xs all.1)
   where
     go : (b : Bool) → t x ≡ b → Each (λ x. P x × (t x ≡ true)) (filter t xs) → Each (λ x. P x × (t x ≡ true)) (filter t (x ∷ xs))
-    go x1 e rest = grind arith
+    go b e rest = grind arith
 
 any-append : {X : Type 0} (t : X → Bool) (xs ys : List X) → list_any t (xs ++ ys) ≡ (list_any t xs || list_any t ys)
 any-append t [] ys = refl
@@ -164,7 +164,7 @@ believed-is client file (Fact.Believes other of_file state ∷ past) = go (other
     go : (b : Bool) → believed client file past ≡ state_in (last_noted client file past)
         → (if b then state else believed client file past)
         ≡ state_in (if b then Some (record { place = length past + 1; state = state }) else last_noted client file past)
-    go x1 e = grind arith
+    go b e = grind arith
 believed-is client file (_ ∷ past) = believed-is client file past
 
 holds-write : (s : State) → s.write ≡ true → holds_any s ≡ true
@@ -180,7 +180,7 @@ noted-if_holds client file past holds = go (last_noted client file past) (sym (a
     file past)) ∙ holds)
   where
     go : (o : Option Noted) → holds_any (state_in o) ≡ true → is_some o ≡ true
-    go x1 h = grind arith
+    go o h = grind arith
 
 -- among beliefs that were gathered is that of a client that has one, and it is what the client believes
 pub any-noted : (past : List Fact) (file c : ℕ) (t : Belief → Bool) (beliefs : List Belief)
@@ -197,7 +197,7 @@ any-noted past file c t (b ∷ beliefs) each there holds good passes =
   where
     rest : (m : Bool) → list_any t (filter (may_clash past) beliefs) ≡ true
         → list_any t (if m then b ∷ filter (may_clash past) beliefs else filter (may_clash past) beliefs) ≡ true
-    rest x1 e = grind arith
+    rest m e = grind arith
 
     first : is_of c b ≡ true → list_any t (filter (may_clash past) (b ∷ beliefs)) ≡ true
     first here =
@@ -214,7 +214,7 @@ find-some t [] there none = both_ways _ refl there
 find-some t (x ∷ xs) there none = go (t x) refl (λ e n. find-some t xs e n)
   where
     go : (b : Bool) → t x ≡ b → (list_any t xs ≡ true → find t xs ≡ None → ⊥) → ⊥
-    go x1 e later = grind arith
+    go b e later = grind arith
 
 find-each : {X : Type 0} (P : X → Type 0) (t : X → Bool) (xs : List X) (found : X) → Each P xs → find t xs ≡ Some found
     → P found × (t found ≡ true)
@@ -222,7 +222,7 @@ find-each P t [] found all e = let no : ⊥ = cc in absurd no
 find-each P t (x ∷ xs) found all e = go (t x) refl (λ f. find-each P t xs found all.1 f)
   where
     go : (b : Bool) → t x ≡ b → (find t xs ≡ Some found → P found × (t found ≡ true)) → P found × (t found ≡ true)
-    go x1 h later = grind arith
+    go b h later = grind arith
 
 -- what is true of each belief that may clash
 Clashes : List Fact → ℕ → Belief → Type 0

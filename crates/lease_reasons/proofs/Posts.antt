@@ -12,7 +12,7 @@ mail sent taken = record { sent = map place_behind sent; taken = taken }
 
 joins : (b : Bool) (sent : List (List Fact)) (taken : ℕ)
     → mail (if b then [] else sent) (if b then 0 else taken) ≡ (if b then record { sent = []; taken = 0 } else mail sent taken)
-joins x1 sent taken = grind arith
+joins b sent taken = grind arith
 
 sends : (b : Bool) (sent : List (List Fact)) (taken : ℕ) (past : List Fact) → mail (if b then sent ++ past ∷ [] else sent) taken
     ≡ (if b then record { sent = map place_behind sent ++ (length past + 1) ∷ []; taken = taken } else mail sent taken)
@@ -21,7 +21,7 @@ sends false sent taken past = refl
 
 takes : (b : Bool) (sent : List (List Fact)) (taken : ℕ) → mail sent (if b then taken + 1 else taken)
     ≡ (if b then record { sent = map place_behind sent; taken = taken + 1 } else mail sent taken)
-takes x1 sent taken = grind arith
+takes b sent taken = grind arith
 
 mail-more : (client : ℕ) (fact : Fact) (past : List Fact)
     → mail_of client (fact ∷ past) ≡ mail_after client (length past + 1) fact (mail_of client past)

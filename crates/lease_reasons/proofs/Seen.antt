@@ -26,7 +26,7 @@ settled-none client n = refl
 pub settled-more : (client n : ℕ) (fact : Fact) (past : List Fact)
     → is_settled client n (fact ∷ past) ≡ (is_settled_by n (settled_told client fact) || is_settled client n past)
 unfolding is_settled
-settled-more client n x3 past = grind arith
+settled-more client n fact past = grind arith
 
 -- ---- bytes
 
@@ -37,7 +37,7 @@ start-none file = refl
 pub start-more : (file : ℕ) (fact : Fact) (past : List Fact) → start_of file (fact ∷ past) ≡ with_start file fact (start_of file
     past)
 unfolding start_of
-start-more file x2 past = grind arith
+start-more file fact past = grind arith
 
 pub changes-none : (file : ℕ) (bytes : List ℕ) → patches bytes (changes_of file []) ≡ bytes
 unfolding changes_of
@@ -77,7 +77,7 @@ pub places-more : (client file : ℕ) (whole : List Fact) (numbers : List ℕ) (
     ≡ (if is_waiting client file numbers fact then unsettled_places client file whole past ++ (length past + 1) ∷ []
     else unsettled_places client file whole past)
 unfolding unsettled_places
-places-more client file whole numbers x5 past all = grind arith
+places-more client file whole numbers fact past all = grind arith
 
 -- ---- the message that was taken last
 
@@ -107,11 +107,11 @@ none-taken client (Fact.Took other ∷ past) e = go (other == client.0) e (λ n.
     go : (b : Bool) → (if b then Some (length past + 1) else last_place (fits (mark.Taking client)) past) ≡ None
         → (last_place (fits (mark.Taking client)) past ≡ None → takings client.0 past ≡ 0)
         → (if b then takings client.0 past + 1 else takings client.0 past) ≡ 0
-    go x1 e before = grind arith
+    go b e before = grind arith
 none-taken client (Fact.Joined other ∷ past) e = go (other == client.0) (none-taken client past e)
   where
     go : (b : Bool) → takings client.0 past ≡ 0 → (if b then 0 else takings client.0 past) ≡ 0
-    go x1 z = grind arith
+    go b z = grind arith
 none-taken client (_ ∷ past) e = none-taken client past e
 
 pub unsent-if_none_taken : (client : ClientNo) (past : List Fact) → last_place (fits (mark.Taking client)) past ≡ None
@@ -178,4 +178,4 @@ pub unsent-at : (client : ClientNo) (xs : List code.Fact)
 unsent-at client xs e = go (last_sending client.0 (past_of xs)) (sym (last-mail client.0 (past_of xs)) ∙ e)
   where
     go : (o : Option (List Fact)) → option_map place_behind o ≡ None → o ≡ None
-    go x1 f = grind arith
+    go o f = grind arith

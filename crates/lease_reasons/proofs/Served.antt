@@ -10,7 +10,7 @@ use Rattle.lease_reasons.proofs.Pasts.{past-next}
 served-more : (client : ℕ) (fact : Fact) (past : List Fact)
     → is_served client (fact ∷ past) ≡ served_after client fact (is_served client past)
 unfolding is_served
-served-more client x2 past = grind arith
+served-more client fact past = grind arith
 
 pub served-none : (client : ℕ) → is_served client [] ≡ false
 unfolding is_served

@@ -24,13 +24,13 @@ use Rattle.lease_reasons.specs.declared.reason.Reason.TheVariants as reason
 use Rattle.lease_reasons.proofs.Found.{started_place, joined-place, number-place, buffered-if_touched, touched-place}
 
 some-place : (o : Option ℕ) → is_some o ≡ true → (n : ℕ) × (o ≡ Some n)
-some-place x1 e = grind arith
+some-place o e = grind arith
 
 none-place : (o : Option ℕ) → is_some o ≡ false → o ≡ None
-none-place x1 e = grind arith
+none-place o e = grind arith
 
 both-false : (a b : Bool) → (a && b) ≡ false → (a ≡ false) ⊎ ((a ≡ true) × (b ≡ false))
-both-false x1 b e = grind arith
+both-false a b e = grind arith
 
 not-false : (a : Bool) → not a ≡ false → a ≡ true
 not-false a e = grind arith
@@ -120,7 +120,7 @@ malformed-told (fact.Wrote client file number patch buffered) past e =
   where
     three : (a b c : Bool) → (a && b && not c) ≡ false
         → (a ≡ false) ⊎ (((a ≡ true) × (b ≡ false)) ⊎ ((a ≡ true) × (b ≡ true) × (c ≡ true)))
-    three x1 b c e = grind arith
+    three a b c e = grind arith
 
     used : has_number client.0 number past ≡ true
         → Told (fact_of (fact.Wrote client file number patch buffered)) past None (number_used client number past)
@@ -207,4 +207,4 @@ done-told _ past e = absurd (both_ways _ refl e)
 pub stale-told : (x : code.Fact) (past : List Fact) (told : Option Reason) → TellsRead x past told → is_stale_read (fact_of x)
     past ≡ true → Told (fact_of x) past (Some rule.FreshCachedReads) told
 unfolding is_stale_read
-stale-told x1 past told tells e = grind arith
+stale-told x past told tells e = grind arith

@@ -10,8 +10,8 @@ use Rattle.lease_texts.specs.Schedules.{client_event_line, event_line}
 
 pub fact_line_alone : (one : ClientFact) (client : ClientNo) → fact_line (client_fact one client)
     ≡ client_line (kind_of (client_fact one client)) (client_of (client_fact one client))
-fact_line_alone x1 client = grind arith
+fact_line_alone one client = grind arith
 
 pub event_line_alone : (one : ClientEvent) (client : ClientNo) → event_line (client_event one client)
     ≡ client_event_line (client_event_of (client_event one client)) (event_client (client_event one client)).0
-event_line_alone x1 client = grind arith
+event_line_alone one client = grind arith

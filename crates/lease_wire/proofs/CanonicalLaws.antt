@@ -227,7 +227,7 @@ with_reconnect (Some lease) true file_id long calm fits = (
 )
 
 calm_of : (direction : Direction) (v : CreateView) → IsDirected direction v → IfSome v.lease (λ lease. Calm direction lease)
-calm_of x1 v is = grind arith
+calm_of direction v is = grind arith
 
 pub written_holds_value : WrittenHoldsValue
 written_holds_value direction v is = by_reconnect direction v.reconnect is.file_id is.directed

@@ -12,7 +12,7 @@ pub written_state_small : (s : State) → little_number 4 (little_bytes 4 (bits_
 written_state_small s = grind arith
 
 pub flag-written : (b : Bool) → (bit_and (little_number 4 (little_bytes 4 (if b then 1 else 0))) 1 == 1) ≡ b
-flag-written x1 = grind arith
+flag-written b = grind arith
 
 pub written_flag_small : (b : Bool) → little_number 4 (little_bytes 4 (if b then 1 else 0)) ≤ 1
-written_flag_small x1 = grind arith
+written_flag_small b = grind arith

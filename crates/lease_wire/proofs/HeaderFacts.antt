@@ -17,10 +17,10 @@ pub record HeaderFits (left : ℕ) (h : Header) : Type 0 where
   pub data_within : h.data_length ≢ 0 → h.data_offset + h.data_length ≤ size_of left h
 
 or_false : (a b : Bool) → (a || b) ≡ false → (a ≡ false) × (b ≡ false)
-or_false x1 b e = grind arith
+or_false a b e = grind arith
 
 not_false : (a : Bool) → not a ≡ false → a ≡ true
-not_false x1 e = grind arith
+not_false a e = grind arith
 
 below_true : (m n : ℕ) → m < n → nat_lt m n ≡ true
 below_true m n h = grind (arith, nat_tests)

@@ -63,7 +63,7 @@ data_is piece offset x3 part is = grind arith
 
 is_data : (piece : List ℕ) (offset count : ℕ) → (count ≢ 0 → 16 ≤ offset) → (count ≢ 0 → offset + count ≤ length piece)
     → IsData piece offset count (bytes_at offset count piece)
-is_data piece offset x3 behind within = grind arith
+is_data piece offset count behind within = grind arith
 
 data_at-front : (place count : ℕ) (front others : List ℕ) → (count ≢ 0 → place + count ≤ length front)
     → bytes_at place count (front ++ others) ≡ bytes_at place count front

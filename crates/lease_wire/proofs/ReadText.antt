@@ -19,12 +19,12 @@ use Rattle.lease_wire.proofs.Values.{Adds, adds, faults, fault_in}
 -- a value that is carried on
 pub carried_ok : (r : Result CreateView WireFault) (further : CreateView → Result CreateView WireFault) (w : CreateView)
     → carried r further ≡ Ok w → (v : CreateView) × (r ≡ Ok v) × (further v ≡ Ok w)
-carried_ok x1 further w e = grind arith
+carried_ok r further w e = grind arith
 
 -- a fault comes at once or later
 carried_err : (r : Result CreateView WireFault) (further : CreateView → Result CreateView WireFault) (fault : WireFault)
     → carried r further ≡ Err fault → (r ≡ Err fault) ⊎ ((v : CreateView) × (r ≡ Ok v) × (further v ≡ Err fault))
-carried_err x1 further fault e = grind arith
+carried_err r further fault e = grind arith
 
 -- the bytes from a place on are laid out, and what they hold gives the value
 pub record LaidFrom (direction : Direction) (start : ℕ) (bytes : List ℕ) (before : List ContextView) (w : CreateView) : Type 0
@@ -38,7 +38,7 @@ pub record LaidFrom (direction : Direction) (start : ℕ) (bytes : List ℕ) (be
 pub laid_on : (start next : ℕ) (piece : List ℕ) (pieces : List (List ℕ)) (context : ContextView) (contexts : List ContextView)
     → IsContext start piece context → LeadsOn piece → length piece ≡ next
     → AreLaidOut (start + next) pieces contexts → AreLaidOut start (piece ∷ pieces) (context ∷ contexts)
-laid_on start next piece x4 context contexts is on long laid = grind arith
+laid_on start next piece pieces context contexts is on long laid = grind arith
 
 laid_last : (direction : Direction) (start : ℕ) (bytes : List ℕ) (before : List ContextView) (w : CreateView)
     → layout_fault start bytes ≡ None → next_of bytes ≡ 0

@@ -93,7 +93,7 @@ MeansDirected Reply (Reconnect file_id) = ⊥
 MeansDirected _ _ = Unit {0}
 
 if_either : {X : Type 0} (P : X → Type 0) (b : Bool) (x y : X) → P x → P y → P (if b then x else y)
-if_either x1 x2 x y first second = grind arith
+if_either P b x y first second = grind arith
 
 meaning_directed : (direction : Direction) (context : ContextView) → MeansDirected direction (meaning_of direction context)
 unfolding meaning_of
@@ -105,7 +105,7 @@ StaysDirected direction (Err fault) = Unit {0}
 
 with_directed : (direction : Direction) (v : CreateView) (place : ℕ) (meaning : Meaning) → IsDirected direction v
     → MeansDirected direction meaning → StaysDirected direction (with_meaning v place meaning)
-with_directed direction v place x4 is means = grind arith
+with_directed direction v place meaning is means = grind arith
 
 gathered_directed : (direction : Direction) (items : List Item) (v w : CreateView) → IsDirected direction v
     → gathered direction v items ≡ Ok w → IsDirected direction w
@@ -120,7 +120,7 @@ gathered_directed direction (Ok context ∷ items) v w is e =
     gathered_directed direction items step.0 w next step.2
 
 nothing_directed : (direction : Direction) → IsDirected direction no_values
-nothing_directed x1 = grind arith
+nothing_directed direction = grind arith
 
 pub value_directed : (direction : Direction) (text : List ℕ) (v : CreateView) → value_of direction text ≡ Ok v
     → IsDirected direction v
@@ -133,7 +133,7 @@ asked_is_calm text values e = calm values.lease (value_directed Request text (va
   where
     calm : (held : Option code.Lease) → IfSome (option_map lease_of held) (λ lease. lease.breaking ≡ false)
         → IfSome held (λ lease. lease.breaking ≡ false)
-    calm x1 is = grind arith
+    calm held is = grind arith
 
 -- a response's reader values no reconnect
 pub answered_value : (text : List ℕ) (values : ContextValues) (v : CreateView) → Ok (values_of values) ≡ value_of Reply text

@@ -112,7 +112,7 @@ module _ (direction : Direction) (before : List ContextView) (v : CreateView) (h
   -- the fault that stops the gathering is the rule that is broken
   pub faults : (place : ℕ) (meaning : Meaning)
       → fault_in (with_meaning v place meaning) ≡ meaning_fault direction before place meaning
-  faults place x2 = grind arith
+  faults place meaning = grind arith
 
   -- where a value is had with this context and others behind it, the context breaks no rule
   pub passes : (w : CreateView) (behind : List ContextView) → HaveValue direction (before ++ context ∷ behind) w

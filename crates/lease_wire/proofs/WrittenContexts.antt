@@ -77,7 +77,7 @@ same_lease : (direction : Direction) (key : List ℕ) (read : State) (lease : Le
 same_lease direction key read lease values_of_kind state breaking = rw (state, breaking) refl
 
 breaking-written : (b : Bool) → (bit_and (little_number 4 (little_bytes 4 (if b then 2 else 0))) 2 == 2) ≡ b
-breaking-written x1 = grind arith
+breaking-written b = grind arith
 
 pub lease_is : (direction : Direction) (start : ℕ) (lease : LeaseView) → length lease.key ≡ 16 → Calm direction lease
     → meaning_of direction (written start lease_name (lease_body lease)) ≡ Lease lease
@@ -100,11 +100,11 @@ length-lease_body lease = sixteen_cells (λ cells. length (lease_body (record le
 pub durable_is : (direction : Direction) (start : ℕ)
     → meaning_of direction (written start durable_name (durable_body direction)) ≡ Durable
 unfolding meaning_of
-durable_is x1 start = grind arith
+durable_is direction start = grind arith
 
 pub length-durable_body : (direction : Direction)
     → (0 < length (durable_body direction)) × (length (durable_body direction) < 1000) × (length (durable_body direction) % 8 ≡ 0)
-length-durable_body x1 = grind arith
+length-durable_body direction = grind arith
 
 pub reconnect_is : (start file_id : ℕ) → file_id < 2 ^ 64
     → meaning_of Request (written start reconnect_name (reconnect_body file_id)) ≡ Reconnect file_id

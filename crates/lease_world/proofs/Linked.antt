@@ -22,7 +22,7 @@ get_within (y ∷ xs) (suc n) x e = let rest = get_within xs n x e in omega (ari
 same_layers : (under other : ℕ → List Layer) (found : Option Cover)
     → ((cover : Cover) → found ≡ Some cover → under cover.below ≡ other cover.below)
     → layers_of under found ≡ layers_of other found
-same_layers under other x3 same = grind arith
+same_layers under other found same = grind arith
 
 -- more fuel than covers changes nothing
 more_fuel : (covers : List Cover) (fuel more place : ℕ) → AreLinked covers → place ≤ fuel → place ≤ more
@@ -247,7 +247,7 @@ ends_covered covers tops count linked inside within (inr some) = elim (cases_lt 
     length_map (x ∷ xs) = ap suc (length_map xs)
 
     not_none : (n : ℕ) → n ≢ 0 → 0 < n
-    not_none x1 some = grind arith
+    not_none n some = grind arith
 
     still_there : (xs : List ℕ) (count n x : ℕ) → n < count → slice_get xs n ≡ Some x → slice_get (take count xs) n ≡ Some x
     still_there xs zero n x lt e = absurd (omega (arith, lt))
@@ -278,7 +278,7 @@ stack_cover covers tops layer place below count position linked inside within is
         → (if b then layer ∷ layers_under covers below else stack_in (map (layers_under covers) tops) position)
         ≡ (if b then layer ∷ stack_in (map (layers_under covers) tops) position
         else stack_in (map (layers_under covers) tops) position)
-    by_case x1 same = grind arith
+    by_case b same = grind arith
 
 -- the byte at a position
 pub byte_here : (covers : List Cover) (tops : List ℕ) (base : List ℕ) (position top : ℕ) (other : Cover)

@@ -95,7 +95,7 @@ unwritten_whole first current new gathered told (Err why) has begins =
 
 no_message : (one : Fact) → (message_before one [] ≡ []) × (messages_behind one [] ≡ [])
 unfolding message_before messages_behind
-no_message x1 = grind arith
+no_message one = grind arith
 
 pub told_alone : (facts : List Fact) → record_with_messages facts [] ≡ record_text facts
 unfolding record_with_messages

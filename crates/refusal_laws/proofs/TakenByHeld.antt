@@ -78,7 +78,7 @@ kept_opens requests before after same stay = grind arith
 
 put_contents : (server : Server) (client : ℕ) (asked : Option LeaseOf) (lease : Lease)
     → (lease_put server client asked lease).contents ≡ server.contents
-put_contents server client x3 lease = grind arith
+put_contents server client asked lease = grind arith
 
 mapped : {X Y : Type 0} (f : X → Y) (x : X) (xs : List X) → Among x xs → Among (f x) (map f xs)
 mapped f x [] a = a

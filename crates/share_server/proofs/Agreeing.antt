@@ -37,7 +37,7 @@ pub leases_same : (after during : Summaries) (key : Key) → after.leases ≡ du
 leases_same after during key same = ap (λ l. lease_or_none (get key_order l key)) same
 
 twice : (b : Bool) → b ≡ not (not b)
-twice x1 = grind arith
+twice b = grind arith
 
 pub last_on : (key : Key) (one : Open) (less : List Open) (last : Bool) → key_of_open one ≡ Some key
     → list_any (is_elsewhere key one.file) less ≡ false → list_any (has_key key) less ≡ not last

@@ -46,7 +46,7 @@ tried_alike rounds client file_id number other patch like progress same =
     }) rounds progress
 
 limit_like : (fits : Bool) → is_within_limit (patch_like fits) ≡ fits
-limit_like x1 = grind arith
+limit_like fits = grind arith
 
 pub writes_are_tried_alike : (client file_id number : ℕ) (patch : Patch) (fits : Bool) (progress : Progress)
     → fits ≡ is_within_limit patch → tried client (FileRequest.Write file_id 0 (patch_like fits)) progress

@@ -28,7 +28,7 @@ behind_held table after outs client file request behind is = rw behind (held_now
 
 waiting_held : (client file : ℕ) (request : FileRequest) (progress : Progress) (outcome : Outcome) → is_waiting outcome ≡ true
     → after_first_try client file request progress outcome ≡ request_held file (held_of client request) progress
-waiting_held client file request progress x5 e = grind arith
+waiting_held client file request progress outcome e = grind arith
 
 pub tried_and_held : (before during after : Table) (outs more : List Out) (client file : ℕ) (request : FileRequest)
     (outcome : Outcome) → is_behind client ((server_of before).held file) ≡ false

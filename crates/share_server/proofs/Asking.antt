@@ -11,7 +11,7 @@ use Rattle.share_server.proofs.Tallies.{none_both, conflicts_are}
 
 pub is_known : (key : Key) (opens : List Open) (known : Option LeaseRecord) → RecordFits key opens known
     → is_some known ≡ list_any (has_key key) opens
-is_known key opens x3 fits = grind arith
+is_known key opens known fits = grind arith
 
 elsewhere_by : (key : Key) (at file : ℕ) (opens : List Open) → list_any (is_elsewhere key at) opens ≡ false
     → list_any (is_elsewhere key file) opens ≡ (not (at == file) && list_any (has_key key) opens)

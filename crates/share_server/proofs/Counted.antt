@@ -58,7 +58,7 @@ count_here before after i count put = grind arith
 -- what is known of each file's count, once one file's is another
 count_cases : (P : ℕ → ℕ → Type 0) (before after : Waiting) (i count : ℕ) → IsCountPut before after i count → P i count
     → ((n : ℕ) → P n (count_in before n)) → (n : ℕ) → P n (count_in after n)
-count_cases x1 before after i count put here others n = grind arith
+count_cases P before after i count put here others n = grind arith
 
 abbrev pub Known : Server → List File → Waiting → Type 0
 Known server files waiting = (n : ℕ) → AreCounted server n (file_in files n).held (count_in waiting n)
@@ -271,7 +271,7 @@ pub both_so : (a b c d : Bool) → a ≡ true → b ≡ true → d ≡ c → d �
 both_so a b c d t u same = rw (t, u) same
 
 pub second_not : (a b c : Bool) → b ≡ false → false ≡ (a && (b && c))
-second_not x1 b c e = grind arith
+second_not a b c e = grind arith
 
 pub none_in : (waiting : Waiting) (file : ℕ) → length waiting.counts.entries ≡ 0 → count_in waiting file ≡ 0
 none_in waiting file none = go waiting.counts.entries none

@@ -103,7 +103,7 @@ among_members keys key has =
 -- ---- whether another key is there
 
 pub both_so : (a b : Bool) → (a ≡ true → b ≡ true) → (b ≡ true → a ≡ true) → a ≡ b
-both_so x1 b to from = grind arith
+both_so a b to from = grind arith
 
 none_own : (own : Key) (keys : List Key) → ((other : Key) → Among other keys → key_eq other own ≡ false)
     → list_any (λ key. not (key_eq key own)) keys ≡ nat_lt 0 (length keys)
@@ -146,13 +146,13 @@ key_there client None some = absurd (true≢false (sym some))
 key_there client (Some bytes) some = (key_of client bytes, is_key-refl client bytes)
 
 not_off : (b : Bool) → not b ≡ true → b ≡ false
-not_off x1 e = grind arith
+not_off b e = grind arith
 
 has_none_by : (client : ℕ) (bytes : Option (List ℕ)) (key : Key) → is_some bytes ≡ false → is_key key client bytes ≡ false
-has_none_by client x2 key none = grind arith
+has_none_by client bytes key none = grind arith
 
 keyless_own : (own : Option Key) (one : Open) → is_some one.lease_key ≡ false → has_own_key own one ≡ false
-keyless_own x1 one none = grind arith
+keyless_own own one none = grind arith
 
 pub other_keyless : (own : Option Key) (file : ℕ) (opens : List Open) → list_any (is_keyless_on file) opens ≡ true
     → list_any (is_other_on own file) opens ≡ true
@@ -186,7 +186,7 @@ others_are own file opens keys are keyless = both_so _ _
     (ap not (sym (own_alike own key.0 one.0 key.1)) ∙ parts.1))
   where
     still_keyed : (on keyed : Bool) → (on && not keyed) ≡ false → on ≡ true → keyed ≡ true
-    still_keyed on x2 e o = grind arith
+    still_keyed on keyed e o = grind arith
 
 pub all_counted : (keys : List Key) → list_any (λ key. true) keys ≡ nat_lt 0 (length keys)
 all_counted [] = grind (arith, nat_tests)
@@ -245,7 +245,7 @@ at_file key at opens one home among has = (Decides-eqb one.file at).0 (on_true (
     (none_has (is_elsewhere key at) one opens home among) has)
   where
     on_true : (has on : Bool) → (has && not on) ≡ false → has ≡ true → on ≡ true
-    on_true x1 x2 e h = grind arith
+    on_true has on e h = grind arith
 
 wants_to : (wish : Wish) (own : Option Key) (file : FileNo) (key : Key) (summaries : Summaries) (server : Server)
     (summary : FileSummary) (known : Option LeaseRecord)

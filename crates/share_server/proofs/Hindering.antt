@@ -137,7 +137,7 @@ lease_summed summaries server key one stand has = lease_by-key server key one.cl
 -- an open without a key has no lease, and hinders nothing
 hinderer_keyed : (server : Server) (client : ℕ) (bytes : Option (List ℕ))
     → hinders_writes (lease_by server client bytes) ≡ true → is_some bytes ≡ true
-hinderer_keyed server client x3 hinders = grind arith
+hinderer_keyed server client bytes hinders = grind arith
 
 pub hindered_by : (own : Option Key) (file : ℕ) (summaries : Summaries) (server : Server) (summary : FileSummary)
     → StandFor summaries server → SumsUp file server.opens (lease_in summaries) summary
@@ -170,10 +170,10 @@ hindered_by own file summaries server summary stand s = both_so _ _
     (and_both (contains key_order summary.keys key.0) (not (contains key_order summary.harmless key.0)) there (ap not marked))))
   where
     hinders_unmarked : (marked used hinders : Bool) → marked ≡ (used && not hinders) → hinders ≡ true → marked ≡ false
-    hinders_unmarked marked x2 hinders is e = grind arith
+    hinders_unmarked marked used hinders is e = grind arith
 
     unmarked : (marked used hinders : Bool) → marked ≡ (used && not hinders) → used ≡ true → marked ≡ false → hinders ≡ true
-    unmarked marked used x3 is u m = grind arith
+    unmarked marked used hinders is u m = grind arith
 
 -- where no open is on the file
 pub hindered_none : (own : Option Key) (file : ℕ) (server : Server) → list_any (is_on file) server.opens ≡ false
@@ -187,10 +187,10 @@ hindered_none own file server none = sym (not_true (list_any (is_hinderer server
 
 -- what a lease holds it gives up by the break under way, or it hinders
 gives_up : (holds gives : Bool) → holds ≡ true → (holds && not gives) ≡ false → gives ≡ true
-gives_up holds x2 h e = grind arith
+gives_up holds gives h e = grind arith
 
 hinders_still : (holds gives : Bool) → (holds && not gives) ≡ true → (holds ≡ true) × (gives ≡ false)
-hinders_still x1 x2 e = grind arith
+hinders_still holds gives e = grind arith
 
 abbrev is_wanted_of : Server → Option Key → ℕ → Open → Bool
 is_wanted_of server own file one = is_other_on own file one && holds_any (lease_of server one).state

@@ -61,7 +61,7 @@ ready_at_home client request before after outcome end ready =
 
 pub elsewhere_same : (a b : Server) (own : Option Key) (file : ℕ) → a.opens ≡ b.opens
     → is_leased_elsewhere a own file ≡ is_leased_elsewhere b own file
-elsewhere_same a b x3 file same = grind arith
+elsewhere_same a b own file same = grind arith
 
 -- what is held has no part in it
 pub home_kept : (a b : Server) (client : ℕ) (request : FileRequest) → a.opens ≡ b.opens
@@ -79,7 +79,7 @@ home_kept a b client (FileRequest.Close file_id) same home = tt
 
 pub home_asked : (server : Server) (client file : ℕ) (asked : Option LeaseOf) (bytes : Option (List ℕ)) → bytes ≡ asked_key asked
     → is_leased_elsewhere server (own_key client asked) file ≡ false → IsAtHome (key_under client bytes) file server.opens
-home_asked server client file x4 bytes same home = grind arith
+home_asked server client file asked bytes same home = grind arith
 
 -- ---- the file of a key
 

@@ -68,7 +68,7 @@ removed_id n (x ∷ ids) (one ∷ opens) same order =
     rw (at, its) (ap₂ (λ m l. m ∷ l) first (removed_id n ids opens later order.1)))
 
 ordered : {P : Type 0} (o : Ordering) → (o ≡ Less → P) → (o ≡ Equal → P) → (o ≡ Greater → P) → P
-ordered x1 less equal more = grind arith
+ordered o less equal more = grind arith
 
 inserted_id : (fid : FileId) (ids : List FileId)
     → numbers (insert_key file_id_order ids fid) ≡ insert_key nat_cmp (numbers ids) fid.0
@@ -281,7 +281,7 @@ left_of_key key file (x ∷ opens) home =
     rw (left, away) later)
   where
     of_key : (key : Key) (client : ℕ) (own : Option (List ℕ)) → is_key key client own ≡ true → (client == key.client) ≡ true
-    of_key key client x3 has = grind arith
+    of_key key client own has = grind arith
 
     of_client : (key : Key) (x : Open) → has_key key x ≡ true → (x.client == key.client) ≡ true
     of_client key x has = of_key key x.client x.lease_key has

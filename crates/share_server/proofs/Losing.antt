@@ -6,7 +6,7 @@ use Rattle.share_server.specs.declared.closing.Closing.TheVariants.{LostBy}
 
 same_lease : (server : Server) (client : ℕ) (bytes : Option (List ℕ))
     → lease_under server.leases (key_under client bytes) ≡ lease_by server client bytes
-same_lease server client x3 = grind arith
+same_lease server client bytes = grind arith
 
 lost_one : (server : Server) (client : ClientNo) (one : Open)
     → closes (LostBy client) server.leases one ≡ is_lost server client.0 one

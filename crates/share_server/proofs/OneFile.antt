@@ -117,7 +117,7 @@ create_on file server own access share home =
 -- ---- what a look finds
 
 awaits_for : (client file : ℕ) (own : Option Key) (file_id : ℕ) → IsFor file (awaits client file own file_id)
-awaits_for client file x3 file_id one is = grind arith
+awaits_for client file own file_id one is = grind arith
 
 reconnect_on : (file : ℕ) (server : Server) (client : ℕ) (own : Option Key) (file_id : ℕ)
     → reconnect_finding (local file server) client file own file_id ≡ reconnect_finding server client file own file_id

@@ -41,19 +41,19 @@ order_eq-back one other = let e = bytes_same-back one.bytes other.bytes in grind
 has_key_by : (client : ℕ) (bytes : Option (List ℕ)) (own key : Key) → key_under client bytes ≡ Some own
     → is_key key client bytes ≡ key_eq key own
 unfolding key_eq
-has_key_by client x2 own key e = grind arith
+has_key_by client bytes own key e = grind arith
 
 pub has_key_own : (one : Open) (own key : Key) → key_of_open one ≡ Some own → has_key key one ≡ key_eq key own
 has_key_own one own key e = has_key_by one.client one.lease_key own key e
 
 has_none_by : (client : ℕ) (bytes : Option (List ℕ)) (key : Key) → key_under client bytes ≡ None → is_key key client bytes ≡ false
-has_none_by client x2 key e = grind arith
+has_none_by client bytes key e = grind arith
 
 pub has_key_none : (one : Open) (key : Key) → key_of_open one ≡ None → has_key key one ≡ false
 has_key_none one key e = has_none_by one.client one.lease_key key e
 
 keyed_by : (client : ℕ) (bytes : Option (List ℕ)) → is_some (key_under client bytes) ≡ is_some bytes
-keyed_by client x2 = grind arith
+keyed_by client bytes = grind arith
 
 pub keyed : (one : Open) → is_some (key_of_open one) ≡ is_some one.lease_key
 keyed one = keyed_by one.client one.lease_key

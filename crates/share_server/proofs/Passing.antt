@@ -105,12 +105,12 @@ same_held file client request before after outcome end = ap (λ (t : Tried). t.p
 
 waiting_is : (file : ℕ) (one : Held) (waiting : List Held) (pass : Pass) (after : Progress) (outcome : Outcome)
     → is_waiting outcome ≡ true → after_try file one waiting pass after outcome ≡ left_waiting one pass after
-waiting_is file one waiting pass after x6 e = grind arith
+waiting_is file one waiting pass after outcome e = grind arith
 
 answer_is : (file : ℕ) (one : Held) (waiting : List Held) (pass : Pass) (after : Progress) (outcome : Outcome)
     → is_waiting outcome ≡ false
     → after_try file one waiting pass after outcome ≡ pass_answered file one waiting pass (ended after outcome)
-answer_is file one waiting pass after x6 e = grind arith
+answer_is file one waiting pass after outcome e = grind arith
 
 pub waits_here : (file place : ℕ) (has : Bool) (before after : Progress) (one : Held) (outcome : Outcome)
     → place < length (before.server.held file) → one ≡ get_or (before.server.held file) place one

@@ -211,7 +211,7 @@ tally_changed before after key known tally is same updates =
     (key_changed before after key _ updates)
 
 pub and_no : (b : Bool) → (b && false) ≡ false
-and_no x1 = grind arith
+and_no b = grind arith
 
 -- ---- the file of a key
 
@@ -237,7 +237,7 @@ home_of key one (Some known) less more m has fits =
 
 pub lease_unused : (key : Key) (opens : List Open) (known : Option LeaseRecord) → RecordFits key opens known
     → list_any (has_key key) opens ≡ false → lease_or_none known ≡ no_lease
-lease_unused key opens x3 fits unused = grind arith
+lease_unused key opens known fits unused = grind arith
 
 pub last_is : (key : Key) (one : Open) (known : LeaseRecord) (before : Key → Option LeaseRecord) (less more : List Open)
     (b : Bool) → key_of_open one ≡ Some key → IsOneMore one less more → before key ≡ Some known
@@ -269,10 +269,10 @@ lease_left key one last before after less more own m left now fits = at_key (λ 
     ∙ rw (has_key_own one key other own, e, none) refl))))
   where
     turned : (b : Bool) (lease : model.Lease) → (if true && b then no_lease else lease) ≡ (if not b then lease else no_lease)
-    turned x1 lease = grind arith
+    turned b lease = grind arith
 
     unless : (b : Bool) (lease : model.Lease) → (b ≡ false → lease ≡ no_lease) → lease ≡ (if b then lease else no_lease)
-    unless x1 lease e = grind arith
+    unless b lease e = grind arith
 
 pub lease_kept_left : (one : Open) (known : Key → Option LeaseRecord) (less more : List Open)
     → key_of_open one ≡ None → IsOneMore one less more → ((other : Key) → RecordFits other more (known other))
@@ -283,7 +283,7 @@ lease_kept_left one known less more own m fits = λ other. unless (list_any (has
     ∙ rw (has_key_none one other own, none) refl))
   where
     unless : (b : Bool) (lease : model.Lease) → (b ≡ false → lease ≡ no_lease) → lease ≡ (if b then lease else no_lease)
-    unless x1 lease e = grind arith
+    unless b lease e = grind arith
 
 pub are_left : (less : List Open) (leases later : Key → model.Lease)
     → ((key : Key) → later key ≡ (if list_any (has_key key) less then leases key else no_lease)) → AreLeft less leases later

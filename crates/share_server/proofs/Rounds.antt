@@ -71,7 +71,7 @@ none_left i client request now whole over so_far =
 -- where a look finds wants, these are the finding's, and the request can't be answered
 pub needs_unready : (is_ready : List Want → Bool) (found : Finding) (wants : List Want) → Look.Needs wants ≡ looked is_ready found
     → (found ≡ Finding.Needs wants) × (is_ready wants ≡ false)
-needs_unready is_ready x2 wants is = grind arith
+needs_unready is_ready found wants is = grind arith
 
 pub unready_needs : (is_ready : List Want → Bool) (found : Finding) (wants : List Want) → found ≡ Finding.Needs wants
     → is_ready wants ≡ false → Look.Needs wants ≡ looked is_ready found

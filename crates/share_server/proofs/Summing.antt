@@ -134,7 +134,7 @@ gains_sums_up one marks old new less more leases later m short after s g = recor
         → now ≡ (if has then marked else was) → was ≡ (any_less && mark old)
         → any_more ≡ (has || any_less) → (has ≡ false → new ≡ old) → (has ≡ true → mark new ≡ marked)
         → now ≡ (any_more && mark new)
-    gained mark x2 any_less any_more marked old new was now a b c d e = grind arith
+    gained mark has any_less any_more marked old new was now a b c d e = grind arith
 
 -- on another file
 elsewhere_none : (key : Key) (file at : ℕ) (opens : List Open) → (at == file) ≡ false
@@ -168,7 +168,7 @@ sums_up_apart one marks file summary less more leases later m apart after s = re
   where
     stays : (mark : Lease → Bool) (has any_less any_more : Bool) (old new : Lease) (was : Bool) → was ≡ (any_less && mark old)
         → any_more ≡ any_less → (has ≡ false → new ≡ old) → (has ≡ true → any_less ≡ false) → was ≡ (any_more && mark new)
-    stays mark x2 any_less any_more old new was a b c d = grind arith
+    stays mark has any_less any_more old new was a b c d = grind arith
 
 has_on : (key : Key) (file : ℕ) (opens : List Open) → list_any (has_key_on file key) opens ≡ true
     → list_any (has_key key) opens ≡ true
@@ -211,13 +211,13 @@ loses_sums_up one last old new less more leases later m left is_last s l = recor
   where
     lost_key : (has any_less any_more last : Bool) (was now : Bool) → now ≡ (was && not (has && last)) → was ≡ any_more
         → any_more ≡ (has || any_less) → (has ≡ true → last ≡ not any_less) → now ≡ any_less
-    lost_key x1 x2 any_more last was now a b c d = grind arith
+    lost_key has any_less any_more last was now a b c d = grind arith
 
     lost_mark : (mark : Lease → Bool) (has any_less any_more last : Bool) (old new : Lease) (was now : Bool)
         → now ≡ (was && not (has && last)) → was ≡ (any_more && mark old)
         → any_more ≡ (has || any_less) → (has ≡ true → last ≡ not any_less) → (any_less ≡ true → new ≡ old)
         → now ≡ (any_less && mark new)
-    lost_mark mark x2 x3 any_more last old new was now a b c d e = grind arith
+    lost_mark mark has any_less any_more last old new was now a b c d e = grind arith
 
 pub sums_up_away : (one : Open) (file : ℕ) (summary : FileSummary) (less more : List Open) (leases later : Key → Lease)
     → IsOneMore one less more → is_on file one ≡ false → AreLeft less leases later
@@ -243,7 +243,7 @@ sums_up_away one file summary less more leases later m apart left s = record {
   where
     stays : (mark : Lease → Bool) (any_less any_more : Bool) (old new : Lease) (was : Bool)
         → was ≡ (any_more && mark old) → any_more ≡ any_less → (any_less ≡ true → new ≡ old) → was ≡ (any_less && mark new)
-    stays mark x2 any_more old new was a c d = grind arith
+    stays mark any_less any_more old new was a c d = grind arith
 
 -- ---- another lease of a key
 
@@ -292,7 +292,7 @@ pub record IsChangedAt (here : ℕ) (before after : FileNo → Option FileSummar
 
 at_file : (P : FileNo → Type 0) (here : ℕ) → P (record { 0 = here })
     → ((file : FileNo) → (file.0 == here) ≡ false → P file) → (file : FileNo) → P file
-at_file x1 here there apart file = grind arith
+at_file P here there apart file = grind arith
 
 flip : (a b : ℕ) (x : Bool) → (a == b) ≡ x → (b == a) ≡ x
 flip a b x e = grind (arith, nat_tests, e)
@@ -403,7 +403,7 @@ summaries_put file key marks before after old new opens leases later put there h
     fits_put : (at : ℕ) (known : Option FileSummary)
         → ((other : Key) → key_eq other key ≡ true → list_any (has_key_on at other) opens ≡ false)
         → SummaryFits at opens leases known → SummaryFits at opens later known
-    fits_put at x2 none f = grind arith
+    fits_put at known none f = grind arith
 
 pub never_on : (file : ℕ) (key : Key) (opens : List Open) (leases : Key → Lease) (known : Option FileSummary)
     → list_any (has_key_on file key) opens ≡ true → known ≡ None → SummaryFits file opens leases known → ⊥
@@ -415,7 +415,7 @@ never_on file key opens leases known there none fits =
 fits_alike : (file : ℕ) (opens : List Open) (leases later : Key → Lease) (known : Option FileSummary)
     → ((key : Key) → marks_of (later key) ≡ marks_of (leases key))
     → SummaryFits file opens leases known → SummaryFits file opens later known
-fits_alike file opens leases later x5 same fits = grind arith
+fits_alike file opens leases later known same fits = grind arith
 
 pub summaries_alike : (key : Key) (lease : Lease) (opens : List Open) (leases later : Key → Lease)
     (known : FileNo → Option FileSummary) → ((other : Key) → later other ≡ (if key_eq other key then lease else leases other))

@@ -87,7 +87,7 @@ any_one n test (one ∷ opens) only order = either (has_id n one)
     rw (its, here) (any_one n test opens only order.1))
   where
     or_false : (b : Bool) → (b || false) ≡ b
-    or_false x1 = grind arith
+    or_false b = grind arith
 
 pub find_one : (n : ℕ) (test : Open → Bool) (opens : List Open)
     → ((one : Open) → test one ≡ true → has_id n one ≡ true) → AreInOrder opens
@@ -183,7 +183,7 @@ closed_more opens ids id summaries during after middle left closed is agree leas
   where
     still : (left middle : Bool) (lease now : Lease) → now ≡ (if middle then lease else no_lease)
         → (left ≡ true → middle ≡ true) → (if left then now else no_lease) ≡ (if left then lease else no_lease)
-    still x1 middle lease now e up = grind arith
+    still left middle lease now e up = grind arith
 
 abbrev with_leases : Server → List Open → (Key → Lease) → Server
 with_leases server opens leases = record server { opens = opens; leases = leases }
@@ -235,7 +235,7 @@ new_leases : (client : ℕ) (bytes : Option (List ℕ)) (server : Server) (lease
     → record server { opens = opens; leases = later; last_id = last }
     ≡ record (lease_put_by server client bytes lease) { opens = opens; last_id = last }
 unfolding put_key key_eq
-new_leases client x2 server lease later opens last now = grind arith
+new_leases client bytes server lease later opens last now = grind arith
 
 pub table_opened : (table : Table) (one : Open) (lease : Lease) (summaries after : Summaries) → table.leases ≡ listed summaries
     → ((key : Key) → lease_in after key ≡ (if has_key key one then lease else lease_in summaries key))
@@ -340,7 +340,7 @@ left_only n one is = (and_parts (has_id n one) (not one.connected) is).0
 
 pub awaits_only : (client file : ℕ) (own : Option Key) (n : ℕ) (one : Open) → awaits client file own n one ≡ true
     → has_id n one ≡ true
-awaits_only client file x3 n one is = grind arith
+awaits_only client file own n one is = grind arith
 
 pub leased_by : (server : Server) (own : Option Key) (key : Key) (file : ℕ) (b : Bool) → own ≡ Some key
     → b ≡ list_any (is_elsewhere key file) server.opens → b ≡ is_leased_elsewhere server own file

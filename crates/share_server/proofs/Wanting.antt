@@ -8,4 +8,4 @@ use Rattle.share_server.specs.declared.want.Wish.TheVariants.{NoHandles, NoWrite
 pub wants_are : (wish : Wish) (server : Server) (own : Option Key) (file : FileNo) → map (want_of wish server)
     (keys_of (filter (is_demanded (record { wish = wish; own = own; file = file }) server) server.opens))
     ≡ wants_for wish server own file.0
-wants_are x1 server own file = grind arith
+wants_are wish server own file = grind arith

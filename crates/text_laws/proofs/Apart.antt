@@ -45,7 +45,7 @@ all_apart (one ∷ kinds) = list_all (apart one) kinds && all_apart kinds
 says_word : (field : Field) (word alone : List ℕ) (value : Value field) → word_of field ≡ Some alone → Says field word value
     → word ≡ alone
 unfolding word_of
-says_word x1 word alone value e is = grind arith
+says_word field word alone value e is = grind arith
 
 words_differ : (first second : Field) (word : List ℕ) (value : Value first) (other : Value second)
     → differ (word_of first) (word_of second) ≡ true → Says first word value → Says second word other → ⊥
@@ -53,7 +53,7 @@ unfolding differ
 words_differ first second word value other e says said = by_words (word_of first) (word_of second) refl refl e
   where
     equal : (b : Bool) → b ≡ true → not b ≡ true → ⊥
-    equal x1 same differs = grind arith
+    equal b same differs = grind arith
 
     by_words : (a b : Option (List ℕ)) → word_of first ≡ a → word_of second ≡ b → differ a b ≡ true → ⊥
     by_words None b is also differs = cc

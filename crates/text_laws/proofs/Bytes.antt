@@ -75,4 +75,4 @@ pub hyphenated_above : (guid : List ℕ) → all_above 32 (hyphenated_text lower
 hyphenated_above guid = by_index_above 36 _ (λ k. grind arith)
   where
     digit : (small : Bool) (d : ℕ) → nat_lt d 10 ≡ small → nat_lt 32 (if small then 48 + d else 97 + d - 10) ≡ true
-    digit x1 d e = grind arith
+    digit small d e = grind arith

@@ -124,7 +124,7 @@ named name words = whole (fact_named name words)
 -- the kind of a fact of a client alone is found by its word
 client_found : (told : ClientFact) → client_named (client_word told) ≡ Some told
 unfolding client_named_among
-client_found x1 = grind arith
+client_found told = grind arith
 
 client_goes : (told : ClientFact) → Alone named (client_kind told)
 unfolding named fact_named

@@ -40,7 +40,7 @@ lowered_came world v key lowered may =
   where
     own : (client : ℕ) (bytes : Option (List ℕ)) → is_key key client bytes ≡ true
         → world.server.present client ≡ true → world.server.present key.client ≡ true
-    own client x2 k p = grind arith
+    own client bytes k p = grind arith
 
 -- the same holds where a request was taken off
 off_joined : (world off : World) (client : ℕ) (request : FileRequest) → Both Ground IsWell world
@@ -84,7 +84,7 @@ stepped_joined world client step h =
 
 told_joined : (client : ℕ) (fact : Fact) (past : List Fact) → IsTold client fact → Joined fact past
 unfolding is_joined
-told_joined client x2 past is = grind arith
+told_joined client fact past is = grind arith
 
 joined_moves : IsMoved (Both Ground IsWell) HasJoined
 unfolding is_joined

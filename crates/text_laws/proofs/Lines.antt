@@ -37,10 +37,10 @@ read_written front client file digits = simp append_assoc
 -- ---- facts of a client alone
 
 client_above : (told : ClientFact) → (all_above 32 (client_word told) ≡ true) × (is_passed_over (client_word told) ≡ false)
-client_above x1 = grind arith
+client_above told = grind arith
 
 client_among : (told : ClientFact) → Among told client_facts
-client_among x1 = grind arith
+client_among told = grind arith
 
 mapped_among : (kinds : List ClientFact) (told : ClientFact) → Among told kinds → Among (client_kind told) (map client_kind kinds)
 mapped_among [] told is = absurd is

@@ -28,7 +28,7 @@ IsNamed world = list_all is_named world.past ≡ true
 
 delivered_named : (world : World) (out : Out) → IsNamed world → IsNamed (delivered world out)
 unfolding is_named
-delivered_named world x2 n = grind arith
+delivered_named world out n = grind arith
 
 all_delivered_named : (world : World) (outs : List Out) → IsNamed world → IsNamed (all_delivered world outs)
 unfolding all_delivered
@@ -62,7 +62,7 @@ stepped_named world client step some n = noted_named
 
 told_named : (client : ℕ) (fact : Fact) → nat_le 1 client ≡ true → IsTold client fact → is_named fact ≡ true
 unfolding is_named
-told_named client x2 some is = grind arith
+told_named client fact some is = grind arith
 
 named_forms : HasForms (Keeps IsNamed)
 unfolding is_named

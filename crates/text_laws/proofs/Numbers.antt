@@ -46,7 +46,7 @@ decimal_above = decimal_by_steps (λ n ds. all_above 32 ds ≡ true)
 
 no_zero : (digits : List ℕ) → 0 < length digits → 48 < slice_index digits 0 → number_in digits ≡ number_after (Some 0) digits
 unfolding number_in
-no_zero x1 some first = grind arith
+no_zero digits some first = grind arith
 
 pub number_back : (number : ℕ) → number < 2 ^ 64 → number_in (decimal number) ≡ Some number
 unfolding number_in number_after
@@ -96,20 +96,20 @@ content_back bytes are short =
 letters_back : (read write handle : Bool) → state_in (state_word (record { read = read; write = write; handle = handle }))
     ≡ Some (bits_of_state (record { read = read; write = write; handle = handle }))
 unfolding state_in
-letters_back x1 x2 x3 = grind arith
+letters_back read write handle = grind arith
 
 pub state_back : (state : State) → state_in (state_word state) ≡ Some (bits_of_state state)
 state_back state = letters_back state.read state.write state.handle
 
 letters_above : (read write handle : Bool)
     → all_above 32 (state_word (record { read = read; write = write; handle = handle })) ≡ true
-letters_above x1 x2 x3 = grind arith
+letters_above read write handle = grind arith
 
 pub state_above : (state : State) → all_above 32 (state_word state) ≡ true
 state_above state = letters_above state.read state.write state.handle
 
 pub outcome_back : (outcome : Settlement) → outcome_in (outcome_word outcome) ≡ Some outcome
-outcome_back x1 = grind arith
+outcome_back outcome = grind arith
 
 pub outcome_above : (outcome : Settlement) → all_above 32 (outcome_word outcome) ≡ true
-outcome_above x1 = grind arith
+outcome_above outcome = grind arith

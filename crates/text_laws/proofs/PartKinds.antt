@@ -64,11 +64,11 @@ client_goes = step guid_reads refl (λ word words none. rw none refl) (λ word g
 -- an event of a client alone is found by its word
 client_found : (one : ClientEvent) → client_named (client_word one) ≡ Some one
 unfolding client_named_among
-client_found x1 = grind arith
+client_found one = grind arith
 
 named_happening : (one : ClientEvent) (words : Words) → named (client_word one) words ≡ happening (client_word one) words
 unfolding named part_named
-named_happening x1 words = grind arith
+named_happening one words = grind arith
 
 client_event_goes : (one : ClientEvent) → Goes (happening (client_word one)) (Field.Client ∷ [])
     (λ client. Part.Happens (client_event one client))
@@ -166,7 +166,7 @@ Found name words told = (other : Kind Part) × Among other part_kinds × (name �
 
 no_request : (first : List ℕ) (got : Option ℕ) → ordinal_in first ≡ got → named (codes "raw") (first ∷ []) ≡ None
 unfolding named part_named event_named event_of other_of client_named_among
-no_request first x2 c = grind arith
+no_request first got c = grind arith
 
 no_client : (first second : List ℕ) (words : Words) → ordinal_in first ≡ None
     → named (codes "raw") (first ∷ second ∷ words) ≡ None
@@ -235,7 +235,7 @@ mapped_among (other ∷ others) one (inl same) = inl (ap client_kind same)
 mapped_among (other ∷ others) one (inr later) = inr (mapped_among others one later)
 
 client_among : (one : ClientEvent) → Among one client_events
-client_among x1 = grind arith
+client_among one = grind arith
 
 pub client_row : (one : ClientEvent) → Among (client_kind one) part_kinds
 client_row one = inr (inr (inr (inr (inr (inr (inr (inr (inr (inr (inr (inr (inr (inr (inr

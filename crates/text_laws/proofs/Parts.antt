@@ -65,7 +65,7 @@ raw_front client = codes "raw " ++ decimal client
 -- ---- events of a client alone
 
 client_above : (one : ClientEvent) → (all_above 32 (client_word one) ≡ true) × (is_passed_over (client_word one) ≡ false)
-client_above x1 = grind arith
+client_above one = grind arith
 
 alone_back : (one : ClientEvent) (client : ClientNo) → IsOrdinal client.0
     → IsLine part_in (client_event_line (Some one) client.0) (Part.Happens (client_event one client))

@@ -106,7 +106,7 @@ fits bytes e = grind (arith, nat_tests, e)
 
 can_be_named : (told : Fact) → is_placed (fact_of told) ≡ true → IsTyped told → CanBeNamed told
 unfolding is_placed
-can_be_named x1 is typed = grind arith
+can_be_named told is typed = grind arith
 
 all_can : (facts : List Fact) → list_all is_placed (map fact_of facts) ≡ true → Each IsTyped facts → Each CanBeNamed facts
 all_can [] all typed = tt
@@ -127,7 +127,7 @@ letters_same : (read write handle : Bool)
       write = write;
       handle = handle;
     }
-letters_same x1 x2 x3 = grind arith
+letters_same read write handle = grind arith
 
 same_fact : (told : Fact) → fact_of (as_lettered told) ≡ fact_of told
 same_fact (fact.Believes client file state) =

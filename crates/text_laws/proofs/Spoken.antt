@@ -96,7 +96,7 @@ line_counts front [] counts = counts
 line_counts front (word ∷ words) counts = line_counts (front ++ codes " " ++ word) words (begun front counts)
   where
     begun : (start : List ℕ) → is_passed_over start ≡ false → is_passed_over (start ++ codes " " ++ word) ≡ false
-    begun x1 counts = grind arith
+    begun start counts = grind arith
 
 -- What is written is one line, which is read so.
 pub record IsLine {A : Type 0} (read : List ℕ → Option A) (text : List ℕ) (told : A) : Type 0 where
@@ -146,17 +146,17 @@ two_behind front first second = simp append_assoc
 
 pub access_back : (asked : Access) → access_in (access_word asked) ≡ Some asked
 unfolding access_in
-access_back x1 = grind arith
+access_back asked = grind arith
 
 pub access_above : (asked : Access) → all_above 32 (access_word asked) ≡ true
-access_above x1 = grind arith
+access_above asked = grind arith
 
 pub share_back : (asked : Share) → share_in (share_word asked) ≡ Some asked
 unfolding share_in
-share_back x1 = grind arith
+share_back asked = grind arith
 
 pub share_above : (asked : Share) → all_above 32 (share_word asked) ≡ true
-share_above x1 = grind arith
+share_above asked = grind arith
 
 pub message_back : (message : List ℕ) → length message ≡ 36 → IsBytes message → message_in (encode_lower message) ≡ Some message
 message_back message long bytes = rw (decode_sized-encode_lower message 36 long bytes) refl
@@ -222,10 +222,10 @@ way_name true = codes "buffered"
 way_name false = codes "through"
 
 pub way_above : (buffered : Bool) → all_above 32 (way_name buffered) ≡ true
-way_above x1 = grind arith
+way_above buffered = grind arith
 
 pub way_back : (buffered : Bool) → way_in (way_name buffered) ≡ Some buffered
-way_back x1 = grind arith
+way_back buffered = grind arith
 
 abbrev pub way_said : Bool → Spoken Field.Way
 way_said buffered = spoken Field.Way buffered (way_name buffered) (way_above buffered) (way_back buffered)

@@ -275,7 +275,7 @@ abbrev AlwaysIn : World → Type 0
 AlwaysIn world = Always world.past
 
 told_fact : (client : ℕ) (fact : Fact) → IsTold client fact → IsNeutral fact
-told_fact client x2 is = grind arith
+told_fact client fact is = grind arith
 
 connect_always : (world : World) (client : ℕ) → world.links client ≡ Link.Down → IsReached world
     → IsReached (stepped_in (call_served (link_made world client) (Call.Join client)) client

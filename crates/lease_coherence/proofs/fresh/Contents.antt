@@ -75,7 +75,7 @@ stepped_contents world client step h file = ap (λ (s : Server). s.contents file
 told_content : (client : ℕ) (fact : Fact) (past : List Fact) (file : ℕ) → IsTold client fact
     → content_of file (fact ∷ past) ≡ content_of file past
 unfolding content_of
-told_content client x2 past file is = grind arith
+told_content client fact past file is = grind arith
 
 pub contents_moves : IsMoved Ground HasContents
 unfolding content_of

@@ -149,7 +149,7 @@ abbrev FreshIn : World → Type 0
 FreshIn world = AllFresh world.past
 
 told_one : (client : ℕ) (fact : Fact) (past : List Fact) → IsTold client fact → FreshRead fact past
-told_one client x2 past is = grind arith
+told_one client fact past is = grind arith
 
 sound_in : (world : World) → IsReached world → (c : ℕ) → IsSoundClient (world.clients c)
 sound_in world r = (ground_of world (r.0).1).clients

@@ -83,7 +83,7 @@ stepped_none world client step l = subst (EachFact NoLateWrite) (sym (stepped_pa
 -- ---- all moves
 
 told_none : (client : ℕ) (fact : Fact) (past : List Fact) → IsTold client fact → NoLateWrite fact past
-told_none client x2 past is = grind arith
+told_none client fact past is = grind arith
 
 none_moves : IsMoved HasRecord NoneLate
 none_moves world (Move.Told client fact) is v l = (told_none client fact world.past is, l)

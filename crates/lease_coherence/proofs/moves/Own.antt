@@ -342,7 +342,7 @@ unmoved_strayed world client request c ne = let s = unmoved_same world c in reco
 -- a fact that stands alone spares everyone
 told_spares : (client : ℕ) (fact : Fact) (c : ℕ) (opens : List Open) (leases : Key → Lease) → IsTold client fact
     → Spares c opens leases fact
-told_spares client x2 c opens leases is = grind arith
+told_spares client fact c opens leases is = grind arith
 
 unmoved_fact : (world : World) (client : ℕ) (fact : Fact) (c : ℕ) → IsTold client fact → IsUnmoved world (happened world fact) c
 unmoved_fact world client fact c is = let s = unmoved_same world c in record {

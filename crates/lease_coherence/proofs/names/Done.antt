@@ -259,7 +259,7 @@ stepped_true world client call same named t =
     )
 
 told_true_done : (client : ℕ) (fact : Fact) (past : List Fact) → IsTold client fact → NoFalseDone fact past
-told_true_done client x2 past is = grind arith
+told_true_done client fact past is = grind arith
 
 pub true_moves : IsMoved Ground HasTrueNames
 true_moves world (Move.Told client fact) is g t =

@@ -282,12 +282,12 @@ put_up links client link c up = by_client
 
 told_well : (client : ℕ) (fact : Fact) (past : List Fact) → IsTold client fact → WellFormed fact past
 unfolding is_well_formed
-told_well client x2 past is = grind arith
+told_well client fact past is = grind arith
 
 told_numbers : (client : ℕ) (fact : Fact) (past : List Fact) (c number : ℕ) → IsTold client fact
     → has_number c number (fact ∷ past) ≡ has_number c number past
 unfolding has_number
-told_numbers client x2 past c number is = grind arith
+told_numbers client fact past c number is = grind arith
 
 pub well_moves : IsMoved Ground IsWell
 unfolding is_well_formed has_number has_joined

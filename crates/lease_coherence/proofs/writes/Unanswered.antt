@@ -413,7 +413,7 @@ stepped_writes world c call s files h d file known =
 told_one : (client : ℕ) (fact : Fact) (past : List Fact) (c file : ℕ) → IsTold client fact
     → open_writes c file (fact ∷ past) ≡ open_writes c file past
 unfolding open_writes
-told_one client x2 past c file is = grind arith
+told_one client fact past c file is = grind arith
 
 pub writes_moves : IsMoved Ground HasWrites
 unfolding open_writes

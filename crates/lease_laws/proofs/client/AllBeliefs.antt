@@ -122,7 +122,7 @@ notices_settle sent = record {
 
 connect_settles : (client : Client) (file : ℕ) (sent : List Pending) (phase : Phase)
     → AreSettlements (connect_turn client file sent phase).settled
-connect_settles client file sent x4 = grind arith
+connect_settles client file sent phase = grind arith
 
 -- a closed entry stays closed, and so its belief is none
 notice_closed : (sent : List Pending) (phase : Phase) → phase ≡ Phase.Closed

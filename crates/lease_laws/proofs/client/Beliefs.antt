@@ -142,7 +142,7 @@ commands_behave client = record {
     cached_never bytes refusal e = cc
 
     flush_never : (b : Bool) (refusal : Refusal) → (if b then Answer.Done else Answer.Waiting) ≢ Answer.Refused refusal
-    flush_never x1 refusal e = grind arith
+    flush_never b refusal e = grind arith
 
 pub commanded_behaves : (client : Client) (command : Command) → Behaves client (commanded client command)
 commanded_behaves client = any_command client (Behaves client) (commands_behave client)

@@ -91,7 +91,7 @@ kept_buffered writes kept b = if_either (λ (l : List Pending). are_buffered l �
 -- an entry without its open
 without_open_sound : (online : Bool) (asking : Option Asked) (sent : List Pending) → online ≡ true
     → IsSoundEntry online (without_open asking sent)
-without_open_sound online x2 sent on = grind arith
+without_open_sound online asking sent on = grind arith
 
 -- a write that failed leaves a sound entry
 failed_sound : (connected : Bool) (number : ℕ) (sent : List Pending) (phase : Phase)
@@ -197,7 +197,7 @@ notices_sound connected sent = record {
 -- an entry, in any phase, of a client that connects
 connect_sound : (client : Client) (file : ℕ) (sent : List Pending) (phase : Phase)
     → IsSoundPhase client.is_online sent phase → IsSoundEntry true (connect_turn client file sent phase).entry
-connect_sound client file sent x4 s = grind arith
+connect_sound client file sent phase s = grind arith
 
 -- ---- the laws
 

@@ -34,7 +34,7 @@ commands_formed client P h = record {
 }
 
 takes_formed : (client : Client) (P : Step → Type 0) → HasForms client P → HasTakes client (λ reply step. P step)
-takes_formed client x2 h = grind arith
+takes_formed client P h = grind arith
 
 pub commanded-formed : (client : Client) (P : Step → Type 0) → HasForms client P → (command : Command)
     → P (commanded client command)

@@ -194,7 +194,7 @@ all_tell client online turn old =
 -- an entry, in any phase, of a client that connects
 connect_old : (last : ℕ) (client : Client) (file : ℕ) (sent : List Pending) (phase : Phase)
     → AreOld last (connect_turn client file sent phase).settled
-connect_old last client file sent x5 = grind arith
+connect_old last client file sent phase = grind arith
 
 -- any call
 pub called_tells : (client : Client) (call : ClientCall) → IsSoundClient client

@@ -99,7 +99,7 @@ again_thin false sent kept = sent_left sent kept
 -- an entry without its open has its sent writes
 gone_thin : (asking : Option Asked) (sent some unsent : List Pending)
     → IsThinner (some ++ []) (sent ++ unsent) → IsThinner (unanswered_in (without_open asking some)) (sent ++ unsent)
-gone_thin x1 sent some unsent thin = grind arith
+gone_thin asking sent some unsent thin = grind arith
 
 -- a write that is done goes from the sent ones
 done_thin : (number : ℕ) (write : Option Pending) (sent : List Pending) (phase : Phase)
@@ -155,7 +155,7 @@ notices_thin sent = record {
 
 connect_thin : (client : Client) (file : ℕ) (sent : List Pending) (phase : Phase)
     → IsThinner (unanswered_in (connect_turn client file sent phase).entry) (sent ++ unsent_in phase)
-connect_thin client file sent x4 = grind arith
+connect_thin client file sent phase = grind arith
 
 -- ---- the laws
 

@@ -8,7 +8,7 @@ use Rattle.lease_laws.proofs.server.Lists.{if_cases, either, clash, and_parts, a
 
 -- where none of two tests is true, both are false
 or_false : (a b : Bool) → (a || b) ≡ false → (a ≡ false) × (b ≡ false)
-or_false x1 b e = grind arith
+or_false a b e = grind arith
 
 -- and the other way round
 neither : (a b : Bool) → a ≡ false → b ≡ false → (a || b) ≡ false
@@ -26,7 +26,7 @@ test_apart a b ne = not_true (a == b) (λ e. absurd (ne (eqb-true a b e)))
 pub put_at : {X : Type 0} (P : ℕ → X → Type 0) (table : ℕ → X) (place : ℕ) (x : X) → P place x
     → ((n : ℕ) → P n (table n)) → (n : ℕ) → P n (put table place x n)
 unfolding put
-put_at x1 table place x here old n = grind arith
+put_at P table place x here old n = grind arith
 
 -- at its place stands the value that was put in
 pub put_same : {X : Type 0} (table : ℕ → X) (place : ℕ) (x : X) → put table place x place ≡ x

@@ -9,7 +9,7 @@ use Rattle.lease_laws.proofs.server.Lists.{if_cases, and_parts, and_both}
 
 -- what holds of both branches holds of the choice
 pub if_either : {X : Type 0} (P : X → Type 0) (b : Bool) (x y : X) → P x → P y → P (if b then x else y)
-if_either x1 x2 x y p q = grind arith
+if_either P b x y p q = grind arith
 
 -- what holds of a table and of a new value holds of the table with the value put in
 pub put_each : {X : Type 0} (P : X → Type 0) (table : ℕ → X) (place : ℕ) (x : X) → P x → ((n : ℕ) → P (table n))
@@ -32,15 +32,15 @@ filter_buffered (w ∷ xs) = if_cases (λ (l : List Pending). are_buffered l ≡
 -- of no writes, none is taken away
 pub sent_without-none : (number : ℕ) (sent : List Pending) → sent ≡ [] → sent_without number sent ≡ []
 unfolding sent_without
-sent_without-none number x2 e = grind arith
+sent_without-none number sent e = grind arith
 
 -- some handle is at least one
 pub some_handle : (handles : ℕ) → (handles == 0) ≡ false → 1 ≤ handles
-some_handle x1 e = grind arith
+some_handle handles e = grind arith
 
 -- one less than more than one is at least one
 pub one_less_still : (handles : ℕ) → nat_lt 1 handles ≡ true → 1 ≤ one_handle_less handles
-one_less_still x1 e = grind arith
+one_less_still handles e = grind arith
 
 -- ---- one entry
 
@@ -54,16 +54,16 @@ sound_as client sound file phase is = subst (IsSoundPhase client.is_online (clie
 
 -- no base is patched where there is none
 pub base_with-none : (write : Option Pending) (base : Option (List ℕ)) → base ≡ None → base_with write base ≡ None
-base_with-none x1 base e = grind arith
+base_with-none write base e = grind arith
 
 -- a base that is kept only under R is none without R
 pub kept_under : (b : Bool) (base : Option (List ℕ)) → b ≡ false → (if b then base else None) ≡ None
-kept_under x1 base e = grind arith
+kept_under b base e = grind arith
 
 -- bytes become the base only under R
 pub read_under : (b : Bool) (bytes : List ℕ) (base : Option (List ℕ)) → (b ≡ false → base ≡ None) → b ≡ false
     → (if b then Some bytes else base) ≡ None
-read_under x1 bytes base old e = grind arith
+read_under b bytes base old e = grind arith
 
 -- without W, nothing stays unsent at a break
 pub unflushed-none : (old new : State) (unsent : List Pending) → (old.write ≡ false → unsent ≡ []) → new.write ≡ false
@@ -72,7 +72,7 @@ unflushed-none old new unsent law lowered = grind arith
 
 -- what was kept is unsent again only under W
 pub again_under : (b : Bool) (kept : List Pending) → b ≡ false → (if b then kept else []) ≡ []
-again_under x1 kept e = grind arith
+again_under b kept e = grind arith
 
 -- a write that is answered leaves a sound entry
 pub done_sound : (connected : Bool) (number : ℕ) (write : Option Pending) (sent : List Pending) (phase : Phase)

@@ -111,11 +111,11 @@ acknowledgment_has : (notice : BreakNotice) (state : State) → length notice.ke
 acknowledgment_has notice state long = if_either (EachRequest HasRequestBytes) notice.ack_required _ [] (long, tt) tt
 
 gone_fits : (asking : Option Asked) (sent : List Pending) → HasFileId (without_open asking sent).phase
-gone_fits x1 sent = grind arith
+gone_fits asking sent = grind arith
 
 -- a write that is done leaves the FileId
 done_fits : (write : Option Pending) (phase : Phase) → HasFileId phase → HasFileId (phase_with write phase)
-done_fits write x2 fits = grind arith
+done_fits write phase fits = grind arith
 
 takes_write : (client : Client) → IsWriting client
     → HasTakes client (λ reply step. CallHasFileId (ClientCall.Taken reply) → Writes client step)
@@ -179,7 +179,7 @@ connect_has client file sent phase w fits = tt
 
 connect_fits : (client : Client) (file : ℕ) (sent : List Pending) (phase : Phase) → HasFileId phase
     → HasFileId (connect_turn client file sent phase).entry.phase
-connect_fits client file sent x4 fits = grind arith
+connect_fits client file sent phase fits = grind arith
 
 -- ---- any call
 

@@ -22,7 +22,7 @@ apart : (m n : ℕ) → m ≢ n → (m == n) ≡ false
 apart m n h = grind (arith, nat_tests)
 
 and_false : (b : Bool) → (b && false) ≡ false
-and_false x1 = grind arith
+and_false b = grind arith
 
 pub acknowledgment_found : AcknowledgmentIsFound
 unfolding acknowledged_in

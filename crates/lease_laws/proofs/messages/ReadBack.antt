@@ -11,13 +11,13 @@ use Rattle.lease_laws.proofs.messages.FromBytesLemmas.{written_messages_found, w
 ask_lease : (lease : Option LeaseOf) (durable : _) (again : Option ℕ)
     → ask_found (Ok (view_of_ask (record { lease = lease; durable = durable; reconnect = again })))
     ≡ Some (record { lease = lease; durable = durable; reconnect = again })
-ask_lease x1 durable again = grind arith
+ask_lease lease durable again = grind arith
 
 -- an ask that has bytes can be written
 ask_writable : (lease : Option LeaseOf) (durable : _) (again : Option ℕ)
     → HasAskBytes (record { lease = lease; durable = durable; reconnect = again })
     → IsWritable Direction.Request (view_of_ask (record { lease = lease; durable = durable; reconnect = again }))
-ask_writable x1 durable again h = grind arith
+ask_writable lease durable again h = grind arith
 
 -- so it is read back
 ask_back : (ask : CreateAsk) → HasAskBytes ask → ask_found (value_of Direction.Request (ask_bytes (Some ask))) ≡ Some ask
@@ -28,11 +28,11 @@ ask_back ask h = written_contexts_found.0 (view_of_ask ask) (ask_writable ask.le
 answer_lease : (lease : Option LeaseGiven) (durable : _)
     → answer_found (Ok (view_of_answer (record { lease = lease; durable = durable })))
     ≡ Some (record { lease = lease; durable = durable })
-answer_lease x1 durable = grind arith
+answer_lease lease durable = grind arith
 
 answer_writable : (lease : Option LeaseGiven) (durable : _) → HasAnswerBytes (record { lease = lease; durable = durable })
     → IsWritable Direction.Reply (view_of_answer (record { lease = lease; durable = durable }))
-answer_writable x1 durable h = grind arith
+answer_writable lease durable h = grind arith
 
 answer_back : (answer : CreateAnswer) → HasAnswerBytes answer
     → answer_found (value_of Direction.Reply (answer_bytes (Some answer))) ≡ Some answer

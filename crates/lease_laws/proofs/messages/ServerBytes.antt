@@ -45,7 +45,7 @@ replied_full client reply progress has full = grind arith
 
 -- a refusal has bytes
 refusal_bytes : (request : FileRequest) (status : Status) → HasReplyBytes (refusal_of request status)
-refusal_bytes x1 status = grind arith
+refusal_bytes request status = grind arith
 
 -- fewer opens
 dropped_full : (test : Open → Bool) (progress : Progress) → HaveFullKeys progress.server
@@ -60,17 +60,17 @@ dropped_full test progress full = record {
 -- the lease context of a reply
 given_bytes : (asked : Option LeaseOf) (lease : Lease) → IfSome asked (λ l. length l.key ≡ 16)
     → IfSome (lease_given asked lease) (λ l. length l.key ≡ 16)
-given_bytes x1 lease h = grind arith
+given_bytes asked lease h = grind arith
 
 -- the new open's key
 new_key : (asked : Option LeaseOf) (bytes : List ℕ) → IfSome asked (λ l. length l.key ≡ 16)
     → asked_key asked ≡ Some bytes → length bytes ≡ 16
-new_key x1 bytes h e = grind arith
+new_key asked bytes h e = grind arith
 
 -- a lease that is put changes no open and no held request
 put_opens : (server : Server) (client : ℕ) (asked : Option LeaseOf) (lease : Lease)
     → (lease_put server client asked lease).held ≡ server.held
-put_opens server client x3 lease = grind arith
+put_opens server client asked lease = grind arith
 
 granted_full : (client file : ℕ) (access : Access) (share : Share) (asked : Option LeaseOf) (durable : Bool)
     (progress : Progress) → IfSome asked (λ l. length l.key ≡ 16) → HaveFullKeys progress.server → IsFull progress
@@ -157,7 +157,7 @@ StepHasFullKey step = ⊤
 
 -- it is that of the call
 of_call : (call : Call) (step : SmallStep) → IsOfCall call step → CallHasFullKey call → StepHasFullKey step
-of_call call x2 of h = grind arith
+of_call call step of h = grind arith
 
 -- a request less among the held ones
 left_full : (file : ℕ) (before : List Held) (one : Held) (behind : List Held) (progress : Progress)

@@ -48,7 +48,7 @@ is_plain _ = true
 plain_numbered : (client last : ℕ) (fact : Fact) (past : List Fact) → is_plain fact ≡ true → IsNumbered client last past
     → IsNumbered client last (fact ∷ past)
 unfolding gives_first is_settled
-plain_numbered client last x3 past plain n = grind arith
+plain_numbered client last fact past plain n = grind arith
 
 -- a write that was given is settled
 settled_numbered : (client last other number : ℕ) (outcome : Settlement) (past : List Fact)
@@ -178,7 +178,7 @@ call_given world client call g = stepped_given world client (client_called (worl
 -- ---- events
 
 world_plain : (fact : Fact) → IsOfWorld fact → is_plain fact ≡ true
-world_plain x1 of = grind arith
+world_plain fact of = grind arith
 
 pub given_kept : IsKept Given
 given_kept = record {

@@ -26,7 +26,7 @@ pub record IsBegun (world : World) : Type 0 where
 -- facts that aren't of the world alone are no starts either where the server or a client tells them
 delivered_begun : (world : World) (out : Out) → IsBegun world → IsBegun (delivered world out)
 unfolding starts_first
-delivered_begun world x2 b = grind arith
+delivered_begun world out b = grind arith
 
 all_delivered_begun : (world : World) (outs : List Out) → IsBegun world → IsBegun (all_delivered world outs)
 unfolding all_delivered
@@ -41,7 +41,7 @@ noted_begun world client (note ∷ notes) b = noted_begun _ client notes (record
 
 fact_begun : (world : World) (fact : Fact) → IsOfWorld fact → IsBegun world → IsBegun (happened world fact)
 unfolding starts_first
-fact_begun world x2 of b = grind arith
+fact_begun world fact of b = grind arith
 
 pub begun_kept : IsKept IsBegun
 begun_kept = record {

@@ -29,7 +29,7 @@ believer client file = record { client = client; file = file }
 here_or_later : (t : Believer → Bool) (c f d g : ℕ) (same : Bool) → (d == c && g == f) ≡ same → (s old : State)
     → holds_any (if same then s else old) ≡ true → t (believer c f) ≡ true
     → (rest : Bool) → (holds_any old ≡ true → rest ≡ true) → (t (believer d g) || rest) ≡ true
-here_or_later t c f d g x6 e s old holds passes rest later = grind arith
+here_or_later t c f d g same e s old holds passes rest later = grind arith
 
 -- a client that believes something of a file is among the believers
 any_believer : (t : Believer → Bool) (c f : ℕ) (past : List Fact)
@@ -105,7 +105,7 @@ not_both : (a b : Bool) → (a && not b) ≡ false → a ≡ true → b ≡ true
 not_both a b e x = grind arith
 
 none_from : (a b : Bool) → (a ≡ true → b ≡ true) → (a && not b) ≡ false
-none_from x1 b h = grind arith
+none_from a b h = grind arith
 
 fresh-test : (fact : Fact) (past : List Fact) → is_stale_read fact past ≡ false → FreshRead fact past
 unfolding is_stale_read
@@ -125,22 +125,22 @@ stale-test _ past fresh = refl
 
 timely-test : (fact : Fact) (past : List Fact) → is_late_write fact past ≡ false → NoLateWrite fact past
 unfolding is_late_write
-timely-test x1 past e = grind arith
+timely-test fact past e = grind arith
 
 late-test : (fact : Fact) (past : List Fact) → NoLateWrite fact past → is_late_write fact past ≡ false
 unfolding is_late_write
-late-test x1 past timely = grind arith
+late-test fact past timely = grind arith
 
 not_false : (a b : Bool) → (not a && not b) ≡ false → a ≡ false → b ≡ true
 not_false a b e x = grind arith
 
 true_done-test : (fact : Fact) (past : List Fact) → is_false_done fact past ≡ false → NoFalseDone fact past
 unfolding is_false_done
-true_done-test x1 past e = grind arith
+true_done-test fact past e = grind arith
 
 false_done-test : (fact : Fact) (past : List Fact) → NoFalseDone fact past → is_false_done fact past ≡ false
 unfolding is_false_done
-false_done-test x1 past true_done = grind arith
+false_done-test fact past true_done = grind arith
 
 -- ---- one fact
 
@@ -159,7 +159,7 @@ flaw place well two stale late done = if not well then Verdict.Malformed place e
 none_of : (place : ℕ) (well two stale late done : Bool) → flaw place well two stale late done ≡ Verdict.Safe
     → (well ≡ true) × (two ≡ false) × (stale ≡ false) × (late ≡ false) × (done ≡ false)
 unfolding flaw
-none_of place x2 two stale late done e = grind arith
+none_of place well two stale late done e = grind arith
 
 flaw-sound : (place : ℕ) (fact : Fact) (past : List Fact) → flaw_at place fact past ≡ Verdict.Safe → Sound fact past
 unfolding flaw_at flaw
@@ -189,7 +189,7 @@ sound-flaw place fact past sound = rw (
 -- ---- the whole record
 
 safe_first : (one other : Verdict) → or_else one other ≡ Verdict.Safe → (one ≡ Verdict.Safe) × (other ≡ Verdict.Safe)
-safe_first x1 other e = grind arith
+safe_first one other e = grind arith
 
 verdict-sound : (place : ℕ) (past facts : List Fact) → EachFact Sound past
     → verdict_from place past facts ≡ Verdict.Safe → EachFact Sound (reverse_aux facts past)

@@ -25,7 +25,7 @@ first_fails a b e = rw e refl
 
 -- nor where the second does
 second_fails : (a b : Bool) → b ≡ false → (a && b) ≡ false
-second_fails x1 b e = grind arith
+second_fails a b e = grind arith
 
 -- to filter by one test and then by another is to filter by both
 filter_twice : {X : Type 0} (first second both : X → Bool) → ((x : X) → both x ≡ (first x && second x)) → (xs : List X)

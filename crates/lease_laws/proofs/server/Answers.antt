@@ -24,7 +24,7 @@ map_same f g (x ∷ xs) same = ap₂ (λ y ys. y ∷ ys) (same x) (map_same f g 
 -- to choose between an open with another connection and itself is to choose its connection
 pub choose_connection : (b : Bool) (up : Bool) (one : Open)
     → cond b (record one { connected = up }) one ≡ record one { connected = cond b up one.connected }
-choose_connection x1 up one = grind arith
+choose_connection b up one = grind arith
 
 -- an open connected again, as an open with another connection
 again_connection : (file_id : ℕ) (one : Open)

@@ -51,7 +51,7 @@ open_file server client file_id file (Some one) s o e same =
 -- the file of a create is one of the server
 create_file : (server : Server) (at file : ℕ) (contexts : Option CreateAsk) → file_of_create server at contexts ≡ Ok file
     → (has_file server file ≡ true) × (at ≡ file)
-create_file server at file x4 never = grind arith
+create_file server at file contexts never = grind arith
 
 -- the file of a request is one of the server, and the request is about it
 asked_file : (server : Server) (client file : ℕ) (request : FileRequest) → IsSound server → IsOrderly server
@@ -77,7 +77,7 @@ request_held-cases : (P : List Held → Type 0) (file : ℕ) (one : Held) (progr
     → (other ≡ file → P (progress.server.held file ++ one ∷ [])) → P (progress.server.held other)
     → P ((request_held file one progress).server.held other)
 unfolding put
-request_held-cases x1 file one progress other here there = grind arith
+request_held-cases P file one progress other here there = grind arith
 
 -- a request of a connected client is held on the file that it is about
 request_held-fine : (file : ℕ) (one : Held) (progress : Progress) → IsFine progress.server → IsHeldWell progress.server file one

@@ -68,7 +68,7 @@ read_step client file_id progress one a id by = grind arith
 -- the end of a request
 refusal_leaves : (client : ℕ) (request : FileRequest) (status : Status) (progress : Progress)
     → LeavesContents progress (replied client (refusal_of request status) progress)
-refusal_leaves client x2 status progress = grind arith
+refusal_leaves client request status progress = grind arith
 
 ends_content : (client : ℕ) (progress : Progress) → HasEnds client progress (λ request outcome. ContentStep progress)
 ends_content client progress = record {

@@ -89,7 +89,7 @@ ends_wants rounds client request progress wants e next = grind arith
 
 -- where nothing is wanted each request is ready
 nothing_ready : (request : FileRequest) (leases : Key → Lease) → is_ready request leases [] ≡ true
-nothing_ready x1 leases = grind arith
+nothing_ready request leases = grind arith
 
 -- a look wants nothing
 ends_ready : (rounds client : ℕ) (request : FileRequest) (progress : Progress)

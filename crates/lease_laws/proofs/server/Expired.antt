@@ -50,7 +50,7 @@ called-expired server call s w =
 
 either_expired : (b : Bool) (x y : Progress) (was : Key → Bool) → x.server.expired ≡ was → y.server.expired ≡ was
     → (if b then x else y).server.expired ≡ was
-either_expired x1 x y was e f = grind arith
+either_expired b x y was e f = grind arith
 
 pub cut-expired : (server : Server) (client : ℕ) → (call_begun server (Call.Cut client)).server.expired ≡ server.expired
 cut-expired server client = either_expired (server.present client) _ (begun server) server.expired refl refl

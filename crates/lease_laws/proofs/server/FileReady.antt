@@ -32,7 +32,7 @@ FileReady server client request = Unit {0}
 -- an open that waits for its client is its own
 pub awaits_own : (client file : ℕ) (own : Option Key) (file_id : ℕ) (one : Open) → awaits client file own file_id one ≡ true
     → (one.file_id ≡ file_id) × (one.client ≡ client)
-awaits_own client file x3 file_id one e = grind arith
+awaits_own client file own file_id one e = grind arith
 
 -- any request that is ready
 pub ready-file : (client : ℕ) (request : FileRequest) (progress : Progress) → IsFoundReady client request progress

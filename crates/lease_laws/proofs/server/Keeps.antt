@@ -28,11 +28,11 @@ pub record Keeps (Guard : ℕ → Type 0) (before : Server) (after : Server) : T
 
 -- nothing happens
 pub keeps-same : (Guard : ℕ → Type 0) (server : Server) → Keeps Guard server server
-keeps-same x1 server = grind arith
+keeps-same Guard server = grind arith
 
 -- two steps
 pub keeps-twice : (Guard : ℕ → Type 0) (a b c : Server) → Keeps Guard a b → Keeps Guard b c → Keeps Guard a c
-keeps-twice x1 a b c h j = grind arith
+keeps-twice Guard a b c h j = grind arith
 
 -- every file
 abbrev pub Anywhere : ℕ → Type 0

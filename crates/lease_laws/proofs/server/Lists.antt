@@ -5,11 +5,11 @@ use Rattle.lease_laws.proofs.Words.{filter, find, inl, inr, list_all, list_any, 
 
 -- to choose by a test keeps what holds of both
 pub if_cases : {X : Type 0} (P : X → Type 0) (b : Bool) (x y : X) → (b ≡ true → P x) → (b ≡ false → P y) → P (cond b x y)
-if_cases x1 x2 x y at_true at_false = grind arith
+if_cases P b x y at_true at_false = grind arith
 
 -- a test is true or false
 pub either : {P : Type 0} (b : Bool) → (b ≡ true → P) → (b ≡ false → P) → P
-either x1 at_true at_false = grind arith
+either b at_true at_false = grind arith
 
 -- a Bool that isn't false is true, and the other way round
 pub not_false : (b : Bool) → (b ≡ false → ⊥) → b ≡ true
@@ -25,7 +25,7 @@ clash b e f = absurd (true≢false (sym e ∙ f))
 
 -- one of two is true
 pub or_true : (a b : Bool) → (a || b) ≡ true → (a ≡ true) ⊎ (b ≡ true)
-or_true x1 b e = grind arith
+or_true a b e = grind arith
 
 -- the first is true
 pub true_or : (a b : Bool) → a ≡ true → (a || b) ≡ true
@@ -33,11 +33,11 @@ true_or a b e = rw e refl
 
 -- the second is true
 pub or_of_true : (a b : Bool) → b ≡ true → (a || b) ≡ true
-or_of_true x1 b e = grind arith
+or_of_true a b e = grind arith
 
 -- both are true
 pub and_parts : (a b : Bool) → (a && b) ≡ true → (a ≡ true) × (b ≡ true)
-and_parts x1 b e = grind arith
+and_parts a b e = grind arith
 
 -- both are true, so they are together
 pub and_both : (a b : Bool) → a ≡ true → b ≡ true → (a && b) ≡ true
@@ -45,7 +45,7 @@ and_both a b e f = rw (e, f) refl
 
 -- what is not true is false
 pub not_parts : (a : Bool) → not a ≡ true → a ≡ false
-not_parts x1 e = grind arith
+not_parts a e = grind arith
 
 -- on an append it is on the one list or on the other
 pub among_append : {X : Type 0} (x : X) (xs ys : List X) → Among x (xs ++ ys) → Among x xs ⊎ Among x ys

@@ -122,7 +122,7 @@ all_wait-keep Guard before after file k f g same all client one first =
 -- a create is ready whatever is held
 contexts_frame : (client at : ℕ) (contexts : Option CreateAsk) (file : ℕ) (left : List Held) (progress : Progress)
     → ContextsReady progress.server client at contexts → ContextsReady (held_left file left progress).server client at contexts
-contexts_frame client at x3 file left progress ready = grind arith
+contexts_frame client at contexts file left progress ready = grind arith
 
 -- what is held has nothing to do with what is ready
 pub held_left-ready : (client : ℕ) (request : FileRequest) (file : ℕ) (left : List Held) (progress : Progress)

@@ -80,7 +80,7 @@ receive-breaks server client request alone = either (server.present client)
 
 -- a state that holds nothing
 holds_none : (r w h : Bool) → (r || w || h) ≡ false → rights r w h ≡ nothing_cached
-holds_none x1 x2 x3 e = grind arith
+holds_none r w h e = grind arith
 
 -- a state without rights is none
 pub state_none : (state : State) → holds_any state ≡ false → state ≡ nothing_cached
@@ -88,7 +88,7 @@ state_none state e = holds_none state.read state.write state.handle e
 
 -- a break to nothing
 to_none : (broken_to : Option State) → leaves_nothing broken_to ≡ true → broken_to ≡ Some nothing_cached
-to_none x1 e = grind arith
+to_none broken_to e = grind arith
 
 -- where all that a write wants is breaking to nothing, each other key on its file is given up
 pub all_wants-given : (server : Server) (one : Open)

@@ -54,7 +54,7 @@ replied-answered client reply progress p = grind arith
 
 -- a refusal is a plain reply
 refusal_of-plain : (request : FileRequest) (status : Status) → IsPlain (refusal_of request status)
-refusal_of-plain x1 status = grind arith
+refusal_of-plain request status = grind arith
 
 -- a refusal gives out an answer without a break
 pub refused-answered : (client : ℕ) (request : FileRequest) (status : Status) (progress : Progress)

@@ -30,7 +30,7 @@ held_left-kept file left progress = grind arith
 held_left-cases : (P : List Held → Type 0) (file : ℕ) (left : List Held) (progress : Progress) (other : ℕ)
     → (other ≡ file → P left) → P (progress.server.held other) → P ((held_left file left progress).server.held other)
 unfolding put
-held_left-cases x1 file left progress other here there = grind arith
+held_left-cases P file left progress other here there = grind arith
 
 -- other files have what they had
 held_left-other : (file : ℕ) (left : List Held) (progress : Progress) (other : ℕ) → other ≢ file

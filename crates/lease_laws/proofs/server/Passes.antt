@@ -14,18 +14,18 @@ use Rattle.lease_laws.proofs.server.cases.Passes.{any_try_again, passes_keep}
 create_free : (client file : ℕ) (access : Access) (share : Share) (asked : Option LeaseOf) (again : Option ℕ)
     (at : ℕ) (left : List Held) (progress : Progress) → CreateFree progress.server client file access share asked again
     → CreateFree (held_left at left progress).server client file access share asked again
-create_free client file access share asked x6 at left progress free = grind arith
+create_free client file access share asked again at left progress free = grind arith
 
 -- what a create needs, by its contexts
 contexts_free : (client file : ℕ) (access : Access) (share : Share) (contexts : Option CreateAsk) (at : ℕ)
     (left : List Held) (progress : Progress) → ContextsFree progress.server client file access share contexts
     → ContextsFree (held_left at left progress).server client file access share contexts
-contexts_free client file access share x5 at left progress free = grind arith
+contexts_free client file access share contexts at left progress free = grind arith
 
 -- what requests are held has nothing to do with what a create needs
 pub held_left-free : (client : ℕ) (request : FileRequest) (file : ℕ) (left : List Held) (progress : Progress)
     → RequestFree progress.server client request → RequestFree (held_left file left progress).server client request
-held_left-free client x2 at left progress free = grind arith
+held_left-free client request at left progress free = grind arith
 
 -- a held request is answered
 pass_answered-sound : (file : ℕ) (one : Held) (waiting : List Held) (pass : Pass) (done : Tried)

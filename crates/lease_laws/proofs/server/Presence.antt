@@ -31,7 +31,7 @@ IsAmong call = ⊤
 
 pub begun_present : (server : Server) (call : Call) → IsAmong call → (c : ℕ)
     → (call_begun server call).server.present c ≡ server.present c
-begun_present server x2 among c = grind arith
+begun_present server call among c = grind arith
 
 pub join_present : (server : Server) (client : ℕ) → server.present client ≡ false → (c : ℕ)
     → (call_begun server (Call.Join client)).server.present c ≡ put server.present client true c

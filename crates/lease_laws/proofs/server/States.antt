@@ -27,7 +27,7 @@ nothing-lowered state holds = grind arith
 
 -- a part that holds W, by its letters
 within_write : (r w h : Bool) (s t u : Bool) → is_state_within (rights r w h) (rights s t u) ≡ true → w ≡ true → t ≡ true
-within_write r w h s x5 u e f = grind arith
+within_write r w h s t u e f = grind arith
 
 -- a part that holds a right is a part of what holds it
 pub write_of_part : (part state : State) → is_state_within part state ≡ true → part.write ≡ true → state.write ≡ true
@@ -35,7 +35,7 @@ write_of_part part state e f = within_write part.read part.write part.handle sta
 
 -- a part that holds H, by its letters
 within_handle : (r w h : Bool) (s t u : Bool) → is_state_within (rights r w h) (rights s t u) ≡ true → h ≡ true → u ≡ true
-within_handle r w h s t x6 e f = grind arith
+within_handle r w h s t u e f = grind arith
 
 -- a part that holds H is a part of what holds it
 pub handle_of_part : (part state : State) → is_state_within part state ≡ true → part.handle ≡ true → state.handle ≡ true
@@ -60,4 +60,4 @@ breaking-lawful state lowered form needs low = grind arith
 
 -- neither is true
 or_false : (a b : Bool) → (a || b) ≡ false → (a ≡ false) × (b ≡ false)
-or_false x1 b e = grind arith
+or_false a b e = grind arith

@@ -97,11 +97,11 @@ all_passes-steps call progress f = any_passes (pass_by call) _ _ (passes-steps c
 -- whatever it asks
 asked-refuses : (server : Server) (client : ℕ) (request : FileRequest) (status : Status)
     → file_asked server client request ≡ Err status → MayRefuse server client request status
-asked-refuses server client x3 status e = grind arith
+asked-refuses server client request status e = grind arith
 
 asked_stays : (before after : Server) (client : ℕ) (request : FileRequest) (file : ℕ) → Keeps Anywhere before after
     → after.files ≡ before.files → file_asked before client request ≡ Ok file → file_asked after client request ≡ Ok file
-asked_stays before after client x4 at k same e = grind arith
+asked_stays before after client request at k same e = grind arith
 
 no_file : (asked : Result ℕ Status) (status : Status) (file : ℕ) → asked ≡ Err status → asked ≡ Ok file → ⊥
 no_file asked status file e f = cc

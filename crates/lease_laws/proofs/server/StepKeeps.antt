@@ -22,12 +22,12 @@ use Rattle.lease_laws.proofs.server.Ready.{CreateFree, RequestFree}
 create_free : (server : Server) (client file : ℕ) (access : Access) (share : Share) (lease : Option LeaseOf)
     (again : Option ℕ) → MayCreate server client file access share lease again
     → CreateFree server client file access share lease again
-create_free server client file access share lease x7 may = grind arith
+create_free server client file access share lease again may = grind arith
 
 -- any request
 serve_free : (server : Server) (client : ℕ) (request : FileRequest) → MayServe server client request
     → RequestFree server client request
-serve_free server client x3 may = grind arith
+serve_free server client request may = grind arith
 
 -- a reconnect has its open
 again_ready : (server : Server) (client file : ℕ) (access : Access) (share : Share) (lease : Option LeaseOf)
@@ -48,11 +48,11 @@ serve_file server client request may = tt
 -- the end of a request, guarded
 pub end_up : (server : Server) (client : ℕ) (request : FileRequest) (outcome : Outcome)
     → MayEnd server client request outcome → server.present client ≡ true
-end_up server client request x4 may = grind arith
+end_up server client request outcome may = grind arith
 
 pub end_serves : (server : Server) (client : ℕ) (request : FileRequest) (outcome : Outcome)
     → MayEnd server client request outcome → outcome ≡ Outcome.Ready → MayServe server client request
-end_serves server client request x4 may never = grind arith
+end_serves server client request outcome may never = grind arith
 
 -- ---- the laws
 

@@ -167,7 +167,7 @@ acknowledged-lease client given progress other = any_judgement client progress
 -- what is held has nothing to do with what may be served
 pub held_left-serves : (client : ℕ) (request : FileRequest) (file : ℕ) (left : List Held) (progress : Progress)
     → MayServe progress.server client request → MayServe (held_left file left progress).server client request
-held_left-serves client x2 file left progress may = grind arith
+held_left-serves client request file left progress may = grind arith
 
 -- what each step makes of the lease of any key
 pub step-leases : (step : SmallStep) (progress : Progress) → IsSound progress.server → IsGuarded step progress.server

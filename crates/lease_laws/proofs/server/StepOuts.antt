@@ -80,7 +80,7 @@ IsFine server out = IsToPresent server out × IsShort out
 of_request : (server : Server) (client : ℕ) (request : FileRequest) (outcome : Outcome)
     → server.present client ≡ true → (outcome ≡ Outcome.Ready → MayServe server client request)
     → outcome ≡ Outcome.Ready → (out : Out) → IsOfRequest client request out → IsFine server out
-of_request server client request outcome up serves ready x8 e = grind arith
+of_request server client request outcome up serves ready out e = grind arith
 
 -- a refusal is one reply
 refused_fine : (server : Server) (client : ℕ) (request : FileRequest) (status : Status) (progress : Progress)
@@ -106,7 +106,7 @@ break_fine server key lowered up may =
   where
     own : (client : ℕ) (bytes : Option (List ℕ)) → is_key key client bytes ≡ true
         → server.present client ≡ true → server.present key.client ≡ true
-    own client x2 k p = grind arith
+    own client bytes k p = grind arith
 
 -- each step
 pub step_fine : (step : SmallStep) (progress : Progress) → OpensUp progress.server → IsGuarded step progress.server
@@ -123,7 +123,7 @@ step_fine (SmallStep.Acknowledge client given) progress up may = go_on-weaker (I
     (acknowledged client given progress).outs (acknowledged-out client given progress)
   where
     sent_fine : (to : ℕ) → progress.server.present to ≡ true → (out : Out) → IsSentTo to out → IsFine progress.server out
-    sent_fine to there x3 e = grind arith
+    sent_fine to there out e = grind arith
 step_fine (SmallStep.Hold file one) progress up may = subst
     (λ outs. GoOn (IsFine progress.server) progress.outs outs) (sym (request_held-outs file one progress))
     (go_on-same (IsFine progress.server) progress.outs)
@@ -140,7 +140,7 @@ step_fine (SmallStep.Begin key lowered) progress up may =
 -- the same clients are there, so the same is to them
 same_present : (before after : Server) → ((client : ℕ) → after.present client ≡ before.present client)
     → (out : Out) → IsFine before out → IsFine after out
-same_present before after same x4 f = grind arith
+same_present before after same out f = grind arith
 
 steps_fine : (steps : List SmallStep) (progress : Progress) → IsSound progress.server → OpensUp progress.server
     → AreGuarded steps progress → EachOut (IsFine progress.server) progress.outs

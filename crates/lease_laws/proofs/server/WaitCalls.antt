@@ -96,7 +96,7 @@ record IsCutFrom (server : Server) (client : ℕ) (one : Open) : Type 0 where
 -- an open after a cut
 cut_open : (server : Server) (client : ℕ) (was : Open) (b : Bool) → (was.client == client) ≡ b → Among was server.opens
     → IsCutFrom server client (cond b (record was { connected = false }) was)
-cut_open server client was x4 e a = grind arith
+cut_open server client was b e a = grind arith
 
 -- the opens after a cut
 cut_opens : (server : Server) (client : ℕ) (one : Open) → Among one (map (disconnected client) server.opens)

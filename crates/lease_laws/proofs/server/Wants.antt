@@ -81,7 +81,7 @@ keys_of-some key one (other ∷ opens) (inr a) k =
 
 -- a mapped list is empty where the list is
 map_empty : {X Y : Type 0} (f : X → Y) (xs : List X) → is_empty (map f xs) ≡ is_empty xs
-map_empty f x2 = grind arith
+map_empty f xs = grind arith
 
 -- where nothing is wanted, no open with a key passes the test
 pub wants_where-none : (server : Server) (test : Open → Bool) (lowering : State → State)

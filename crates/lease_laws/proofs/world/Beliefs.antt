@@ -22,13 +22,13 @@ pub record Agrees (world : World) : Type 0 where
 of_world : (client file : ℕ) (fact : Fact) (past : List Fact) → IsOfWorld fact
     → believed client file (fact ∷ past) ≡ believed client file past
 unfolding believed
-of_world client file x3 past of = grind arith
+of_world client file fact past of = grind arith
 
 -- nor do outs
 delivered_believed : (client file : ℕ) (world : World) (out : Out)
     → believed client file (delivered world out).past ≡ believed client file world.past
 unfolding believed
-delivered_believed client file world x4 = grind arith
+delivered_believed client file world out = grind arith
 
 all_believed : (client file : ℕ) (world : World) (outs : List Out)
     → believed client file (all_delivered world outs).past ≡ believed client file world.past

@@ -32,7 +32,7 @@ fits_append past (out ∷ outs) more each other = (each.0, fits_append (fact_tol
 
 -- a reply that tells no content is right everywhere
 other_fits : (client : ℕ) (place : List Fact) (reply : Reply) → IsOther (Out.Sent client reply) → IsOfPlace client place reply
-other_fits client place x3 other = grind arith
+other_fits client place reply other = grind arith
 
 others_fit : (past : List Fact) (outs : List Out) → EachOut IsOther outs → EachFits past outs
 others_fit past [] each = tt

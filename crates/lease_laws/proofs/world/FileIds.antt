@@ -37,7 +37,7 @@ told_append past [] more = refl
 told_append past (out ∷ outs) more = told_append (fact_told out ∷ past) outs more
 
 delivered_past : (world : World) (out : Out) → (delivered world out).past ≡ fact_told out ∷ world.past
-delivered_past world x2 = grind arith
+delivered_past world out = grind arith
 
 pub all_delivered_past : (world : World) (outs : List Out) → (all_delivered world outs).past ≡ told world.past outs
 unfolding all_delivered
@@ -81,7 +81,7 @@ old_told : (past : List Fact) (server : Server) (one : Open) → IsCounted past 
 old_told past server one c old = grind arith
 
 or_later : (a b : Bool) → b ≡ true → (a || b) ≡ true
-or_later x1 b e = grind arith
+or_later a b e = grind arith
 
 -- ---- steps
 
@@ -225,12 +225,12 @@ pub record IsCountedWorld (world : World) : Type 0 where
 -- facts of the world tell of no open
 pub world_fact_same : (past : List Fact) (fact : Fact) → IsOfWorld fact → SameOpens past (fact ∷ past)
 unfolding opened_count was_opened
-world_fact_same past x2 of = grind arith
+world_fact_same past fact of = grind arith
 
 -- nor do notes
 pub note_same : (past : List Fact) (client : ℕ) (note : Note) → SameOpens past (fact_of client note ∷ past)
 unfolding opened_count was_opened
-note_same past client x3 = grind arith
+note_same past client note = grind arith
 
 noted_counted : (world : World) (client : ℕ) (notes : List Note) (server : Server) → IsCounted world.past server
     → IsCounted (noted world client notes).past server

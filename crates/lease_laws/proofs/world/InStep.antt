@@ -31,10 +31,10 @@ IsPlain fact = Unit {0}
 
 plain_content : (file : ℕ) (past : List Fact) (fact : Fact) → IsPlain fact → content_of file (fact ∷ past) ≡ content_of file past
 unfolding content_of
-plain_content file past x3 plain = grind arith
+plain_content file past fact plain = grind arith
 
 note_plain : (client : ℕ) (note : Note) → IsPlain (fact_of client note)
-note_plain client x2 = grind arith
+note_plain client note = grind arith
 
 noted_contents : (world : World) (client : ℕ) (notes : List Note) (server : Server) → HasContents world.past server
     → HasContents (noted world client notes).past server
@@ -85,10 +85,10 @@ IsOfNoQueue fact = Unit {0}
 
 fact_in_step : (world : World) (fact : Fact) → IsOfNoQueue fact → (c : ℕ) → KeepsStep world c → KeepsStep (happened world fact) c
 unfolding sendings takings
-fact_in_step world x2 of c k = grind arith
+fact_in_step world fact of c k = grind arith
 
 told_plain : (client : ℕ) (fact : Fact) → IsTold client fact → IsPlain fact × IsOfNoQueue fact
-told_plain client x2 is = grind arith
+told_plain client fact is = grind arith
 
 fact_true : (world : World) (fact : Fact) → IsPlain fact → IsOfNoQueue fact → IsTrue world → IsTrue (happened world fact)
 fact_true world fact plain none t = record {

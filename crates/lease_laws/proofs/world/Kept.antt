@@ -19,7 +19,7 @@ IsOfWorld (Fact.CachedRead client file bytes) = ⊥
 IsOfWorld _ = Unit {0}
 
 pub told_of_world : (client : ℕ) (fact : Fact) → IsTold client fact → IsOfWorld fact
-told_of_world client x2 is = grind arith
+told_of_world client fact is = grind arith
 
 -- what keeps such a statement
 pub record IsKept (P : World → Type 0) : Type 0 where
@@ -32,7 +32,7 @@ pub record IsKept (P : World → Type 0) : Type 0 where
 
 -- outs change no client
 delivered_clients : (world : World) (out : Out) → (delivered world out).clients ≡ world.clients
-delivered_clients world x2 = grind arith
+delivered_clients world out = grind arith
 
 all_delivered_clients : (world : World) (outs : List Out) → (all_delivered world outs).clients ≡ world.clients
 unfolding all_delivered
@@ -44,7 +44,7 @@ served-clients world progress = all_delivered_clients (record world { server = p
 
 -- nor the server
 delivered_server : (world : World) (out : Out) → (delivered world out).server ≡ world.server
-delivered_server world x2 = grind arith
+delivered_server world out = grind arith
 
 all_delivered_server : (world : World) (outs : List Out) → (all_delivered world outs).server ≡ world.server
 unfolding all_delivered

@@ -21,7 +21,7 @@ use Rattle.lease_laws.proofs.world.cases.Events.{HasForms, IsTold, Keeps, call_s
 -- ---- one client, and the others
 
 pub by_client : (P : ℕ → Type 0) (client c : ℕ) → P client → (c ≢ client → (client == c) ≡ false → P c) → P c
-by_client x1 client c here there = grind arith
+by_client P client c here there = grind arith
 
 -- where nothing of a client changes it stays tied
 pub carried : (world new : World) (c : ℕ) → new.server.present c ≡ world.server.present c
@@ -67,10 +67,10 @@ delivered_tied world (Out.Changed file client number patch) up tied c =
 -- outs that reach their clients
 reaching : (world : World) (server : Server) → ((c : ℕ) → server.present c ≡ is_up (world.links c)) → (out : Out)
     → IsToPresent server out → Reaches world out
-reaching world server same x4 to = grind arith
+reaching world server same out to = grind arith
 
 delivered_links : (world : World) (out : Out) → (delivered world out).links ≡ world.links
-delivered_links world x2 = grind arith
+delivered_links world out = grind arith
 
 pub outs_links : (world : World) (outs : List Out) → (all_delivered world outs).links ≡ world.links
 unfolding all_delivered
@@ -110,7 +110,7 @@ plain_call_tied world call among s w tied c = served_tied world call s w
 
 note_tied : (world : World) (client : ℕ) (note : Note) (c : ℕ) → IsTied world c → IsTied (happened world (fact_of client note)) c
 unfolding is_served sendings takings
-note_tied world client x3 c t = grind arith
+note_tied world client note c t = grind arith
 
 noted_tied : (world : World) (client : ℕ) (notes : List Note) (c : ℕ) → IsTied world c → IsTied (noted world client notes) c
 unfolding noted
@@ -126,7 +126,7 @@ noted_links world client (note ∷ notes) = noted_links (happened world (fact_of
 -- over a link that isn't up nothing is sent
 sent_idle : (link : Link) (queue requests : List Request) → (is_up link ≡ false → queue ≡ [])
     → is_up link ≡ false → sent_over link queue requests ≡ []
-sent_idle x1 queue requests idle e = grind arith
+sent_idle link queue requests idle e = grind arith
 
 pub sent_tied : (world : World) (client : ℕ) (requests : List Request) (c : ℕ) → IsTied world c
     → IsTied (requests_sent world client requests) c
@@ -334,7 +334,7 @@ expired_tied world client file c t = grind arith
 pub told_tied : (world : World) (client : ℕ) (fact : Fact) (c : ℕ) → IsTold client fact → IsTied world c
     → IsTied (happened world fact) c
 unfolding is_served sendings takings
-told_tied world client x3 c is t = grind arith
+told_tied world client fact c is t = grind arith
 
 -- ---- events
 

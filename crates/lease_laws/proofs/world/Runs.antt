@@ -98,7 +98,7 @@ put_fits contents file content fit new other = grind arith
 -- a lease that is put leaves them
 put_contents : (server : Server) (client : ℕ) (asked : Option LeaseOf) (lease : Lease)
     → (lease_put server client asked lease).contents ≡ server.contents
-put_contents server client x3 lease = grind arith
+put_contents server client asked lease = grind arith
 
 -- the end of a request
 ends_fit : (client : ℕ) (progress : Progress) → DoFit progress.server.contents

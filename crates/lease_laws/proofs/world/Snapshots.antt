@@ -84,7 +84,7 @@ delivered_in_step world (Out.Changed file client number patch) is keeps c =
     carried_step world (happened world (Fact.Changed file client number patch)) c refl refl refl refl (keeps c)
 
 delivered_past : (world : World) (out : Out) → (delivered world out).past ≡ fact_told out ∷ world.past
-delivered_past world x2 = grind arith
+delivered_past world out = grind arith
 
 pub all_in_step : (world : World) (outs : List Out) → EachFits world.past outs → ((c : ℕ) → KeepsStep world c)
     → (c : ℕ) → KeepsStep (all_delivered world outs) c
@@ -98,7 +98,7 @@ all_in_step world (out ∷ outs) each keeps c = all_in_step (delivered world out
 note_in_step : (world : World) (client : ℕ) (note : Note) (c : ℕ) → KeepsStep world c
     → KeepsStep (happened world (fact_of client note)) c
 unfolding sendings takings
-note_in_step world client x3 c k = grind arith
+note_in_step world client note c k = grind arith
 
 noted_in_step : (world : World) (client : ℕ) (notes : List Note) (c : ℕ) → KeepsStep world c
     → KeepsStep (noted world client notes) c

@@ -26,7 +26,7 @@ SameServed past new = (client : ℕ) → is_served client new ≡ is_served clie
 
 delivered_served : (world : World) (out : Out) → SameServed world.past (delivered world out).past
 unfolding is_served
-delivered_served world x2 c = grind arith
+delivered_served world out c = grind arith
 
 all_delivered_served : (world : World) (outs : List Out) → SameServed world.past (all_delivered world outs).past
 unfolding all_delivered
@@ -35,7 +35,7 @@ all_delivered_served world (out ∷ outs) c = all_delivered_served (delivered wo
 
 note_served : (world : World) (client : ℕ) (note : Note) → SameServed world.past (happened world (fact_of client note)).past
 unfolding is_served
-note_served world client x3 c = grind arith
+note_served world client note c = grind arith
 
 noted_served : (world : World) (client : ℕ) (notes : List Note) → SameServed world.past (noted world client notes).past
 unfolding noted
@@ -70,7 +70,7 @@ AreToldOf world = AreTold world.server.expired world.past
 -- a fact that stands alone makes nobody served
 told_unserved : (client : ℕ) (fact : Fact) (past : List Fact) → IsTold client fact → SameServed past (fact ∷ past)
 unfolding is_served
-told_unserved client x2 past is c = grind arith
+told_unserved client fact past is c = grind arith
 
 -- a call that leaves these keys
 same_told : (world : World) (call : Call) → (called world.server call).server.expired ≡ world.server.expired
@@ -78,7 +78,7 @@ same_told : (world : World) (call : Call) → (called world.server call).server.
 same_told world call same told key e = told key (ap (λ x. x key) (sym same) ∙ e)
 
 none_of : (a : Bool) → (a && false) ≡ false
-none_of x1 = grind arith
+none_of a = grind arith
 
 -- a join forgets the client's timers
 joined_told : (expired : Key → Bool) (past : List Fact) (client : ℕ) → AreTold expired past → (key : Key)

@@ -370,7 +370,7 @@ module _ (place : ℕ) (old new : Seen) (v : Verdict) (past : List Fact) (k : Kn
       (sym (goods o) ∙ good_too))) (holders-same past (fact ∷ past) old.holders new.holders kept goods (λ c f. refl) k.holders))
     where
       newcomer : (a b : Bool) → (if a then false else b) ≡ true → (a ≡ false) × (b ≡ true)
-      newcomer x1 b e = grind arith
+      newcomer a b e = grind arith
 
   -- ---- a file is changed
 
@@ -502,7 +502,7 @@ module _ (place : ℕ) (old new : Seen) (v : Verdict) (past : List Fact) (k : Kn
       (none-conflicts past client other n k.one_write_cache ne good good_too)) f
     where
       second_false : (a b : Bool) → (a && b) ≡ false → a ≡ true → b ≡ false
-      second_false x1 b e a_is = grind arith
+      second_false a b e a_is = grind arith
 
   believes_judged : (client file : ℕ) (state : State) → BelievesAdds place client file state old new v
       → Judged (Fact.Believes client file state)
@@ -545,7 +545,7 @@ module _ (place : ℕ) (old new : Seen) (v : Verdict) (past : List Fact) (k : Kn
       (λ off e. malformed_judged fact e (sym (started_told old file past k) ∙ off))
     where
       both_true : (a b : Bool) → (a && b) ≡ true → (a ≡ true) × (b ≡ true)
-      both_true x1 b e = grind arith
+      both_true a b e = grind arith
 
   -- ---- a cached read
 

@@ -152,10 +152,10 @@ took_more client place sent seen past e k =
     }
 
 has_one : (sent : List ℕ) → not (is_empty sent) ≡ true → (place : ℕ) × (rest : List ℕ) × (sent ≡ place ∷ rest)
-has_one x1 e = grind arith
+has_one sent e = grind arith
 
 both_true : (a b : Bool) → (a && b) ≡ true → (a ≡ true) × (b ≡ true)
-both_true x1 b e = grind arith
+both_true a b e = grind arith
 
 took_is : (seen : SeenClient) (place : ℕ) (rest : List ℕ) (sent : List ℕ) → sent ≡ place ∷ rest
     → took_from seen sent ≡ record seen { sent = rest; taken = place; has_taken = true }
@@ -185,7 +185,7 @@ took-formed client seen past can k =
     rw (sym k.joined ∙ parts.0, lt_so (takings client past) (length (sendings client past)) next.within) refl
 
 and_not : (a b : Bool) → b ≡ false → (a && b) ≡ false
-and_not x1 b e = grind arith
+and_not a b e = grind arith
 
 took_nothing : (client : ℕ) (seen : SeenClient) (past : List Fact) (joined : Bool) (sent : List ℕ) → seen.joined ≡ joined
     → seen.sent ≡ sent → (joined && not (is_empty sent)) ≡ false → KnowsClient client seen past

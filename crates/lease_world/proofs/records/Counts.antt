@@ -69,11 +69,11 @@ no_one p (suc n) none k lt = elim (cases_Bool (p n)) [
 
 counted-one : (count less : ℕ) (now was : Bool) → count + one_if was ≡ less + one_if now → was ≡ false → less < 65535
     → count ≡ (if now then one_more less else less)
-counted-one count less x3 was e w few = grind arith
+counted-one count less now was e w few = grind arith
 
 counted-less : (count more : ℕ) (now was : Bool) → count + one_if was ≡ more + one_if now → now ≡ false
     → count ≡ (if was then more - 1 else more)
-counted-less count more now x4 e w = grind arith
+counted-less count more now was e w = grind arith
 
 with-any : (state : State) (holders : Holders)
     → (with_holder state holders).any ≡ (if holds_any state then one_more holders.any else holders.any)
@@ -132,7 +132,7 @@ nothing_there : (n : ℕ) → nat_lt 0 n ≡ false → n ≡ 0
 nothing_there n e = grind arith
 
 both_true : (a b : Bool) → (a && b) ≡ true → (a ≡ true) × (b ≡ true)
-both_true x1 b e = grind arith
+both_true a b e = grind arith
 
 with_writer : (one other : State) → one.write ≡ true → is_conflict one other ≡ holds_any other
 with_writer one other e = rw e refl
@@ -172,4 +172,4 @@ conflict-none held state holders k free client within = elim (cases_Bool state.w
 ]
   where
     by_reader : (a b w : Bool) → (a && b) ≡ false → (b ≡ false → w ≡ false) → (w && a) ≡ false
-    by_reader x1 b w e f = grind arith
+    by_reader a b w e f = grind arith

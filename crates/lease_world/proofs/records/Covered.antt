@@ -25,7 +25,7 @@ layers_push position (first ∷ writes) write = let later = layers_push position
 
 one_layer : (test : Layer → Bool) (covers passes : Bool) (layer : Layer) → test layer ≡ passes
     → filter test (if covers then layer ∷ [] else []) ≡ (if passes then (if covers then layer ∷ [] else []) else [])
-one_layer test x2 x3 layer e = grind arith
+one_layer test covers passes layer e = grind arith
 
 layers_if : (position : ℕ) (passes : Bool) (write : Waiting) (writes : List Waiting)
     → layers_at position (cond passes (write ∷ writes) writes)
@@ -57,7 +57,7 @@ patched_byte_by base o (b ∷ d) position write offset bytes = rw (bytes, offset
     by_cover : (c : Bool) → (if c then slice_index (b ∷ d) (position - o) else slice_index base position)
         ≡ seen_byte base (if c then record { number = write.number; byte = slice_index (b ∷ d) (position - o) } ∷ [] else [])
         position
-    by_cover x1 = grind arith
+    by_cover c = grind arith
 
 patched_byte : (base : List ℕ) (position : ℕ) (write : Waiting)
     → get_or (patch base write.patch) position 0 ≡ seen_byte base (layer_of position write) position
@@ -66,7 +66,7 @@ patched_byte base position write = patched_byte_by base write.patch.offset write
 seen_under : (base other : List ℕ) (position : ℕ) (layers more : List Layer)
     → get_or other position 0 ≡ seen_byte base more position
     → seen_byte other layers position ≡ seen_byte base (layers ++ more) position
-seen_under base other position x4 more e = grind arith
+seen_under base other position layers more e = grind arith
 
 -- a byte of a patched file is that of the last write that covers the position
 pub patched_at : (base : List ℕ) (position : ℕ) (writes : List Waiting)
@@ -152,10 +152,10 @@ patched_within base (write ∷ writes) size fits none = patched_within (patch ba
 
 seen_open : (is_open : Layer → Bool) (base : List ℕ) (position : ℕ) (stack : List Layer) → IsOpenOnTop is_open stack
     → seen_byte base stack position ≡ seen_byte base (filter is_open stack) position
-seen_open is_open base position x4 top = grind arith
+seen_open is_open base position stack top = grind arith
 
 none_open : (is_open : Layer → Bool) (stack : List Layer) → IsOpenOnTop is_open stack → filter is_open stack ≡ [] → stack ≡ []
-none_open is_open x2 top none = grind arith
+none_open is_open stack top none = grind arith
 
 -- what covers the positions are these writes, as far as they are open
 pub record CoversWith (is_open : Layer → Bool) (stacks : List (List Layer)) (writes : List Waiting) : Type 0 where

@@ -69,12 +69,12 @@ is_steady _ = true
 good-steady : (fact : Fact) (past : List Fact) → is_steady fact ≡ true → (client : ℕ)
     → is_good client (fact ∷ past) ≡ is_good client past
 unfolding is_good is_served has_strayed
-good-steady x1 past e client = grind arith
+good-steady fact past e client = grind arith
 
 belief-steady : (fact : Fact) (past : List Fact) → is_steady fact ≡ true → (client file : ℕ)
     → believed client file (fact ∷ past) ≡ believed client file past
 unfolding believed
-belief-steady x1 past e client file = grind arith
+belief-steady fact past e client file = grind arith
 
 pub holders-stay : (fact : Fact) (past : List Fact) (old new : List Holders) → is_steady fact ≡ true → new ≡ old
     → KnowsHolders old past → KnowsHolders new (fact ∷ past)

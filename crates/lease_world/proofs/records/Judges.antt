@@ -96,10 +96,10 @@ nothing_judged = record {
 -- ---- one fact more
 
 one_more_safe : (v : Verdict) (flaw : model.Verdict) → is_safe v ≡ true → or_else (verdict_of v) flaw ≡ flaw
-one_more_safe x1 flaw e = grind arith
+one_more_safe v flaw e = grind arith
 
 one_more_flawed : (v : Verdict) (flaw : model.Verdict) → is_safe v ≡ false → or_else (verdict_of v) flaw ≡ verdict_of v
-one_more_flawed x1 flaw e = grind arith
+one_more_flawed v flaw e = grind arith
 
 counted : (facts : List Fact) (fact : Fact) (n m : ℕ) → n ≡ length facts → m ≡ n + 1 → m ≡ length (facts ++ fact ∷ [])
 counted facts fact n m e f = let l = length-append facts (fact ∷ []) in omega (arith, e, f, l)

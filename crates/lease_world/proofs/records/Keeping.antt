@@ -53,7 +53,7 @@ base-change file touches change taken (Some base) le is =
     )
   where
     shorter : (b : Bool) (x : Change) (xs : List Change) (n : ℕ) → length xs ≤ n → length (if b then x ∷ xs else []) ≤ suc n
-    shorter x1 x xs n le = grind arith
+    shorter b x xs n le = grind arith
 
     before-within : (place : ℕ) (changes : List Change) → length (before place changes) ≤ length changes
     before-within place [] = omega arith
@@ -68,7 +68,7 @@ contents-change file touches change taken cache le h = base-change file touches 
 
 base-none : (file : SeenFile) (bytes : List ℕ) (taken : ℕ) (base : Option Snapshot) → is_some file.start ≡ false
     → IsBase file taken base → IsBase (record file { start = Some bytes }) taken base
-base-none file bytes taken x4 off is = grind arith
+base-none file bytes taken base off is = grind arith
 
 pub contents-start : (file : SeenFile) (bytes : List ℕ) (taken : ℕ) (cache : SeenCache) → is_some file.start ≡ false
     → HasContents file taken cache → HasContents (record file { start = Some bytes }) taken cache

@@ -11,7 +11,7 @@ use Rattle.lease_world.proofs.records.Skips.{touches, concerns}
 -- ---- one place and the others
 
 pub each_place : (P : ℕ → Type 0) (k : ℕ) → P k → ((n : ℕ) → n ≢ k → P n) → (n : ℕ) → P n
-each_place x1 k here others n = grind arith
+each_place P k here others n = grind arith
 
 pub is_apart : (n k : ℕ) → n ≢ k → (k == n) ≡ false
 is_apart n k ne = grind arith
@@ -97,4 +97,4 @@ good_told client seen past k = rw (k.strayed, k.served) refl
 -- ---- what is told by a test
 
 pub match_bool : {P Q R : Type 0} (b : Bool) → MatchBool b P Q → (b ≡ true → P → R) → (b ≡ false → Q → R) → R
-match_bool x1 m yes_so no_so = grind arith
+match_bool b m yes_so no_so = grind arith

@@ -16,12 +16,12 @@ is_quiet _ = true
 was_good : (client : ℕ) (fact : Fact) (past : List Fact) → is_quiet fact ≡ true → is_good client (fact ∷ past) ≡ true
     → is_good client past ≡ true
 unfolding is_good has_strayed is_served
-was_good client x2 past q g = grind arith
+was_good client fact past q g = grind arith
 
 pub same_belief : (client file : ℕ) (fact : Fact) (past : List Fact) → is_quiet fact ≡ true
     → believed client file (fact ∷ past) ≡ believed client file past
 unfolding believed
-same_belief client file x3 past q = grind arith
+same_belief client file fact past q = grind arith
 
 pub one-stays : (fact : Fact) (past : List Fact) → is_quiet fact ≡ true → OneWriteCache past → OneWriteCache (fact ∷ past)
 one-stays fact past q one file client other ne good writes good_too = same_belief other file fact past q

@@ -11,11 +11,11 @@ self n = grind arith
 -- ---- filters
 
 and_false : (a : Bool) → (a && false) ≡ false
-and_false x1 = grind arith
+and_false a = grind arith
 
 filter_step : {X : Type 0} (p : X → Bool) (x : X) (kept rest : List X) (b c : Bool) → c ≡ (p x && b) → rest ≡ filter p kept
     → cond c (x ∷ rest) rest ≡ filter p (cond b (x ∷ kept) kept)
-filter_step p x kept rest x5 c e r = grind arith
+filter_step p x kept rest b c e r = grind arith
 
 pub filter-and : {X : Type 0} (p q r : X → Bool) (xs : List X) → ((x : X) → r x ≡ (p x && q x))
     → filter r xs ≡ filter p (filter q xs)

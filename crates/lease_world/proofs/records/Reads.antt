@@ -40,7 +40,7 @@ open-told : (client : ℕ) (seen : SeenClient) (past : List Fact) (layers : List
 open-told client seen past layers k = grind arith
 
 same_twice : (b : Bool) → b ≡ (b && b)
-same_twice x1 = grind arith
+same_twice b = grind arith
 
 -- what is laid first and what was there already are open as they were together
 open_both : (is_open : Layer → Bool) (first rest : List Layer)
@@ -98,14 +98,14 @@ seen-same client file taken bytes seen f cache now same past place is all k kf p
 -- ---- the place
 
 none_sent : (sent : Option (List Fact)) → option_map place_of sent ≡ None → sent ≡ None
-none_sent x1 e = grind arith
+none_sent sent e = grind arith
 
 some_sent : (sent : Option (List Fact)) (taken : ℕ) → option_map place_of sent ≡ Some taken
     → (place : List Fact) × (sent ≡ Some place) × (place_of place ≡ taken)
-some_sent x1 taken e = grind arith
+some_sent sent taken e = grind arith
 
 taken_value : (b : Bool) (taken place : ℕ) → (if b then Some taken else None) ≡ Some place → taken ≡ place
-taken_value x1 taken place e = grind arith
+taken_value b taken place e = grind arith
 
 -- ---- whether the read is stale
 

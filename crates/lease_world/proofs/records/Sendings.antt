@@ -21,7 +21,7 @@ parts-push past (x ∷ places) place part all = (all.0, parts-push past places p
 
 parts-none : (b : Bool) (past : List Fact) (places : List (List Fact)) → AllParts past places
     → AllParts past (if b then [] else places)
-parts-none x1 past places all = grind arith
+parts-none b past places all = grind arith
 
 parts-one : (b : Bool) (past : List Fact) (places : List (List Fact)) (place : List Fact) → PartOf past place
     → AllParts past places → AllParts past (if b then places ++ place ∷ [] else places)

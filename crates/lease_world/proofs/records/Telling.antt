@@ -7,7 +7,7 @@ use Rattle.lease_world.specs.Verdicts.{verdict_of, IsVerdictOn}
 use Rattle.lease_world.specs.declared.verdict.Verdict.{Verdict}
 
 told_safe : (told : Verdict) → verdict_of told ≡ model.Verdict.Safe → told ≡ Verdict.Safe
-told_safe x1 e = grind arith
+told_safe told e = grind arith
 
 pub safe_told : (facts : List Fact) (told : Verdict) → verdict_of told ≡ model.verdict facts → (told ≡ Verdict.Safe) ↔ Safe facts
 safe_told facts told e = (

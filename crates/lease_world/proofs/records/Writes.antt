@@ -19,7 +19,7 @@ is_buffered_on file (Some write) = write.file == file && write.buffered
 is_buffered_on file None = false
 
 none_from : {X : Type 0} (o : Option X) → is_some o ≡ false → o ≡ None
-none_from x1 e = grind arith
+none_from o e = grind arith
 
 -- ---- numbers
 
@@ -58,19 +58,19 @@ new_where_same writer client used number file patch buffered past w e =
 fails_new : (test : Option SeenWrite → Bool) (same : Bool) (write : SeenWrite) (old : Option SeenWrite) (rest : Bool)
     → test None ≡ false → (same ≡ true → old ≡ None) → test (Some write) ≡ false
     → rest ≡ test old → rest ≡ test (if same then Some write else old)
-fails_new test x2 write old rest none new fails e = grind arith
+fails_new test same write old rest none new fails e = grind arith
 
 -- the new write may pass the test
 tests_new : (test : Option SeenWrite → Bool) (same here : Bool) (write : SeenWrite) (old : Option SeenWrite) (rest : Bool)
     → test None ≡ false → (same ≡ true → old ≡ None) → (same ≡ true → here ≡ test (Some write)) → (same ≡ false → here ≡ false)
     → rest ≡ test old → (here || rest) ≡ test (if same then Some write else old)
-tests_new test x2 here write old rest none new is other e = grind arith
+tests_new test same here write old rest none new is other e = grind arith
 
 -- accepting a write changes nothing that the test sees
 pub keeps_test : (test : Option SeenWrite → Bool) (same : Bool) (change : SeenWrite → SeenWrite) (old : Option SeenWrite)
     (rest : Bool) → ((w : SeenWrite) → test (Some (change w)) ≡ test (Some w))
     → rest ≡ test old → rest ≡ test (if same then option_map change old else old)
-keeps_test test x2 change x4 rest keeps e = grind arith
+keeps_test test same change old rest keeps e = grind arith
 
 pub accepted_file : (file : ℕ) (patch : Patch) (w : SeenWrite) → (accepted_as file patch w).file ≡ w.file
 accepted_file file patch w = grind arith
@@ -122,7 +122,7 @@ buffered-told client file number (_ ∷ past) w = buffered-told client file numb
 accepts_more : (same : Bool) (file : ℕ) (patch : Patch) (old : Option SeenWrite) (was rest : Bool)
     → was ≡ is_of file patch old → rest ≡ is_accepted_write old
     → ((same && was) || rest) ≡ is_accepted_write (if same then option_map (accepted_as file patch) old else old)
-accepts_more x1 file patch x4 was rest w r = grind arith
+accepts_more same file patch old was rest w r = grind arith
 
 pub accepted-told : (client number : ℕ) (past : List Fact) → EachFact WellFormed past
     → is_accepted client number past ≡ is_accepted_write (write_of client number past)
@@ -152,7 +152,7 @@ PlaceWithin None high = ⊤
 PlaceWithin (Some write) high = write.place ≤ high
 
 within_more : (o : Option SeenWrite) (high : ℕ) → PlaceWithin o high → PlaceWithin o (suc high)
-within_more x1 high le = grind arith
+within_more o high le = grind arith
 
 place-within : (client number : ℕ) (past : List Fact) → PlaceWithin (write_of client number past) (length past)
 unfolding write_of
@@ -172,7 +172,7 @@ either_way a b c d e = grind arith
 touches_more : (touch : Bool) (file high last : ℕ) (o : Option SeenWrite) (buffered rest : Bool)
     → PlaceWithin o high → buffered ≡ is_buffered_on file o → rest ≡ is_buffered_before file last o
     → ((touch && buffered) || rest) ≡ is_buffered_before file (if touch then high + 1 else last) o
-touches_more x1 file high last x5 buffered rest le b r = grind arith
+touches_more touch file high last o buffered rest le b r = grind arith
 
 not_below : (a b : Bool) (place last high : ℕ) → last ≤ high → (a && b && nat_lt (high + 1) last) ≡ false
 not_below a b place last high le = grind arith

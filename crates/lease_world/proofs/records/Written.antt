@@ -141,7 +141,7 @@ with_one_write client file number patch buffered cache past off k =
   where
     one_open : (test : Layer → Bool) (b : Bool) (layer : Layer) → test layer ≡ true
         → filter test (if b then layer ∷ [] else []) ≡ (if b then layer ∷ [] else [])
-    one_open test x2 layer e = grind arith
+    one_open test b layer e = grind arith
 
 -- the cache of another file, or of a number that was settled already
 without_write : (client file other number : ℕ) (patch : Patch) (buffered : Bool) (cache : SeenCache) (past : List Fact)

@@ -29,7 +29,7 @@ use Rattle.share_server.specs.Table.{server_of}
 same_seats : (old new : Seen) (number : ℕ) (Changes : Seat → Seat → Type 0) → OnlySeats old new
     → ChangesSeat Changes number old.seats new.seats → seat_in new.seats number ≡ seat_in old.seats number
     → (world : World) → Stands old world → Stands new world
-same_seats old new number x4 only seats same world s = grind arith
+same_seats old new number Changes only seats same world s = grind arith
 
 pub server_took_nothing : (old new : Seen) (number : ℕ) → OnlySeats old new
     → ChangesSeat (PopsRequest None) number old.seats new.seats → IsPresent number old.seats
@@ -84,7 +84,7 @@ client_took old middle kept told new number reply only seats there fits alike ke
 -- ---- links
 
 link_is : (one other : code.Link) → is_link one other ≡ true → one ≡ other
-link_is x1 x2 e = grind arith
+link_is one other e = grind arith
 
 known_link : (old : Seen) (number : ℕ) (link : code.Link) → IsPresent number old.seats → (world : World) → Stands old world
     → is_link (seat_in old.seats number).link link ≡ true → world.links number ≡ link_of link
@@ -116,7 +116,7 @@ cut_one old middle told new number there e cuts tells serves world s =
 
 not_noticed : (old : Seen) (world : World) (number : ℕ) (l : code.Link) → is_link l code.TheVariants.Cut ≡ false
     → Stands old world → Stands old (notice_over world number (link_of l))
-not_noticed old world number x4 e s = grind arith
+not_noticed old world number l e s = grind arith
 
 pub notice_nothing : (old : Seen) (number : ℕ) → IsPresent number old.seats
     → is_link (seat_in old.seats number).link code.TheVariants.Cut ≡ false → Applies (Event.Notice number) old old
@@ -178,7 +178,7 @@ connect_one old middle told joined new number there e links tells serves steps w
 
 not_strayed : (old : Seen) (world : World) (number : ℕ) (request : Request) (l : code.Link)
     → is_link l code.TheVariants.Up ≡ false → Stands old world → Stands old (strayed_over world number request (link_of l))
-not_strayed old world number request x5 e s = grind arith
+not_strayed old world number request l e s = grind arith
 
 pub stray_nothing : (old : Seen) (number : ℕ) (request : Request) → IsPresent number old.seats
     → is_link (seat_in old.seats number).link code.TheVariants.Up ≡ false → Applies (Event.Raw number request) old old
@@ -202,7 +202,7 @@ stray_one old told new number request there e tells sends world s = (
 -- ---- timers
 
 both_so : (a b : Bool) → (a && b) ≡ true → (a ≡ true) × (b ≡ true)
-both_so x1 b e = grind arith
+both_so a b e = grind arith
 
 -- the key that was made is that of the client's machine
 same_key : (old : Seen) (number file : ℕ) (key : List ℕ) → IsPresent number old.seats
@@ -212,11 +212,11 @@ same_key old number file key there e world s = grind arith
 
 nothing_expires : {X : Type 0} (b c : Bool) (one other : X) → (b && c) ≡ false
     → (if b then (if c then other else one) else one) ≡ one
-nothing_expires x1 x2 one other e = grind arith
+nothing_expires b c one other e = grind arith
 
 something_expires : {X : Type 0} (b c : Bool) (one other : X) → (b && c) ≡ true
     → (if b then (if c then other else one) else one) ≡ other
-something_expires x1 x2 one other e = grind arith
+something_expires b c one other e = grind arith
 
 waits : (old : Seen) (number file : ℕ) (key : List ℕ) (b : Bool) → IsPresent number old.seats
     → key ≡ lease_key (seat_in old.seats number).guid file

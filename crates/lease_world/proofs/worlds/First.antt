@@ -54,7 +54,7 @@ take_all (x ∷ xs) (suc n) le = ap (λ ys. x ∷ ys) (take_all xs n (omega arit
 -- ---- setups
 
 both_so : (a b : Bool) → a ≡ true → b ≡ true → (a && b) ≡ true
-both_so x1 b x3 e = grind arith
+both_so a b x3 e = grind arith
 
 all_and_one : {X : Type 0} (p : X → Bool) (xs : List X) (x : X) → p x ≡ true → list_all p xs ≡ true
     → list_all p (xs ++ x ∷ []) ≡ true

@@ -30,16 +30,16 @@ ResultIsFull (Err fault) = ⊤
 
 lease_full : (direction : Direction) (body : List ℕ) (b : Bool) → (length body == 32) ≡ b
     → MeansFull (if b then Meaning.Lease (lease_view direction body) else Meaning.Unknown)
-lease_full x1 body x3 e = grind arith
+lease_full direction body b e = grind arith
 
 durable_full : (direction : Direction) (body : List ℕ) → MeansFull (durable_meaning direction body)
-durable_full x1 body = grind arith
+durable_full direction body = grind arith
 
 reconnect_full : (direction : Direction) (body : List ℕ) → MeansFull (reconnect_meaning direction body)
-reconnect_full x1 body = grind arith
+reconnect_full direction body = grind arith
 
 one_of : (b : Bool) (x y : Meaning) → MeansFull x → MeansFull y → MeansFull (if b then x else y)
-one_of x1 x y f g = grind arith
+one_of b x y f g = grind arith
 
 meaning_full : (direction : Direction) (context : ContextView) → MeansFull (meaning_of direction context)
 unfolding meaning_of
@@ -50,11 +50,11 @@ meaning_full direction context =
 
 with_full : (v : CreateView) (place : ℕ) (meaning : Meaning) → ViewIsFull v → MeansFull meaning
     → ResultIsFull (with_meaning v place meaning)
-with_full v place x3 h m = grind arith
+with_full v place meaning h m = grind arith
 
 carried_full : (r : Result CreateView WireFault) (further : CreateView → Result CreateView WireFault) → ResultIsFull r
     → ((v : CreateView) → ViewIsFull v → ResultIsFull (further v)) → ResultIsFull (carried r further)
-carried_full x1 further h f = grind arith
+carried_full r further h f = grind arith
 
 gathered_full : (direction : Direction) (v : CreateView) (items : List Item) → ViewIsFull v
     → ResultIsFull (gathered direction v items)
@@ -68,7 +68,7 @@ gathered_full direction v (Ok context ∷ items) h =
 
 ask_full : (file : ℕ) (access : Access) (share : Share) (r : Result CreateView WireFault) → ResultIsFull r
     → HasFullKey (FileRequest.Create file access share (ask_found r))
-ask_full file access share x4 h = grind arith
+ask_full file access share r h = grind arith
 
 pub request_keys : (client : ℕ) (request : real.Request) → CallHasFullKey (Call.Receive client (request_of request))
 request_keys client (real.TheVariants.Create file access share contexts) =

@@ -127,7 +127,7 @@ stray_says world client request Link.Up = happened_says world (Fact.Strayed clie
 if_says : (b c : Bool) (world other : World) (messages : List Reply) → said other ≡ said world + length messages
     → said (if b then (if c then other else world) else world)
     ≡ said world + length (if b then (if c then messages else []) else [])
-if_says x1 x2 world other messages e = grind arith
+if_says b c world other messages e = grind arith
 
 applied_says : (world : World) (event : Event) → said (applied world event) ≡ said world + length (messages_of world event)
 unfolding messages_of

@@ -123,7 +123,7 @@ pub off_place : {X : Type 0} (n k : ℕ) (x y : X) → n ≢ k → (if n == k th
 off_place n k x y ne = let e : (n == k) ≡ false = grind arith in rw e refl
 
 each_number : (P : ℕ → Type 0) (k : ℕ) → P k → ((n : ℕ) → n ≢ k → P n) → (n : ℕ) → P n
-each_number x1 k here others n = grind arith
+each_number P k here others n = grind arith
 
 -- the seats after one of them changed, in a world that changed at that client alone
 pub one_seat : (Changes : Seat → Seat → Type 0) (old new : List Seat) (number : ℕ) (world after : World)
@@ -132,7 +132,7 @@ pub one_seat : (Changes : Seat → Seat → Type 0) (old new : List Seat) (numbe
     → ((n : ℕ) → n ≢ number → after.clients n ≡ world.clients n) → ((n : ℕ) → n ≢ number → after.links n ≡ world.links n)
     → ((n : ℕ) → n ≢ number → after.requests n ≡ world.requests n) → ((n : ℕ) → n ≢ number → after.replies n ≡ world.replies n)
     → (n : ℕ) → IsPresent n new → IsSeat (seat_in new n) after n
-one_seat x1 old new number world after is all here clients links requests replies = grind arith
+one_seat Changes old new number world after is all here clients links requests replies = grind arith
 
 -- a client keeps its ClientGuid
 same_guid : (client : Client) (call : ClientCall) → (client_called client call).client.guid ≡ client.guid

@@ -126,7 +126,7 @@ opening_command client P h file terms (Phase.Offline parted) is =
 opening_command client P h file terms phase is = refused_command client P h file phase is Refusal.Busy
 
 neither : (a b : Bool) → (a || b) ≡ false → (a ≡ false) × (b ≡ false)
-neither x1 b e = grind arith
+neither a b e = grind arith
 
 close_command : (client : Client) (P : Step → Type 0) → HasCommands client P → (file : ℕ) (live : LiveEntry)
     → IsEntry client file (Phase.Live live) → OfTurn P client file (close_turn live (sent_of client file))

@@ -25,4 +25,4 @@ pub record HasNotices (sent : List Pending) (P : Phase → Turn → Type 0) : Ty
 pub any_notice : (sent : List Pending) (P : Phase → Turn → Type 0) → HasNotices sent P → (phase : Phase)
     → P phase (notice_turn sent phase)
 unfolding live_noticed live_parted
-any_notice sent x2 h x4 = grind arith
+any_notice sent P h phase = grind arith

@@ -110,7 +110,7 @@ live_break : (client : Client) (P : Reply → Step → Type 0) → HasTakes clie
     → (client.entries file).phase ≡ Phase.Live live → P (Reply.Break (Some notice)) (turned client file
     (break_turn live (sent_of client file) notice (meet live.belief notice.lowered)))
 unfolding break_turn
-live_break client x2 h file notice live at e = grind arith
+live_break client P h file notice live at e = grind arith
 
 -- an entry that a message passes over stays as it is
 quiet_take : (client : Client) (P : Reply → Step → Type 0) → HasTakes client P → (reply : Reply) (file : ℕ) (phase : Phase)
@@ -186,7 +186,7 @@ failed_take client P h file status (Phase.Reconnecting parted) e = h.not_reconne
 -- an entry that reads under the FileId is live
 reads_so : (phase : Phase) (file_id : ℕ) (P : Type 0) → reads_under file_id phase ≡ true
     → ((live : LiveEntry) → phase ≡ Phase.Live live → live.file_id ≡ file_id → (live.reads == 0) ≡ false → P) → P
-reads_so x1 file_id x3 e k = grind arith
+reads_so phase file_id P e k = grind arith
 
 read_take : (client : Client) (P : Reply → Step → Type 0) → HasTakes client P → (file_id : ℕ) (bytes : List ℕ)
     → P (Reply.ReadDone file_id bytes) (read_answered client file_id bytes)
@@ -211,7 +211,7 @@ failed_read : (client : Client) (P : Reply → Step → Type 0) → HasTakes cli
     → (live.reads == 0) ≡ false → P (Reply.ReadFailed file_id status)
     (turned client file (read_failed_turn live (sent_of client file) status))
 unfolding read_failed_turn
-failed_read client x2 h file file_id status live is id some = grind arith
+failed_read client P h file file_id status live is id some = grind arith
 
 fail_take : (client : Client) (P : Reply → Step → Type 0) → HasTakes client P → (file_id : ℕ) (status : Status)
     → P (Reply.ReadFailed file_id status) (read_failed client file_id status)
@@ -245,7 +245,7 @@ failed_write : (client : Client) (P : Reply → Step → Type 0) → HasTakes cl
     (status : Status) → has_sent client number file ≡ true → knows_file client file ≡ true → (phase : Phase)
     → (client.entries file).phase ≡ phase → P (Reply.WriteFailed file_id number status) (turned client file
     (write_failed_in file_id number status (sent_without number (sent_of client file)) phase))
-failed_write client x2 h file file_id number status at known x10 is = grind arith
+failed_write client P h file file_id number status at known phase is = grind arith
 
 write_take : (client : Client) (P : Reply → Step → Type 0) → HasTakes client P → (file_id number : ℕ)
     (status : Status) → P (Reply.WriteFailed file_id number status) (write_failed client file_id number status)

@@ -8,7 +8,7 @@ use Rattle.lease_laws.proofs.Words.{cached_read, cached_turn, subst, sym, true, 
 use Rattle.lease_model.specs.client.Step.{with_number}
 
 beq_same : (b : Bool) → beq b b ≡ true
-beq_same x1 = grind arith
+beq_same b = grind arith
 
 pub state_same : (state : State) → same_state state state ≡ true
 state_same state = rw (beq_same state.read, beq_same state.write, beq_same state.handle) refl

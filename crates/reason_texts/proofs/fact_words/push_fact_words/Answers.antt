@@ -14,7 +14,7 @@ abbrev IsDeed : Fact → Type 0
 IsDeed told = ((client : ClientNo) → told ≡ fact.Sent client → ⊥) → fact_words told ≡ deed_words (kind_of told) (client_of told)
 
 words_alone : (one : ClientFact) (client : ClientNo) → IsDeed (client_fact one client)
-words_alone x1 client = grind arith
+words_alone one client = grind arith
 
 pub returns-in_default : goal.returns-in_default
 returns-in_default c =

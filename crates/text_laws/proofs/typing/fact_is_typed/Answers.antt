@@ -7,7 +7,7 @@ use Rattle.text_laws.proofs.typing.fact_is_typed.Goals as goal
 
 typed_alone : (one : ClientFact) (client : ClientNo) → IsTypedClient (client_of (client_fact one client))
     → IsTyped (client_fact one client)
-typed_alone x1 client is = grind arith
+typed_alone one client is = grind arith
 
 pub returns-in_default : goal.returns-in_default
 returns-in_default c =
