@@ -1,6 +1,7 @@
 pub mod Answers
 pub mod Beliefs
 pub mod Calls
+pub mod Ended
 pub mod Entries
 pub mod Files
 pub mod Handles

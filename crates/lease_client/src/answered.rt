@@ -1,9 +1,12 @@
-ghost use Rattle.std.specs.Prelude.{◌≡◌, IfOk, map, find};
+ghost use Rattle.std.specs.Prelude.{◌≡◌, IfOk, map, find, Some, ◌∷◌, [], OnOk, if◌then◌else◌, ◌&&◌, ◌==◌};
 ghost use Rattle.std.specs.List.{list_any, position};
+ghost use Rattle.lease_state.specs.Content.{patch};
+ghost use Rattle.lease_model.specs.client.Taken.{read_done_turn, not_read_turn, not_written_turn, is_file_closed};
+ghost use Rattle.lease_model.specs.client.State.{live_entry};
 ghost use Rattle.lease_model.specs.client.Taken as rules;
-ghost use Rattle.lease_model.specs.client.Taken.{read_done_turn, not_read_turn, not_written_turn};
 ghost use Rattle.lease_client.specs.Answers.{note_of};
 ghost use Rattle.lease_client.specs.Turns.{turned_to, turn_written};
+ghost use Rattle.lease_client.specs.Entries.{phase_of};
 
 use crate::command::Answer;
 use crate::entry::{Entry, Live, Pending, Phase};
@@ -148,13 +151,6 @@ fn put_write(phase: &mut Phase, write: &Option<Pending>) -> Result<(), Memory>
         _ => Ok(()),
     }
 }
-
-ghost use Rattle.std.specs.Prelude.{Some, ◌∷◌, [], OnOk};
-ghost use Rattle.lease_client.specs.Entries.{phase_of};
-ghost use Rattle.std.specs.Prelude.{if◌then◌else◌, ◌&&◌, ◌==◌};
-ghost use Rattle.lease_state.specs.Content.{patch};
-ghost use Rattle.lease_model.specs.client.State.{live_entry};
-ghost use Rattle.lease_model.specs.client.Taken.{is_file_closed};
 
 impl Live {
     // A base, if there is one, has the write from now on.

@@ -1,18 +1,21 @@
-ghost use Rattle.std.specs.Prelude.{◌≡◌, IfOk};
+ghost use Rattle.std.specs.Prelude.{◌≡◌, ◌∷◌, ◌++◌, [], map, OnOk, None, if◌then◌else◌};
 ghost use Rattle.lease_state.specs.State.{state_of};
+ghost use Rattle.lease_model.specs.client.Taken.{broken_turn};
+ghost use Rattle.lease_model.specs.client.Requests.{close_request};
+ghost use Rattle.lease_model.specs.client.State.{live_entry};
+ghost use Rattle.lease_model.specs.client.Step.{write_requests};
+ghost use Rattle.lease_model.specs.messages.ToBytes.{request_written};
 ghost use Rattle.lease_model.specs.client.Taken as rules;
-ghost use Rattle.lease_model.specs.values.LeaseStates as states;
 ghost use Rattle.lease_client.specs.Answers.{answer_of};
 ghost use Rattle.lease_client.specs.Heard.{notice_read};
-ghost use Rattle.lease_model.specs.client.Commanded.{closing_turn};
-ghost use Rattle.lease_model.specs.client.Taken.{broken_turn};
+ghost use Rattle.lease_client.specs.Ended.{is_ended_at};
 ghost use Rattle.lease_client.specs.Turns.{turned_to, turn_written};
 
 use crate::command::Answer;
 use crate::entry::{Entry, Live, Pending, Phase};
 use crate::requests;
 use crate::state::{gives_up, meet};
-use crate::turn::{Given, Turn};
+use crate::turn::Given;
 use lease_state::{LeaseState, Memory, Request};
 use lease_wire::Notification;
 
@@ -22,94 +25,80 @@ impl Entry {
     /// # Errors
     ///
     /// `Memory` where there is none left for what is sent.
+    #[tactic(auto, unfolding(lease_model::specs::client::Taken::break_turn))]
     pub fn broken(&mut self, notice: &Notification, given: &mut Given) -> Result<(), Memory>
         ensures { OnOk result (turned_to self.new given.new
             ≡ turn_written (broken_turn (notice_read notice.now) self.old)) }
     {
-        let Entry { phase, sent } = self.take();
-        match phase {
-            Phase::Live(live) => {
-                live.broken(sent, notice)?.put_into(self, given);
-                Ok(())
-            }
-            phase => {
-                *self = Entry { phase, sent };
-                given.begin(Answer::Quiet);
-                Ok(())
-            }
+        let Phase::Live(live) = &mut self.phase else {
+            given.begin(Answer::Quiet);
+            return Ok(());
+        };
+        let new = meet(live.belief, notice.new);
+        if live.is_ended_at(new) {
+            live.give_up(&mut self.sent, Answer::Quiet, given)?;
+            self.phase = Phase::Closed;
+            return Ok(());
         }
+        live.lowered(&mut self.sent, notice, new, given)
     }
 }
 
 impl Live {
-    // The new belief is what the old one and the notification have in common. A parked entry that
-    // loses its handles closes its open, which is its answer.
-    #[tactic(auto, unfolding(lease_model::specs::client::Taken::break_turn))]
-    fn broken(self, sent: Vec<Pending>, notice: &Notification) -> Result<Turn, Memory>
-        ensures { IfOk result (λ turn. turn ≡ turn_written (rules.break_turn self sent.items
-            (notice_read notice.now) (states.meet self.belief (state_of notice.now.new)))) }
+    // Whether the open is given up where this is the new belief: a parked entry that loses its handles closes its open, which
+    // is its answer.
+    fn is_ended_at(&self, new: LeaseState) -> bool
+        ensures { result ≡ is_ended_at self.now (state_of new) }
     {
-        let new = meet(self.belief, notice.new);
-        let loses_handles = self.belief.caches_handles() && !new.caches_handles();
-        if self.handles.count() == 0 && loses_handles {
-            self.closed(sent, Answer::Quiet)
-        } else {
-            self.lowered(sent, notice, new)
-        }
+        self.handles.count() == 0 && self.belief.caches_handles() && !new.caches_handles()
     }
 
-    /// The unsent writes and a Close are sent, and the entry is closed.
+    /// The unsent writes and a Close are sent, with this answer: the open is over.
     ///
     /// # Errors
     ///
     /// `Memory` where there is none left for what is sent.
     #[tactic(auto, using(crate::proofs::Written::written_more))]
-    pub fn closed(self, mut sent: Vec<Pending>, answer: Answer) -> Result<Turn, Memory>
-        ensures { IfOk result (λ turn. turn ≡ turn_written (closing_turn self sent.items (answer_of answer))) }
+    pub fn give_up(
+        &mut self,
+        sent: &mut Vec<Pending>,
+        answer: Answer,
+        given: &mut Given,
+    ) -> Result<(), Memory>
+        ensures sent { OnOk result (sent.new.items ≡ sent.old.items ++ self.old.unsent) }
+        ensures given { OnOk result (given.new ≡ record {
+          answer = answer_of answer;
+          requests = map request_written
+              (write_requests self.old.file_id self.old.unsent ++ close_request self.old.file_id ∷ []);
+          notes = [];
+        }) }
     {
-        let alloc = *sent.allocator();
-        let Live { file_id, file, .. } = self;
-        let mut unsent = file.into_unsent();
-        let mut requests = Vec::new(alloc);
-        requests::push_writes(&mut requests, file_id, &unsent)?;
-        requests.push(requests::close(file_id))?;
-        sent.append(&mut unsent)?;
-        Ok(Turn {
-            entry: Entry {
-                phase: Phase::Closed,
-                sent,
-            },
-            answer,
-            requests,
-            notes: Vec::new(alloc),
-        })
+        given.begin(answer);
+        self.send_unsent(sent, &mut given.requests)?;
+        given.requests.push(requests::close(self.file_id))?;
+        Ok(())
     }
 
-    // Unsent writes go before the acknowledgment where writes or handles are given up.
+    // The new belief is what the old one and the notification have in common. Unsent writes go before the acknowledgment where
+    // writes or handles are given up.
     #[tactic(auto, using(crate::proofs::Written::written_more))]
     fn lowered(
-        self,
-        mut sent: Vec<Pending>,
+        &mut self,
+        sent: &mut Vec<Pending>,
         notice: &Notification,
         new: LeaseState,
-    ) -> Result<Turn, Memory>
-        ensures { IfOk result (λ turn. turn ≡ turn_written (rules.belief_lowered self sent.items
-            (notice_read notice.now) (state_of new))) }
+        given: &mut Given,
+    ) -> Result<(), Memory>
+        ensures { OnOk result (turned_to (live_entry self.new sent.new.items) given.new
+            ≡ turn_written (rules.belief_lowered self.old sent.old.items (notice_read notice.now) (state_of new))) }
     {
-        let alloc = *sent.allocator();
-        let mut live = self;
-        let mut requests = Vec::new(alloc);
-        if gives_up(live.belief, new) {
-            live.send_unsent(&mut sent, &mut requests)?;
+        given.begin(Answer::Quiet);
+        if gives_up(self.belief, new) {
+            self.send_unsent(sent, &mut given.requests)?;
         }
-        push_acknowledgment(&mut requests, notice, new)?;
-        live.believe(new);
-        Ok(Turn {
-            entry: Entry::live(live, sent),
-            answer: Answer::Quiet,
-            requests,
-            notes: Vec::new(alloc),
-        })
+        push_acknowledgment(&mut given.requests, notice, new)?;
+        self.believe(new);
+        Ok(())
     }
 
     /// The unsent writes are sent, in order.
@@ -144,10 +133,6 @@ impl Live {
         }
     }
 }
-
-ghost use Rattle.std.specs.Prelude.{◌++◌, [], map, OnOk, None, if◌then◌else◌};
-ghost use Rattle.lease_model.specs.client.Step.{write_requests};
-ghost use Rattle.lease_model.specs.messages.ToBytes.{request_written};
 
 // An acknowledgment of this state, where one is asked for.
 fn push_acknowledgment(

@@ -1,10 +1,8 @@
 ghost use Rattle.std.specs.Prelude.{◌≡◌, OnOk, IsOk, true};
-ghost use Rattle.lease_model.specs.client.Commanded.{commanded};
+ghost use Rattle.lease_model.specs.client.Commanded.{commanded, step_by, turn_by, is_refused, file_of};
 ghost use Rattle.lease_model.specs.client.State.{knows_file};
 ghost use Rattle.lease_client.specs.Answers.{command_of};
 ghost use Rattle.lease_client.specs.Calls.{told_step};
-ghost use Rattle.lease_model.specs.client.Commanded.{step_by, turn_by};
-ghost use Rattle.lease_model.specs.client.Commanded.{is_refused};
 ghost use Rattle.lease_client.specs.Known.{client_of};
 ghost use Rattle.lease_client.specs.Turns.{IsAfter};
 
@@ -68,7 +66,5 @@ impl Machine {
         Ok(())
     }
 }
-
-ghost use Rattle.lease_model.specs.client.Commanded.{file_of};
 
 use lease_laws::clients_are_sound;

@@ -1,8 +1,12 @@
-ghost use Rattle.std.specs.Prelude.{◌≡◌, ◌==◌, ◌+◌, true, Some, IfOk, OnOk, IsOk};
-ghost use Rattle.lease_model.specs.client.Commanded.{has_unanswered};
+ghost use Rattle.std.specs.Prelude.{◌≡◌, ◌==◌, ◌+◌, true, Some, IfOk, OnOk, IsOk, None, [], ◌∷◌, false, List};
+ghost use Rattle.lease_model.specs.client.Commanded.{has_unanswered, written_turn, one_handle_less};
 ghost use Rattle.lease_model.specs.values.Patches.{is_within_limit};
-ghost use Rattle.lease_client.specs.Answers.{command_of};
+ghost use Rattle.lease_model.specs.client.Step.{turn_of};
+ghost use Rattle.lease_model.specs.client.State.{live_entry, Pending};
 ghost use Rattle.lease_model.specs.client.Commanded as rules;
+ghost use Rattle.lease_model.specs.client.Commands as model;
+ghost use Rattle.lease_client.specs.Answers.{command_of};
+ghost use Rattle.lease_client.specs.Ended.{is_ended_by_close};
 ghost use Rattle.lease_client.specs.Turns.{turned_to, turn_written};
 
 use crate::command::{Answer, Command, Refusal};
@@ -11,7 +15,7 @@ use crate::handles::Handles;
 use crate::note::Note;
 use crate::requests::Terms;
 use crate::shared_bytes::SharedBytes;
-use crate::turn::{Given, Turn};
+use crate::turn::Given;
 use lease_state::{FILE_LIMIT, FileNo, LeaseKey, Memory, Patch, Request};
 
 impl Entry {
@@ -64,27 +68,27 @@ impl Entry {
     /// # Errors
     ///
     /// `Memory` where there is none left for what is sent, and never where the Close is refused.
+    #[tactic(auto, unfolding(lease_model::specs::client::Commanded::close_turn, lease_model::specs::client::Commanded::last_close_turn))]
     pub fn close(&mut self, given: &mut Given) -> Result<(), Memory>
         ensures turn { OnOk result (turned_to self.new given.new
             ≡ turn_written (rules.heard_turn rules.close_turn self.old)) }
         ensures refused { rules.is_refused (rules.heard_turn rules.close_turn self.old).answer ≡ true → IsOk result }
     {
-        let Entry { phase, sent } = self.take();
-        match phase {
-            Phase::Live(live) => {
-                if live.is_parked() {
-                    live.refused(sent, Refusal::NotOpen).put_into(self, given);
-                    return Ok(());
-                }
-                live.close(sent)?.put_into(self, given);
-                Ok(())
-            }
-            phase => {
-                *self = Entry { phase, sent };
-                given.begin(Answer::Refused(self.refusal()));
-                Ok(())
-            }
+        let Phase::Live(live) = &mut self.phase else {
+            given.begin(Answer::Refused(self.refusal()));
+            return Ok(());
+        };
+        if live.is_parked() {
+            given.begin(Answer::Refused(Refusal::NotOpen));
+            return Ok(());
         }
+        if live.is_ended_by_close(&self.sent) {
+            live.give_up(&mut self.sent, Answer::Done, given)?;
+            self.phase = Phase::Closed;
+            return Ok(());
+        }
+        live.close(&self.sent, given);
+        Ok(())
     }
 
     /// A Read of the whole file (profile).
@@ -163,8 +167,6 @@ impl Entry {
     }
 }
 
-ghost use Rattle.lease_model.specs.client.Commanded.{written_turn};
-
 // The patch ends within the limit of a file, also one without bytes.
 fn is_within_limit(change: &Patch) -> bool
     ensures { result ≡ is_within_limit change.now }
@@ -181,49 +183,39 @@ impl Live {
         self.handles.count() == 0
     }
 
-    // The last handle stays while something is unanswered, or the entry asks for more.
-    #[tactic(auto, unfolding(lease_model::specs::client::Commanded::close_turn))]
-    fn close(self, sent: Vec<Pending>) -> Result<Turn, Memory>
-        ensures turn { IfOk result (λ turn. turn ≡ turn_written (rules.close_turn self sent.items)) }
-        ensures refused { rules.is_refused (rules.close_turn self sent.items).answer ≡ true → IsOk result }
+    // Whether a Close ends the open: the handle is the last one, nothing is unanswered or asked for, and the belief holds no
+    // handles.
+    fn is_ended_by_close(&self, sent: &[Pending]) -> bool
+        ensures { result ≡ is_ended_by_close self.now sent.now }
+    {
+        self.handles.count() <= 1
+            && self.handles.asking().is_none()
+            && !self.has_unanswered(sent)
+            && !self.belief.caches_handles()
+    }
+
+    // The last handle stays while something is unanswered, or the entry asks for more. Without it the entry is parked.
+    #[tactic(auto, unfolding(lease_model::specs::client::Commanded::close_turn, lease_model::specs::client::Commanded::last_close_turn))]
+    fn close(&mut self, sent: &[Pending], given: &mut Given)
+        requires { is_ended_by_close self.old sent.now ≡ false }
+        ensures { turned_to (live_entry self.new sent.now) given.new
+            ≡ turn_written (rules.close_turn self.old sent.now) }
     {
         if self.handles.count() > 1 {
-            return Ok(self.without_handle(sent));
+            self.handles = self.handles.with_less();
+            given.begin(Answer::Done);
+        } else if self.handles.asking().is_some() || self.has_unanswered(sent) {
+            given.begin(Answer::Refused(Refusal::Busy));
+        } else {
+            self.handles = Handles::of(0);
+            given.begin(Answer::Done);
         }
-        if self.handles.asking().is_some() || self.has_unanswered(&sent) {
-            return Ok(self.refused(sent, Refusal::Busy));
-        }
-        self.close_last(sent)
     }
 
     fn has_unanswered(&self, sent: &[Pending]) -> bool
         ensures { result ≡ has_unanswered self.now sent.now }
     {
         self.reads != 0 || !sent.is_empty()
-    }
-
-    fn without_handle(self, sent: Vec<Pending>) -> Turn
-        ensures { result ≡ turn_written (turn_of
-            (live_entry (record self { handles = one_handle_less self.handles }) sent.items) model.Answer.Done []) }
-    {
-        let mut live = self;
-        live.handles = live.handles.with_less();
-        Turn::still(Entry::live(live, sent), Answer::Done)
-    }
-
-    // The entry is parked where the belief holds handles.
-    #[tactic(auto, unfolding(lease_model::specs::client::Commanded::last_close_turn))]
-    fn close_last(self, sent: Vec<Pending>) -> Result<Turn, Memory>
-        requires { self.asking ≡ None }
-        ensures turn { IfOk result (λ turn. turn ≡ turn_written (rules.last_close_turn self sent.items)) }
-        ensures refused { rules.is_refused (rules.last_close_turn self sent.items).answer ≡ true → IsOk result }
-    {
-        if !self.belief.caches_handles() {
-            return self.closed(sent, Answer::Done);
-        }
-        let mut live = self;
-        live.handles = Handles::of(0);
-        Ok(Turn::still(Entry::live(live, sent), Answer::Done))
     }
 
     // A Read is answered from the cache, or sent.
@@ -393,12 +385,6 @@ impl Live {
         Ok(())
     }
 }
-
-ghost use Rattle.std.specs.Prelude.{None, [], ◌∷◌, false, List};
-ghost use Rattle.lease_model.specs.client.Commanded.{one_handle_less};
-ghost use Rattle.lease_model.specs.client.Step.{turn_of};
-ghost use Rattle.lease_model.specs.client.State.{live_entry, Pending};
-ghost use Rattle.lease_model.specs.client.Commands as model;
 
 // The file as the application sees it, from the cache: it is answered and noted.
 fn cached(file: FileNo, seen: SharedBytes, given: &mut Given) -> Result<(), Memory>

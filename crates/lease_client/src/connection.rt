@@ -1,7 +1,7 @@
 ghost use Rattle.std.specs.Prelude.{◌≡◌, ◌++◌, IfOk, OnOk, filter};
-ghost use Rattle.lease_model.specs.client.Connection as rules;
 ghost use Rattle.lease_model.specs.values.Lists.{without};
-ghost use Rattle.lease_model.specs.client.Connection.{connected_turn};
+ghost use Rattle.lease_model.specs.client.Connection.{connected_turn, reconnecting_turn};
+ghost use Rattle.lease_model.specs.client.Connection as rules;
 ghost use Rattle.lease_client.specs.Turns.{turned_to, turn_written};
 
 use crate::command::Answer;
@@ -119,8 +119,6 @@ impl Parted {
         })
     }
 }
-
-ghost use Rattle.lease_model.specs.client.Connection.{reconnecting_turn};
 
 impl Live {
     // A durable open goes offline. Under W it keeps its buffered writes, those sent and those unsent.

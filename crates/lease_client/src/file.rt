@@ -1,7 +1,8 @@
-ghost use Rattle.std.specs.Prelude.{◌≡◌, ◌++◌, ◌∷◌, [], Some, None, IfOk, OnOk};
+ghost use Rattle.std.specs.Prelude.{◌≡◌, ◌++◌, ◌∷◌, [], Some, None, IfOk, OnOk, Option, List, ℕ, MatchOption};
 ghost use Rattle.std.specs.Option.{option_map};
-ghost use Rattle.lease_state.specs.Content.{patch};
-ghost use Rattle.lease_model.specs.client.State.{view};
+ghost use Rattle.lease_state.specs.Content.{patch, patches};
+ghost use Rattle.lease_model.specs.client.State.{view, patches_of};
+ghost use Rattle.lease_client.specs.Files.{IsSeen};
 
 use crate::entry::Pending;
 use crate::shared_bytes::SharedBytes;
@@ -150,11 +151,6 @@ impl File {
         }
     }
 }
-
-ghost use Rattle.std.specs.Prelude.{Option, List, ℕ, MatchOption};
-ghost use Rattle.lease_state.specs.Content.{patches};
-ghost use Rattle.lease_model.specs.client.State.{patches_of};
-ghost use Rattle.lease_client.specs.Files.{IsSeen};
 
 // The base with all these writes.
 fn view_anew(base: &Bytes, sent: &[Pending], unsent: &[Pending]) -> Result<SharedBytes, Memory>

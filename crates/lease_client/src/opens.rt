@@ -1,16 +1,20 @@
-ghost use Rattle.std.specs.Prelude.{◌≡◌, ◌+◌, ◌<◌, ◌^◌, true, IfOk, OnOk, IsOk};
+ghost use Rattle.std.specs.Prelude.{◌≡◌, ◌+◌, ◌<◌, ◌^◌, true, IfOk, OnOk, IsOk, ◌++◌, ◌&&◌, [], ◌∷◌, List, None, false};
 ghost use Rattle.lease_model.specs.client.Commanded.{joint_terms};
+ghost use Rattle.lease_model.specs.client.State.{Pending, live_entry};
+ghost use Rattle.lease_model.specs.messages.ToBytes.{request_written};
+ghost use Rattle.lease_model.specs.client.Requests.{open_request};
 ghost use Rattle.lease_model.specs.values.Sharing as sharing;
-ghost use Rattle.lease_client.specs.Answers.{refusal_of};
 ghost use Rattle.lease_model.specs.client.Commanded as rules;
-ghost use Rattle.lease_model.specs.client.Step.{refused_turn};
+ghost use Rattle.lease_model.specs.client.State as state;
+ghost use Rattle.lease_client.specs.Answers.{refusal_of};
 ghost use Rattle.lease_client.specs.Terms.{terms_of};
+ghost use Rattle.lease_client.specs.Ended.{is_given_up_for};
 ghost use Rattle.lease_client.specs.Turns.{turned_to, turn_written};
 
 use crate::command::{Answer, Refusal};
-use crate::entry::{Asked, Entry, Live, Pending, Phase};
+use crate::entry::{Asked, Entry, Live, Phase};
 use crate::requests::{self, Terms};
-use crate::turn::{Given, Turn};
+use crate::turn::Given;
 use lease_state::{Access, FileNo, LeaseKey, Memory, Share};
 
 impl Entry {
@@ -20,6 +24,7 @@ impl Entry {
     /// # Errors
     ///
     /// `Memory` where there is none left for the request, and never where the Open is refused.
+    #[tactic(auto, using(crate::proofs::Written::written_more), unfolding(lease_model::specs::client::Commanded::live_open_turn, lease_model::specs::client::Commanded::other_turn, lease_model::specs::client::Commanded::anew_turn))]
     pub fn open(
         &mut self,
         is_online: bool,
@@ -33,22 +38,68 @@ impl Entry {
         ensures refused { rules.is_refused
             (rules.open_turn is_online key.0 file.0 (terms_of terms) self.old).answer ≡ true → IsOk result }
     {
-        let Entry { phase, sent } = self.take();
-        match phase {
-            Phase::Closed => {
-                first_open(sent, is_online, file, key, terms)?.put_into(self, given);
-                Ok(())
-            }
+        match &mut self.phase {
+            Phase::Closed => self.open_first(is_online, file, key, terms, given),
             Phase::Live(live) => {
-                live.open(sent, file, key, terms)?.put_into(self, given);
-                Ok(())
+                if live.is_given_up_for(terms) {
+                    live.give_up(&mut self.sent, Answer::Waiting, given)?;
+                    self.send_open(file, key, terms, given)?;
+                    return Ok(());
+                }
+                live.open(file, key, terms, given)
             }
-            phase => {
-                *self = Entry { phase, sent };
+            _ => {
                 given.begin(Answer::Refused(self.refusal()));
                 Ok(())
             }
         }
+    }
+
+    // An Open of a file that isn't open.
+    fn open_first(
+        &mut self,
+        is_online: bool,
+        file: FileNo,
+        key: LeaseKey,
+        terms: Terms,
+        given: &mut Given,
+    ) -> Result<(), Memory>
+        requires { self.old.phase ≡ state.Phase.Closed }
+        ensures turn { OnOk result (turned_to self.new given.new
+            ≡ turn_written (rules.first_open_turn is_online key.0 file.0 self.old.sent (terms_of terms))) }
+        ensures refused { rules.is_refused
+            (rules.first_open_turn is_online key.0 file.0 self.old.sent (terms_of terms)).answer ≡ true → IsOk result }
+    {
+        if !is_online {
+            given.begin(Answer::Refused(Refusal::Offline));
+            return Ok(());
+        }
+        given.begin(Answer::Waiting);
+        self.send_open(file, key, terms, given)
+    }
+
+    // A create is sent, after what is sent already, and the entry waits for its answer.
+    fn send_open(
+        &mut self,
+        file: FileNo,
+        key: LeaseKey,
+        terms: Terms,
+        given: &mut Given,
+    ) -> Result<(), Memory>
+        ensures entry { OnOk result (self.new ≡ rules.opening_entry (terms_of terms) self.old.sent) }
+        ensures given { OnOk result (given.new ≡ record given.old {
+          requests = given.old.requests ++ request_written (open_request key.0 file.0 (terms_of terms)) ∷ [];
+        }) }
+    {
+        let alloc = self.alloc();
+        given
+            .requests
+            .push(requests::open(alloc, file, key, terms)?)?;
+        self.phase = Phase::Opening {
+            access: terms.access,
+            share: terms.share,
+        };
+        Ok(())
     }
 
     /// Why the entry accepts no command but an Open, where it isn't live or is parked.
@@ -60,44 +111,6 @@ impl Entry {
             Phase::Opening { .. } | Phase::Reconnecting(_) => Refusal::Busy,
             Phase::Offline(_) => Refusal::Offline,
         }
-    }
-}
-
-fn first_open(
-    sent: Vec<Pending>,
-    is_online: bool,
-    file: FileNo,
-    key: LeaseKey,
-    terms: Terms,
-) -> Result<Turn, Memory>
-    ensures turn { IfOk result (λ turn.
-        turn ≡ turn_written (rules.first_open_turn is_online key.0 file.0 sent.items (terms_of terms))) }
-    ensures refused { rules.is_refused (rules.first_open_turn is_online key.0 file.0 sent.items (terms_of terms)).answer
-        ≡ true → IsOk result }
-{
-    if !is_online {
-        return Ok(Turn::still(Entry::shut(sent), Answer::Refused(Refusal::Offline)));
-    }
-    let alloc = *sent.allocator();
-    let mut requests = Vec::new(alloc);
-    requests.push(requests::open(alloc, file, key, terms)?)?;
-    Ok(Turn {
-        entry: opening(terms, sent),
-        answer: Answer::Waiting,
-        requests,
-        notes: Vec::new(alloc),
-    })
-}
-
-fn opening(terms: Terms, sent: Vec<Pending>) -> Entry
-    ensures { result ≡ rules.opening_entry (terms_of terms) sent.items }
-{
-    Entry {
-        phase: Phase::Opening {
-            access: terms.access,
-            share: terms.share,
-        },
-        sent,
     }
 }
 
@@ -137,103 +150,60 @@ fn both_share(one: Share, other: Share) -> Share
 }
 
 impl Live {
-    /// A refused command leaves the entry as it is.
-    pub fn refused(self, sent: Vec<Pending>, refusal: Refusal) -> Turn
-        ensures { result ≡ turn_written (refused_turn (live_entry self sent.items) (refusal_of refusal)) }
+    // Whether the open is on these terms.
+    fn is_open_on(&self, terms: Terms) -> bool
+        ensures { result ≡ (sharing.same_access (terms_of terms).access self.now.access
+            && sharing.same_share (terms_of terms).share self.now.share) }
     {
-        Turn::still(Entry::live(self, sent), Answer::Refused(refusal))
+        is_same_access(terms.access, self.access) && is_same_share(terms.share, self.share)
+    }
+
+    // Whether an Open on these terms gives the open up: it is parked, and on other ones.
+    fn is_given_up_for(&self, terms: Terms) -> bool
+        ensures { result ≡ is_given_up_for self.now (terms_of terms) }
+    {
+        self.handles.asking().is_none() && !self.is_open_on(terms) && self.handles.count() == 0
     }
 
     // While an entry asks for more, every Open is refused.
-    #[tactic(auto, unfolding(lease_model::specs::client::Commanded::live_open_turn))]
+    #[tactic(auto, unfolding(lease_model::specs::client::Commanded::live_open_turn, lease_model::specs::client::Commanded::other_turn))]
     fn open(
-        self,
-        sent: Vec<Pending>,
+        &mut self,
         file: FileNo,
         key: LeaseKey,
         terms: Terms,
-    ) -> Result<Turn, Memory>
-        ensures turn { IfOk result (λ turn.
-            turn ≡ turn_written (rules.live_open_turn key.0 file.0 self sent.items (terms_of terms))) }
-        ensures refused { rules.is_refused
-            (rules.live_open_turn key.0 file.0 self sent.items (terms_of terms)).answer ≡ true → IsOk result }
+        given: &mut Given,
+    ) -> Result<(), Memory>
+        requires { is_given_up_for self.old (terms_of terms) ≡ false }
+        ensures turn { (sent : List Pending) → OnOk result (turned_to (live_entry self.new sent) given.new
+            ≡ turn_written (rules.live_open_turn key.0 file.0 self.old sent (terms_of terms))) }
+        ensures refused { (sent : List Pending) → rules.is_refused
+            (rules.live_open_turn key.0 file.0 self.old sent (terms_of terms)).answer ≡ true → IsOk result }
     {
         if self.handles.asking().is_some() {
-            return Ok(self.refused(sent, Refusal::Busy));
+            given.begin(Answer::Refused(Refusal::Busy));
+            return Ok(());
         }
-        if is_same_access(terms.access, self.access) && is_same_share(terms.share, self.share) {
-            return Ok(self.with_handle(sent));
+        if self.is_open_on(terms) {
+            self.add_handle(given);
+            return Ok(());
         }
-        self.open_other(sent, file, key, terms)
+        self.ask_for_more(file, key, terms, given)
     }
 
     // One handle more on the open's own terms.
     #[tactic(auto, unfolding(lease_model::specs::client::Commanded::handle_turn, lease_model::specs::values::Limits::count_limit))]
-    fn with_handle(self, sent: Vec<Pending>) -> Turn
-        requires { self.asking ≡ None }
-        ensures { result ≡ turn_written (rules.handle_turn self sent.items) }
+    fn add_handle(&mut self, given: &mut Given)
+        requires { self.old.asking ≡ None }
+        ensures { (sent : List Pending) → turned_to (live_entry self.new sent) given.new
+            ≡ turn_written (rules.handle_turn self.old sent) }
     {
         if self.handles.count() == u32::MAX {
-            return self.refused(sent, Refusal::UsedUp);
+            given.begin(Answer::Refused(Refusal::UsedUp));
+            return;
         }
-        let mut live = self;
-        live.handles = live.handles.with_more();
-        Turn::still(Entry::live(live, sent), Answer::Done)
-    }
-
-    // An Open on other terms: a parked entry gives its open up.
-    #[tactic(auto, unfolding(lease_model::specs::client::Commanded::other_turn))]
-    fn open_other(
-        self,
-        sent: Vec<Pending>,
-        file: FileNo,
-        key: LeaseKey,
-        terms: Terms,
-    ) -> Result<Turn, Memory>
-        ensures turn { IfOk result (λ turn.
-            turn ≡ turn_written (rules.other_turn key.0 file.0 self sent.items (terms_of terms))) }
-        ensures refused { rules.is_refused
-            (rules.other_turn key.0 file.0 self sent.items (terms_of terms)).answer ≡ true → IsOk result }
-    {
-        if self.handles.count() == 0 {
-            self.open_anew(sent, file, key, terms)
-        } else {
-            self.ask_for_more(sent, file, key, terms)
-        }
-    }
-
-    // The unsent writes are sent, the old open is closed, and a create follows.
-    #[tactic(auto, using(crate::proofs::Written::written_more), unfolding(lease_model::specs::client::Commanded::anew_turn))]
-    fn open_anew(
-        self,
-        mut sent: Vec<Pending>,
-        file: FileNo,
-        key: LeaseKey,
-        terms: Terms,
-    ) -> Result<Turn, Memory>
-        ensures turn { IfOk result (λ turn.
-            turn ≡ turn_written (rules.anew_turn key.0 file.0 self sent.items (terms_of terms))) }
-        ensures refused { rules.is_refused (rules.anew_turn key.0 file.0 self sent.items (terms_of terms)).answer ≡ true
-            → IsOk result }
-    {
-        let alloc = *sent.allocator();
-        let Live {
-            file_id,
-            file: known,
-            ..
-        } = self;
-        let mut unsent = known.into_unsent();
-        let mut requests = Vec::new(alloc);
-        requests::push_writes(&mut requests, file_id, &unsent)?;
-        requests.push(requests::close(file_id))?;
-        requests.push(requests::open(alloc, file, key, terms)?)?;
-        sent.append(&mut unsent)?;
-        Ok(Turn {
-            entry: opening(terms, sent),
-            answer: Answer::Waiting,
-            requests,
-            notes: Vec::new(alloc),
-        })
+        self.handles = self.handles.with_more();
+        given.begin(Answer::Done);
     }
 
     // What the open has and what is asked for together.
@@ -251,37 +221,31 @@ impl Live {
     // A second create under the entry's key; the entry goes on until it is answered.
     #[tactic(auto, unfolding(lease_model::specs::client::Commanded::more_turn, lease_model::specs::values::Limits::count_limit))]
     fn ask_for_more(
-        self,
-        sent: Vec<Pending>,
+        &mut self,
         file: FileNo,
         key: LeaseKey,
         terms: Terms,
-    ) -> Result<Turn, Memory>
-        ensures turn { IfOk result (λ turn.
-            turn ≡ turn_written (rules.more_turn key.0 file.0 self sent.items (terms_of terms))) }
-        ensures refused { rules.is_refused (rules.more_turn key.0 file.0 self sent.items (terms_of terms)).answer ≡ true
-            → IsOk result }
+        given: &mut Given,
+    ) -> Result<(), Memory>
+        ensures turn { (sent : List Pending) → OnOk result (turned_to (live_entry self.new sent) given.new
+            ≡ turn_written (rules.more_turn key.0 file.0 self.old sent (terms_of terms))) }
+        ensures refused { (sent : List Pending) → rules.is_refused
+            (rules.more_turn key.0 file.0 self.old sent (terms_of terms)).answer ≡ true → IsOk result }
     {
         if self.handles.count() == u32::MAX {
-            return Ok(self.refused(sent, Refusal::UsedUp));
+            given.begin(Answer::Refused(Refusal::UsedUp));
+            return Ok(());
         }
-        let alloc = *sent.allocator();
-        let mut live = self;
-        let terms = live.joint_terms(terms);
-        let mut requests = Vec::new(alloc);
-        requests.push(requests::open(alloc, file, key, terms)?)?;
-        live.handles = live.handles.with_asked(Asked {
+        let terms = self.joint_terms(terms);
+        let alloc = *given.requests.allocator();
+        given.begin(Answer::Waiting);
+        given
+            .requests
+            .push(requests::open(alloc, file, key, terms)?)?;
+        self.handles = self.handles.with_asked(Asked {
             access: terms.access,
             share: terms.share,
         });
-        Ok(Turn {
-            entry: Entry::live(live, sent),
-            answer: Answer::Waiting,
-            requests,
-            notes: Vec::new(alloc),
-        })
+        Ok(())
     }
 }
-
-ghost use Rattle.std.specs.Prelude.{None};
-ghost use Rattle.lease_model.specs.client.State.{live_entry};

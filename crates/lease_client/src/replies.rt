@@ -1,8 +1,9 @@
 ghost use Rattle.std.specs.Prelude.{◌≡◌, OnOk, IsOk, Ok, Err, Some, None, true, length, List};
 ghost use Rattle.lease_wire.specs.Gathering.{value_of};
 ghost use Rattle.lease_wire.specs.declared.create.Direction.{Direction};
-ghost use Rattle.lease_model.specs.client.Taken as rules;
 ghost use Rattle.lease_model.specs.messages.FromBytes.{reply_of, answer_found, notice_in};
+ghost use Rattle.lease_model.specs.client.Step.{quiet_step};
+ghost use Rattle.lease_model.specs.client.Taken as rules;
 ghost use Rattle.lease_client.specs.Calls.{is_idle};
 ghost use Rattle.lease_client.specs.Known.{client_of};
 ghost use Rattle.lease_client.specs.Turns.{IsAfter};
@@ -183,5 +184,3 @@ impl Machine {
         }
     }
 }
-
-ghost use Rattle.lease_model.specs.client.Step.{quiet_step};

@@ -1,5 +1,8 @@
 ghost use Rattle.std.specs.Prelude.{◌≡◌, ◌++◌, [], ◌∷◌, map, IfOk, OnOk, if◌then◌else◌};
 ghost use Rattle.lease_state.specs.State.{state_of};
+ghost use Rattle.lease_wire.specs.Canonical.{canonical_text};
+ghost use Rattle.lease_wire.specs.Create.{ask_of};
+ghost use Rattle.lease_wire.specs.declared.create.Direction.{Direction};
 ghost use Rattle.lease_model.specs.client.Step.{write_requests};
 ghost use Rattle.lease_model.specs.messages.ToBytes.{request_written};
 ghost use Rattle.lease_model.specs.client.Requests as rules;
@@ -118,10 +121,6 @@ pub fn connect_again(
         contexts: contexts(alloc, &ask)?,
     })
 }
-
-ghost use Rattle.lease_wire.specs.Canonical.{canonical_text};
-ghost use Rattle.lease_wire.specs.Create.{ask_of};
-ghost use Rattle.lease_wire.specs.declared.create.Direction.{Direction};
 
 fn contexts(alloc: Global, ask: &CreateAsk) -> Result<Bytes, Memory>
     ensures { IfOk result (λ bytes. bytes ≡ canonical_text Direction.Request (ask_of ask.now)) }

@@ -90,7 +90,11 @@ impl Given {
     /// # Errors
     ///
     /// `Memory` where there is none left for them.
-    pub(crate) fn join(self, requests: &mut Vec<Request>, notes: &mut Vec<Note>) -> Result<(), Memory>
+    pub(crate) fn join(
+        self,
+        requests: &mut Vec<Request>,
+        notes: &mut Vec<Note>,
+    ) -> Result<(), Memory>
         ensures requests { OnOk result (requests.new.items ≡ requests.old.items ++ self.requests) }
         ensures notes { OnOk result (map note_of notes.new.items ≡ map note_of notes.old.items ++ self.notes) }
     {
@@ -154,7 +158,18 @@ impl Turn {
         } = self;
         *place = entry;
         given.answer = answer;
-        given.requests = requests;
-        given.notes = notes;
+        put_list(requests, &mut given.requests);
+        put_list(notes, &mut given.notes);
+    }
+}
+
+// A list takes the place of another one, of which an empty list keeps the memory.
+fn put_list<T: Drop>(list: Vec<T>, place: &mut Vec<T>)
+    ensures { place.new.items ≡ list.items }
+{
+    if list.is_empty() {
+        place.clear();
+    } else {
+        *place = list;
     }
 }

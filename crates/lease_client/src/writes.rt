@@ -1,4 +1,4 @@
-ghost use Rattle.std.specs.Prelude.{◌≡◌, ◌++◌, map, IfOk, OnOk};
+ghost use Rattle.std.specs.Prelude.{◌≡◌, ◌++◌, map, IfOk, OnOk, ◌+◌, ◌≤◌, length, take, drop};
 ghost use Rattle.lease_state.specs.Content.{patch, patches};
 ghost use Rattle.lease_model.specs.client.State.{patches_of, view};
 ghost use Rattle.lease_model.specs.client.Step.{settled_as};
@@ -49,8 +49,6 @@ pub fn apply(bytes: &mut Vec<u8>, change: &Patch) -> Result<(), Memory>
     }
     Ok(())
 }
-
-ghost use Rattle.std.specs.Prelude.{◌+◌, ◌≤◌, length, take, drop};
 
 // Writes bytes over those from `offset` on.
 fn write_over(items: &mut [u8], offset: usize, bytes: &[u8])
