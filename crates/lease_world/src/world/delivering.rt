@@ -80,6 +80,9 @@ pub fn tell_notes(facts: &mut Vec<Fact>, client: ClientNo, given: &mut Given) ->
     ensures { OnOk result (map fact_of facts.new.items
         ≡ map fact_of facts.old.items ++ map (model.fact_of client.0) given.old.notes) }
 {
+    if given.notes.is_empty() {
+        return Ok(());
+    }
     for note in given.notes.drain(..) {
         facts.push(fact_noted(client, note))?;
     }

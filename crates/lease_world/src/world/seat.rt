@@ -137,7 +137,7 @@ impl Seat {
         ensures sent { OnOk result (self.new ≡ with_requests given.old.requests self.old) }
         ensures notes { given.new.notes ≡ given.old.notes }
     {
-        if self.link == Link::Up {
+        if self.link == Link::Up && !given.requests.is_empty() {
             push_all(&mut self.requests, given)?;
         }
         Ok(())
