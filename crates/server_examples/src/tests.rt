@@ -1,6 +1,7 @@
 mod breaks;
 mod calls;
 mod durable;
+mod in_place;
 mod words;
 
 use lease_state::{Access, Bytes, ClientNo, Content, FileNo, LeaseKey, LeaseState, Request, Share};
