@@ -20,10 +20,10 @@ use Rattle.text_laws.proofs.Spoken.{◌&◌, AllSpoken, IsLine, Said, bytes_said
 use Rattle.text_laws.proofs.Spoken.{letters_said, line_of, number_said, offset_said, outcome_said, row_line, told_of, two_behind}
 use Rattle.text_laws.proofs.Spoken.{way_said, words_of}
 
-row : {text : List ℕ} (place : ℕ) {one : Kind Fact} {rest : List (Kind Fact)} → drop place fact_kinds ≡ one ∷ rest
+told_by : {text : List ℕ} (place : ℕ) {one : Kind Fact} {rest : List (Kind Fact)} → drop place fact_kinds ≡ one ∷ rest
     → all_above 32 one.name ≡ true → is_passed_over one.name ≡ false → (said : AllSpoken one.fields)
     → text ≡ line_of one.name (words_of one.fields said) ++ 10 ∷ [] → IsLine fact_in text (told_of one.fields one.tells said)
-row place e above counts said written = row_line facts_told place e above counts said written
+told_by place e above counts said written = row_line facts_told place e above counts said written
 
 wrote_written : (front offset digits way : List ℕ)
     → front ++ codes " " ++ (offset ++ codes " " ++ digits) ++ (32 ∷ way) ++ 10 ∷ []
@@ -60,32 +60,32 @@ client_back told client is = kind_line facts_told (client_kind told) (client_row
 fact_back : (told : Fact) → CanBeNamed told → IsLine fact_in (fact_line told) (as_lettered told)
 unfolding read_words pair_words
 fact_back (fact.Start file bytes) (is_file, are, fit) =
-    row 0 refl refl refl (file_said file is_file & content_said bytes are fit & Said) refl
+    told_by 0 refl refl refl (file_said file is_file & content_said bytes are fit & Said) refl
 fact_back (fact.Expired client file) (is_client, is_file) =
-    row 1 refl refl refl (client_said client is_client & file_said file is_file & Said) refl
+    told_by 1 refl refl refl (client_said client is_client & file_said file is_file & Said) refl
 fact_back (fact.Opened file client) (is_file, is_client) =
-    row 2 refl refl refl (file_said file is_file & client_said client is_client & Said) refl
+    told_by 2 refl refl refl (file_said file is_file & client_said client is_client & Said) refl
 fact_back (fact.Changed file client number patch) (is_file, is_client, fits, (small, are)) =
-    row 3 refl refl refl (file_said file is_file & client_said client is_client & number_said number fits
+    told_by 3 refl refl refl (file_said file is_file & client_said client is_client & number_said number fits
     & offset_said patch.offset small & bytes_said patch.bytes are & Said)
     (two_behind (line_of (codes "changed") (decimal file.0 ∷ decimal client.0 ∷ decimal number ∷ [])) (decimal patch.offset)
     (digits_word patch.bytes))
 fact_back (fact.Wrote client file number patch true) (is_client, is_file, fits, (small, are)) =
-    row 4 refl refl refl (client_said client is_client & file_said file is_file & number_said number fits
+    told_by 4 refl refl refl (client_said client is_client & file_said file is_file & number_said number fits
     & offset_said patch.offset small & bytes_said patch.bytes are & way_said true & Said)
     (wrote_written (line_of (codes "wrote") (decimal client.0 ∷ decimal file.0 ∷ decimal number ∷ [])) (decimal patch.offset)
     (digits_word patch.bytes) (codes "buffered"))
 fact_back (fact.Wrote client file number patch false) (is_client, is_file, fits, (small, are)) =
-    row 4 refl refl refl (client_said client is_client & file_said file is_file & number_said number fits
+    told_by 4 refl refl refl (client_said client is_client & file_said file is_file & number_said number fits
     & offset_said patch.offset small & bytes_said patch.bytes are & way_said false & Said)
     (wrote_written (line_of (codes "wrote") (decimal client.0 ∷ decimal file.0 ∷ decimal number ∷ [])) (decimal patch.offset)
     (digits_word patch.bytes) (codes "through"))
 fact_back (fact.Settled client number outcome) (is_client, fits) =
-    row 5 refl refl refl (client_said client is_client & number_said number fits & outcome_said outcome & Said) refl
+    told_by 5 refl refl refl (client_said client is_client & number_said number fits & outcome_said outcome & Said) refl
 fact_back (fact.Believes client file state) (is_client, is_file) =
-    row 6 refl refl refl (client_said client is_client & file_said file is_file & letters_said state & Said) refl
+    told_by 6 refl refl refl (client_said client is_client & file_said file is_file & letters_said state & Said) refl
 fact_back (fact.CachedRead client file bytes) (is_client, is_file, are) =
-    row 7 refl refl refl (client_said client is_client & file_said file is_file & bytes_said bytes are & Said)
+    told_by 7 refl refl refl (client_said client is_client & file_said file is_file & bytes_said bytes are & Said)
     (read_written (codes "cachedread ") (decimal client.0) (decimal file.0) (digits_word bytes))
 fact_back other can = client_back (alone_in (kind_of other)) (client_in (client_of other)) can
 
