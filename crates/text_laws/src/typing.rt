@@ -1,5 +1,6 @@
 ghost use Rattle.hex.specs.Hex.{IsBytes};
 ghost use Rattle.std.specs.Prelude.{◌<◌, ◌^◌};
+ghost use Rattle.lease_facts.specs.Facts.{client_of};
 ghost use Rattle.text_laws.specs.Runs.{IsTyped, IsTypedClient};
 ghost use Rattle.text_laws.specs.Told.{Each, IsPatch};
 
@@ -33,6 +34,12 @@ fn any_client_is_typed(client: Option<ClientNo>)
     if let Some(client) = client {
         client_is_typed(client);
     }
+}
+
+fn told_client_is_typed(fact: &Fact)
+    ensures { IsTypedClient (client_of fact.now) }
+{
+    any_client_is_typed(fact.client());
 }
 
 fn file_is_typed(file: FileNo)
@@ -84,7 +91,7 @@ fn fact_is_typed(fact: &Fact)
             file_is_typed(*file);
             are_bytes(bytes.as_slice());
         }
-        _ => any_client_is_typed(fact.client()),
+        _ => told_client_is_typed(fact),
     }
 }
 
