@@ -23,7 +23,7 @@ all_reversed (_ ∷ facts) others all more = let c : ⊥ = cc in absurd c
 pub record IsBegun (world : World) : Type 0 where
   pub first : starts_first world.past ≡ true
 
--- facts that aren't of the world alone are no starts either where the server or a client tells them
+-- what the server gives out, what a client notes and what the world tells starts no file
 delivered_begun : (world : World) (out : Out) → IsBegun world → IsBegun (delivered world out)
 unfolding starts_first
 delivered_begun world out b = grind arith
