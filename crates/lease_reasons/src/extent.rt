@@ -2,8 +2,9 @@ ghost use Rattle.std.specs.Prelude.{◌≡◌, map, not, OnOk, IfOk};
 ghost use Rattle.std.specs.List.{filter};
 ghost use Rattle.lease_model.specs.records.Past.{has_joined, has_strayed};
 ghost use Rattle.lease_world.specs.Verdicts.{verdict_of};
-ghost use Rattle.lease_reasons.specs.Extent.{with_client, clients_named, judged_count, IsExtent};
+ghost use Rattle.lease_reasons.specs.Extent.{with_client, clients_named, judged_count, IsExtent, numbers};
 ghost use Rattle.lease_reasons.specs.Places.{past_of};
+ghost use Rattle.lease_facts.specs.Facts.{client_number};
 
 use crate::marks::Mark;
 use lease_facts::Fact;
@@ -36,9 +37,6 @@ fn note_client(clients: &mut Vec<ClientNo>, told: Option<ClientNo>) -> Result<()
     }
     Ok(())
 }
-
-ghost use Rattle.lease_facts.specs.Facts.{client_number};
-ghost use Rattle.lease_reasons.specs.Extent.{numbers};
 
 // The clients that facts are about.
 fn clients_named(alloc: Global, facts: &[Fact]) -> Result<Vec<ClientNo>, Memory>

@@ -1,7 +1,9 @@
 ghost use Rattle.std.specs.Prelude.{◌≡◌, IfOk};
 ghost use Rattle.lease_state.specs.Content.{end_of};
-ghost use Rattle.lease_reasons.specs.Places.{past_of};
+ghost use Rattle.lease_reasons.specs.Places.{past_of, last_place};
 ghost use Rattle.lease_reasons.specs.Searches.{not_started, started_again, past_limit, number_used, taken_none, malformed};
+ghost use Rattle.lease_reasons.specs.Marks.{fits};
+ghost use Rattle.lease_reasons.specs.declared.marks.Mark.TheVariants as mark;
 
 use crate::marks::Mark;
 use crate::messages::Messages;
@@ -67,10 +69,6 @@ fn nothing_taken(alloc: Global, facts: &[Fact], client: ClientNo) -> Result<Opti
         sent,
     }))
 }
-
-ghost use Rattle.lease_reasons.specs.Marks.{fits};
-ghost use Rattle.lease_reasons.specs.Places.{last_place};
-ghost use Rattle.lease_reasons.specs.declared.marks.Mark.TheVariants as mark;
 
 /// Why a fact after these is malformed, if it is.
 ///

@@ -1,4 +1,4 @@
-ghost use Rattle.std.specs.Prelude.{◌≡◌, ◌+◌, ◌≤◌, OnOk, IfOk};
+ghost use Rattle.std.specs.Prelude.{◌≡◌, ◌+◌, ◌≤◌, OnOk, IfOk, length};
 ghost use Rattle.lease_facts.specs.Facts.{fact_of};
 ghost use Rattle.lease_reasons.specs.Messages.{mail_after, mail_of, last_sent};
 ghost use Rattle.lease_reasons.specs.Places.{past_of};
@@ -81,5 +81,3 @@ impl Messages {
         self.sent.get(index).copied()
     }
 }
-
-ghost use Rattle.std.specs.Prelude.{length};

@@ -1,7 +1,8 @@
-ghost use Rattle.std.specs.Prelude.{◌≡◌, ◌||◌, None, ℕ, OnOk, IfOk, MatchOption};
-ghost use Rattle.lease_facts.specs.Facts.{fact_of};
-ghost use Rattle.lease_model.specs.records.Past.{start_of, changes_of, unsettled, last_sending};
+ghost use Rattle.std.specs.Prelude.{◌≡◌, ◌||◌, None, ℕ, OnOk, IfOk, MatchOption, ◌==◌, List, if◌then◌else◌, ◌++◌, ◌∷◌, []};
 ghost use Rattle.lease_state.specs.Content.{patches};
+ghost use Rattle.lease_model.specs.records.Past.{start_of, changes_of, unsettled, last_sending};
+ghost use Rattle.lease_model.specs.records.Facts as model;
+ghost use Rattle.lease_facts.specs.Facts.{fact_of};
 ghost use Rattle.lease_reasons.specs.Places.{past_of};
 ghost use Rattle.lease_reasons.specs.Reads.{IsExpected, AreSettled, is_number, unsettled_places, settled_told, is_settled_by, is_waiting, with_start, with_change, with_write};
 
@@ -30,8 +31,6 @@ fn put_number(numbers: &mut HashSet<u64>, number: u64) -> Result<(), Memory>
     numbers.insert(number)?;
     Ok(())
 }
-
-ghost use Rattle.std.specs.Prelude.{◌==◌};
 
 fn note_settled(numbers: &mut HashSet<u64>, told: Option<u64>) -> Result<(), Memory>
     ensures { OnOk result ((n : ℕ) → is_number n numbers.new.keys ≡ (is_settled_by n told || is_number n numbers.old.keys)) }
@@ -163,9 +162,6 @@ fn waiting(
     }
     Ok(places)
 }
-
-ghost use Rattle.std.specs.Prelude.{List, if◌then◌else◌, ◌++◌, ◌∷◌, []};
-ghost use Rattle.lease_model.specs.records.Facts as model;
 
 /// What a cached read of the client should give of the file, and why; `None` where it took no message since it joined.
 ///

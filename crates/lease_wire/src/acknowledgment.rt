@@ -1,7 +1,7 @@
 ghost use Rattle.std.specs.Prelude.{◌≡◌, length, take, drop, IfOk};
 ghost use Rattle.std.specs.Result.{result_err};
 ghost use Rattle.lease_state.specs.State.{state_of};
-ghost use Rattle.lease_wire.specs.Acknowledgment.{IsAcknowledgment, acknowledgment_bytes};
+ghost use Rattle.lease_wire.specs.Acknowledgment.{IsAcknowledgment, acknowledgment_bytes, AcknowledgmentReadsBack, AcknowledgmentIsUnique, AcknowledgmentFreeFields};
 ghost use Rattle.lease_wire.specs.WireFaults.{message_fault};
 
 use crate::fault::WireFault;
@@ -137,8 +137,6 @@ fn decode_key_and_state(bytes: &[u8]) -> Result<(LeaseKey, LeaseState, &[u8]), W
     let key = key_at(message, KEY_OFFSET);
     Ok((key, state_at(message, STATE_OFFSET), rest))
 }
-
-ghost use Rattle.lease_wire.specs.Acknowledgment.{AcknowledgmentReadsBack, AcknowledgmentIsUnique, AcknowledgmentFreeFields};
 
 /// Laws of the layout of acknowledgments and responses: what is written is read back, with whatever
 /// bytes follow; no bytes hold two values; free fields are written as 0. Does nothing.

@@ -4,7 +4,7 @@ ghost use Rattle.lease_wire.specs.Field.{bytes_at};
 ghost use Rattle.lease_wire.specs.Chain.{next_of};
 ghost use Rattle.lease_wire.specs.Reading.{items_of, items_behind, items_after, context_at, layout_fault};
 ghost use Rattle.lease_wire.specs.Contexts.{view_of, items_left};
-ghost use Rattle.lease_wire.specs.Faults.{AreItemsOf};
+ghost use Rattle.lease_wire.specs.Faults.{AreItemsOf, ItemsAreRead};
 
 use crate::fault::WireFault;
 use byteorder::{ByteOrder, LittleEndian};
@@ -37,8 +37,6 @@ pub fn contexts(bytes: &[u8]) -> Contexts<'_>
 {
     Contexts::from_start(bytes)
 }
-
-ghost use Rattle.lease_wire.specs.Faults.{ItemsAreRead};
 
 /// The law of contexts: the function by which contracts name a text's contexts gives those of its
 /// layout, and the first fault of it, for every text. Does nothing.

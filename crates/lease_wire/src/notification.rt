@@ -1,6 +1,7 @@
 ghost use Rattle.std.specs.Prelude.{◌≡◌, length, take, drop, IfOk};
 ghost use Rattle.std.specs.Result.{result_err};
 ghost use Rattle.lease_wire.specs.WireFaults.{message_fault};
+ghost use Rattle.lease_wire.specs.Notification.{NotificationReadsBack, NotificationIsUnique, NotificationFreeFields};
 
 use crate::fault::WireFault;
 use crate::field::{key_at, state_at};
@@ -79,8 +80,6 @@ impl Notification {
         Ok((notification, rest))
     }
 }
-
-ghost use Rattle.lease_wire.specs.Notification.{NotificationReadsBack, NotificationIsUnique, NotificationFreeFields};
 
 /// Laws of the layout: what is written is read back, with whatever bytes follow; no bytes hold two
 /// values; free fields are written as 0. Does nothing.

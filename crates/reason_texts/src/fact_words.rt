@@ -1,8 +1,8 @@
-ghost use Rattle.std.specs.Prelude.{◌≡◌, ◌++◌, OnOk};
+ghost use Rattle.std.specs.Prelude.{◌≡◌, ◌++◌, OnOk, ◌≤◌, length, take};
 ghost use Rattle.std.specs.String.{string_bytes};
-ghost use Rattle.lease_facts.specs.declared.fact.Fact.TheVariants as fact;
 ghost use Rattle.lease_texts.specs.Records.{outcome_word};
 ghost use Rattle.reason_texts.specs.FactWords.{shown_bytes, shown_patch, changed_words, wrote_words, started_words, read_words, way_words, deed_words, fact_words};
+ghost use Rattle.lease_facts.specs.declared.fact.Fact.TheVariants as fact;
 
 use lease_client::Settlement;
 use lease_facts::{Fact, FactKind};
@@ -24,8 +24,6 @@ fn first_shown(bytes: &[u8]) -> &[u8]
 {
     bytes.split_at(64).0
 }
-
-ghost use Rattle.std.specs.Prelude.{◌≤◌, length, take};
 
 /// Adds bytes as digits: at most 64 of them, and then how many there are.
 #[tactic(auto, unfolding(crate::specs::FactWords::shown_bytes))]

@@ -1,4 +1,5 @@
-ghost use Rattle.std.specs.Prelude.{◌≡◌, ◌⊎◌, ◌++◌, ◌∷◌, [], ◌+◌, ℕ, Some, None, MatchResult, OnOk};
+ghost use Rattle.std.specs.Prelude.{◌≡◌, ◌⊎◌, ◌++◌, ◌∷◌, [], ◌+◌, ℕ, Some, None, MatchResult, OnOk, if◌then◌else◌, ◌-◌, slice_get};
+ghost use Rattle.std.specs.Option.{option_copied};
 ghost use Rattle.lease_texts.specs.Reading.{is_passed_over};
 ghost use Rattle.lease_texts.specs.Records.{fact_in, with_line};
 ghost use Rattle.reason_texts.specs.Placed.{IsPlaced, RefusesRecord, line_number};
@@ -50,9 +51,6 @@ impl Placed {
             .unwrap_or(0)
     }
 }
-
-ghost use Rattle.std.specs.Option.{option_copied};
-ghost use Rattle.std.specs.Prelude.{if◌then◌else◌, ◌-◌, slice_get};
 
 /// The facts of a record, with their lines.
 ///

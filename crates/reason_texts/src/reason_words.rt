@@ -1,5 +1,6 @@
-ghost use Rattle.std.specs.Prelude.{◌≡◌, ◌++◌, OnOk};
+ghost use Rattle.std.specs.Prelude.{◌≡◌, ◌++◌, OnOk, codes};
 ghost use Rattle.std.specs.String.{string_bytes};
+ghost use Rattle.std.specs.Option.{option_copied};
 ghost use Rattle.reason_texts.specs.ReasonWords.{words_of, place_line, place_line_if, other_line, unanswered_line, waiting_lines, expected_lines, reason_lines};
 
 use crate::fact_words::{push_bytes, push_fact_words, push_words};
@@ -19,8 +20,6 @@ fn push_fact(alloc: Global, text: &mut String, fact: Option<&Fact>) -> Result<()
         Some(fact) => push_fact_words(alloc, text, fact),
     }
 }
-
-ghost use Rattle.std.specs.Option.{option_copied};
 
 /// Adds the line of the fact at a place: its number, the fact, and what it is to the rule.
 #[tactic(auto, unfolding(crate::specs::ReasonWords::place_line))]
@@ -70,8 +69,6 @@ fn push_other(
     }
     push_place(alloc, text, placed, place, ", since here")
 }
-
-ghost use Rattle.std.specs.Prelude.{codes};
 
 fn push_unanswered(
     alloc: Global,

@@ -1,7 +1,8 @@
 ghost use Rattle.std.specs.Prelude.{◌≡◌, ◌≢◌, length};
 ghost use Rattle.lease_wire.specs.Contexts.{view_of};
-ghost use Rattle.lease_wire.specs.Names as names;
 ghost use Rattle.lease_wire.specs.Names.{lease_view};
+ghost use Rattle.lease_wire.specs.Views.{lease_of, meaning_view};
+ghost use Rattle.lease_wire.specs.Names as names;
 
 use crate::chain::Context;
 use crate::create::Direction;
@@ -29,8 +30,6 @@ pub(crate) enum Meaning {
     Durable,
     Reconnect(FileId),
 }
-
-ghost use Rattle.lease_wire.specs.Views.{lease_of, meaning_view};
 
 fn read_lease(direction: Direction, body: &[u8]) -> Lease
     requires { length body.now ≡ 32 }

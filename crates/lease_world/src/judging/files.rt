@@ -1,4 +1,4 @@
-ghost use Rattle.std.specs.Prelude.{◌≡◌, ◌++◌, ◌<◌, [], ◌∷◌, Some, OnOk, IfOk, vec_len, length};
+ghost use Rattle.std.specs.Prelude.{◌≡◌, ◌++◌, ◌<◌, [], ◌∷◌, Some, OnOk, IfOk, vec_len, length, slice_get};
 ghost use Rattle.std.specs.Option.{option_map};
 ghost use Rattle.lease_world.specs.judge.Seen.{touched, touched_by_others, file_in, unseen_file};
 ghost use Rattle.lease_world.specs.judge.Tables.{HasFile, HasSameFiles, is_started_in};
@@ -125,5 +125,3 @@ fn reach(files: &mut Vec<FileSeen>, file: FileNo) -> Result<(), Memory>
     }
     Ok(())
 }
-
-ghost use Rattle.std.specs.Prelude.{slice_get};
