@@ -205,10 +205,12 @@ request_deed world off P h client request outcome = any_end client (begun off.se
       refused = λ request status source may. h.refused off client request status source may.1;
       left = λ request outcome why source may. absurd (never_left off.server client request outcome why may);
       full = λ file access share ask none out source may. h.full off client file access share ask source;
-      granted = λ file access share ask none room source may. h.granted off client file access share ask source none may.1.0
-          (subst (MayCreate off.server client file access share ask.lease) none may.1.1);
-      again = λ file access share ask file_id some source may. h.reconnected off client file access share ask file_id source some
-          may.1.0 (subst (MayCreate off.server client file access share ask.lease) some may.1.1);
+      granted = λ file access share ask none room source may. let served = may.1 in
+          h.granted off client file access share ask source none served.0
+          (subst (MayCreate off.server client file access share ask.lease) none served.1);
+      again = λ file access share ask file_id some source may. let served = may.1 in
+          h.reconnected off client file access share ask file_id source some served.0
+          (subst (MayCreate off.server client file access share ask.lease) some served.1);
       read = λ file_id one own source may. h.read off client file_id one source own.found
           (of_found off.server client file_id (λ o. may_read o.access ≡ true) one may.1 own.found);
       changed = λ file_id number patch one own source may. h.changed off client file_id number patch one source own.found
