@@ -131,7 +131,8 @@ if_says b c world other messages e = grind arith
 
 applied_says : (world : World) (event : Event) → said (applied world event) ≡ said world + length (messages_of world event)
 unfolding messages_of
-applied_says world (Event.App client command) = stepped_says world client _ ∙ omega arith
+applied_says world (Event.App client command) =
+    stepped_says world client (client_called (world.clients client) (ClientCall.Commanded command)) ∙ omega arith
 applied_says world (Event.ServerTakes client) = server_says world client (world.requests client)
 applied_says world (Event.ClientTakes client) = client_says world client (world.replies client)
 applied_says world (Event.Cut client) = cut_says world client (world.links client)
