@@ -2,7 +2,8 @@
 use Rattle.lease_laws.proofs.Words.{◌∙◌, ◌∷◌, ◌≡◌, Bool, EachFact, Event, Fact, FileRequest, Key, List, MayLower, Note, Option}
 use Rattle.lease_laws.proofs.Words.{Setup, Step, World, ℕ, [], after, arith, first_world, has_joined, has_key, is_allowed_setup}
 use Rattle.lease_laws.proofs.Words.{is_key, is_start, list_all, refl, requests_sent, reverse_aux, starts_from, stepped_in, subst}
-use Rattle.lease_laws.proofs.Words.{sym, true}
+use Rattle.lease_laws.proofs.Words.{connection_made, sym, true}
+use Rattle.lease_laws.proofs.Words.{commanded, taken, noticed}
 use Rattle.lease_laws.proofs.records.Runs.{all_starts}
 use Rattle.lease_laws.proofs.server.Lists.{any_has}
 use Rattle.lease_laws.proofs.world.cases.Events.{IsTold}
@@ -93,10 +94,13 @@ joined_moves world (Move.Step step) next v h = step_deed world HasJoined (deeds_
 joined_moves world (Move.Cut client) up v h = (refl, h)
 joined_moves world (Move.Expire client file) (on, breaks) v h = (refl, h)
 joined_moves world (Move.Scavenge file_id) may v h = h
-joined_moves world (Move.Connect client) down v h = stepped_joined _ client _ (refl, h)
-joined_moves world (Move.Commanded client command) may v h = stepped_joined world client _ h
-joined_moves world (Move.Take client reply queue) first v h = stepped_joined _ client _ (refl, h)
-joined_moves world (Move.Notice client) cut v h = stepped_joined _ client _ h
+joined_moves world (Move.Connect client) down v h =
+    stepped_joined _ client (connection_made (world.clients client)) (refl, h)
+joined_moves world (Move.Commanded client command) may v h =
+    stepped_joined world client (commanded (world.clients client) command) h
+joined_moves world (Move.Take client reply queue) first v h =
+    stepped_joined _ client (taken (world.clients client) reply) (refl, h)
+joined_moves world (Move.Notice client) cut v h = stepped_joined _ client (noticed (world.clients client)) h
 joined_moves world (Move.Stray client request) may v h = h
 
 -- ---- every run

@@ -68,16 +68,19 @@ joined word [] = word
 joined word (next ∷ words) = word ++ 32 ∷ joined next words
 
 joined_behind : (front word : List ℕ) (words : Words) → joined (front ++ word) words ≡ front ++ joined word words
+unfolding joined
 joined_behind front word [] = refl
 joined_behind front word (next ∷ words) = append_assoc front word (32 ∷ joined next words)
 
 line_joined : (front : List ℕ) (words : Words) → line_of front words ≡ joined front words
+unfolding joined
 line_joined front [] = refl
 line_joined front (word ∷ words) = line_joined (front ++ codes " " ++ word) words ∙ joined_behind (front ++ codes " ") word words
     ∙ append_assoc front (codes " ") (joined word words)
 
 fields_joined : (word : List ℕ) (fields : List Field) (said : AllSpoken fields) → all_above 32 word ≡ true
     → fields_of (joined word (words_of fields said)) ≡ word ∷ words_of fields said
+unfolding joined
 fields_joined word [] Said above = piece_last 32 word above
 fields_joined word (field ∷ fields) (first & others) above =
     piece_first 32 ([] ∷ []) word (joined first.word (words_of fields others)) above
