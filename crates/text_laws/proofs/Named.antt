@@ -4,6 +4,7 @@ use Rattle.lease_laws.proofs.Words.{◌&&◌, ◌+◌, ◌∷◌, ◌≡◌, Boo
 use Rattle.lease_laws.proofs.Words.{Setup, Some, Step, World, ℕ, [], after, all_delivered, arith, delivered, first_world}
 use Rattle.lease_laws.proofs.Words.{happened, is_allowed_setup, is_content, list_all, nat_le, nat_tests, noted, put, refl}
 use Rattle.lease_laws.proofs.Words.{requests_sent, reverse_aux, served, starts_from, stepped_in, true}
+use Rattle.lease_laws.proofs.Words.{client_called, ClientCall}
 use Rattle.lease_facts.specs.Facts.{client_about}
 use Rattle.lease_laws.proofs.server.Lists.{and_parts, and_both}
 use Rattle.lease_laws.proofs.world.cases.Events.{HasForms, IsTold, Keeps, call_served, kept_by_run, link_lost, link_made}
@@ -68,14 +69,17 @@ named_forms : HasForms (Keeps IsNamed)
 unfolding is_named
 named_forms = record {
   told = λ world client fact some is n. and_both _ _ (told_named client fact some is) n;
-  command = λ world client command some n. stepped_named world client _ some n;
+  command = λ world client command some n. stepped_named world client (client_called (world.clients client) (ClientCall.Commanded command)) some n;
   request = λ world client request queue some first n.
       served_named (record world { requests = put world.requests client queue }) _ n;
   reply = λ world client reply queue some first n.
-      stepped_named (reply_off world client queue) client _ some (and_both (nat_le 1 client) _ some n);
+      stepped_named (reply_off world client queue) client (client_called (world.clients client) (ClientCall.Taken reply)) some
+      (and_both (nat_le 1 client) _ some n);
   cut = λ world client some up n. served_named (link_lost world client) _ (and_both (nat_le 1 client) _ some n);
-  notice = λ world client some cut n. stepped_named (record world { links = put world.links client Link.Down }) client _ some n;
-  connect = λ world client some down n. stepped_named (call_served (link_made world client) (Call.Join client)) client _ some
+  notice = λ world client some cut n. stepped_named (record world { links = put world.links client Link.Down }) client
+      (client_called (world.clients client) ClientCall.Noticed) some n;
+  connect = λ world client some down n. stepped_named (call_served (link_made world client) (Call.Join client)) client
+      (client_called (world.clients client) ClientCall.Connected) some
       (served_named (link_made world client) _ (and_both (nat_le 1 client) _ some n));
   timer = λ world client file some on breaks n.
       served_named (happened world (Fact.Expired client file)) _ (and_both (nat_le 1 client) _ some n);
