@@ -1,10 +1,9 @@
 -- Words of bytes above a separator, and the pieces that they are.
-use Rattle.lease_laws.proofs.Words.{◌&&◌, ◌++◌, ◌+◌, ◌-◌, ◌<◌, ◌==◌, ◌∷◌, ◌≡◌, Bool, List, Some, ℕ, [], and_parts, arith, false}
+use Rattle.lease_laws.proofs.Words.{◌&&◌, ◌++◌, ◌+◌, ◌-◌, ◌<◌, ◌==◌, ◌∷◌, ◌≡◌, Bool, List, ℕ, [], and_parts, arith, false}
 use Rattle.lease_laws.proofs.Words.{if◌then◌else◌, nat_lt, nat_tests, refl, slice_index, suc, true, zero}
 use Rattle.std.proofs.Common.{◌/◌, ◌%◌}
-use Rattle.hex.specs.Hex.{IsBytes, encode_with, encode_lower, lower_digits, hex_digit_value}
-use Rattle.hex.proofs.HexLemmas.{IsDigits-lower_digits}
-use Rattle.uuid.specs.Text.{by_index, hex_digit, nibble, digit_place, is_hyphen_place, hyphenated_text, lower}
+use Rattle.hex.specs.Hex.{IsBytes, encode_with, encode_lower, lower_digits}
+use Rattle.uuid.specs.Text.{by_index, hyphenated_text, lower}
 use Rattle.lease_texts.specs.Pieces.{pieces, longer}
 
 -- each byte is above this one

@@ -1,5 +1,5 @@
 -- Kinds of lines that begin with one name.
-use Rattle.lease_laws.proofs.Words.{◌∙◌, ◌∷◌, ◌≡◌, ◌⊎◌, Among, Bool, List, None, Option, Some, ℕ, ⊤, [], ap, arith, bytes_eq}
+use Rattle.lease_laws.proofs.Words.{◌∙◌, ◌∷◌, ◌≡◌, ◌⊎◌, Among, Bool, List, None, Option, Some, ℕ, ⊤, [], arith, bytes_eq}
 use Rattle.lease_laws.proofs.Words.{bytes_eq-Decides, drop, false, inl, inr, refl, subst, suc, sym, true, zero}
 use Rattle.std.proofs.Common.{◌↔◌}
 use Rattle.lease_texts.specs.Fields.{Words, last}

@@ -1,7 +1,7 @@
 -- In the record of every run what the server gives out names clients that have joined.
 use Rattle.lease_laws.proofs.Words.{◌∙◌, ◌∷◌, ◌≡◌, Bool, EachFact, Event, Fact, FileRequest, Key, List, MayLower, Note, Option}
 use Rattle.lease_laws.proofs.Words.{Setup, Step, World, ℕ, [], after, arith, first_world, has_joined, has_key, is_allowed_setup}
-use Rattle.lease_laws.proofs.Words.{is_key, is_start, list_all, refl, requests_sent, reverse_aux, starts_from, stepped_in, subst}
+use Rattle.lease_laws.proofs.Words.{is_key, is_start, list_all, refl, reverse_aux, starts_from, stepped_in, subst}
 use Rattle.lease_laws.proofs.Words.{connection_made, sym, true}
 use Rattle.lease_laws.proofs.Words.{commanded, taken, noticed}
 use Rattle.lease_laws.proofs.records.Runs.{all_starts}

@@ -1,15 +1,13 @@
 -- What fields say is what was written in them.
-use Rattle.lease_laws.proofs.Words.{◌&&◌, ◌++◌, ◌+◌, ◌<◌, ◌==◌, ◌∙◌, ◌∷◌, ◌≡◌, ◌≤◌, Bool, List, None, Ok, Option, Result, Some}
+use Rattle.lease_laws.proofs.Words.{◌&&◌, ◌++◌, ◌+◌, ◌<◌, ◌==◌, ◌∙◌, ◌∷◌, ◌≡◌, ◌≤◌, Bool, List, None, Option, Some}
 use Rattle.lease_laws.proofs.Words.{State, ℕ, [], ap, arith, bytes_eq, codes, decimal, false, length, nat_le, nat_lt, nat_tests}
 use Rattle.lease_laws.proofs.Words.{refl, slice_index, suc, true, zero}
 use Rattle.std.proofs.Common.{◌*◌, ◌/◌, ◌%◌, ◌^◌}
 use Rattle.std.proofs.lemmas.Fmt.{decimal_by_steps, decimal_digit, decimal_nonempty, first_decimal}
-use Rattle.std.specs.Result.{result_ok}
 use Rattle.hex.specs.Hex.{IsBytes, encode_with, encode_lower, lower_digits}
 use Rattle.hex.proofs.HexLemmas.{decode_of-encode_lower}
 use Rattle.lease_state.specs.State.{bits_of_state}
 use Rattle.lease_client.specs.declared.note.Settlement.{Settlement}
-use Rattle.lease_client.specs.declared.note.Settlement.TheVariants as settlement
 use Rattle.lease_texts.specs.Fields.{digit_behind, number_after, number_in, bytes_in, state_in, ordinal_in, offset_in, content_in}
 use Rattle.lease_texts.specs.Records.{digits_word, outcome_word, outcome_in}
 use Rattle.lease_texts.specs.Words.{state_word}
