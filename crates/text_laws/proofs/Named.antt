@@ -69,7 +69,8 @@ named_forms : HasForms (Keeps IsNamed)
 unfolding is_named
 named_forms = record {
   told = λ world client fact some is n. and_both _ _ (told_named client fact some is) n;
-  command = λ world client command some n. stepped_named world client (client_called (world.clients client) (ClientCall.Commanded command)) some n;
+  command = λ world client command some n.
+      stepped_named world client (client_called (world.clients client) (ClientCall.Commanded command)) some n;
   request = λ world client request queue some first n.
       served_named (record world { requests = put world.requests client queue }) _ n;
   reply = λ world client reply queue some first n.
