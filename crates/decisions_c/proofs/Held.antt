@@ -1,6 +1,6 @@
 -- Opens as they stand in a table, and as the rules see them.
 use Rattle.std.proofs.Common.{◌≡◌, refl, Bool, List, [], ◌∷◌, arith}
-use Rattle.std.specs.Prelude.{◌||◌, Option, Some, None}
+use Rattle.std.specs.Prelude.{◌||◌, Option}
 use Rattle.std.specs.List.{list_any}
 use Rattle.lease_model.specs.server.State.{Open}
 use Rattle.decisions_c.specs.Tables.{open_held, opens_held, before_opens, holds_of, holds_at}

@@ -13,12 +13,12 @@ use Rattle.lease_model.specs.server.Allowed.{is_other_on, conflicts_on}
 use Rattle.lease_model.specs.server.Findings.{Finding, create_finding, is_leased_elsewhere}
 use Rattle.lease_model.specs.server.Naming.{key_of, lease_by, lease_of}
 use Rattle.lease_model.specs.server.State.{Server, Open, has_key, is_key}
-use Rattle.lease_model.specs.server.Wants.{Want, wants_where, handle_wants, write_wants, all_wants}
+use Rattle.lease_model.specs.server.Wants.{Want, wants_where, handle_wants, write_wants}
 use Rattle.lease_model.specs.values.Keys.{Key, key_eq}
 use Rattle.lease_model.specs.values.LeaseStates.{holds_any}
 use Rattle.lease_model.specs.values.Lists.{is_empty}
-use Rattle.decisions_c.specs.Numbers.{access_of_bits, is_set}
-use Rattle.decisions_c.specs.Tables.{opens_held, open_with, before_opens, bytes_if}
+use Rattle.decisions_c.specs.Numbers.{access_of_bits}
+use Rattle.decisions_c.specs.Tables.{opens_held, open_with, before_opens}
 use Rattle.decisions_c.specs.Wishes.{is_wanted, wants_for, lowered_for, want_among, is_key_wanted, want_if}
 use Rattle.decisions_c.specs.declared.tables.LeaseOpen.{LeaseOpen}
 use Rattle.decisions_c.specs.declared.wish.Wish.{Wish}

@@ -1,10 +1,10 @@
 -- Structs that were written hold what they were written for, and what every server does with an acknowledgment.
-use Rattle.std.proofs.Common.{Bool, ap, arith, false, refl, subst, true, ◌∙◌, ◌≡◌}
+use Rattle.std.proofs.Common.{Bool, ap, arith, refl, subst, ◌∙◌, ◌≡◌}
 use Rattle.std.specs.Prelude.{Option, Some, None}
 use Rattle.lease_state.specs.State.{State, state_of_bits, bits_of_state, granted_form_of, is_state_within}
 use Rattle.lease_laws.proofs.server.Keys.{put_key-here}
 use Rattle.lease_laws.proofs.server.Lists.{either}
-use Rattle.lease_model.specs.server.Acknowledge.{acknowledged, judged, break_ended}
+use Rattle.lease_model.specs.server.Acknowledge.{judged}
 use Rattle.lease_model.specs.server.Progress.{begun}
 use Rattle.lease_model.specs.server.State.{Server, Lease}
 use Rattle.lease_model.specs.values.Keys.{Key}
