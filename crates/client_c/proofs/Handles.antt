@@ -12,7 +12,7 @@ use denote.Steps.{nothing}
 use denote.Struct.Struct.{within}
 use denote.Struct.Owning.{shape}
 use Rattle.lease_handles.specs.Owned.{handle_owns}
-use Rattle.lease_client.specs.contracts.step.Step as step_type
+use Rattle.lease_client.specs.contracts.values.step.Step as step_type
 use Rattle.client_c.specs.contracts.handle.ClientHandle as handle
 
 abbrev pub word : Ptr → Val

@@ -4,7 +4,7 @@ use Rattle.lease_client.specs.Beliefs.{NoneRose, RoseBy}
 use Rattle.lease_model.specs.client.Commanded.{is_refused}
 use Rattle.lease_client.specs.Known.{client_of}
 use Rattle.lease_client.specs.Steps.{IsStep, RefusesQuietly}
-use Rattle.lease_client.specs.declared.step.Step.{Step}
+use Rattle.lease_client.specs.declared.values.step.Step.{Step}
 use Rattle.lease_model.specs.client.Commanded.{commanded}
 use Rattle.lease_model.specs.client.Commands.{Command}
 use Rattle.lease_model.specs.client.State.{Client}

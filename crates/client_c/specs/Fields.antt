@@ -4,11 +4,11 @@ use Rattle.lease_state.specs.Access.{uses_of, allowed_by, bits_of_uses}
 use Rattle.lease_state.specs.State.{state_of, bits_of_state}
 use Rattle.lease_state.specs.Status as status
 use Rattle.lease_state.specs.declared.request.Request as request
-use Rattle.lease_client.specs.declared.command.Answer as answer
-use Rattle.lease_client.specs.declared.command.Refusal as refusal
-use Rattle.lease_client.specs.declared.note.Note as note
-use Rattle.lease_client.specs.declared.note.Settlement as settlement
-use Rattle.lease_client.specs.declared.step.Step.{Step}
+use Rattle.lease_client.specs.declared.values.command.Answer as answer
+use Rattle.lease_client.specs.declared.values.command.Refusal as refusal
+use Rattle.lease_client.specs.declared.values.note.Note as note
+use Rattle.lease_client.specs.declared.values.note.Settlement as settlement
+use Rattle.lease_client.specs.declared.values.step.Step.{Step}
 use Rattle.lease_handles.specs.Codes.{flag_of}
 use Rattle.client_c.specs.declared.answer.ClientAnswer.{ClientAnswer}
 use Rattle.client_c.specs.declared.request.ClientRequest.{ClientRequest}

@@ -1,6 +1,6 @@
 ghost use Rattle.std.specs.Prelude.{◌≡◌, Option, Some, None};
 ghost use Rattle.std.specs.Option.{option_map};
-ghost use Rattle.lease_client.specs.declared.step.Step.{Step};
+ghost use Rattle.lease_client.specs.declared.values.step.Step.{Step};
 
 use lease_client::Step;
 use lease_handles::Loose;
@@ -18,7 +18,7 @@ pub struct ClientHandle {
 
 impl Model for ClientHandle {
     ghost use Rattle.lease_handles.specs.Owned.{handle_owns};
-    ghost use Rattle.lease_client.specs.contracts.step.Step.{the_row};
+    ghost use Rattle.lease_client.specs.contracts.values.step.Step.{the_row};
 
     ghost also_owns = { λ handle. handle_owns the_row handle.held handle.at };
 }

@@ -29,8 +29,10 @@ status_out _ = None
 
 -- Every server in which the key has this lease answers the acknowledgment so, and the lease is this afterwards.
 pub record IsAnswered (key : Key) (state : State) (lease : Lease) (status : ℕ) (after : Lease) (server : Server) : Type 0 where
-  pub answer : status_out (acknowledged key.client (Some (record { key = key.bytes; state = state })) (begun server)).outs ≡ Some status
-  pub leaves : (acknowledged key.client (Some (record { key = key.bytes; state = state })) (begun server)).server.leases key ≡ after
+  pub answer : status_out (acknowledged key.client (Some (record { key = key.bytes; state = state })) (begun server)).outs
+      ≡ Some status
+  pub leaves : (acknowledged key.client (Some (record { key = key.bytes; state = state })) (begun server)).server.leases key
+      ≡ after
 
 abbrev pub IsAnsweredByAll : Key → State → Lease → ℕ → Lease → Type 0
 IsAnsweredByAll key state lease status after =

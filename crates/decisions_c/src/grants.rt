@@ -67,7 +67,9 @@ impl<'a> Tables<'a> {
 
     // The entry of a key after a grant.
     fn entry_granted(&self, key: Key, want: LeaseState) -> LeaseEntry
-        ensures fields { result ≡ entry_fields key ((server_of self.now).expired key) (rules.lease_granted (server_of self.now) key 1 (state_of want)) }
+        ensures fields { result
+            ≡ entry_fields key ((server_of self.now).expired key)
+            (rules.lease_granted (server_of self.now) key 1 (state_of want)) }
         ensures value { lease_held result ≡ rules.lease_granted (server_of self.now) key 1 (state_of want) }
     {
         let lease = self.lease_granted(key, want);
@@ -79,7 +81,8 @@ impl<'a> Tables<'a> {
 /// the state that is wanted, without WRITE_CACHING where an open has another key.
 #[unsafe(no_mangle)]
 pub extern "C" fn smblease_allowed(opens: &[LeaseOpen], request: &LeaseRequest) -> u32
-    ensures { result ≡ bits_of_state (allowed (server_with opens.now []) (own_held request.now) 1 (state_of_bits request.now.state)) }
+    ensures { result ≡ bits_of_state
+        (allowed (server_with opens.now []) (own_held request.now) 1 (state_of_bits request.now.state)) }
 {
     let tables = Tables { opens, leases: &[] };
     let want = LeaseState::from_wire(request.state);
@@ -96,7 +99,8 @@ pub extern "C" fn smblease_lease_after_grant(
     out: &mut LeaseEntry,
 ) -> bool
     ensures has_key { result ≡ is_some (own_held request.now) }
-    ensures fields { IfSome (own_held request.now) (λ key. out.new ≡ entry_fields key ((server_with opens.now leases.now).expired key)
+    ensures fields { IfSome (own_held request.now)
+        (λ key. out.new ≡ entry_fields key ((server_with opens.now leases.now).expired key)
         (rules.lease_granted (server_with opens.now leases.now) key 1 (state_of_bits request.now.state))) }
     ensures value { IfSome (own_held request.now) (λ key. lease_held out.new
         ≡ rules.lease_granted (server_with opens.now leases.now) key 1 (state_of_bits request.now.state)) }
@@ -116,7 +120,8 @@ pub extern "C" fn smblease_lease_after_grant(
 #[tactic(auto, using(crate::proofs::Written::state_held))]
 fn judge(lease: &mut LeaseEntry, state: u32) -> u32
     ensures status { result ≡ acknowledged_status (state_of_bits state) (lease_held lease.old).broken_to }
-    ensures value { lease_held lease.new ≡ lease_acknowledged (state_of_bits state) (lease_held lease.old) (lease_held lease.old).broken_to }
+    ensures value { lease_held lease.new
+        ≡ lease_acknowledged (state_of_bits state) (lease_held lease.old) (lease_held lease.old).broken_to }
     ensures key { key_held lease.new ≡ key_held lease.old }
     ensures expired { lease.new.expired ≡ lease.old.expired }
     ensures refused { result ≢ 0 → lease.new ≡ lease.old }
@@ -143,11 +148,13 @@ fn judge(lease: &mut LeaseEntry, state: u32) -> u32
 #[unsafe(no_mangle)]
 pub extern "C" fn smblease_acknowledge(lease: &mut LeaseEntry, state: u32) -> u32
     ensures status { result ≡ acknowledged_status (state_of_bits state) (lease_held lease.old).broken_to }
-    ensures value { lease_held lease.new ≡ lease_acknowledged (state_of_bits state) (lease_held lease.old) (lease_held lease.old).broken_to }
+    ensures value { lease_held lease.new
+        ≡ lease_acknowledged (state_of_bits state) (lease_held lease.old) (lease_held lease.old).broken_to }
     ensures key { key_held lease.new ≡ key_held lease.old }
     ensures expired { lease.new.expired ≡ lease.old.expired }
     ensures refused { result ≢ 0 → lease.new ≡ lease.old }
-    ensures servers { IsAnsweredByAll (key_held lease.old) (state_of_bits state) (lease_held lease.old) result (lease_held lease.new) }
+    ensures servers { IsAnsweredByAll (key_held lease.old) (state_of_bits state) (lease_held lease.old) result
+        (lease_held lease.new) }
 {
     judge(lease, state)
 }

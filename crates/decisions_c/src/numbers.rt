@@ -38,7 +38,8 @@ pub extern "C" fn smblease_opens_conflict(
     other_access: u8,
     other_share: u8,
 ) -> bool
-    ensures { result ≡ conflict_of (access_of_bits access) (share_of_bits share) (access_of_bits other_access) (share_of_bits other_share) }
+    ensures { result ≡ conflict_of (access_of_bits access) (share_of_bits share) (access_of_bits other_access)
+        (share_of_bits other_share) }
 {
     match (access_of_bits(access), access_of_bits(other_access)) {
         (Some(one), Some(other)) => {

@@ -7,7 +7,8 @@ ghost use Rattle.lease_model.specs.server.Naming.{key_under, key_of_open};
 ghost use Rattle.lease_model.specs.server.Naming as naming;
 ghost use Rattle.lease_model.specs.server.State.{has_key};
 ghost use Rattle.decisions_c.specs.Numbers.{is_set};
-ghost use Rattle.decisions_c.specs.Tables.{entry_fields, bytes_if, open_held, key_held, lease_held, lease_among, is_expired_among, server_of, holds_at};
+ghost use Rattle.decisions_c.specs.Tables.{entry_fields, bytes_if, open_held, key_held, lease_held, lease_among};
+ghost use Rattle.decisions_c.specs.Tables.{is_expired_among, server_of, holds_at};
 ghost use Rattle.decisions_c.specs.Wishes.{is_wanted, is_key_wanted};
 
 use crate::key::Key;

@@ -152,7 +152,8 @@ impl<'a> Tables<'a> {
     }
 
     fn want_by(&self, wish: Wish, own: &Option<Key>, key: Key) -> LeaseWant
-        ensures { result ≡ want_fields (want_if (is_key_wanted wish (server_of self.now) own.now key) wish (server_of self.now) key) }
+        ensures { result ≡ want_fields
+            (want_if (is_key_wanted wish (server_of self.now) own.now key) wish (server_of self.now) key) }
     {
         if self.wants_key(wish, own, key) {
             LeaseWant {
@@ -190,7 +191,8 @@ pub extern "C" fn smblease_create_want(
     request: &LeaseRequest,
     lease: &LeaseEntry,
 ) -> LeaseWant
-    ensures { result ≡ want_fields (want_among (key_held lease.now) (wants_of (create_found (server_with opens.now leases.now) request.now))) }
+    ensures { result ≡ want_fields
+        (want_among (key_held lease.now) (wants_of (create_found (server_with opens.now leases.now) request.now))) }
 {
     let tables = Tables { opens, leases };
     tables.want(request, tables.create_wish(request), lease.key())
@@ -218,7 +220,8 @@ pub extern "C" fn smblease_write_want(
     request: &LeaseRequest,
     lease: &LeaseEntry,
 ) -> LeaseWant
-    ensures { result ≡ want_fields (want_among (key_held lease.now) (wants_of (write_found (server_with opens.now leases.now) request.now))) }
+    ensures { result ≡ want_fields
+        (want_among (key_held lease.now) (wants_of (write_found (server_with opens.now leases.now) request.now))) }
 {
     let tables = Tables { opens, leases };
     tables.want(request, tables.write_wish(request), lease.key())

@@ -1,5 +1,6 @@
 -- A text of create contexts with one more context after its others (MS-SMB2 2.2.13.2).
-use Rattle.std.specs.Prelude.{ℕ, ◌+◌, ◌-◌, ◌^◌, ◌%◌, ◌++◌, ◌&&◌, ◌==◌, nat_lt, Bool, if◌then◌else◌, List, [], ◌∷◌, length, take, drop, replicate, Option, Some, None, Ok, Err}
+use Rattle.std.specs.Prelude.{ℕ, ◌+◌, ◌-◌, ◌^◌, ◌%◌, ◌++◌, ◌&&◌, ◌==◌, nat_lt, Bool, if◌then◌else◌, List, [], ◌∷◌, length, take}
+use Rattle.std.specs.Prelude.{drop, replicate, Option, Some, None, Ok, Err}
 use Rattle.byteorder.specs.Endian.{little_bytes}
 use Rattle.lease_wire.specs.Reading.{Item, items_of}
 

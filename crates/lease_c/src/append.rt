@@ -1,6 +1,7 @@
 ghost use Rattle.std.specs.Prelude.{◌≡◌, ◌+◌, ◌-◌, ◌^◌, ◌<◌, ◌≤◌, true, length, take, replicate, Some, None, IfSome};
 ghost use Rattle.byteorder.specs.Endian.{little_bytes};
-ghost use Rattle.lease_c.specs.Appended.{gap, data_place, next_place, header_bytes, context_bytes, last_of, fits, appended_end, appended_length, appended, put};
+ghost use Rattle.lease_c.specs.Appended.{gap, data_place, next_place, header_bytes, context_bytes, last_of, fits, appended_end};
+ghost use Rattle.lease_c.specs.Appended.{appended_length, appended, put};
 
 use byteorder::{ByteOrder, LittleEndian};
 use lease_wire::contexts;
@@ -124,7 +125,8 @@ fn text_end(room: &[u8], count: u64) -> usize
 fn append(room: &mut [u8], count: usize, name: &[u8], body: &[u8]) -> usize
     requires { count ≤ length room.old }
     ensures length { result ≡ appended_length (last_of (take count room.old)) count (length name.now) (length body.now) }
-    ensures written { IfSome (last_of (take count room.old)) (λ last. 0 < result → result ≤ length room.old → room.new ≡ appended count last name.now body.now room.old) }
+    ensures written { IfSome (last_of (take count room.old))
+        (λ last. 0 < result → result ≤ length room.old → room.new ≡ appended count last name.now body.now room.old) }
     ensures no_room { length room.old < result → room.new ≡ room.old }
     ensures refused { result ≡ 0 → room.new ≡ room.old }
 {
@@ -159,8 +161,11 @@ pub extern "C" fn smblease_append_context(
     name: &[u8],
     data: &[u8],
 ) -> usize
-    ensures length { result ≡ appended_length (last_of (take count room.old)) (length (take count room.old)) (length name.now) (length «data».now) }
-    ensures written { IfSome (last_of (take count room.old)) (λ last. 0 < result → result ≤ length room.old → room.new ≡ appended (length (take count room.old)) last name.now «data».now room.old) }
+    ensures length { result
+        ≡ appended_length (last_of (take count room.old)) (length (take count room.old)) (length name.now) (length «data».now) }
+    ensures written { IfSome (last_of (take count room.old))
+        (λ last. 0 < result → result ≤ length room.old → room.new
+        ≡ appended (length (take count room.old)) last name.now «data».now room.old) }
     ensures no_room { length room.old < result → room.new ≡ room.old }
     ensures refused { result ≡ 0 → room.new ≡ room.old }
 {

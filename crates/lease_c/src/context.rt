@@ -80,7 +80,8 @@ pub extern "C" fn smblease_read_context(
     ensures fault { result ≡ told (fault_at place text.now) }
     ensures items { items_from place text.now ≡ item_before (fault_at place text.now)
         (context_held place out.new text.now) out.new.next_place (items_from out.new.next_place text.now) }
-    ensures value { fault_at place text.now ≡ None → context_held place out.new text.now ≡ context_at place (drop place text.now) }
+    ensures value { fault_at place text.now ≡ None → context_held place out.new text.now
+        ≡ context_at place (drop place text.now) }
     ensures fields { fault_at place text.now ≡ None → out.new ≡ context_fields place (drop place text.now) }
     ensures name_within { fault_at place text.now ≡ None → out.new.name_place + out.new.name_length ≤ length text.now }
     ensures data_within { fault_at place text.now ≡ None → out.new.data_place + out.new.data_length ≤ length text.now }

@@ -232,7 +232,8 @@ pub extern "C" fn smblease_write_create_ask(ask: &LeaseCreateAsk, room: &mut [u8
 #[unsafe(no_mangle)]
 pub extern "C" fn smblease_write_create_answer(answer: &LeaseCreateAnswer, room: &mut [u8]) -> usize
     ensures length { result ≡ length (canonical_text Reply (answer_held answer.now)) }
-    ensures written { result ≤ length room.old → room.new ≡ canonical_text Reply (answer_held answer.now) ++ drop result room.old }
+    ensures written { result ≤ length room.old → room.new ≡ canonical_text Reply (answer_held answer.now)
+        ++ drop result room.old }
     ensures no_room { length room.old < result → room.new ≡ room.old }
 {
     fill_create_reply(&answer.value(), room)

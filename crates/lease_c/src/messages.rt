@@ -1,8 +1,10 @@
 ghost use Rattle.std.specs.Prelude.{◌≡◌, ◌≢◌, ◌<◌, ◌≤◌, ◌++◌, length, take, drop, None, is_some, IfSome};
-ghost use Rattle.lease_wire.specs.Acknowledgment.{IsAcknowledgment, acknowledgment_bytes, acknowledged_of, responded_of, acknowledgment_due};
+ghost use Rattle.lease_wire.specs.Acknowledgment.{IsAcknowledgment, acknowledgment_bytes, acknowledged_of, responded_of};
+ghost use Rattle.lease_wire.specs.Acknowledgment.{acknowledgment_due};
 ghost use Rattle.lease_wire.specs.Notification.{IsNotification, notice_of, notification_bytes};
 ghost use Rattle.lease_wire.specs.WireFaults.{message_fault};
-ghost use Rattle.lease_c.specs.Messages.{notice_held, notice_fields, acknowledged_held, acknowledged_fields, responded_held, responded_fields};
+ghost use Rattle.lease_c.specs.Messages.{notice_held, notice_fields, acknowledged_held, acknowledged_fields, responded_held};
+ghost use Rattle.lease_c.specs.Messages.{responded_fields};
 ghost use Rattle.lease_c.specs.Told.{told};
 
 use crate::fault::LeaseFault;

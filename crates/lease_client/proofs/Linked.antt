@@ -8,7 +8,7 @@ use Rattle.std.proofs.lemmas.Option.{slice_get_cases}
 use Rattle.lease_client.specs.Known.{Known, client_of}
 use Rattle.lease_client.specs.Links.{link_turn, is_made, linked, entries_to, requests_to, notes_to}
 use Rattle.lease_client.specs.Turns.{Given, IsAfter, turn_written, given_by}
-use Rattle.lease_client.specs.declared.links.Link.{Link}
+use Rattle.lease_client.specs.declared.machine.links.Link.{Link}
 use Rattle.lease_client.proofs.Entries.{number_set}
 use Rattle.lease_client.proofs.Turned.{with_entry}
 

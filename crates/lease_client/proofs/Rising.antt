@@ -11,8 +11,9 @@ use Rattle.lease_laws.proofs.client.cases.Replies.{any_reply}
 use Rattle.lease_model.specs.client.Connection as connection
 use Rattle.lease_client.specs.Beliefs.{IsNoMore, NoneRose, RoseBy, is_free}
 use Rattle.lease_client.specs.Links.{linked}
-use Rattle.lease_client.specs.declared.links.Link.{Link}
-use Rattle.lease_client.specs.declared.links.Link.TheVariants.{Lost, Made}
+use Rattle.lease_client.specs.declared.machine.links.Link.{Link}
+use Rattle.lease_client.specs.declared.machine.links.Link.TheVariants.{Lost, Made}
+use Rattle.lease_laws.proofs.client.cases.Turns.{by_turn}
 
 -- ---- states
 
@@ -35,14 +36,14 @@ lower_at client file entry lower n = grind arith
 
 lower_turn : (client : Client) (file : ℕ) (turn : Turn) → IsLower (client.entries file).phase (belief_of turn.entry)
     → NoneRose client (turned client file turn).client
-unfolding turned
-lower_turn client file turn lower = lower_at client file turn.entry lower
+lower_turn client file turn lower =
+    by_turn (λ step. NoneRose client step.client) client file turn (lower_at client file turn.entry lower)
 
 -- another file's entry is left alone
 apart_turn : (client : Client) (file : ℕ) (turn : Turn) (n : ℕ) → (file == n) ≡ false
     → IsNoMore client (turned client file turn).client n
-unfolding turned put
-apart_turn client file turn n apart = grind arith
+unfolding put
+apart_turn client file turn n apart = by_turn (λ step. IsNoMore client step.client n) client file turn (grind arith)
 
 quiet_none : (client : Client) → NoneRose client client
 quiet_none client file = within_self (belief_of (client.entries file))

@@ -4,8 +4,8 @@ use Rattle.lease_laws.proofs.Words.{sym}
 use Rattle.lease_laws.specs.client.Laws.{ClientsStaySound}
 use Rattle.lease_client.specs.Known.{Known, client_of}
 use Rattle.lease_client.specs.Links.{linked}
-use Rattle.lease_client.specs.declared.links.Link.{Link}
-use Rattle.lease_client.specs.declared.links.Link.TheVariants.{Lost, Made}
+use Rattle.lease_client.specs.declared.machine.links.Link.{Link}
+use Rattle.lease_client.specs.declared.machine.links.Link.TheVariants.{Lost, Made}
 use Rattle.lease_client.proofs.NewClient.{closed_number}
 
 pub sound_after : ClientsStaySound → (client : Client) (call : ClientCall) (after : Client) → IsSoundClient client

@@ -1,6 +1,6 @@
 -- Calls that go by one entry.
 use Rattle.lease_laws.proofs.Words.{◌∙◌, ◌≡◌, Client, Command, List, State, Turn, ℕ, [], ap, arith}
-use Rattle.lease_laws.proofs.Words.{belief_of, commanded, file_of, knows_file, lease_key, same_state, true, turned}
+use Rattle.lease_laws.proofs.Words.{belief_of, commanded, file_of, knows_file, lease_key, same_state, sym, true, turned}
 use Rattle.lease_laws.specs.client.Laws.{RefusedCommandsDoNothing}
 use Rattle.lease_model.specs.client.Commanded.{last_by, turn_by}
 use Rattle.lease_model.specs.client.Commanded.{commanded_turn, last_after, is_refused}
@@ -8,7 +8,7 @@ use Rattle.lease_client.specs.Known.{Known, client_of}
 use Rattle.lease_client.specs.Turns.{Given, turn_written, given_in, IsAfter}
 use Rattle.lease_laws.proofs.client.cases.Commands.{commanded_by}
 use Rattle.lease_client.proofs.Turned.{with_entry, entry_there, with_note, is_after, refusal_same}
-use Rattle.lease_laws.proofs.client.cases.Turns.{same_numbered}
+use Rattle.lease_laws.proofs.client.cases.Turns.{turned_answer, same_numbered}
 
 pub told_after : (known : Known) (n : ℕ) (turn : Turn) (old new : State) (final : Known) (first given : Given)
     → knows_file (client_of known) n ≡ true → old ≡ belief_of ((client_of known).entries n)
@@ -39,10 +39,10 @@ command_after known command n key old new final first given is of k was stands b
 pub turn_refused : (known : Known) (command : Command) (n : ℕ) (key : List ℕ)
     → knows_file (client_of known) n ≡ true → n ≡ file_of command → key ≡ lease_key known.guid n
     → is_refused (commanded (client_of known) command).answer ≡ true → is_refused (turn_at known n key command).answer ≡ true
-unfolding turned
 turn_refused known command n key is of k refused =
     let there : knows_file (client_of known) (file_of command) ≡ true = rw (← of) is in
-    rw (k, of) (rw (commanded_by (client_of known) command there) at refused)
+    rw (k, of) (ap is_refused (sym (turned_answer (client_of known) (file_of command) _))
+    ∙ (rw (commanded_by (client_of known) command there) at refused))
 
 -- a refused command notes nothing
 unnoted_refusal : RefusedCommandsDoNothing → (client : Client) (command : Command)

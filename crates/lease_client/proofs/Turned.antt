@@ -7,6 +7,7 @@ use Rattle.lease_model.specs.client.Step.{with_number}
 use Rattle.lease_client.specs.Known.{Known, client_of}
 use Rattle.lease_client.specs.Turns.{Given, turn_written, given_in, given_by, IsAfter}
 use Rattle.lease_client.proofs.Entries.{client_set, file_there, number_set}
+use Rattle.lease_laws.proofs.client.cases.Turns.{by_turn}
 
 abbrev pub answered : Client → Answer → Step
 answered client answer = record { client = client; answer = answer; requests = []; notes = [] }
@@ -30,13 +31,15 @@ after_set : (known : Known) (i last : ℕ) (turn : Turn) → i < length known.en
     → IsAfter (record known { entries = set known.entries i turn.entry; last_number = last })
     (given_by (suc i) (belief_of ((client_of known).entries (suc i))) (turn_written turn))
     (with_number last (turned (client_of known) (suc i) turn))
-unfolding turned
-after_set known i last turn inside = record {
-  client = ap (λ (client : Client). record client { last_number = last }) (client_set known i turn.entry inside);
-  answer = refl;
-  requests = refl;
-  notes = refl;
-}
+after_set known i last turn inside = by_turn
+    (λ step. IsAfter (record known { entries = set known.entries i turn.entry; last_number = last })
+    (given_by (suc i) (belief_of ((client_of known).entries (suc i))) (turn_written turn)) (with_number last step))
+    (client_of known) (suc i) turn (record {
+      client = ap (λ (client : Client). record client { last_number = last }) (client_set known i turn.entry inside);
+      answer = refl;
+      requests = refl;
+      notes = refl;
+    })
 
 in_its_place : (known : Known) (n last : ℕ) (turn : Turn) → knows_file (client_of known) n ≡ true
     → IsAfter (record (with_entry known n turn.entry) { last_number = last })
@@ -91,8 +94,7 @@ unsaid (note ∷ notes) file old new none = absurd (cc none)
 pub refusal_same : (client : Client) (file last : ℕ) (turn : Turn) (step : Step)
     → step ≡ with_number last (turned client file turn) → step.notes ≡ []
     → same_state (belief_of (client.entries file)) (belief_of turn.entry) ≡ true
-unfolding turned
 refusal_same client file last turn step is none =
-    let notes : turn.settled ++ believes_noted file (belief_of (client.entries file)) (belief_of turn.entry) ≡ [] =
-    sym (ap (λ (s : Step). s.notes) is) ∙ none in
-    unsaid turn.settled file (belief_of (client.entries file)) (belief_of turn.entry) notes
+    let notes : (turned client file turn).notes ≡ [] = sym (ap (λ (s : Step). s.notes) is) ∙ none in
+    by_turn (λ s. s.notes ≡ [] → same_state (belief_of (client.entries file)) (belief_of turn.entry) ≡ true) client file turn
+    (unsaid turn.settled file (belief_of (client.entries file)) (belief_of turn.entry)) notes

@@ -1,11 +1,11 @@
 -- Commands, answers and notes of the code as the definitions see them.
 use Rattle.lease_state.specs.State.{state_of}
 use Rattle.lease_model.specs.client.Commands as model
-use Rattle.lease_client.specs.declared.command.Answer as answer
-use Rattle.lease_client.specs.declared.command.Command as command
-use Rattle.lease_client.specs.declared.command.Refusal as refusal
-use Rattle.lease_client.specs.declared.note.Note as note
-use Rattle.lease_client.specs.declared.note.Settlement as settlement
+use Rattle.lease_client.specs.declared.values.command.Answer as answer
+use Rattle.lease_client.specs.declared.values.command.Command as command
+use Rattle.lease_client.specs.declared.values.command.Refusal as refusal
+use Rattle.lease_client.specs.declared.values.note.Note as note
+use Rattle.lease_client.specs.declared.values.note.Settlement as settlement
 
 abbrev pub command_of : command.Command → model.Command
 command_of (command.TheVariants.Open file access share want durable) = model.Command.Open file.0

@@ -4,7 +4,7 @@ use Rattle.lease_model.specs.client.State.{Client, lease_key}
 use Rattle.lease_model.specs.client.Step.{Step, turned}
 use Rattle.lease_state.specs.declared.reply.Reply as real
 use Rattle.lease_client.specs.Messages.{message_turn}
-use Rattle.lease_client.specs.declared.message.Message.{Message}
+use Rattle.lease_client.specs.declared.machine.message.Message.{Message}
 
 -- a reply reaches the entry of a file
 abbrev pub told_step : Client → ℕ → Message → Step

@@ -8,8 +8,8 @@ use Rattle.lease_model.specs.client.Step.{Step, Turn, believes_noted}
 use Rattle.lease_model.specs.messages.Requests.{Request}
 use Rattle.lease_model.specs.values.Lists.{numbers_to}
 use Rattle.lease_model.specs.values.Tables.{numbered}
-use Rattle.lease_client.specs.declared.links.Link.{Link}
-use Rattle.lease_client.specs.declared.links.Link.TheVariants.{Lost, Made}
+use Rattle.lease_client.specs.declared.machine.links.Link.{Link}
+use Rattle.lease_client.specs.declared.machine.links.Link.TheVariants.{Lost, Made}
 
 abbrev pub keyed_turn : Link → List ℕ → ℕ → Entry → Turn
 keyed_turn Lost key file entry = notice_turn entry.sent entry.phase

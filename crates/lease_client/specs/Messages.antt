@@ -5,7 +5,7 @@ use Rattle.lease_model.specs.client.Step.{Turn}
 use Rattle.lease_model.specs.client.Taken.{broken_turn, created_turn, not_created_turn, not_read_turn, not_written_turn}
 use Rattle.lease_model.specs.client.Taken.{read_done_turn, write_done_turn}
 use Rattle.lease_client.specs.Heard.{answer_read, notice_read}
-use Rattle.lease_client.specs.declared.message.Message as code
+use Rattle.lease_client.specs.declared.machine.message.Message as code
 
 abbrev pub message_turn : List ℕ → code.Message → Entry → Turn
 message_turn key (code.TheVariants.Created file_id answer) entry =

@@ -8,7 +8,7 @@ use Rattle.lease_model.specs.messages.ToBytes.{request_written}
 use Rattle.lease_client.specs.Answers.{answer_of, note_of}
 use Rattle.lease_client.specs.Known.{Known, client_of}
 use Rattle.lease_client.specs.Turns.{Given, IsAfter}
-use Rattle.lease_client.specs.declared.step.Step.{Step}
+use Rattle.lease_client.specs.declared.values.step.Step.{Step}
 
 -- The call came to this step of the rules. The bytes of a request are the canonical text of its create
 -- contexts, or those of its acknowledgment.

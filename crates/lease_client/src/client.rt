@@ -15,11 +15,11 @@ ghost use Rattle.lease_client.specs.Links.{linked};
 ghost use Rattle.lease_client.specs.Steps.{IsStep, RefusesInPlace, RefusesQuietly};
 ghost use Rattle.lease_client.specs.Turns.{IsAfter};
 
-use crate::command::Command;
-use crate::links::Link;
+use crate::entry::turn::Given;
 use crate::machine::Machine;
-use crate::step::Step;
-use crate::turn::Given;
+use crate::machine::links::Link;
+use crate::values::command::Command;
+use crate::values::step::Step;
 use lease_laws::clients_are_sound;
 use lease_state::{FileNo, LeaseState, Memory, Reply};
 use std::alloc::Global;

@@ -2,12 +2,21 @@ ghost use Rattle.std.specs.Prelude.{◌≡◌, []};
 ghost use Rattle.lease_state.specs.State.{state_of};
 ghost use Rattle.lease_model.specs.client.State.{closed_entry, live_entry, belief_of};
 
+use crate::entry::handles::Handles;
 use crate::file::File;
-use crate::handles::Handles;
 use lease_state::{Access, FileId, LeaseState, Patch, Share};
 use std::alloc::Global;
 use std::marker::Model;
 use std::mem;
+
+pub mod answered;
+pub mod breaks;
+pub mod commands;
+pub mod connection;
+pub mod created;
+pub mod handles;
+pub mod opens;
+pub mod turn;
 
 /// A write that isn't answered. A buffered one was answered before it was sent.
 #[derive(Debug, Drop)]

@@ -5,7 +5,7 @@ ghost use Rattle.lease_model.specs.client.State.{view, patches_of};
 ghost use Rattle.lease_client.specs.Files.{IsSeen};
 
 use crate::entry::Pending;
-use crate::shared_bytes::SharedBytes;
+use crate::values::shared_bytes::SharedBytes;
 use crate::writes::{apply_all, patched, view};
 use lease_state::{Bytes, Memory, Patch};
 use std::alloc::Global;

@@ -1,9 +1,10 @@
 //! A client machine of SMB 2.1 leases (MS-SMB2 3.2) as a pure state machine: it has no sockets,
 //! threads or clocks. A program that embeds it makes a [`Client`] of its ClientGuid and the number of
 //! its files, and calls it for each command of an application, each message of the server, and each
-//! connection that is made or lost. A call takes the client and gives a [`Step`]: the client after it, what the
-//! application is answered, the requests that go to the server and the notes, each in order. `app_in_place` and its like change
-//! a client where it is, and put the rest of the step into a [`Given`] that they are passed.
+//! connection that is made or lost. A call takes the client and gives a [`Step`]: the client after
+//! it, what the application is answered, the requests that go to the server and the notes, each in
+//! order. `app_in_place` and its like change a client where it is, and put the rest of the step into
+//! a [`Given`] that they are passed.
 //!
 //! ```
 //! let (guid, file, all) = ([0x11; 16], FileNo(1), LeaseState::from_wire(7));
@@ -31,36 +32,18 @@
 //! the invariant of its type.
 #![tactic(auto)]
 
-mod answered;
-mod breaks;
-mod calls;
 mod client;
-mod command;
-mod commands;
-mod connection;
-mod created;
 mod entry;
 mod file;
-mod handles;
-mod key;
-mod links;
 mod machine;
-mod message;
-mod note;
-mod opens;
-mod replies;
 mod requests;
-mod searches;
-mod shared_bytes;
-mod state;
-mod step;
-mod turn;
+mod values;
 mod writes;
 
 pub use client::Client;
-pub use command::{Answer, Command, Refusal};
-pub use key::lease_key;
-pub use note::{Note, Settlement};
-pub use shared_bytes::SharedBytes;
-pub use step::Step;
-pub use turn::Given;
+pub use entry::turn::Given;
+pub use values::command::{Answer, Command, Refusal};
+pub use values::key::lease_key;
+pub use values::note::{Note, Settlement};
+pub use values::shared_bytes::SharedBytes;
+pub use values::step::Step;

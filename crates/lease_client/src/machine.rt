@@ -12,15 +12,21 @@ ghost use Rattle.lease_client.specs.Messages.{message_turn};
 ghost use Rattle.lease_client.specs.Turns.{given_in, turn_written};
 ghost use Rattle.std.proofs.Math.ListN.{set};
 
-use crate::command::Command;
 use crate::entry::Entry;
-use crate::key::lease_key;
-use crate::links::Link;
-use crate::message::Message;
-use crate::turn::Given;
+use crate::entry::turn::Given;
+use crate::machine::links::Link;
+use crate::machine::message::Message;
+use crate::values::command::Command;
+use crate::values::key::lease_key;
 use lease_state::{FileId, FileNo, LeaseKey, LeaseState, Memory};
 use std::alloc::Global;
 use std::marker::Model;
+
+pub mod calls;
+pub mod links;
+pub mod message;
+pub mod replies;
+pub mod searches;
 
 /// What a client machine knows.
 #[derive(Debug, Drop)]

@@ -5,7 +5,7 @@ ghost use Rattle.lease_model.specs.client.Step.{settled_as};
 ghost use Rattle.lease_client.specs.Answers.{note_of, settlement_of};
 
 use crate::entry::Pending;
-use crate::note::{Note, Settlement};
+use crate::values::note::{Note, Settlement};
 use lease_state::{Bytes, Memory, Patch};
 
 /// Notes that each of the writes is settled in this way, after the notes that there are.

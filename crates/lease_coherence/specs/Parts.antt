@@ -2,7 +2,8 @@
 use Rattle.std.specs.Prelude.{◌≡◌, ℕ, true, false, List, reverse}
 use Rattle.lease_model.specs.records.Facts.{Fact}
 use Rattle.lease_model.specs.records.Past.{has_strayed}
-use Rattle.lease_model.specs.records.Safe.{EachFact, EachBeginning, WellFormed, OneWriteCache, FreshRead, NoLateWrite, NoFalseDone, Safe}
+use Rattle.lease_model.specs.records.Safe.{EachFact, EachBeginning, WellFormed, OneWriteCache, FreshRead, NoLateWrite}
+use Rattle.lease_model.specs.records.Safe.{NoFalseDone, Safe}
 use Rattle.lease_model.specs.world.Allowed.{is_allowed_setup}
 use Rattle.lease_model.specs.world.Events.{Event, after, recorded}
 use Rattle.lease_model.specs.world.World.{World, Setup, first_world}

@@ -1,4 +1,8 @@
-ghost use Rattle.lease_coherence.specs.Agreement.{AcknowledgmentsAreDue, BasesAreCurrent, BeliefsAreHeld, BeliefsRiseByGrants, BelieversAreNotHeld, BreakingIsAnswered, ClosedOpensStayClosed, FlushedBeforeAcknowledgments, FlushedBeforeCloses, GoodClientsAreTimely, HeldWritesAreThrough, KeptIsUntouched, OfAllowedRuns, Timely, WritersAreNotHeld};
+ghost use Rattle.lease_coherence.specs.Agreement.{AcknowledgmentsAreDue, BasesAreCurrent, BeliefsAreHeld, BeliefsRiseByGrants};
+ghost use Rattle.lease_coherence.specs.Agreement.{BelieversAreNotHeld, BreakingIsAnswered, ClosedOpensStayClosed};
+ghost use Rattle.lease_coherence.specs.Agreement.{FlushedBeforeAcknowledgments, FlushedBeforeCloses, GoodClientsAreTimely};
+ghost use Rattle.lease_coherence.specs.Agreement.{HeldWritesAreThrough, KeptIsUntouched, OfAllowedRuns, Timely};
+ghost use Rattle.lease_coherence.specs.Agreement.{WritersAreNotHeld};
 ghost use Rattle.lease_coherence.specs.Parts.{OfRuns};
 
 /// What clients and the server know of each other in every run, apart from its safety. This holds

@@ -1,6 +1,7 @@
 ghost use Rattle.std.specs.Prelude.{◌≡◌};
 ghost use Rattle.lease_model.specs.world.Events.{client_of};
-ghost use Rattle.lease_facts.specs.Setups.{event_of, event_client, client_word, client_event, client_named, client_event_of, parts_listed};
+ghost use Rattle.lease_facts.specs.Setups.{event_of, event_client, client_word, client_event, client_named, client_event_of};
+ghost use Rattle.lease_facts.specs.Setups.{parts_listed};
 
 use crate::words::is;
 use lease_client::Command;

@@ -10,7 +10,8 @@ use Rattle.lease_state.specs.declared.status.Status.TheVariants as status
 
 -- 1 for reading, plus 2 for writing; no other number is an access
 abbrev pub access_of : ℕ → Option Access
-access_of n = if n == 1 then Some access.Read else if n == 2 then Some access.Write else if n == 3 then Some access.ReadWrite else None
+access_of n = if n == 1 then Some access.Read else if n == 2 then Some access.Write else if n == 3 then Some access.ReadWrite
+    else None
 
 -- 0 for nothing, 1 for reading, plus 2 for writing; no other number is a share
 abbrev pub share_of : ℕ → Option Share

@@ -1,4 +1,5 @@
-ghost use Rattle.lease_laws.specs.client.Laws.{FirstClientIsSound, ClientsStaySound, NotesTellNumbers, NotesTellBeliefs, RefusedCommandsDoNothing};
+ghost use Rattle.lease_laws.specs.client.Laws.{FirstClientIsSound, ClientsStaySound, NotesTellNumbers, NotesTellBeliefs};
+ghost use Rattle.lease_laws.specs.client.Laws.{RefusedCommandsDoNothing};
 
 /// The laws of every client machine: a base only under R, unsent writes only under W, what an entry
 /// has in each phase, and each write's own number. They hold of a new client, and every call keeps

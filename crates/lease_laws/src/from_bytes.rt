@@ -1,5 +1,7 @@
 ghost use Rattle.lease_laws.specs.messages.Written.{RequestsAreReadBack, RepliesAreReadBack, RepliesHaveBytes, RequestsHaveBytes};
-ghost use Rattle.lease_laws.specs.messages.Bytes.{AcknowledgmentIsFound, NotificationIsFound, NoAcknowledgmentIsFound, NoNotificationIsFound, ContextsAreFound, FaultyContextsAreNotFound, WrittenMessagesAreFound, WrittenContextsAreFound};
+ghost use Rattle.lease_laws.specs.messages.Bytes.{AcknowledgmentIsFound, NotificationIsFound, NoAcknowledgmentIsFound};
+ghost use Rattle.lease_laws.specs.messages.Bytes.{NoNotificationIsFound, ContextsAreFound, FaultyContextsAreNotFound};
+ghost use Rattle.lease_laws.specs.messages.Bytes.{WrittenMessagesAreFound, WrittenContextsAreFound};
 
 /// Laws of the map from the bytes of real messages to the values of the model: it finds a break
 /// message's value exactly where the bytes begin with one, and the value of contexts exactly where the

@@ -1,4 +1,5 @@
-ghost use Rattle.lease_laws.specs.records.Runs.{RunsStartFirst, ContentNow, ContentWhenSent, WritesNow, RunsGiveFirst, ClientsOfRunsAreSound};
+ghost use Rattle.lease_laws.specs.records.Runs.{RunsStartFirst, ContentNow, ContentWhenSent, WritesNow, RunsGiveFirst};
+ghost use Rattle.lease_laws.specs.records.Runs.{ClientsOfRunsAreSound};
 
 /// In the record of a run every file is started before anything else happens. So a file's content,
 /// now and where a message was sent, is found fact by fact, with no look at what came later.

@@ -7,7 +7,8 @@ ghost use Rattle.lease_model.specs.values.Keys.{Key};
 ghost use Rattle.lease_model.specs.server.Progress.{Progress};
 ghost use Rattle.lease_model.specs.messages.Requests.{FileRequest, Request};
 ghost use Rattle.lease_laws.specs.server.Laws.{Among, IsSound, IsBlocked, HasToWait};
-ghost use Rattle.lease_laws.specs.server.Outs.{EachOut, IsFlaggedRightly, ArePaired, IsBreak, IsNoBreak, GoOn, AreBreaksFirst, IsAlone, CachesAlone};
+ghost use Rattle.lease_laws.specs.server.Outs.{EachOut, IsFlaggedRightly, ArePaired, IsBreak, IsNoBreak, GoOn, AreBreaksFirst};
+ghost use Rattle.lease_laws.specs.server.Outs.{IsAlone, CachesAlone};
 ghost use Rattle.lease_model.specs.server.State.{Server, Open, new_server, has_key};
 ghost use Rattle.lease_laws.specs.server.Waiting.{WaitsWell, WritersDontWait};
 ghost use Rattle.lease_laws.specs.server.Wanted.{WantsAreExact};
@@ -46,7 +47,8 @@ pub fn outs_of_calls()
     ensures written { (client : ℕ) (file_id : ℕ) (number : ℕ) (patch : Patch) (progress : Progress) (one : Open)
         → IsSound progress.server
         → (tried client (FileRequest.Write file_id number patch) progress).outcome ≡ Outcome.Ready
-        → connected_open (tried client (FileRequest.Write file_id number patch) progress).progress.server client file_id ≡ Some one
+        → connected_open (tried client (FileRequest.Write file_id number patch) progress).progress.server client file_id
+        ≡ Some one
         → CachesAlone (tried client (FileRequest.Write file_id number patch) progress).progress.server one }
 {}
 

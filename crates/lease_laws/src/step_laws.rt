@@ -1,6 +1,7 @@
 ghost use Rattle.lease_laws.specs.server.Changes.{BreaksComeFirst};
 ghost use Rattle.lease_laws.specs.server.SmallSteps.{CallsGoBySteps, CallsBeginInSilence};
-ghost use Rattle.lease_laws.specs.server.StepLaws.{LeasesOfSteps, BreaksOfSteps, BreaksAreTold, RepliesFindTheirClients, ChangesAreShort, StepsKeepTheLaws};
+ghost use Rattle.lease_laws.specs.server.StepLaws.{LeasesOfSteps, BreaksOfSteps, BreaksAreTold, RepliesFindTheirClients};
+ghost use Rattle.lease_laws.specs.server.StepLaws.{ChangesAreShort, StepsKeepTheLaws};
 
 /// Every call of a server goes by small steps, each of which is taken only where its guard holds: a
 /// write, say, changes its file only where each other key on it holds nothing or is breaking to

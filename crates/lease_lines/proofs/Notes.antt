@@ -1,8 +1,8 @@
 -- Notes of a client as lines.
 use Rattle.std.proofs.Common.{◌≡◌, refl}
 use Rattle.lease_client.specs.Answers.{settlement_of}
-use Rattle.lease_client.specs.declared.note.Settlement.{Settlement}
-use Rattle.lease_client.specs.declared.note.Settlement.TheVariants as settlement
+use Rattle.lease_client.specs.declared.values.note.Settlement.{Settlement}
+use Rattle.lease_client.specs.declared.values.note.Settlement.TheVariants as settlement
 use Rattle.lease_texts.specs.Records.{outcome_word}
 use Rattle.lease_lines.specs.ClientAnswers.{settlement_word}
 

@@ -59,4 +59,5 @@ answer_line other answer = codes "answer " ++ answer_words other answer ++ 10 �
 -- what a client's step comes to, in the machine's order
 abbrev pub step_text : ℕ → Option ℕ → Step → List ℕ
 step_text client other step =
-    flat_map request_line (map request_written step.requests) ++ flat_map (note_line client) step.notes ++ answer_line other step.answer
+    flat_map request_line (map request_written step.requests) ++ flat_map (note_line client) step.notes
+    ++ answer_line other step.answer

@@ -102,7 +102,8 @@ ack_done_in words = and_then (one (sized_in 36) words) (λ message words. Some (
 
 unfoldable pub ack_failed_in : Taking Arrival
 ack_failed_in words =
-    and_then (one status_in words) (λ given words. Some (record { reply = reply.AckFailed given.status; other = given.other }, words))
+    and_then (one status_in words)
+    (λ given words. Some (record { reply = reply.AckFailed given.status; other = given.other }, words))
 
 -- the message of a kind, by the fields after the one that names it
 unfoldable pub arrival_named : List ℕ → Taking Arrival

@@ -5,8 +5,8 @@ use Rattle.std.specs.List.{flat_map}
 use Rattle.lease_model.specs.messages.Replies as model
 use Rattle.lease_texts.specs.Records.{digits_word, patch_words}
 use Rattle.share_server.specs.Written.{out_written}
-use Rattle.share_server.specs.declared.out.Out.{Out}
-use Rattle.share_server.specs.declared.out.Out.TheVariants as out
+use Rattle.share_server.specs.declared.values.out.Out.{Out}
+use Rattle.share_server.specs.declared.values.out.Out.TheVariants as out
 use Rattle.lease_lines.specs.Replies.{reply_words}
 
 abbrev pub out_line : Out → List ℕ

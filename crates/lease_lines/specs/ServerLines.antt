@@ -45,14 +45,18 @@ kept_in words =
 unfoldable pub server_line_named : List ℕ → Taking ServerLine
 server_line_named kind words =
     if bytes_eq kind (codes "file") then and_then (one content_in words) (λ content words. Some (line.File content, words))
-    else if bytes_eq kind (codes "join") then and_then (one ordinal_in words) (λ client words. Some (line.Call (call.Join (record { 0 = client })), words))
-    else if bytes_eq kind (codes "cut") then and_then (one ordinal_in words) (λ client words. Some (line.Call (call.Cut (record { 0 = client })), words))
+    else if bytes_eq kind (codes "join")
+    then and_then (one ordinal_in words) (λ client words. Some (line.Call (call.Join (record { 0 = client })), words))
+    else if bytes_eq kind (codes "cut")
+    then and_then (one ordinal_in words) (λ client words. Some (line.Call (call.Cut (record { 0 = client })), words))
     else if bytes_eq kind (codes "expire") then expire_in words
-    else if bytes_eq kind (codes "scavenge") then and_then (one number_in words) (λ file_id words. Some (line.Call (call.Scavenge (record { 0 = file_id })), words))
+    else if bytes_eq kind (codes "scavenge")
+    then and_then (one number_in words) (λ file_id words. Some (line.Call (call.Scavenge (record { 0 = file_id })), words))
     else if bytes_eq kind (codes "receive") then receive_in words
     else if bytes_eq kind (codes "breaking") then breaking_in words
     else if bytes_eq kind (codes "kept") then kept_in words
-    else if bytes_eq kind (codes "content") then and_then (one ordinal_in words) (λ file words. Some (line.Query (query.Content (record { 0 = file })), words))
+    else if bytes_eq kind (codes "content")
+    then and_then (one ordinal_in words) (λ file words. Some (line.Query (query.Content (record { 0 = file })), words))
     else None
 
 abbrev pub server_line_told : Taking ServerLine

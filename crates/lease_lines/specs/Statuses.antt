@@ -53,7 +53,8 @@ status_numbered number =
 abbrev pub known : Status → GivenStatus
 known status = record { status = status; other = None }
 
--- A client does with a status that the rules don't have what it does with STATUS_UNSUCCESSFUL, of which they say nothing of its own.
+-- A client does with a status that the rules don't have what it does with STATUS_UNSUCCESSFUL, of which they say nothing of its
+-- own.
 abbrev pub known_or_other : ℕ → Option Status → GivenStatus
 known_or_other number (Some status) = known status
 known_or_other number None = record { status = status.Unsuccessful; other = Some number }

@@ -1,6 +1,7 @@
 ghost use Rattle.std.specs.Prelude.{◌≡◌, Some, None, MatchResult};
 ghost use Rattle.lease_texts.specs.Takes.{Takes};
-ghost use Rattle.lease_lines.specs.ClientLines.{other_of, take_in, asked_of_client, client_line_named, client_line_told, client_line_in};
+ghost use Rattle.lease_lines.specs.ClientLines.{other_of, take_in, asked_of_client, client_line_named, client_line_told};
+ghost use Rattle.lease_lines.specs.ClientLines.{client_line_in};
 
 use crate::replies::{Arrival, read_arrival};
 use lease_client::Command;

@@ -6,7 +6,8 @@ ghost use Rattle.lease_client.specs.Steps.{IsStep};
 ghost use Rattle.lease_model.specs.client.Calls.{client_called};
 ghost use Rattle.lease_lines.specs.ClientLines.{call_of, client_line_in};
 ghost use Rattle.lease_lines.specs.Tables.{clients_of};
-ghost use Rattle.lease_lines.specs.ClientTables.{no_clients, with_new, with_files, with_client, line_told, told_of, fault_line, client_answered, HasStepped, HasAsked, Takes, Adds};
+ghost use Rattle.lease_lines.specs.ClientTables.{no_clients, with_new, with_files, with_client, line_told, told_of, fault_line};
+ghost use Rattle.lease_lines.specs.ClientTables.{client_answered, HasStepped, HasAsked, Takes, Adds};
 
 use crate::client_answers::push_step;
 use crate::client_lines::{Asked, ClientLine, read_client_line};
@@ -47,7 +48,9 @@ fn step(
     asked: Asked,
     text: &mut String,
 ) -> Result<Client, Memory>
-    ensures { IfOk result (λ after. HasStepped number.0 asked (client_of client) (client_of after) (string_bytes text.old) (string_bytes text.new)) }
+    ensures { IfOk result
+        (λ after. HasStepped number.0 asked (client_of client) (client_of after) (string_bytes text.old)
+        (string_bytes text.new)) }
 {
     let other = asked.other();
     let step = call(client, asked)?;
@@ -92,7 +95,8 @@ impl ClientTable {
     }
 
     fn set_files(&mut self, count: u8) -> bool
-        ensures { Takes (with_files (clients_of self.old) count (clients_of self.old).files) result (clients_of self.old) (clients_of self.new) [] [] }
+        ensures { Takes (with_files (clients_of self.old) count (clients_of self.old).files) result (clients_of self.old)
+            (clients_of self.new) [] [] }
     {
         if self.files.is_some() {
             return false;
@@ -143,7 +147,8 @@ impl ClientTable {
         line: ClientLine,
         text: &mut String,
     ) -> Result<bool, Memory>
-        ensures { IfOk result (λ taken. Takes (line_told (clients_of self.old) line) taken (clients_of self.old) (clients_of self.new)
+        ensures { IfOk result
+            (λ taken. Takes (line_told (clients_of self.old) line) taken (clients_of self.old) (clients_of self.new)
             (string_bytes text.old) (string_bytes text.new)) }
     {
         match line {
@@ -161,7 +166,9 @@ impl ClientTable {
 
     // Takes a line where it is one.
     fn take_text(&mut self, alloc: Global, line: &[u8], text: &mut String) -> Result<bool, Memory>
-        ensures { IfOk result (λ taken. Takes (told_of (clients_of self.old) (client_line_in line.now)) taken (clients_of self.old) (clients_of self.new)
+        ensures { IfOk result
+            (λ taken. Takes (told_of (clients_of self.old) (client_line_in line.now)) taken (clients_of self.old)
+            (clients_of self.new)
             (string_bytes text.old) (string_bytes text.new)) }
     {
         match read_client_line(alloc, line) {

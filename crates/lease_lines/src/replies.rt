@@ -3,7 +3,10 @@ ghost use Rattle.std.specs.String.{string_bytes};
 ghost use Rattle.lease_state.specs.declared.reply.Reply.TheVariants as reply;
 ghost use Rattle.lease_texts.specs.Fields.{one};
 ghost use Rattle.lease_texts.specs.Takes.{Takes};
-ghost use Rattle.lease_lines.specs.Replies.{reply_words, failed_words, create_failed_words, read_failed_words, numbered_words, write_failed_words, close_failed_words, sized_in, created_in, create_failed_in, read_done_in, read_failed_in, write_done_in, write_failed_in, closed_in, close_failed_in, break_in, ack_done_in, ack_failed_in, arrival_named, arrival_in};
+ghost use Rattle.lease_lines.specs.Replies.{reply_words, failed_words, create_failed_words, read_failed_words, numbered_words};
+ghost use Rattle.lease_lines.specs.Replies.{write_failed_words, close_failed_words, sized_in, created_in, create_failed_in};
+ghost use Rattle.lease_lines.specs.Replies.{read_done_in, read_failed_in, write_done_in, write_failed_in, closed_in};
+ghost use Rattle.lease_lines.specs.Replies.{close_failed_in, break_in, ack_done_in, ack_failed_in, arrival_named, arrival_in};
 
 use crate::status::{read_status, status_word};
 use hex::FromHex;

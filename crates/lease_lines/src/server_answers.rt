@@ -2,7 +2,7 @@ ghost use Rattle.std.specs.Prelude.{◌≡◌, ◌++◌, OnOk};
 ghost use Rattle.std.specs.List.{flat_map};
 ghost use Rattle.std.specs.Option.{option_map};
 ghost use Rattle.std.specs.String.{string_bytes};
-ghost use Rattle.share_server.specs.declared.out.Out.TheVariants as out;
+ghost use Rattle.share_server.specs.declared.values.out.Out.TheVariants as out;
 ghost use Rattle.lease_lines.specs.ServerAnswers.{out_line, answer, done_word, yes_word, fid_words, bytes_words};
 
 use crate::replies::push_reply;

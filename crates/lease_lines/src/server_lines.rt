@@ -2,7 +2,8 @@ ghost use Rattle.std.specs.Prelude.{◌≡◌, Some, None, MatchResult};
 ghost use Rattle.lease_texts.specs.Fields.{one};
 ghost use Rattle.lease_texts.specs.Takes.{Takes};
 ghost use Rattle.lease_lines.specs.Replies.{sized_in};
-ghost use Rattle.lease_lines.specs.ServerLines.{expire_in, breaking_in, receive_in, kept_in, server_line_named, server_line_told, server_line_in};
+ghost use Rattle.lease_lines.specs.ServerLines.{expire_in, breaking_in, receive_in, kept_in, server_line_named, server_line_told};
+ghost use Rattle.lease_lines.specs.ServerLines.{server_line_in};
 
 use hex::FromHex;
 use lease_state::{ClientNo, Content, FileId, FileNo, LeaseKey, Request};

@@ -2,7 +2,8 @@ ghost use Rattle.std.specs.Prelude.{◌≡◌, ◌++◌, Some, None, IfOk, OnOk}
 ghost use Rattle.std.specs.String.{string_bytes};
 ghost use Rattle.lease_texts.specs.Fields.{one};
 ghost use Rattle.lease_texts.specs.Takes.{Takes};
-ghost use Rattle.lease_lines.specs.Statuses.{status_word, given_word, status_named, status_numbered, status_in, known_or_other, numbered};
+ghost use Rattle.lease_lines.specs.Statuses.{status_word, given_word, status_named, status_numbered, status_in, known_or_other};
+ghost use Rattle.lease_lines.specs.Statuses.{numbered};
 
 use hex::FromHex;
 use lease_state::Status;

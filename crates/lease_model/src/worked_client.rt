@@ -1,7 +1,9 @@
 ghost use Rattle.lease_model.specs.worked.ClientCalls.{ClientSteps, NeverConnected};
 ghost use Rattle.lease_model.specs.worked.ClientRefusals.{Refusals, WriterRefusals, ParkedRefusals, UnknownFile, UsedUp};
-ghost use Rattle.lease_model.specs.worked.ClientAsking.{Asking, AskingReads, AskingWriter, AskingRefusedForSharing, ParkedAsks, ClosedWhileAsking, NoticedWhileAsking, ThroughAndBuffered};
-ghost use Rattle.lease_model.specs.worked.ClientReplies.{PatchedBase, OldFileIdClosed, FirstBeliefs, LaterBeliefs, BreaksAnswered, LongReads};
+ghost use Rattle.lease_model.specs.worked.ClientAsking.{Asking, AskingReads, AskingWriter, AskingRefusedForSharing, ParkedAsks};
+ghost use Rattle.lease_model.specs.worked.ClientAsking.{ClosedWhileAsking, NoticedWhileAsking, ThroughAndBuffered};
+ghost use Rattle.lease_model.specs.worked.ClientReplies.{PatchedBase, OldFileIdClosed, FirstBeliefs, LaterBeliefs};
+ghost use Rattle.lease_model.specs.worked.ClientReplies.{BreaksAnswered, LongReads};
 
 /// A client opens a file, buffers two writes, reads once from the server and once from its cache,
 /// and meets a break to RH: it sends the writes before the acknowledgment.

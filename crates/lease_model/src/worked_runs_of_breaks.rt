@@ -1,4 +1,5 @@
-ghost use Rattle.lease_model.specs.worked.RunsOfBreaks.{WholeBreak, LateBreak, LateBreakAfter, ParkedHandleBreak, UsedHandleBreak, Timer};
+ghost use Rattle.lease_model.specs.worked.RunsOfBreaks.{WholeBreak, LateBreak, LateBreakAfter, ParkedHandleBreak};
+ghost use Rattle.lease_model.specs.worked.RunsOfBreaks.{UsedHandleBreak, Timer};
 
 /// Runs in which leases are broken: the break of cached writes, one that comes late, the two of
 /// cached handles, and one whose timer runs out.

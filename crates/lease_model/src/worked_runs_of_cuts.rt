@@ -1,4 +1,5 @@
-ghost use Rattle.lease_model.specs.worked.RunsOfCuts.{PlainCut, CutInFlush, RepliesLost, RepliesLostAfter, KeptOpenBroken, BreakingCut, BreakingCutAlone, ScavengedOpen, CreatedLost, NoBaseKept};
+ghost use Rattle.lease_model.specs.worked.RunsOfCuts.{PlainCut, CutInFlush, RepliesLost, RepliesLostAfter, KeptOpenBroken};
+ghost use Rattle.lease_model.specs.worked.RunsOfCuts.{BreakingCut, BreakingCutAlone, ScavengedOpen, CreatedLost, NoBaseKept};
 
 /// Runs in which connections are lost: without a durable open, in a flush, with replies lost, with a
 /// kept open that is broken or scavenged, and with a reply to a create lost.

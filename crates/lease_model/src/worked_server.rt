@@ -1,5 +1,8 @@
-ghost use Rattle.lease_model.specs.worked.ServerCalls.{SharedCalls, SharedAllowed, LaterCalls, LaterAllowed, Acknowledgments, OddStates, TwoPasses};
-ghost use Rattle.lease_model.specs.worked.ServerBreaks.{KeysInOrder, OwnLeaseBroken, ReadsBrokenAtOnce, OneBreakForTwoWrites, WriteHeldByBreakToReads, OneConflictBroken, HeldInOrder, ExpiredUntilJoined};
+ghost use Rattle.lease_model.specs.worked.ServerCalls.{SharedCalls, SharedAllowed, LaterCalls, LaterAllowed, Acknowledgments};
+ghost use Rattle.lease_model.specs.worked.ServerCalls.{OddStates, TwoPasses};
+ghost use Rattle.lease_model.specs.worked.ServerBreaks.{KeysInOrder, OwnLeaseBroken, ReadsBrokenAtOnce, OneBreakForTwoWrites};
+ghost use Rattle.lease_model.specs.worked.ServerBreaks.{WriteHeldByBreakToReads, OneConflictBroken, HeldInOrder};
+ghost use Rattle.lease_model.specs.worked.ServerBreaks.{ExpiredUntilJoined};
 ghost use Rattle.lease_model.specs.worked.ServerRefusals.{RefusedOnArrival, DeniedBreaksNothing, FileIdsUsedUp};
 ghost use Rattle.lease_model.specs.worked.ServerDurable.{DurableWhileBreaking, RefusedReconnects, ConnectedNotScavenged};
 

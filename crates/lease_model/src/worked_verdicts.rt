@@ -1,4 +1,5 @@
-ghost use Rattle.lease_model.specs.worked.Verdicts.{OneFlaw, StrayedVerdicts, StrangeOrder, LimitVerdicts, LargeWrites, BeliefsAndReads, UnfitFacts, SettledAsDone, NothingWrong};
+ghost use Rattle.lease_model.specs.worked.Verdicts.{OneFlaw, StrayedVerdicts, StrangeOrder, LimitVerdicts, LargeWrites};
+ghost use Rattle.lease_model.specs.worked.Verdicts.{BeliefsAndReads, UnfitFacts, SettledAsDone, NothingWrong};
 
 /// Verdicts on short records: one flaw each, strayed clients, facts in an order that no run gives,
 /// and writes at the limit.

@@ -1,6 +1,6 @@
 -- The first bad fact of a record, by what is known of the verdict.
 use Rattle.lease_laws.proofs.Words.{◌++◌, ◌+◌, ◌<◌, ◌∙◌, ◌∷◌, ◌≡◌, ◌≤◌, ◌⊎◌, Bool, Fact, List, Option, Verdict, ℕ, [], ap, arith}
-use Rattle.lease_laws.proofs.Words.{drop, false, flaw_at, get_or, has_two_caches, if◌then◌else◌, inl, inr, is_false_done}
+use Rattle.lease_laws.proofs.Words.{drop, false, flaw_at, get_or, has_two_caches, if◌then◌else◌, is_false_done}
 use Rattle.lease_laws.proofs.Words.{is_late_write, is_stale_read, is_well_formed, length, length-append, length-map}
 use Rattle.lease_laws.proofs.Words.{length-take-le, map, map-append, not, or_else, refl, reverse, reverse_aux, suc, sym, take}
 use Rattle.lease_laws.proofs.Words.{true, verdict, verdict_from}

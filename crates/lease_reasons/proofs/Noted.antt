@@ -1,12 +1,11 @@
 -- What is gathered of beliefs, after one fact more, and what follows from it.
-use Rattle.lease_laws.proofs.Words.{◌&&◌, ◌++◌, ◌+◌, ◌<◌, ◌==◌, ◌||◌, ◌∙◌, ◌∷◌, ◌≡◌, ◌≢◌, Bool, Fact, FileNo, List, None}
+use Rattle.lease_laws.proofs.Words.{◌&&◌, ◌++◌, ◌+◌, ◌==◌, ◌||◌, ◌∙◌, ◌∷◌, ◌≡◌, ◌≢◌, Bool, Fact, FileNo, List, None}
 use Rattle.lease_laws.proofs.Words.{OneWriteCache, Option, Some, State, ℕ, [], and_from, and_parts, ap, arith, believed}
-use Rattle.lease_laws.proofs.Words.{both_ways, cases_Bool, eq-eqb, eqb-true, false, get_or, holds_any, if◌then◌else◌, inl, inr}
+use Rattle.lease_laws.proofs.Words.{both_ways, cases_Bool, eq-eqb, eqb-true, false, holds_any, if◌then◌else◌, inl, inr}
 use Rattle.lease_laws.proofs.Words.{is_good, is_some, length, list_any, not, nothing_cached, or_cases, refl, state_of, subst, sym}
-use Rattle.lease_laws.proofs.Words.{take, true}
+use Rattle.lease_laws.proofs.Words.{true}
 use Rattle.std.specs.Prelude.{MatchOption}
 use Rattle.std.specs.List.{filter, find}
-use Rattle.std.proofs.lemmas.List.{take_more}
 use Rattle.std.proofs.lemmas.Map.Views.{any-filter_same}
 use Rattle.lease_facts.specs.Facts.{fact_of}
 use Rattle.lease_facts.specs.declared.fact.Fact as code

@@ -1,10 +1,10 @@
 -- The reasons that are found are reasons.
 use Rattle.lease_laws.proofs.Words.{◌&&◌, ◌∙◌, ◌≡◌, ◌≤◌, ◌⊎◌, Bool, Fact, FileNo, List, None, Option, Patch, Some, ℕ, and_parts}
-use Rattle.lease_laws.proofs.Words.{ap, arith, both_ways, bytes_eq, false, has_joined, has_strayed, if◌then◌else◌, inl, inr}
-use Rattle.lease_laws.proofs.Words.{is_accepted, is_false_done, is_fresh, is_good, is_late_write, is_some, is_stale_read}
-use Rattle.lease_laws.proofs.Words.{is_started, is_touched, is_well_formed, is_within_limit, last_sending, length, length-map}
+use Rattle.lease_laws.proofs.Words.{ap, arith, both_ways, false, has_joined, has_strayed, if◌then◌else◌, inl, inr}
+use Rattle.lease_laws.proofs.Words.{is_accepted, is_false_done, is_late_write, is_some, is_stale_read}
+use Rattle.lease_laws.proofs.Words.{is_started, is_touched, is_well_formed, is_within_limit, length, length-map}
 use Rattle.lease_laws.proofs.Words.{nat_lt, nat_tests, not, not-true, refl, sendings, state_of, subst, sym, takings, true}
-use Rattle.lease_client.specs.declared.note.Settlement.TheVariants as settlement
+use Rattle.lease_client.specs.declared.values.note.Settlement.TheVariants as settlement
 use Rattle.lease_facts.specs.Facts.{fact_of}
 use Rattle.lease_facts.specs.declared.fact.Fact as code
 use Rattle.lease_facts.specs.declared.fact.Fact.TheVariants as fact
@@ -17,7 +17,7 @@ use Rattle.lease_reasons.specs.Messages.{mail_of, place_behind}
 use Rattle.lease_reasons.specs.Places.{last_place, first_place}
 use Rattle.lease_reasons.specs.Reasons.{named_file, told_patch, Told}
 use Rattle.lease_reasons.specs.Searches.{or_reason, unless_place, with_place, not_started, past_limit, number_used, taken_none}
-use Rattle.lease_reasons.specs.Searches.{malformed, late, done, IsReadReason, TellsRead}
+use Rattle.lease_reasons.specs.Searches.{malformed, late, done, TellsRead}
 use Rattle.lease_reasons.specs.declared.marks.Mark.TheVariants as mark
 use Rattle.lease_reasons.specs.declared.reason.Reason.{Reason}
 use Rattle.lease_reasons.specs.declared.reason.Reason.TheVariants as reason

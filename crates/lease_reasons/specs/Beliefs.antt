@@ -1,5 +1,6 @@
 -- What a client believes of a file's lease, and since where.
-use Rattle.std.specs.Prelude.{◌≡◌, ◌≢◌, ⊤, ℕ, ◌+◌, Bool, true, List, ◌∷◌, [], ◌++◌, length, Option, Some, None, is_some, if◌then◌else◌, ◌==◌, ◌&&◌, ◌||◌, not}
+use Rattle.std.specs.Prelude.{◌≡◌, ◌≢◌, ⊤, ℕ, ◌+◌, Bool, true, List, ◌∷◌, [], ◌++◌, length, Option, Some, None, is_some}
+use Rattle.std.specs.Prelude.{if◌then◌else◌, ◌==◌, ◌&&◌, ◌||◌, not}
 use Rattle.std.specs.List.{list_any, filter, find}
 use Rattle.lease_state.specs.State.{State, state_of, nothing_cached}
 use Rattle.lease_facts.specs.declared.fact.Fact as code

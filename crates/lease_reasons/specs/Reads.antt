@@ -1,5 +1,6 @@
 -- What a cached read should have given, and which facts make it so.
-use Rattle.std.specs.Prelude.{◌≡◌, ℕ, ◌+◌, Bool, false, List, ◌∷◌, [], ◌++◌, length, Option, Some, None, if◌then◌else◌, ◌==◌, ◌&&◌, not}
+use Rattle.std.specs.Prelude.{◌≡◌, ℕ, ◌+◌, Bool, false, List, ◌∷◌, [], ◌++◌, length, Option, Some, None, if◌then◌else◌, ◌==◌}
+use Rattle.std.specs.Prelude.{◌&&◌, not}
 use Rattle.std.specs.List.{list_any}
 use Rattle.lease_state.specs.Content.{patch, patches}
 use Rattle.lease_model.specs.records.Facts.{Fact}
@@ -21,7 +22,8 @@ unsettled_places client file whole (Fact.Wrote writer other number patch buffere
 unsettled_places client file whole (_ ∷ past) = unsettled_places client file whole past
 
 -- What the client's cached read of the file should have given. The message that it took last was taken and sent at these places;
--- there the file was as it was started, with its changes up to the last one before; and these writes of the client have no answer.
+-- there the file was as it was started, with its changes up to the last one before; and these writes of the client have no
+-- answer.
 pub record IsExpected (client : ClientNo) (file : FileNo) (past : List Fact) (told : Expected) : Type 0 where
   pub place : List Fact
   pub sending : last_sending client.0 past ≡ Some place

@@ -4,7 +4,8 @@ use Rattle.lease_state.specs.Content.{end_of}
 use Rattle.lease_state.specs.declared.patch.Patch.{Patch}
 use Rattle.lease_model.specs.client.Commands.{Settlement}
 use Rattle.lease_model.specs.records.Facts.{Fact}
-use Rattle.lease_model.specs.records.Past.{is_started, is_good, has_joined, has_strayed, is_accepted, last_sending, sendings, takings}
+use Rattle.lease_model.specs.records.Past.{is_started, is_good, has_joined, has_strayed, is_accepted, last_sending, sendings}
+use Rattle.lease_model.specs.records.Past.{takings}
 use Rattle.lease_model.specs.values.Patches.{is_within_limit}
 use Rattle.lease_world.specs.declared.verdict.Verdict.{Verdict}
 use Rattle.lease_world.specs.declared.verdict.Verdict.TheVariants as verdict

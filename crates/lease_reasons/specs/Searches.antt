@@ -8,8 +8,8 @@ use Rattle.lease_facts.specs.declared.fact.Fact as code
 use Rattle.lease_facts.specs.declared.fact.Fact.TheVariants as fact
 use Rattle.lease_model.specs.records.Facts.{Fact}
 use Rattle.lease_model.specs.records.Past.{last_sending}
-use Rattle.lease_client.specs.declared.note.Settlement.{Settlement}
-use Rattle.lease_client.specs.declared.note.Settlement.TheVariants as settlement
+use Rattle.lease_client.specs.declared.values.note.Settlement.{Settlement}
+use Rattle.lease_client.specs.declared.values.note.Settlement.TheVariants as settlement
 use Rattle.lease_model.specs.values.Patches.{is_within_limit}
 use Rattle.lease_reasons.specs.Marks.{fits}
 use Rattle.lease_reasons.specs.Messages.{mail_of}

@@ -5,7 +5,8 @@ ghost use Rattle.lease_facts.specs.Facts.{fact_of};
 ghost use Rattle.lease_model.specs.records.Past.{is_good, is_served};
 ghost use Rattle.lease_model.specs.records.Safe.{OneWriteCache};
 ghost use Rattle.lease_model.specs.values.LeaseStates.{holds_any};
-ghost use Rattle.lease_reasons.specs.Beliefs.{AreNoted, AreFiles, AreRivals, HasNoRivals, served_after, belief_told, with_belief, put_belief, file_told, with_file, may_clash, rivals_among};
+ghost use Rattle.lease_reasons.specs.Beliefs.{AreNoted, AreFiles, AreRivals, HasNoRivals, served_after, belief_told, with_belief};
+ghost use Rattle.lease_reasons.specs.Beliefs.{put_belief, file_told, with_file, may_clash, rivals_among};
 ghost use Rattle.lease_reasons.specs.Places.{past_of};
 
 use crate::marks::Mark;

@@ -4,7 +4,8 @@ ghost use Rattle.lease_model.specs.records.Past.{start_of, changes_of, unsettled
 ghost use Rattle.lease_model.specs.records.Facts as model;
 ghost use Rattle.lease_facts.specs.Facts.{fact_of};
 ghost use Rattle.lease_reasons.specs.Places.{past_of};
-ghost use Rattle.lease_reasons.specs.Reads.{IsExpected, AreSettled, is_number, unsettled_places, settled_told, is_settled_by, is_waiting, with_start, with_change, with_write};
+ghost use Rattle.lease_reasons.specs.Reads.{IsExpected, AreSettled, is_number, unsettled_places, settled_told, is_settled_by};
+ghost use Rattle.lease_reasons.specs.Reads.{is_waiting, with_start, with_change, with_write};
 
 use crate::marks::Mark;
 use crate::messages::Messages;

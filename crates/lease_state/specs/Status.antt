@@ -1,7 +1,9 @@
 -- The codes of statuses (MS-ERREF 2.3.1).
 use Rattle.std.specs.Prelude.{ℕ}
 use Rattle.lease_state.specs.declared.status.Status.{Status}
-use Rattle.lease_state.specs.declared.status.Status.TheVariants.{Unsuccessful, InvalidParameter, AccessDenied, ObjectNameNotFound, SharingViolation, InsufficientResources, RequestNotAccepted, FileClosed}
+use Rattle.lease_state.specs.declared.status.Status.TheVariants.{Unsuccessful, InvalidParameter, AccessDenied, ObjectNameNotFound}
+use Rattle.lease_state.specs.declared.status.Status.TheVariants.{SharingViolation, InsufficientResources, RequestNotAccepted}
+use Rattle.lease_state.specs.declared.status.Status.TheVariants.{FileClosed}
 
 abbrev pub code_of : Status → ℕ
 code_of Unsuccessful = 0xC000_0001

@@ -4,7 +4,8 @@ ghost use Rattle.std.specs.Int.RustNames.{bit_and};
 ghost use Rattle.std.specs.Cmp.Rules.{comparing, hashing};
 ghost use Rattle.std.specs.Ordering.{on};
 ghost use Rattle.std.proofs.Common.{rules};
-ghost use Rattle.lease_state.specs.State.{state_of, state_of_bits, bits_of_state, nothing_cached, granted_form_of, needs_acknowledgment, is_state_within};
+ghost use Rattle.lease_state.specs.State.{state_of, state_of_bits, bits_of_state, nothing_cached, granted_form_of};
+ghost use Rattle.lease_state.specs.State.{needs_acknowledgment, is_state_within};
 
 use bitflags::{Flag, Flags, bitflag_items};
 use std::hash::{Hash, Hasher};

@@ -1,5 +1,6 @@
 -- Where a line leaves the table of its kinds: what is expected in each field, and the first field that holds something else.
-use Rattle.std.specs.Prelude.{ℕ, ◌+◌, ◌==◌, ◌++◌, Bool, true, false, if◌then◌else◌, List, [], ◌∷◌, codes, bytes_eq, take, Option, Some, None, is_some}
+use Rattle.std.specs.Prelude.{ℕ, ◌+◌, ◌==◌, ◌++◌, Bool, true, false, if◌then◌else◌, List, [], ◌∷◌, codes, bytes_eq, take, Option}
+use Rattle.std.specs.Prelude.{Some, None, is_some}
 use Rattle.std.specs.Fmt.{decimal}
 use Rattle.std.specs.List.{list_any}
 use Rattle.uuid.specs.Text.{parsed}
@@ -107,8 +108,8 @@ behind field.PartKind word rest = part_fields word
 behind field.Request word rest = fields_behind request_rows word
 behind other word rest = if_fits (fits other word) rest
 
--- What was expected in the field of a number, and what stands there: nothing, where the line ends before it; whether the line ends
--- after it.
+-- What was expected in the field of a number, and what stands there: nothing, where the line ends before it; whether the line
+-- ends after it.
 pub record Complaint : Type 0 where
   pub field : ℕ
   pub expected : Expected

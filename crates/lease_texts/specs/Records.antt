@@ -1,12 +1,13 @@
 -- Records as texts: the line of each fact, and what a line tells.
-use Rattle.std.specs.Prelude.{ℕ, ◌++◌, Bool, true, false, List, [], ◌∷◌, codes, bytes_eq, if◌then◌else◌, Option, Some, None, Result}
+use Rattle.std.specs.Prelude.{ℕ, ◌++◌, Bool, true, false, List, [], ◌∷◌, codes, bytes_eq, if◌then◌else◌, Option, Some, None}
+use Rattle.std.specs.Prelude.{Result}
 use Rattle.std.specs.Fmt.{decimal}
 use Rattle.std.specs.List.{flat_map}
 use Rattle.hex.specs.Hex.{encode_lower}
 use Rattle.lease_state.specs.State.{state_of}
 use Rattle.lease_state.specs.declared.patch.Patch.{Patch}
-use Rattle.lease_client.specs.declared.note.Settlement.{Settlement}
-use Rattle.lease_client.specs.declared.note.Settlement.TheVariants as settlement
+use Rattle.lease_client.specs.declared.values.note.Settlement.{Settlement}
+use Rattle.lease_client.specs.declared.values.note.Settlement.TheVariants as settlement
 use Rattle.lease_facts.specs.declared.fact.Fact.{Fact}
 use Rattle.lease_facts.specs.declared.fact.Fact.TheVariants as fact
 use Rattle.lease_facts.specs.declared.fact.ClientFact.{ClientFact}
@@ -15,7 +16,8 @@ use Rattle.lease_facts.specs.declared.fact.FactKind.TheVariants as kind
 use Rattle.lease_facts.specs.Facts.{client_fact, client_named, client_of, client_word, kind_of}
 use Rattle.lease_state.specs.declared.number.ClientNo.{ClientNo}
 use Rattle.lease_texts.specs.Pieces.{fields_of, lines_of}
-use Rattle.lease_texts.specs.Fields.{Taking, and_then, one, whole, ordinal_in, number_in, bytes_in, content_in, state_in, patch_in}
+use Rattle.lease_texts.specs.Fields.{Taking, and_then, one, whole, ordinal_in, number_in, bytes_in, content_in, state_in}
+use Rattle.lease_texts.specs.Fields.{patch_in}
 use Rattle.lease_texts.specs.Reading.{reads_on, is_passed_over}
 use Rattle.lease_texts.specs.Words.{state_word}
 

@@ -1,5 +1,6 @@
 -- Schedules as texts: what a line asks for, and what a whole text does.
-use Rattle.std.specs.Prelude.{ℕ, ◌++◌, Bool, true, false, List, [], ◌∷◌, codes, bytes_eq, if◌then◌else◌, Option, Some, None, Result}
+use Rattle.std.specs.Prelude.{ℕ, ◌++◌, Bool, true, false, List, [], ◌∷◌, codes, bytes_eq, if◌then◌else◌, Option, Some, None}
+use Rattle.std.specs.Prelude.{Result}
 use Rattle.std.specs.Fmt.{decimal}
 use Rattle.std.specs.List.{flat_map}
 use Rattle.std.specs.Result.{result_ok}
@@ -13,14 +14,15 @@ use Rattle.lease_state.specs.declared.access.Share.TheVariants as share
 use Rattle.lease_state.specs.declared.request.Request.{Request}
 use Rattle.lease_state.specs.declared.request.Request.TheVariants as request
 use Rattle.lease_state.specs.declared.state.LeaseState.{LeaseState}
-use Rattle.lease_client.specs.declared.command.Command.{Command}
-use Rattle.lease_client.specs.declared.command.Command.TheVariants as command
+use Rattle.lease_client.specs.declared.values.command.Command.{Command}
+use Rattle.lease_client.specs.declared.values.command.Command.TheVariants as command
 use Rattle.lease_facts.specs.declared.setup.Event.{Event}
 use Rattle.lease_facts.specs.declared.setup.Event.TheVariants as event
 use Rattle.lease_facts.specs.declared.setup.ClientEvent.{ClientEvent}
 use Rattle.lease_facts.specs.Setups.{client_event, client_event_of, client_named, client_word, event_client}
 use Rattle.lease_texts.specs.Pieces.{fields_of, lines_of}
-use Rattle.lease_texts.specs.Fields.{Taking, and_then, with_rest, one, whole, ordinal_in, number_in, bytes_in, content_in, access_in, share_in, state_in, patch_in}
+use Rattle.lease_texts.specs.Fields.{Taking, and_then, with_rest, one, whole, ordinal_in, number_in, bytes_in, content_in}
+use Rattle.lease_texts.specs.Fields.{access_in, share_in, state_in, patch_in}
 use Rattle.lease_texts.specs.Reading.{reads_on, is_passed_over}
 use Rattle.lease_texts.specs.Records.{digits_word, patch_words}
 use Rattle.lease_texts.specs.Words.{state_word}
@@ -62,9 +64,11 @@ message_in field = result_ok (decode_sized field 36)
 unfoldable pub request_named : List ℕ → Taking Request
 request_named kind words =
     if bytes_eq kind (codes "create") then create_in words
-    else if bytes_eq kind (codes "read") then and_then (one number_in words) (λ fid words. Some (request.Read (record { 0 = fid }), words))
+    else if bytes_eq kind (codes "read")
+    then and_then (one number_in words) (λ fid words. Some (request.Read (record { 0 = fid }), words))
     else if bytes_eq kind (codes "write") then raw_write_in words
-    else if bytes_eq kind (codes "close") then and_then (one number_in words) (λ fid words. Some (request.Close (record { 0 = fid }), words))
+    else if bytes_eq kind (codes "close")
+    then and_then (one number_in words) (λ fid words. Some (request.Close (record { 0 = fid }), words))
     else if bytes_eq kind (codes "ack") then and_then (one message_in words) (λ message words. Some (request.Ack message, words))
     else None
 
@@ -79,14 +83,20 @@ on_file tell words = and_then (one ordinal_in words) (λ file words. Some (tell 
 -- of an event of more than a client
 unfoldable pub other_of : List ℕ → ℕ → Taking Event
 other_of kind client words =
-    if bytes_eq kind (codes "write") then and_then (write_in words) (λ asked words. Some (event.App (record { 0 = client }) asked, words))
-    else if bytes_eq kind (codes "read") then on_file (λ f. event.App (record { 0 = client }) (command.Read (record { 0 = f }))) words
-    else if bytes_eq kind (codes "open") then and_then (open_in words) (λ asked words. Some (event.App (record { 0 = client }) asked, words))
-    else if bytes_eq kind (codes "close") then on_file (λ f. event.App (record { 0 = client }) (command.Close (record { 0 = f }))) words
-    else if bytes_eq kind (codes "flush") then on_file (λ f. event.App (record { 0 = client }) (command.Flush (record { 0 = f }))) words
+    if bytes_eq kind (codes "write")
+    then and_then (write_in words) (λ asked words. Some (event.App (record { 0 = client }) asked, words))
+    else if bytes_eq kind (codes "read")
+    then on_file (λ f. event.App (record { 0 = client }) (command.Read (record { 0 = f }))) words
+    else if bytes_eq kind (codes "open")
+    then and_then (open_in words) (λ asked words. Some (event.App (record { 0 = client }) asked, words))
+    else if bytes_eq kind (codes "close")
+    then on_file (λ f. event.App (record { 0 = client }) (command.Close (record { 0 = f }))) words
+    else if bytes_eq kind (codes "flush")
+    then on_file (λ f. event.App (record { 0 = client }) (command.Flush (record { 0 = f }))) words
     else if bytes_eq kind (codes "expire") then on_file (λ f. event.Expire (record { 0 = client }) (record { 0 = f })) words
     else if bytes_eq kind (codes "scavenge") then on_file (λ f. event.Scavenge (record { 0 = client }) (record { 0 = f })) words
-    else if bytes_eq kind (codes "raw") then and_then (request_in words) (λ asked words. Some (event.Raw (record { 0 = client }) asked, words))
+    else if bytes_eq kind (codes "raw")
+    then and_then (request_in words) (λ asked words. Some (event.Raw (record { 0 = client }) asked, words))
     else None
 
 abbrev pub client_or : Option ClientEvent → List ℕ → ℕ → Taking Event

@@ -1,7 +1,9 @@
-ghost use Rattle.std.specs.Prelude.{◌≡◌, ◌≢◌, ◌+◌, ◌<◌, ◌^◌, ℕ, Some, None, Ok, [], ◌∷◌, IfOk, IfErr, MatchResult, MatchBool, ◌≤◌, IsTrue, ◌↔◌, OnErr, IsSome};
+ghost use Rattle.std.specs.Prelude.{◌≡◌, ◌≢◌, ◌+◌, ◌<◌, ◌^◌, ℕ, Some, None, Ok, [], ◌∷◌, IfOk, IfErr, MatchResult, MatchBool};
+ghost use Rattle.std.specs.Prelude.{◌≤◌, IsTrue, ◌↔◌, OnErr, IsSome};
 ghost use Rattle.std.specs.Option.{option_map};
 ghost use Rattle.lease_texts.specs.Pieces.{fields_of};
-ghost use Rattle.lease_texts.specs.Fields.{one, number_in, number_after, digit_behind, ordinal_in, offset_in, bytes_in, content_in, access_in, share_in, state_in, patch_in};
+ghost use Rattle.lease_texts.specs.Fields.{one, number_in, number_after, digit_behind, ordinal_in, offset_in, bytes_in};
+ghost use Rattle.lease_texts.specs.Fields.{content_in, access_in, share_in, state_in, patch_in};
 ghost use Rattle.lease_texts.specs.Takes.{Takes};
 
 use crate::fault::LineFault;

@@ -1,6 +1,7 @@
 -- Create contexts as they are written (profile, where MS-SMB2 2.2.13.2 leaves it open): the lease context,
 -- then the durable one, then the reconnect, without padding between them, since each is a multiple of 8 long.
-use Rattle.std.specs.Prelude.{◌≡◌, ℕ, ◌+◌, ◌<◌, ◌^◌, ◌++◌, Bool, true, false, ◌||◌, if◌then◌else◌, List, [], length, Option, Some, None, is_some, IfSome}
+use Rattle.std.specs.Prelude.{◌≡◌, ℕ, ◌+◌, ◌<◌, ◌^◌, ◌++◌, Bool, true, false, ◌||◌, if◌then◌else◌, List, [], length, Option, Some}
+use Rattle.std.specs.Prelude.{None, is_some, IfSome}
 use Rattle.byteorder.specs.Endian.{little_bytes}
 use Rattle.lease_state.specs.State.{bits_of_state}
 use Rattle.lease_wire.specs.Names.{LeaseView, CreateView, lease_name, durable_name, reconnect_name}

@@ -66,7 +66,8 @@ pub record StopsAt (text : List ℕ) (items : List Item) (fault : WireFault)
 abbrev pub AreItemsOf : List ℕ → List Item → Type 0
 AreItemsOf text items =
     GivesAll text items
-    ⊎ ((fault : WireFault) × (pieces : List (List ℕ)) × (contexts : List ContextView) × (rest : List ℕ) × StopsAt text items fault pieces contexts rest)
+    ⊎ ((fault : WireFault) × (pieces : List (List ℕ)) × (contexts : List ContextView) × (rest : List ℕ)
+    × StopsAt text items fault pieces contexts rest)
 
 -- the function that callers compute with gives the items of every text
 abbrev pub ItemsAreRead : Type 0

@@ -1,5 +1,7 @@
--- Whole SMB2 messages: the header that they begin with (MS-SMB2 2.2.1), and where the create contexts of a CREATE stand (2.2.13, 2.2.14).
-use Rattle.std.specs.Prelude.{ℕ, ◌+◌, ◌==◌, nat_lt, Bool, not, ◌&&◌, ◌||◌, bytes_eq, if◌then◌else◌, List, [], ◌∷◌, length, take, Option, Some, None}
+-- Whole SMB2 messages: the header that they begin with (MS-SMB2 2.2.1), and where the create contexts of a CREATE stand (2.2.13,
+-- 2.2.14).
+use Rattle.std.specs.Prelude.{ℕ, ◌+◌, ◌==◌, nat_lt, Bool, not, ◌&&◌, ◌||◌, bytes_eq, if◌then◌else◌, List, [], ◌∷◌, length, take}
+use Rattle.std.specs.Prelude.{Option, Some, None}
 use Rattle.lease_wire.specs.Field.{number_at, bytes_at}
 use Rattle.lease_wire.specs.Reading.{Item, items_behind}
 use Rattle.lease_wire.specs.declared.create.Direction.{Direction}

@@ -1,7 +1,8 @@
 -- What a reader makes of create contexts, from the front to the back. These are functions, for
 -- callers to compute with; `contexts_laws` and `reading_laws` tie them to the layout, which is a
 -- relation on whole texts (Chain, Names, Faults).
-use Rattle.std.specs.Prelude.{ℕ, zero, suc, ◌<◌, ◌^◌, ◌+◌, ◌-◌, ◌%◌, ◌==◌, nat_lt, Bool, not, ◌&&◌, ◌||◌, if◌then◌else◌, List, [], ◌∷◌, length, drop, Option, Some, None, Result, Ok, Err}
+use Rattle.std.specs.Prelude.{ℕ, zero, suc, ◌<◌, ◌^◌, ◌+◌, ◌-◌, ◌%◌, ◌==◌, nat_lt, Bool, not, ◌&&◌, ◌||◌, if◌then◌else◌, List, []}
+use Rattle.std.specs.Prelude.{◌∷◌, length, drop, Option, Some, None, Result, Ok, Err}
 use Rattle.lease_wire.specs.Field.{bytes_at}
 use Rattle.lease_wire.specs.Chain.{ContextView, next_of, name_offset_of, name_length_of, data_offset_of, data_length_of}
 use Rattle.lease_wire.specs.declared.fault.WireFault.{WireFault}

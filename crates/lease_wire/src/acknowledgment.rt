@@ -1,7 +1,8 @@
 ghost use Rattle.std.specs.Prelude.{◌≡◌, length, take, drop, IfOk};
 ghost use Rattle.std.specs.Result.{result_err};
 ghost use Rattle.lease_state.specs.State.{state_of};
-ghost use Rattle.lease_wire.specs.Acknowledgment.{IsAcknowledgment, acknowledgment_bytes, AcknowledgmentReadsBack, AcknowledgmentIsUnique, AcknowledgmentFreeFields};
+ghost use Rattle.lease_wire.specs.Acknowledgment.{IsAcknowledgment, acknowledgment_bytes, AcknowledgmentReadsBack};
+ghost use Rattle.lease_wire.specs.Acknowledgment.{AcknowledgmentIsUnique, AcknowledgmentFreeFields};
 ghost use Rattle.lease_wire.specs.WireFaults.{message_fault};
 
 use crate::fault::WireFault;

@@ -56,7 +56,8 @@ pub(crate) struct Header {
 }
 
 impl Header {
-    ghost use Rattle.lease_wire.specs.Reading.{header_of, header_fault, size_of, has_bad_next, has_bad_name, has_bad_data, HasFieldsInRange};
+    ghost use Rattle.lease_wire.specs.Reading.{header_of, header_fault, size_of, has_bad_next, has_bad_name, has_bad_data};
+    ghost use Rattle.lease_wire.specs.Reading.{HasFieldsInRange};
 
     /// The header that the bytes begin with.
     #[tactic(auto, unfolding(crate::specs::Chain::next_of, crate::specs::Chain::name_offset_of, crate::specs::Chain::name_length_of, crate::specs::Chain::data_offset_of, crate::specs::Chain::data_length_of))]
@@ -184,7 +185,8 @@ pub fn read_context_at(bytes: &[u8], place: usize) -> Result<(Context<'_>, usize
         (λ r. items_behind place 0 (drop place bytes.now) ≡ Ok (view_of r.0) ∷ items_after place r.1 (drop place bytes.now))
         (λ fault. items_behind place 0 (drop place bytes.now) ≡ Err fault ∷ []) }
     ensures fault { result_err result ≡ layout_fault place (drop place bytes.now) }
-    ensures parts { IfOk result (λ r. (view_of r.0 ≡ context_at place (drop place bytes.now)) × (r.1 ≡ next_of (drop place bytes.now))) }
+    ensures parts { IfOk result
+        (λ r. (view_of r.0 ≡ context_at place (drop place bytes.now)) × (r.1 ≡ next_of (drop place bytes.now))) }
     ensures within { IfOk result (λ r. (16 + place ≤ length bytes.now) × (place + r.1 ≤ length bytes.now)) }
 {
     let rest = bytes_from(bytes, place);

@@ -1,7 +1,8 @@
 ghost use Rattle.std.specs.Prelude.{◌≡◌, ◌+◌, ◌≤◌, ◌≢◌, length, IfOk};
 ghost use Rattle.std.specs.Result.{result_err};
 ghost use Rattle.lease_wire.specs.Contexts.{items_left};
-ghost use Rattle.lease_wire.specs.Message.{begins_message, next_command_of, has_bad_next_command, header_fault, first_message, fixed_end, create_size, area_offset, area_length, has_bad_area, area_fault, items_in};
+ghost use Rattle.lease_wire.specs.Message.{begins_message, next_command_of, has_bad_next_command, header_fault, first_message};
+ghost use Rattle.lease_wire.specs.Message.{fixed_end, create_size, area_offset, area_length, has_bad_area, area_fault, items_in};
 
 use crate::chain::Contexts;
 use crate::create::Direction;
@@ -28,13 +29,13 @@ fn is_next_command_bad(count: usize, next: usize) -> bool
     next != 0 && (next < HEADER_SIZE || count < next)
 }
 
-/// The message that bytes begin with, from its header (MS-SMB2 2.2.1) to where NextCommand has the next one of a compound, or else
-/// to the end of the bytes.
+/// The message that bytes begin with, from its header (MS-SMB2 2.2.1) to where NextCommand has the next one of a compound, or
+/// else to the end of the bytes.
 ///
 /// # Errors
 ///
-/// `Short` where there are fewer bytes than a header takes, `WrongSize` where its StructureSize is not 64, and `BadNext` where the
-/// next message would begin within the header or past the end of the bytes; each at 0.
+/// `Short` where there are fewer bytes than a header takes, `WrongSize` where its StructureSize is not 64, and `BadNext` where
+/// the next message would begin within the header or past the end of the bytes; each at 0.
 #[tactic(auto, unfolding(crate::specs::Message::header_fault, crate::specs::Message::first_message, crate::specs::Message::next_command_of))]
 pub fn first_message(bytes: &[u8]) -> Result<&[u8], WireFault>
     ensures refused { result_err result ≡ header_fault bytes.now }
@@ -94,8 +95,8 @@ fn is_area_bad(count: usize, fixed: usize, offset: u32, many: u32) -> bool
 }
 
 /// The create contexts of a whole CREATE request or response (MS-SMB2 2.2.13, 2.2.14), which begins with its header, where
-/// CreateContextsOffset and CreateContextsLength have them: none where that length is 0. The places of contexts and of their faults
-/// count from the header's start.
+/// CreateContextsOffset and CreateContextsLength have them: none where that length is 0. The places of contexts and of their
+/// faults count from the header's start.
 ///
 /// # Errors
 ///

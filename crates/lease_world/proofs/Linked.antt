@@ -1,7 +1,7 @@
 -- Covers that are linked, each to one that came before it, as stacks of layers.
 use Rattle.lease_laws.proofs.Words.{◌++◌, ◌+◌, ◌-◌, ◌<◌, ◌==◌, ◌∙◌, ◌∷◌, ◌≡◌, ◌≢◌, ◌≤◌, ◌⊎◌, Bool, List, None, Option, Some, ℕ}
 use Rattle.lease_laws.proofs.Words.{[], add-one, ap, arith, cases_Bool, cases_lt, false, filter, get_or, if◌then◌else◌, inl, inr}
-use Rattle.lease_laws.proofs.Words.{length, length-append, length-take-le, map, not, refl, slice_set, subst, suc, sym, take, true}
+use Rattle.lease_laws.proofs.Words.{length, length-take-le, map, not, refl, slice_set, subst, suc, sym, take, true}
 use Rattle.lease_laws.proofs.Words.{zero}
 use Rattle.std.specs.List.{slice_get}
 use Rattle.std.proofs.lemmas.Option.{slice_get-get_or}

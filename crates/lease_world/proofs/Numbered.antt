@@ -1,7 +1,7 @@
 -- Writes by their numbers.
-use Rattle.lease_laws.proofs.Words.{◌&&◌, ◌++◌, ◌+◌, ◌-◌, ◌<◌, ◌==◌, ◌∙◌, ◌∷◌, ◌≡◌, ◌≤◌, Bool, List, None, Some, ℕ, [], ap, arith}
-use Rattle.lease_laws.proofs.Words.{false, get_or, if◌then◌else◌, length, length-append, length-set, nat_le, nat_lt, option_map}
-use Rattle.lease_laws.proofs.Words.{refl, slice_set, sym, true}
+use Rattle.lease_laws.proofs.Words.{◌&&◌, ◌++◌, ◌+◌, ◌-◌, ◌<◌, ◌==◌, ◌∙◌, ◌∷◌, ◌≡◌, ◌≤◌, List, None, Some, ℕ, [], ap, arith}
+use Rattle.lease_laws.proofs.Words.{get_or, if◌then◌else◌, length, length-append, length-set, nat_le, nat_lt, option_map}
+use Rattle.lease_laws.proofs.Words.{slice_set, sym, true}
 use Rattle.std.specs.List.{slice_get}
 use Rattle.std.proofs.lemmas.Option.{slice_get-get_or}
 use Rattle.lease_world.specs.judge.Clients.{HasWrites}

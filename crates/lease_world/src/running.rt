@@ -110,7 +110,8 @@ fn are_too_many(events: &[Event]) -> bool
 fn play(alloc: Global, setup: &Setup, events: &[Event], messages: Messages) -> Result<World, Memory>
     requires { length setup.now.files.items ≤ 255 }
     ensures stands { IfOk result (λ world. Stands world (after (first_world (setup_of setup.now)) (map event_of events.now))) }
-    ensures kept { IfOk result (λ world. KeepsBehind messages (messages_told (setup_of setup.now) (map event_of events.now)) world) }
+    ensures kept { IfOk result
+        (λ world. KeepsBehind messages (messages_told (setup_of setup.now) (map event_of events.now)) world) }
 {
     let mut world = World::new(alloc, setup, messages)?;
     for event in events {

@@ -3,7 +3,6 @@ use Rattle.lease_laws.proofs.Words.{◌++◌, ◌-◌, ◌∙◌, ◌≡◌, ◌
 use Rattle.lease_laws.proofs.Words.{ap, append-nil, append_assoc, arith, drop, inl, inr, length, length-drop, option_map, refl}
 use Rattle.lease_laws.proofs.Words.{string_bytes, sym, take, take_all, unwrap_or}
 use Rattle.std.proofs.lemmas.List.{take-append-drop}
-use Rattle.std.specs.Io.KnownBytes.{Keeps}
 use Rattle.leasecheck.specs.Remarks.{IsRemark, Says, second_of}
 use Rattle.leasecheck.specs.Refusals.{Begins, Puts, IsSecond}
 use Rattle.leasecheck.specs.declared.failure.Failure.{Failure}

@@ -1,6 +1,6 @@
 -- Records that are written as they are made.
 use Rattle.lease_laws.proofs.Words.{◌++◌, ◌∙◌, ◌∷◌, ◌≡◌, Appends, Bool, Err, List, None, Ok, Option, Result, Some, ℕ, [], ap}
-use Rattle.lease_laws.proofs.Words.{append-nil, append_assoc, arith, false, inl, inr, refl, string_bytes, subst, sym, true}
+use Rattle.lease_laws.proofs.Words.{append-nil, append_assoc, arith, false, inl, inr, refl, string_bytes, sym, true}
 use Rattle.std.specs.Prelude.{IfErr}
 use Rattle.std.specs.Io.KnownBytes.{Keeps}
 use Rattle.lease_facts.specs.declared.fact.Fact.{Fact}
@@ -8,13 +8,11 @@ use Rattle.lease_state.specs.declared.reply.Reply.{Reply}
 use Rattle.lease_texts.specs.Records.{fact_line, record_text}
 use Rattle.leasecheck.proofs.Puts.{appends_more}
 use Rattle.leasecheck.specs.Messages.{message_before, messages_behind, record_with_messages}
-use Rattle.leasecheck.specs.Printed.{IsTextOf}
 use Rattle.leasecheck.specs.Recording.{HasGathered, IsUnwritten, not_made}
-use Rattle.leasecheck.specs.Refusals.{Begins, EndsWith, MayEnd, refusal_of}
+use Rattle.leasecheck.specs.Refusals.{Begins}
 use Rattle.leasecheck.specs.declared.failure.Failure.{Failure}
 use Rattle.leasecheck.specs.declared.failure.Failure.TheVariants as failure
 use Rattle.leasecheck.specs.declared.recording.Gathered.{Gathered}
-use Rattle.leasecheck.specs.declared.tasks.Task.{Task}
 use Rattle.leasecheck.specs.declared.tasks.Task.TheVariants as task
 
 -- ---- what is written

@@ -1,15 +1,15 @@
 -- What words ask for, from what clap says of them.
-use Rattle.lease_laws.proofs.Words.{◌∙◌, ◌≡◌, ◌≢◌, ◌⊎◌, Err, IfOk, List, Ok, Option, Result, Some, [], ap, inl, inr, refl, subst}
-use Rattle.lease_laws.proofs.Words.{sym, true}
+use Rattle.lease_laws.proofs.Words.{◌∙◌, ◌≡◌, ◌≢◌, ◌⊎◌, Err, IfOk, List, Ok, Result, [], ap, inl, inr, refl, subst}
+use Rattle.lease_laws.proofs.Words.{true}
 use Rattle.std.proofs.Common.{String, Global}
-use Rattle.clap.specs.Words.{App, Row, Text, fault_of, is_simple, is_simple_and_free, kind_of, subcommand_of, subcommand_rows_of}
+use Rattle.clap.specs.Words.{App, Text, fault_of, is_simple, is_simple_and_free, kind_of, subcommand_of, subcommand_rows_of}
 use Rattle.clap.specs.Words.{FailsBy, HasMatchesOf, IsAmong}
 use Rattle.clap.specs.declared.builder.value_parser.ValueParser.{ValueParser}
 use Rattle.clap.specs.declared.error.Error.{Error}
 use Rattle.clap.specs.declared.error.kind.ErrorKind.{ErrorKind}
 use Rattle.clap.specs.declared.error.kind.ErrorKind.TheVariants as error
 use Rattle.clap.specs.declared.parser.matches.ArgMatches.{ArgMatches}
-use Rattle.leasecheck.specs.CommandLine.{Request, TakesKinds, Errs, Parses, AsksFor, IsUsageOf, leasecheck_app, requested_by}
+use Rattle.leasecheck.specs.CommandLine.{TakesKinds, Errs, Parses, IsUsageOf, leasecheck_app}
 use Rattle.leasecheck.specs.declared.tasks.Usage.TheVariants as usage
 
 is_simple_app : (kinds : ValueParser) → is_simple (leasecheck_app kinds) ≡ true

@@ -1,10 +1,12 @@
--- Which words ask for what. By which words an argument is meant, and which words are refused, is said by clap's own definitions; the
--- command that they speak of stands here, and what is asked for by what they find.
-use Rattle.std.specs.Prelude.{◌≡◌, ◌≤◌, ◌⊎◌, ⊤, ℕ, Bool, true, false, List, [], ◌∷◌, map, codes, bytes_eq, if◌then◌else◌, Option, Some, None, option_and_then, option_map, Result, MatchResult}
+-- Which words ask for what. By which words an argument is meant, and which words are refused, is said by clap's own definitions;
+-- the command that they speak of stands here, and what is asked for by what they find.
+use Rattle.std.specs.Prelude.{◌≡◌, ◌≤◌, ◌⊎◌, ⊤, ℕ, Bool, true, false, List, [], ◌∷◌, map, codes, bytes_eq, if◌then◌else◌, Option}
+use Rattle.std.specs.Prelude.{Some, None, option_and_then, option_map, Result, MatchResult}
 use Rattle.std.specs.Borrow.{Bor}
 use Rattle.std.specs.Io.KnownBytes.{Appends}
 use Rattle.std.specs.String.{string_bytes}
-use Rattle.clap.specs.Words.{App, Row, Rule, Shape, Text, fault_of, first_of, kind_of, new_app, new_rule, subcommand_of, subcommand_rows_of, with_rule, with_subcommand, IsAmong}
+use Rattle.clap.specs.Words.{App, Row, Rule, Shape, Text, fault_of, first_of, kind_of, new_app, new_rule, subcommand_of}
+use Rattle.clap.specs.Words.{subcommand_rows_of, with_rule, with_subcommand, IsAmong}
 use Rattle.clap.specs.declared.builder.action.ArgAction.TheVariants.{SetTrue}
 use Rattle.clap.specs.declared.builder.value_parser.ValueParser.{ValueParser}
 use Rattle.clap.specs.declared.builder.value_parser.ValueParser.TheVariants as parser
@@ -37,7 +39,8 @@ kind_words = codes "ask" ∷ codes "reply" ∷ codes "break" ∷ codes "ack" ∷
 
 -- it takes the kinds of `show`, and no other word
 abbrev pub TakesKinds : ValueParser → Type 0
-TakesKinds kinds = (names : Bor (List (Bor Text))) × (kinds ≡ parser.Names names) × (map (λ name. name.now) names.now ≡ kind_words)
+TakesKinds kinds = (names : Bor (List (Bor Text))) × (kinds ≡ parser.Names names)
+    × (map (λ name. name.now) names.now ≡ kind_words)
 
 abbrev pub kind_rule : ValueParser → Rule
 kind_rule kinds = record (needed (codes "KIND")) { parser = Some kinds }

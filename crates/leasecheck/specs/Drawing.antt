@@ -1,5 +1,6 @@
 -- The picture of a record, or of the run of a schedule, and why there is none.
-use Rattle.std.specs.Prelude.{◌≡◌, ◌⊎◌, ℕ, ◌++◌, nat_lt, Bool, true, false, List, length, map, codes, if◌then◌else◌, Option, Some, None, Result, Ok, Err, MatchResult}
+use Rattle.std.specs.Prelude.{◌≡◌, ◌⊎◌, ℕ, ◌++◌, nat_lt, Bool, true, false, List, length, map, codes, if◌then◌else◌, Option, Some}
+use Rattle.std.specs.Prelude.{None, Result, Ok, Err, MatchResult}
 use Rattle.std.specs.String.{string_bytes}
 use Rattle.lease_model.specs.records.Verdict as model
 use Rattle.lease_facts.specs.Facts.{fact_of}

@@ -21,9 +21,11 @@ from_bad text = from_other text
 -- the character that is no digit, by its number from 1, where the argument has one; else how many digits there are
 abbrev pub digit_remark : List ℕ → List ℕ → List ℕ
 digit_remark argument [] =
-    codes "HEX: two digits for each byte; there are " ++ decimal (length (digits_in (without_prefix argument))) ++ codes " digits" ++ 10 ∷ []
+    codes "HEX: two digits for each byte; there are " ++ decimal (length (digits_in (without_prefix argument))) ++ codes " digits"
+    ++ 10 ∷ []
 digit_remark argument (code ∷ rest) =
-    codes "HEX, character " ++ decimal (length argument - length rest) ++ codes ": a hexadecimal digit; it is " ++ quoted (code ∷ []) ++ 10 ∷ []
+    codes "HEX, character " ++ decimal (length argument - length rest) ++ codes ": a hexadecimal digit; it is "
+    ++ quoted (code ∷ []) ++ 10 ∷ []
 
 abbrev pub hex_remark : List ℕ → List ℕ
 hex_remark argument = digit_remark argument (from_bad (without_prefix argument))

@@ -1,5 +1,6 @@
 -- Records that are judged as they are read, block by block.
-use Rattle.std.specs.Prelude.{◌≡◌, ◌⊎◌, ◌++◌, ◌+◌, ◌^◌, ◌≤◌, ℕ, map, List, [], ◌∷◌, length, Option, Some, None, Result, Ok, Err, MatchResult, IfErr, IfSome}
+use Rattle.std.specs.Prelude.{◌≡◌, ◌⊎◌, ◌++◌, ◌+◌, ◌^◌, ◌≤◌, ℕ, map, List, [], ◌∷◌, length, Option, Some, None, Result, Ok, Err}
+use Rattle.std.specs.Prelude.{MatchResult, IfErr, IfSome}
 use Rattle.std.specs.String.{string_bytes}
 use Rattle.lease_model.specs.records.Verdict as model
 use Rattle.lease_facts.specs.Facts.{fact_of}
@@ -45,12 +46,14 @@ RunsOut count told = (told ≡ bare failure.Lines) × (2 ^ 64 ≤ count + 2)
 -- or there are more lines than numbers.
 abbrev pub JudgesText : List ℕ → Result Verdict Refusal → Type 0
 JudgesText text answer = MatchResult answer (λ verdict. IsVerdictOn text verdict)
-    (λ told. (told ≡ bare failure.Memory) ⊎ (told ≡ bare failure.File) ⊎ RunsOut (length text) told ⊎ RefusesLine (lines_of text) told)
+    (λ told. (told ≡ bare failure.Memory) ⊎ (told ≡ bare failure.File) ⊎ RunsOut (length text) told
+    ⊎ RefusesLine (lines_of text) told)
 
 -- The same of a reader's text, where that is known.
 abbrev pub Judges : Option (List ℕ) → Result Verdict Refusal → Type 0
 Judges None answer = IfErr answer
-    (λ told. (told ≡ bare failure.Memory) ⊎ (told ≡ bare failure.File) ⊎ (told ≡ bare failure.Lines) ⊎ ((text : List ℕ) × RefusesLine (lines_of text) told))
+    (λ told. (told ≡ bare failure.Memory) ⊎ (told ≡ bare failure.File) ⊎ (told ≡ bare failure.Lines)
+    ⊎ ((text : List ℕ) × RefusesLine (lines_of text) told))
 Judges (Some text) answer = JudgesText text answer
 
 -- ---- lines
@@ -71,7 +74,8 @@ pub record HasRead (progress : Progress) (lines : List (List ℕ)) : Type 0 wher
 abbrev pub TakesLine : List Fact → List ℕ → ℕ → Result Judging Refusal → Type 0
 TakesLine facts line number answer = MatchResult answer
     (λ judge. (more : List Fact) × (with_line facts line ≡ Some more) × HasJudged judge (map fact_of more))
-    (λ told. (told ≡ bare failure.Memory) ⊎ ((with_line facts line ≡ None) × (told.failure ≡ failure.Line number) × SaysLine number line told))
+    (λ told. (told ≡ bare failure.Memory)
+    ⊎ ((with_line facts line ≡ None) × (told.failure ≡ failure.Line number) × SaysLine number line told))
 
 -- Lines are read after those that were, or one of them is refused.
 abbrev pub ReadsMore : List (List ℕ) → List (List ℕ) → Result Progress Refusal → Type 0
@@ -89,8 +93,8 @@ pub record HasReadText (progress : Progress) (text : List ℕ) : Type 0 where
   pub whole : EndsLine text
   pub read : HasRead progress (lines_of text)
 
--- Behind a text that was read a line had begun, and a block goes on with it: more whole lines were read, and what is left has begun
--- the next one. Or a line is refused, whatever follows.
+-- Behind a text that was read a line had begun, and a block goes on with it: more whole lines were read, and what is left has
+-- begun the next one. Or a line is refused, whatever follows.
 abbrev pub ReadsBlock : List ℕ → List ℕ → List ℕ → List ℕ → Result Progress Refusal → Type 0
 ReadsBlock text old new block answer = MatchResult answer
     (λ progress. (more : List ℕ) × HasReadText progress (text ++ more) × (more ++ new ≡ old ++ block))

@@ -1,5 +1,6 @@
 -- Why a task is refused, and the line that says so.
-use Rattle.std.specs.Prelude.{◌≡◌, ℕ, ◌+◌, ◌^◌, ◌≤◌, ◌++◌, List, [], ◌∷◌, codes, drop, if◌then◌else◌, Option, Some, None, Result, Ok, Err, MatchResult, IfErr, ◌⊎◌, length}
+use Rattle.std.specs.Prelude.{◌≡◌, ℕ, ◌+◌, ◌^◌, ◌≤◌, ◌++◌, List, [], ◌∷◌, codes, drop, if◌then◌else◌, Option, Some, None, Result}
+use Rattle.std.specs.Prelude.{Ok, Err, MatchResult, IfErr, ◌⊎◌, length}
 use Rattle.std.specs.Fmt.{decimal}
 use Rattle.std.specs.Option.{option_map}
 use Rattle.std.specs.Result.{result_err}
@@ -134,7 +135,8 @@ MayEnd asked file failure = (failure ≡ Memory) ⊎ (refusal_of asked file ≡ 
 
 -- An answer to a task is given only where nothing of it is refused.
 abbrev pub AnswersOrRefuses : {X : Type 0} → Task → Option (List ℕ) → Result X Refusal → Type 0
-AnswersOrRefuses asked file answer = MatchResult answer (λ _. refusal_of asked file ≡ None) (λ refusal. MayEnd asked file refusal.failure)
+AnswersOrRefuses asked file answer = MatchResult answer (λ _. refusal_of asked file ≡ None)
+    (λ refusal. MayEnd asked file refusal.failure)
 
 -- What is said after a refusal is about it.
 abbrev pub SaysOf : {X : Type 0} → Task → Option (List ℕ) → Result X Refusal → Type 0
@@ -182,8 +184,8 @@ failure_line failure = failure_text failure ++ 10 ∷ []
 abbrev pub IsSecond : Task → Option (List ℕ) → Failure → List ℕ → Type 0
 IsSecond asked file failure second = (second ≡ []) ⊎ IsRemark asked file failure second
 
--- How a task ends with status 1: it prints what tells so, as that a record is malformed; or it has a failure, whose line is told on
--- the other stream, and after it nothing or the second line about that failure; or a beginning of this.
+-- How a task ends with status 1: it prints what tells so, as that a record is malformed; or it has a failure, whose line is told
+-- on the other stream, and after it nothing or the second line about that failure; or a beginning of this.
 abbrev pub Ends : Task → Option (List ℕ) → Option (List ℕ) → Option (List ℕ) → Option (List ℕ) → Option (List ℕ) → Type 0
 Ends asked file old new faults told =
     (Prints asked file old new 1 × Keeps faults told)

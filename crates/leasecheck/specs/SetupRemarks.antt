@@ -1,5 +1,6 @@
 -- What is said of a schedule that no run accepts.
-use Rattle.std.specs.Prelude.{ℕ, ◌+◌, ◌++◌, nat_lt, bytes_eq, if◌then◌else◌, List, [], ◌∷◌, length, codes, position, Option, Some, None}
+use Rattle.std.specs.Prelude.{ℕ, ◌+◌, ◌++◌, nat_lt, bytes_eq, if◌then◌else◌, List, [], ◌∷◌, length, codes, position, Option, Some}
+use Rattle.std.specs.Prelude.{None}
 use Rattle.std.specs.Fmt.{decimal}
 use Rattle.lease_texts.specs.Schedules.{Draft}
 
@@ -19,7 +20,9 @@ too_many_line what most count =
 
 abbrev pub twins_line : Option (ℕ × ℕ) → Option (List ℕ)
 twins_line None = None
-twins_line (Some pair) = Some (codes "no two clients with one GUID; clients " ++ decimal pair.0 ++ codes " and " ++ decimal pair.1 ++ codes " have one" ++ 10 ∷ [])
+twins_line (Some pair) = Some
+    (codes "no two clients with one GUID; clients " ++ decimal pair.0 ++ codes " and " ++ decimal pair.1 ++ codes " have one"
+    ++ 10 ∷ [])
 
 -- which limit a setup breaks
 abbrev pub setup_remark : Draft → Option (List ℕ)

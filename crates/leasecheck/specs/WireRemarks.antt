@@ -1,5 +1,6 @@
 -- What is said of bytes that are refused.
-use Rattle.std.specs.Prelude.{ℕ, ◌+◌, ◌==◌, ◌++◌, nat_lt, Bool, true, false, if◌then◌else◌, List, [], ◌∷◌, length, codes, Option, Some, None, Result, Ok, Err}
+use Rattle.std.specs.Prelude.{ℕ, ◌+◌, ◌==◌, ◌++◌, nat_lt, Bool, true, false, if◌then◌else◌, List, [], ◌∷◌, length, codes, Option}
+use Rattle.std.specs.Prelude.{Some, None, Result, Ok, Err}
 use Rattle.std.specs.Fmt.{decimal}
 use Rattle.std.specs.Int.RustNames.{bit_and}
 use Rattle.lease_texts.specs.Quoting.{quoted}
@@ -96,7 +97,8 @@ size_line wanted found size = wanted_words wanted ++ stands_words found.0 ++ fou
 
 abbrev pub short_line : Kind → List ℕ
 short_line wanted =
-    kind_words wanted ++ codes ", whose fixed part has " ++ decimal (kind_count wanted) ++ codes " bytes; they end before that" ++ 10 ∷ []
+    kind_words wanted ++ codes ", whose fixed part has " ++ decimal (kind_count wanted) ++ codes " bytes; they end before that"
+    ++ 10 ∷ []
 
 -- without the header nothing says which message it is
 unfoldable pub bare_message_remark : Kind → List ℕ → List ℕ

@@ -1,9 +1,13 @@
 ghost use Rattle.std.specs.Prelude.{◌≡◌, List, codes, false, map, IfErr, IfOk, option_and_then, option_map};
 ghost use Rattle.std.specs.String.{string_bytes};
-ghost use Rattle.clap.specs.Words.{Text, first_of, found_of, kind_of, new_app, rows_of, rule_of, shape_of, subcommand_rows_of, app_of};
+ghost use Rattle.clap.specs.Words.{Text, first_of, found_of, kind_of, new_app, rows_of, rule_of, shape_of, subcommand_rows_of};
+ghost use Rattle.clap.specs.Words.{app_of};
 ghost use Rattle.clap.specs.declared.builder.command.Command.TheViews.{out-Command as fields_of};
 ghost use Rattle.clap.specs.declared.builder.value_parser.ValueParser.{ValueParser};
-ghost use Rattle.leasecheck.specs.CommandLine.{Request, Errs, TakesKinds, Parses, AsksFor, IsUsageOf, needed, flag, kind_rule, ack_app, show_app, replay_app, judge_app, draw_app, bare_app, leasecheck_app, kind_named, telling_of, is_given, judged, replayed, requested, requested_by, request_of, all_words, shown};
+ghost use Rattle.leasecheck.specs.CommandLine.{Request, Errs, TakesKinds, Parses, AsksFor, IsUsageOf, needed, flag, kind_rule};
+ghost use Rattle.leasecheck.specs.CommandLine.{ack_app, show_app, replay_app, judge_app, draw_app, bare_app, leasecheck_app};
+ghost use Rattle.leasecheck.specs.CommandLine.{kind_named, telling_of, is_given, judged, replayed, requested, requested_by};
+ghost use Rattle.leasecheck.specs.CommandLine.{request_of, all_words, shown};
 
 use crate::help;
 use crate::tasks::{Asked, Kind, Task, Telling, Usage, VERSION};
@@ -263,7 +267,8 @@ fn telling_of(given: &ArgMatches) -> Telling
 }
 
 fn ack_asked(alloc: Global, given: &ArgMatches) -> Result<Option<Asked>, AllocError>
-    ensures { IfOk result (λ found. option_map request_of found ≡ option_map Request.Ack (first_of (codes "HEX") (rows_of (found_of given.now)))) }
+    ensures { IfOk result
+        (λ found. option_map request_of found ≡ option_map Request.Ack (first_of (codes "HEX") (rows_of (found_of given.now)))) }
 {
     match owned(alloc, given, "HEX")? {
         Some(argument) => Ok(Some(Asked::Task(Task::Ack(argument)))),
@@ -273,7 +278,8 @@ fn ack_asked(alloc: Global, given: &ArgMatches) -> Result<Option<Asked>, AllocEr
 
 fn show_asked(alloc: Global, given: &ArgMatches) -> Result<Option<Asked>, AllocError>
     ensures { IfOk result (λ found. option_map request_of found
-        ≡ shown (option_and_then kind_named (first_of (codes "KIND") (rows_of (found_of given.now)))) (first_of (codes "HEX") (rows_of (found_of given.now)))) }
+        ≡ shown (option_and_then kind_named (first_of (codes "KIND") (rows_of (found_of given.now))))
+        (first_of (codes "HEX") (rows_of (found_of given.now)))) }
 {
     let Some(kind) = shown_kind(given) else {
         return Ok(None);
@@ -286,7 +292,8 @@ fn show_asked(alloc: Global, given: &ArgMatches) -> Result<Option<Asked>, AllocE
 
 fn replay_asked(alloc: Global, given: &ArgMatches) -> Result<Option<Asked>, AllocError>
     ensures { IfOk result (λ found. option_map request_of found
-        ≡ replayed (telling_of (is_given (first_of (codes "messages") (rows_of (found_of given.now))))) (first_of (codes "FILE") (rows_of (found_of given.now)))) }
+        ≡ replayed (telling_of (is_given (first_of (codes "messages") (rows_of (found_of given.now)))))
+        (first_of (codes "FILE") (rows_of (found_of given.now)))) }
 {
     let telling = telling_of(given);
     match owned(alloc, given, "FILE")? {
@@ -314,7 +321,9 @@ fn judge_asked(alloc: Global, given: &ArgMatches) -> Result<Option<Asked>, Alloc
 }
 
 fn draw_asked(alloc: Global, given: &ArgMatches) -> Result<Option<Asked>, AllocError>
-    ensures { IfOk result (λ found. option_map request_of found ≡ option_map Request.Draw (first_of (codes "FILE") (rows_of (found_of given.now)))) }
+    ensures { IfOk result
+        (λ found. option_map request_of found
+        ≡ option_map Request.Draw (first_of (codes "FILE") (rows_of (found_of given.now)))) }
 {
     match owned(alloc, given, "FILE")? {
         Some(path) => Ok(Some(Asked::Task(Task::Draw(path)))),

@@ -33,7 +33,8 @@ fn answer_line<O: Write>(
     out: &mut O,
 ) -> Result<Machines, Failure>
     ensures answered { MatchResult result
-        (λ after. HasSpoken (answered (machines_of machines) number line.now) (machines_of after) (O.contents out.old) (O.contents out.new))
+        (λ after. HasSpoken (answered (machines_of machines) number line.now) (machines_of after) (O.contents out.old)
+        (O.contents out.new))
         (λ _. Begins (O.contents out.old) (O.contents out.new) (answered (machines_of machines) number line.now).text) }
     ensures failed { IfErr result EndsSpeaking }
 {

@@ -1,4 +1,5 @@
-ghost use Rattle.std.specs.Prelude.{◌≡◌, ◌⊎◌, ◌++◌, ℕ, List, map, length, Some, None, Ok, Err, MatchResult, IfOk, IfErr, OnOk, IfSome};
+ghost use Rattle.std.specs.Prelude.{◌≡◌, ◌⊎◌, ◌++◌, ℕ, List, map, length, Some, None, Ok, Err, MatchResult, IfOk, IfErr, OnOk};
+ghost use Rattle.std.specs.Prelude.{IfSome};
 ghost use Rattle.std.specs.String.{string_bytes};
 ghost use Rattle.lease_facts.specs.Facts.{fact_of};
 ghost use Rattle.lease_texts.specs.Drafts.{draft_of};
@@ -98,7 +99,8 @@ fn run_drawn(alloc: Global, schedule: &Schedule) -> Result<String, Refusal>
     Ok(text)
 }
 
-// The picture of the run of a schedule that the text is, where it isn't the record that its line of this number keeps it from being.
+// The picture of the run of a schedule that the text is, where it isn't the record that its line of this number keeps it from
+// being.
 fn draw_schedule(
     alloc: Global,
     text: &[u8],

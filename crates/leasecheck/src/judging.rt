@@ -5,7 +5,8 @@ ghost use Rattle.lease_facts.specs.Facts.{fact_of};
 ghost use Rattle.lease_facts.specs.declared.fact.Fact.{Fact};
 ghost use Rattle.lease_world.specs.judge.Judged.{HasJudged};
 ghost use Rattle.lease_texts.specs.Pieces.{lines_of};
-ghost use Rattle.leasecheck.specs.Judging.{changed_to, HasRead, HasReadText, TakesLine, ReadsMore, ReadsBlock, JudgesText, Judges};
+ghost use Rattle.leasecheck.specs.Judging.{changed_to, HasRead, HasReadText, TakesLine, ReadsMore, ReadsBlock, JudgesText};
+ghost use Rattle.leasecheck.specs.Judging.{Judges};
 ghost use Rattle.leasecheck.specs.Replayed.{verdict_line, status_of};
 
 use crate::failure::Failure;
@@ -206,8 +207,8 @@ fn new_block(alloc: Global) -> Result<Vec<u8>, AllocError>
 ///
 /// # Errors
 ///
-/// `Line` with the number of the first line that is refused, and what is said of that, `File` where the reader fails, `Memory` where
-/// there is none left, and `Lines` where there are more lines than numbers of 64 bits.
+/// `Line` with the number of the first line that is refused, and what is said of that, `File` where the reader fails, `Memory`
+/// where there is none left, and `Lines` where there are more lines than numbers of 64 bits.
 pub fn judge_text<I: Read>(alloc: Global, input: &mut I) -> Result<Verdict, Refusal>
     ensures { Judges (I.remaining input.old) result }
 {

@@ -1,4 +1,5 @@
-ghost use Rattle.std.specs.Prelude.{◌≡◌, ◌≢◌, ◌≤◌, ◌⊎◌, ◌++◌, ℕ, List, Ok, Some, None, MatchResult, IfSome, IfOk, IfErr, IsSome, OnOk, length, take};
+ghost use Rattle.std.specs.Prelude.{◌≡◌, ◌≢◌, ◌≤◌, ◌⊎◌, ◌++◌, ℕ, List, Ok, Some, None, MatchResult, IfSome, IfOk, IfErr, IsSome};
+ghost use Rattle.std.specs.Prelude.{OnOk, length, take};
 ghost use Rattle.std.specs.String.{string_bytes};
 ghost use Rattle.std.specs.Io.KnownBytes.{Appends, Keeps};
 ghost use Rattle.leasecheck.specs.Printed.{IsTextOf, Prints};
@@ -14,9 +15,12 @@ ghost use Rattle.leasecheck.specs.Answer.{AnswersWith};
 ghost use Rattle.leasecheck.specs.Arguments.{argument_bytes};
 ghost use Rattle.leasecheck.specs.Shown.{Shows};
 ghost use Rattle.leasecheck.specs.WireRemarks.{bare_remark, shown_remark};
-ghost use Rattle.leasecheck.specs.Remarks.{Says, IsArgumentRemark, IsFileRemark, IsDrawingRemark, record_remark, schedule_remark, second_of};
+ghost use Rattle.leasecheck.specs.Remarks.{Says, IsArgumentRemark, IsFileRemark, IsDrawingRemark, record_remark, schedule_remark};
+ghost use Rattle.leasecheck.specs.Remarks.{second_of};
 ghost use Rattle.leasecheck.specs.declared.tasks.Kind.TheVariants as kind;
-ghost use Rattle.leasecheck.specs.Refusals.{AnswersOrRefuses, SaysOf, RefusesArgument, shown_fault, EndsWith, Ends, Begins, Puts, MayEndReplay, MayEndDrawing, MayEndJudging, drawing_refusal, known_refusal, judge_refusal, refusal_of, failure_line};
+ghost use Rattle.leasecheck.specs.Refusals.{AnswersOrRefuses, SaysOf, RefusesArgument, shown_fault, EndsWith, Ends, Begins, Puts};
+ghost use Rattle.leasecheck.specs.Refusals.{MayEndReplay, MayEndDrawing, MayEndJudging, drawing_refusal, known_refusal};
+ghost use Rattle.leasecheck.specs.Refusals.{judge_refusal, refusal_of, failure_line};
 
 use crate::drawing::draw_text;
 use crate::explaining::explain_text;
@@ -216,7 +220,8 @@ pub(crate) fn put<W: Write>(text: &[u8], out: &mut W) -> Result<(), Failure>
 
 pub(crate) fn print_text<O: Write>(text: &str, out: &mut O) -> Result<(), Failure>
     ensures ok { OnOk result (Appends (O.contents out.old) (O.contents out.new) text.now) }
-    ensures refused { IfErr result (λ failure. (failure ≡ Failure.Output) × Begins (O.contents out.old) (O.contents out.new) text.now) }
+    ensures refused { IfErr result
+        (λ failure. (failure ≡ Failure.Output) × Begins (O.contents out.old) (O.contents out.new) text.now) }
 {
     put(text.as_bytes(), out)?;
     out.flush().map_err(|_| Failure::Output)?;
@@ -227,7 +232,8 @@ pub(crate) fn print_text<O: Write>(text: &str, out: &mut O) -> Result<(), Failur
 fn print_made<O: Write>(alloc: Global, made: &Made, out: &mut O) -> Result<u8, Failure>
     ensures written { IfOk result (λ status. (status ≡ status_made made.now)
         × Appends (O.contents out.old) (O.contents out.new) (text_made made.now)) }
-    ensures failed { IfErr result (λ failure. IsUnwritten failure (O.contents out.old) (O.contents out.new) (text_made made.now)) }
+    ensures failed { IfErr result
+        (λ failure. IsUnwritten failure (O.contents out.old) (O.contents out.new) (text_made made.now)) }
 {
     match made {
         Made::Text(printed) => {
@@ -248,9 +254,11 @@ fn print_task<I: Read, O: Write>(
     input: &mut I,
     out: &mut O,
 ) -> Result<u8, Refusal>
-    ensures printed { IfOk result (λ status. Prints task.now (I.remaining input.old) (O.contents out.old) (O.contents out.new) status) }
+    ensures printed { IfOk result
+        (λ status. Prints task.now (I.remaining input.old) (O.contents out.old) (O.contents out.new) status) }
     ensures accepted { OnOk result (refusal_of task.now (I.remaining input.old) ≡ None) }
-    ensures refused { IfErr result (λ refusal. EndsWith task.now (I.remaining input.old) (O.contents out.old) (O.contents out.new) refusal.failure) }
+    ensures refused { IfErr result
+        (λ refusal. EndsWith task.now (I.remaining input.old) (O.contents out.old) (O.contents out.new) refusal.failure) }
     ensures said { SaysOf task.now (I.remaining input.old) result }
 {
     let made = make(alloc, task, input)?;

@@ -59,7 +59,8 @@ fn perform_on_file<R: Files + Input + AllocGlobal, O: Write, F: Write>(
 ) -> u8
     ensures silent { result ≢ 1 → Keeps (F.contents faults.old) (F.contents faults.new) }
     ensures status { (result ≤ 1) ⊎ (result ≡ 3) }
-    ensures printed { result ≢ 1 → (file : Option (List ℕ)) × Prints asked.now file (O.contents out.old) (O.contents out.new) result }
+    ensures printed { result ≢ 1 → (file : Option (List ℕ))
+        × Prints asked.now file (O.contents out.old) (O.contents out.new) result }
 {
     let alloc = rt.alloc();
     match asked.path() {

@@ -1,5 +1,5 @@
-//! Worked examples of `lease_reasons`, `reason_texts` and `record_pictures`, as tests. They stand apart from these, so that each is
-//! proved once and not a second time with them.
+//! Worked examples of `lease_reasons`, `reason_texts` and `record_pictures`, as tests. They stand apart from these, so that each
+//! is proved once and not a second time with them.
 #![tactic(auto)]
 
 #[cfg(test)]

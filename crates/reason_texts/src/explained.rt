@@ -4,7 +4,8 @@ ghost use Rattle.std.specs.String.{string_bytes};
 ghost use Rattle.lease_facts.specs.Facts.{fact_of};
 ghost use Rattle.lease_model.specs.records.Verdict as verdicts;
 ghost use Rattle.lease_world.specs.Verdicts.{verdict_of};
-ghost use Rattle.reason_texts.specs.Explained.{unjoined_line, strayed_line, count_line, extent_lines, bad_place, lines_behind, bad_lines, IsExplained};
+ghost use Rattle.reason_texts.specs.Explained.{unjoined_line, strayed_line, count_line, extent_lines, bad_place, lines_behind};
+ghost use Rattle.reason_texts.specs.Explained.{bad_lines, IsExplained};
 
 use crate::placed::Placed;
 use crate::reason_words::{push_place, push_reason};

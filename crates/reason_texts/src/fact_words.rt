@@ -1,7 +1,8 @@
 ghost use Rattle.std.specs.Prelude.{◌≡◌, ◌++◌, OnOk, ◌≤◌, length, take};
 ghost use Rattle.std.specs.String.{string_bytes};
 ghost use Rattle.lease_texts.specs.Records.{outcome_word};
-ghost use Rattle.reason_texts.specs.FactWords.{shown_bytes, shown_patch, changed_words, wrote_words, started_words, read_words, way_words, deed_words, fact_words};
+ghost use Rattle.reason_texts.specs.FactWords.{shown_bytes, shown_patch, changed_words, wrote_words, started_words, read_words};
+ghost use Rattle.reason_texts.specs.FactWords.{way_words, deed_words, fact_words};
 ghost use Rattle.lease_facts.specs.declared.fact.Fact.TheVariants as fact;
 
 use lease_client::Settlement;

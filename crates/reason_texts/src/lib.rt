@@ -1,4 +1,5 @@
-//! What is said of a verdict on a record of SMB 2.1 leases: the facts that make it so, each with the number of its line, in words.
+//! What is said of a verdict on a record of SMB 2.1 leases: the facts that make it so, each with the number of its line, in
+//! words.
 #![tactic(auto)]
 
 mod explained;

@@ -1,4 +1,5 @@
-ghost use Rattle.std.specs.Prelude.{◌≡◌, ◌⊎◌, ◌++◌, ◌∷◌, [], ◌+◌, ℕ, Some, None, MatchResult, OnOk, if◌then◌else◌, ◌-◌, slice_get};
+ghost use Rattle.std.specs.Prelude.{◌≡◌, ◌⊎◌, ◌++◌, ◌∷◌, [], ◌+◌, ℕ, Some, None, MatchResult, OnOk, if◌then◌else◌, ◌-◌};
+ghost use Rattle.std.specs.Prelude.{slice_get};
 ghost use Rattle.std.specs.Option.{option_copied};
 ghost use Rattle.lease_texts.specs.Reading.{is_passed_over};
 ghost use Rattle.lease_texts.specs.Records.{fact_in, with_line};

@@ -1,7 +1,8 @@
 ghost use Rattle.std.specs.Prelude.{◌≡◌, ◌++◌, OnOk, codes};
 ghost use Rattle.std.specs.String.{string_bytes};
 ghost use Rattle.std.specs.Option.{option_copied};
-ghost use Rattle.reason_texts.specs.ReasonWords.{words_of, place_line, place_line_if, other_line, unanswered_line, waiting_lines, expected_lines, reason_lines};
+ghost use Rattle.reason_texts.specs.ReasonWords.{words_of, place_line, place_line_if, other_line, unanswered_line, waiting_lines};
+ghost use Rattle.reason_texts.specs.ReasonWords.{expected_lines, reason_lines};
 
 use crate::fact_words::{push_bytes, push_fact_words, push_words};
 use crate::placed::Placed;
@@ -62,7 +63,8 @@ fn push_other(
     told: usize,
     place: usize,
 ) -> Result<(), AllocError>
-    ensures { OnOk result (string_bytes text.new ≡ string_bytes text.old ++ other_line placed.now told place (codes ", since here")) }
+    ensures { OnOk result
+        (string_bytes text.new ≡ string_bytes text.old ++ other_line placed.now told place (codes ", since here")) }
 {
     if place == told {
         return Ok(());

@@ -49,8 +49,8 @@ rectangle_text seen at size =
 
 unfoldable pub circle_text : Look → Point → List ℕ
 circle_text seen at =
-    codes "<circle r='5' class='" ++ (look_word seen ++ (codes "' cx='" ++ (decimal at.x ++ (codes "' cy='" ++ (decimal at.y ++ (codes
-    "'/>" ++ (10 ∷ [])))))))
+    codes "<circle r='5' class='" ++ (look_word seen ++ (codes "' cx='" ++ (decimal at.x ++ (codes "' cy='" ++ (decimal at.y
+    ++ (codes "'/>" ++ (10 ∷ [])))))))
 
 unfoldable pub words_begin : Look → Point → List ℕ
 words_begin seen at =
@@ -75,7 +75,8 @@ caption_begin place kind bad =
 -- what a mark begins with: its fact, by its place, its kind and in words
 unfoldable pub caption_text : Caption → List ℕ
 caption_text caption =
-    caption_begin caption.place (kind_word caption.kind) (badness caption.is_bad) ++ (flat_map escaped (string_bytes caption.words)
+    caption_begin caption.place (kind_word caption.kind) (badness caption.is_bad)
+    ++ (flat_map escaped (string_bytes caption.words)
     ++ (codes "</title>" ++ (10 ∷ [])))
 
 unfoldable pub mark_text : Mark → List ℕ
@@ -102,14 +103,17 @@ size_text size =
 unfoldable pub style_text : List ℕ
 style_text =
     codes "<style>text {font: 12px sans-serif; paint-order: stroke; stroke: #fff; stroke-width: 3px}" ++ ((10 ∷ [])
-    ++ (codes ".heading {font-size: 15px; font-weight: bold} .number {fill: #777} .paper {fill: #fff} .row {fill: #e53935; fill-opacity: 0.2}" ++ ((10 ∷ [])
+    ++ (codes ".heading {font-size: 15px; font-weight: bold} .number {fill: #777} .paper {fill: #fff}"
+    ++ (codes " .row {fill: #e53935; fill-opacity: 0.2}" ++ ((10 ∷ [])
     ++ (codes ".bad text {fill: #b00020; font-weight: bold} .bad circle {stroke: #b00020; stroke-width: 3}" ++ ((10 ∷ [])
     ++ (codes ".lane {stroke: #ccc; stroke-dasharray: 2 4} .connection {stroke: #333; stroke-width: 2}" ++ ((10 ∷ [])
-    ++ (codes ".message {stroke: #1565c0; marker-end: url(#arrow)} .caching {fill: #a5d6a7} .writecaching {fill: #ffb74d}" ++ ((10 ∷ [])
+    ++ (codes ".message {stroke: #1565c0; marker-end: url(#arrow)} .caching {fill: #a5d6a7} .writecaching {fill: #ffb74d}"
+    ++ ((10 ∷ [])
     ++ (codes ".event {fill: #333} .accepted {fill: #6a1b9a} .cachedread {fill: #2e7d32}" ++ ((10 ∷ [])
     ++ (codes ".loss, .stray {fill: #fff; stroke: #b00020; stroke-width: 2}</style>" ++ ((10 ∷ [])
     ++ (codes "<defs><marker id='arrow' markerWidth='9' markerHeight='8' refX='13' refY='4' orient='auto'>" ++ ((10 ∷ [])
-    ++ (codes "<path d='M0,0 L9,4 L0,8 z' fill='#1565c0'/></marker></defs><rect class='paper' width='100%' height='100%'/>" ++ ((10 ∷ []))))))))))))))))))
+    ++ (codes "<path d='M0,0 L9,4 L0,8 z' fill='#1565c0'/></marker></defs><rect class='paper' width='100%' height='100%'/>"
+    ++ ((10 ∷ [])))))))))))))))))))
 
 -- a picture: the lanes, then a group for each mark, then the notes
 abbrev pub picture_text : Picture → List ℕ

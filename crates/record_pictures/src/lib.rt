@@ -1,7 +1,7 @@
 //! Pictures of records of SMB 2.1 leases: sequence pictures as SVG, with a mark for each fact.
 //!
-//! [`picture_of`] lays the facts of a record out, and [`push_picture`] writes the picture as text. Time runs down. Each client has a
-//! lane, and so has the server, in the middle.
+//! [`picture_of`] lays the facts of a record out, and [`push_picture`] writes the picture as text. Time runs down. Each client
+//! has a lane, and so has the server, in the middle.
 #![tactic(auto)]
 
 mod captions;

@@ -2,7 +2,9 @@ ghost use Rattle.std.specs.Prelude.{◌≡◌, ◌≢◌, ◌++◌, ◌∷◌, [
 ghost use Rattle.std.specs.List.{flat_map};
 ghost use Rattle.std.specs.String.{string_bytes};
 ghost use Rattle.lease_texts.specs.Pieces.{lines_of};
-ghost use Rattle.record_pictures.specs.Svg.{escaped, look_word, line_text, rectangle_text, circle_text, words_begin, shape_text, badness, caption_begin, caption_text, mark_text, note_begin, note_text, notes_text, size_text, style_text, picture_text};
+ghost use Rattle.record_pictures.specs.Svg.{escaped, look_word, line_text, rectangle_text, circle_text, words_begin, shape_text};
+ghost use Rattle.record_pictures.specs.Svg.{badness, caption_begin, caption_text, mark_text, note_begin, note_text, notes_text};
+ghost use Rattle.record_pictures.specs.Svg.{size_text, style_text, picture_text};
 
 use crate::picture::{Caption, Mark, Picture};
 use crate::shape::{Look, Point, Shape, Size};
@@ -231,8 +233,9 @@ fn push_style(text: &mut String) -> Result<(), AllocError>
         "<style>text {font: 12px sans-serif; paint-order: stroke; stroke: #fff; stroke-width: 3px}\n",
     )?;
     text.push_str(
-        ".heading {font-size: 15px; font-weight: bold} .number {fill: #777} .paper {fill: #fff} .row {fill: #e53935; fill-opacity: 0.2}\n",
+        ".heading {font-size: 15px; font-weight: bold} .number {fill: #777} .paper {fill: #fff}",
     )?;
+    text.push_str(" .row {fill: #e53935; fill-opacity: 0.2}\n")?;
     text.push_str(
         ".bad text {fill: #b00020; font-weight: bold} .bad circle {stroke: #b00020; stroke-width: 3}\n",
     )?;

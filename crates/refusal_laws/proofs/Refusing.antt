@@ -1,15 +1,15 @@
 -- A try changes no content, and closes only opens that aren't connected, of keys that it wants.
-use Rattle.lease_laws.proofs.Words.{◌++◌, ◌∙◌, ◌∷◌, ◌≡◌, Among, Err, FileRequest, Finding, Key, List, Ok, Open}
+use Rattle.lease_laws.proofs.Words.{◌++◌, ◌∙◌, ◌∷◌, ◌≡◌, Among, Err, FileRequest, Key, List, Ok, Open}
 use Rattle.lease_laws.proofs.Words.{Option, Out, Outcome, Progress, Reply, Server, State, Status, Tried}
-use Rattle.lease_laws.proofs.Words.{None, Some, Want, ℕ, ⊎_elim, [], acknowledged, after_breaks, after_finding, all_passes}
+use Rattle.lease_laws.proofs.Words.{None, Some, Want, ℕ, ⊎_elim, [], acknowledged, all_passes}
 use Rattle.lease_laws.proofs.Words.{ap, arith, arrived_on, begun, concluded}
-use Rattle.lease_laws.proofs.Words.{ended, false, file_asked, finding, has_key}
-use Rattle.lease_laws.proofs.Words.{inl, inr, is_behind, is_left_open, is_ready}
+use Rattle.lease_laws.proofs.Words.{ended, false, file_asked, has_key}
+use Rattle.lease_laws.proofs.Words.{inl, inr, is_behind, is_left_open}
 use Rattle.lease_laws.proofs.Words.{lease_broken, must_wait}
 use Rattle.lease_laws.proofs.Words.{not, opens_dropped, refl, refusal_of, replied, subst, suc, sym, tried}
 use Rattle.lease_laws.proofs.Words.{LeaseOf, file_request_arrived, tried_for, true, want_met, wants_met}
-use Rattle.lease_laws.proofs.Words.{connected_open, file_of_open, zero}
-use Rattle.lease_laws.proofs.server.Lists.{if_cases, either, and_parts, not_parts, among_filter, among_filtered}
+use Rattle.lease_laws.proofs.Words.{connected_open, file_of_open}
+use Rattle.lease_laws.proofs.server.Lists.{either, and_parts, not_parts, among_filter, among_filtered}
 use Rattle.lease_laws.proofs.server.Met.{lease_broken-opens}
 use Rattle.lease_laws.proofs.server.cases.Calls.{judges, receives}
 use Rattle.lease_laws.proofs.server.cases.Judgements.{any_judgement}

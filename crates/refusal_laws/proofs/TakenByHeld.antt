@@ -1,14 +1,14 @@
 -- What passes over held requests change is the doing of these requests.
-use Rattle.lease_laws.proofs.Words.{◌++◌, ◌==◌, ◌∙◌, ◌∷◌, ◌≡◌, Access, Among, Bool, FileRequest, Held, Lease, LeaseOf, List}
-use Rattle.lease_laws.proofs.Words.{None, Open, Option, Outcome, Pass, Progress, Server, Share, Some, ℕ, ⊎_elim, []}
+use Rattle.lease_laws.proofs.Words.{◌++◌, ◌==◌, ◌∙◌, ◌∷◌, ◌≡◌, Among, FileRequest, Held, Lease, LeaseOf, List}
+use Rattle.lease_laws.proofs.Words.{Open, Option, Outcome, Pass, Progress, Server, ℕ, ⊎_elim, []}
 use Rattle.lease_laws.proofs.Words.{answered, ap, append_assoc, arith, changed, closed, concluded, connected_again}
-use Rattle.lease_laws.proofs.Words.{connected_open, created, eq-eqb, eqb-true, false, granted, granted_with, held_left, inl, inr}
-use Rattle.lease_laws.proofs.Words.{last_file_id, lease_after, lease_put, left_waiting, map, not}
-use Rattle.lease_laws.proofs.Words.{on_open, pass_answered}
-use Rattle.lease_laws.proofs.Words.{put, read_done, refl, replied, subst, sym, tried, tried_again}
+use Rattle.lease_laws.proofs.Words.{eq-eqb, eqb-true, false, granted, held_left, inl, inr}
+use Rattle.lease_laws.proofs.Words.{lease_after, lease_put, left_waiting, map, not}
+use Rattle.lease_laws.proofs.Words.{pass_answered}
+use Rattle.lease_laws.proofs.Words.{put, refl, subst, sym, tried, tried_again}
 use Rattle.lease_laws.proofs.client.Thin.{put_same, put_other}
 use Rattle.lease_laws.proofs.server.Held.{concluded-held, tried_for-held}
-use Rattle.lease_laws.proofs.server.Lists.{if_cases, either, clash, among_append, among_before, among_behind, among_filtered}
+use Rattle.lease_laws.proofs.server.Lists.{either, clash, among_append, among_before, among_behind, among_filtered}
 use Rattle.lease_laws.proofs.server.cases.Passes.{HasPasses, any_passes, any_try_again}
 use Rattle.lease_laws.proofs.server.cases.Ends.{any_end}
 use Rattle.lease_state.specs.Content.{patch as patched}

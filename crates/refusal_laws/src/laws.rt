@@ -1,4 +1,6 @@
-ghost use Rattle.refusal_laws.specs.Refusals.{CallsOfRefusedAcknowledgments, CallsRefusedAsTheyCome, CallsRefusedOnceTried, ClosesAreRefusedAsTheyCome, PassesAreOfHeld, RefusedAcknowledgments, RefusedAsTheyCome, RefusedOnceTried};
+ghost use Rattle.refusal_laws.specs.Refusals.{CallsOfRefusedAcknowledgments, CallsRefusedAsTheyCome, CallsRefusedOnceTried};
+ghost use Rattle.refusal_laws.specs.Refusals.{ClosesAreRefusedAsTheyCome, PassesAreOfHeld, RefusedAcknowledgments};
+ghost use Rattle.refusal_laws.specs.Refusals.{RefusedAsTheyCome, RefusedOnceTried};
 
 /// A request that is refused changes no content, and takes away no open but those that its own
 /// breaks closed: those that aren't connected and whose key is wanted in a round of its try. One

@@ -5,7 +5,7 @@ use Rattle.lease_model.specs.server.Progress.{Progress}
 use Rattle.lease_model.specs.server.State as model
 use Rattle.share_server.specs.Outs.{IsAfter}
 use Rattle.share_server.specs.Table.{Table, server_of}
-use Rattle.share_server.specs.declared.out.Out.{Out}
+use Rattle.share_server.specs.declared.values.out.Out.{Out}
 use Rattle.server_c.specs.declared.files.Files.{Files}
 use Rattle.server_c.specs.declared.handle.Hosted.{Hosted}
 

@@ -2,7 +2,7 @@
 use Rattle.std.specs.Prelude.{ℕ, List, [], length, replicate}
 use Rattle.lease_state.specs.Status.{code_of}
 use Rattle.lease_state.specs.declared.reply.Reply as reply
-use Rattle.share_server.specs.declared.out.Out as out
+use Rattle.share_server.specs.declared.values.out.Out as out
 use Rattle.server_c.specs.declared.out.ServerOut.{ServerOut}
 
 -- a message about an open

@@ -1,6 +1,6 @@
 -- Records and summaries together agree with the list of opens.
 use Rattle.lease_laws.proofs.Words.{◌∙◌, ◌≡◌, Bool, FileNo, Key, List, None, Open, Option, Some, ℕ, ap, arith, false, get}
-use Rattle.lease_laws.proofs.Words.{has_key, if◌then◌else◌, key_eq, key_of_open, list_any, no_lease, not, refl, subst, sym, true}
+use Rattle.lease_laws.proofs.Words.{has_key, if◌then◌else◌, key_eq, key_of_open, list_any, not, refl, subst, sym, true}
 use Rattle.lease_laws.proofs.Words.{true≢false}
 use Rattle.lease_laws.proofs.server.Keys.{key_eq-same}
 use Rattle.lease_model.specs.server.State as model
@@ -9,11 +9,11 @@ use Rattle.share_server.specs.KeyOrder.{key_order}
 use Rattle.share_server.specs.Leases.{lease_of}
 use Rattle.share_server.specs.Looks.{is_elsewhere}
 use Rattle.share_server.specs.Summaries.{Agrees, IsPut, IsRecord, AreAfter, IsAtHome, RecordFits, SummaryFits, record_at}
-use Rattle.share_server.specs.Summaries.{summary_at, lease_in, lease_or_none, has_key_on, file_order}
-use Rattle.share_server.specs.declared.lease.Lease.{Lease}
-use Rattle.share_server.specs.declared.lease_marks.LeaseMarks.{LeaseMarks}
-use Rattle.share_server.specs.declared.summaries.LeaseRecord.{LeaseRecord}
-use Rattle.share_server.specs.declared.summaries.Summaries.{Summaries}
+use Rattle.share_server.specs.Summaries.{summary_at, lease_in, lease_or_none, has_key_on}
+use Rattle.share_server.specs.declared.values.lease.Lease.{Lease}
+use Rattle.share_server.specs.declared.tables.lease_marks.LeaseMarks.{LeaseMarks}
+use Rattle.share_server.specs.declared.tables.summaries.LeaseRecord.{LeaseRecord}
+use Rattle.share_server.specs.declared.tables.summaries.Summaries.{Summaries}
 use Rattle.share_server.proofs.Ordering.{has_key_own, has_key_none}
 use Rattle.share_server.proofs.Recording.{on_file_alike}
 

@@ -1,8 +1,7 @@
 -- A write is tried as any other on its open that ends within the limit, or doesn't, as it does.
-use Rattle.lease_laws.proofs.Words.{◌∙◌, ◌≡◌, Bool, FileRequest, Finding, Open, Option, Patch, Progress, Server, Status, Tried, ℕ}
-use Rattle.lease_laws.proofs.Words.{after_finding, all_wants, ap, arith, by_open, connected_open, false, finding, if◌then◌else◌}
-use Rattle.lease_laws.proofs.Words.{is_ready, is_within_limit, key_of_open, may_write, refl, suc, sym, tried, tried_for, true}
-use Rattle.lease_laws.proofs.Words.{waits_for, wants_met, write_finding, zero}
+use Rattle.lease_laws.proofs.Words.{◌∙◌, ◌≡◌, Bool, FileRequest, Finding, Open, Option, Patch, Progress, Server, Status, ℕ}
+use Rattle.lease_laws.proofs.Words.{all_wants, ap, arith, by_open, connected_open, finding, if◌then◌else◌}
+use Rattle.lease_laws.proofs.Words.{is_within_limit, key_of_open, may_write, sym, tried, tried_for}
 use Rattle.lease_laws.proofs.server.cases.Findings.{look_for_write}
 use Rattle.lease_laws.proofs.server.cases.Tries.{any_rounds, no_round, round_ends, round_fails, round_goes_on, round_waits}
 use Rattle.share_server.specs.Requests.{patch_like}

@@ -1,7 +1,7 @@
 -- A request that comes and has to wait.
 use Rattle.lease_laws.proofs.Words.{◌++◌, ◌∙◌, ◌∷◌, ◌≡◌, Access, Err, FileRequest, List, Ok, Out, Outcome, Progress, Reply}
 use Rattle.lease_laws.proofs.Words.{Result, Server, Share, Status, Tried, ℕ, [], after_first_try, ap, arith, arrived_on}
-use Rattle.lease_laws.proofs.Words.{ask_found, ended, false, file_asked, held_of, is_behind, put, refl, refused, request_held}
+use Rattle.lease_laws.proofs.Words.{ask_found, ended, false, held_of, is_behind, put, request_held}
 use Rattle.lease_laws.proofs.Words.{sym, tried, true}
 use Rattle.lease_wire.specs.Names.{CreateView}
 use Rattle.lease_wire.specs.declared.fault.WireFault.{WireFault}

@@ -1,12 +1,12 @@
 -- What lease records and file summaries tell of the opens that they agree with.
 use Rattle.lease_laws.proofs.Words.{◌&&◌, ◌==◌, ◌∷◌, ◌≡◌, Access, Key, Lease, List, None, Open, Option, Share, Some, ℕ, [], arith}
 use Rattle.lease_laws.proofs.Words.{conflict, conflicts_on, false, has_key, has_own_key, is_other_on, is_some, list_any}
-use Rattle.lease_laws.proofs.Words.{nat_tests, not, subst, sym}
+use Rattle.lease_laws.proofs.Words.{not, subst, sym}
 use Rattle.share_server.specs.Looks.{is_elsewhere}
 use Rattle.share_server.specs.Summaries.{RecordFits, IsRecord, SummaryFits, IsSummary, is_on}
 use Rattle.share_server.specs.Tallies.{tally_conflicts}
-use Rattle.share_server.specs.declared.file_summary.FileSummary.{FileSummary}
-use Rattle.share_server.specs.declared.summaries.LeaseRecord.{LeaseRecord}
+use Rattle.share_server.specs.declared.tables.file_summary.FileSummary.{FileSummary}
+use Rattle.share_server.specs.declared.tables.summaries.LeaseRecord.{LeaseRecord}
 use Rattle.share_server.proofs.Tallies.{none_both, conflicts_are}
 
 pub is_known : (key : Key) (opens : List Open) (known : Option LeaseRecord) → RecordFits key opens known

@@ -1,11 +1,10 @@
 -- Small steps of a try, from what they make of the tables.
-use Rattle.lease_laws.proofs.Words.{◌&&◌, ◌++◌, ◌∙◌, ◌∷◌, ◌≡◌, ◌⊎◌, Bool, Key, Lease, List, None, Open, Out, Progress, Reply}
-use Rattle.lease_laws.proofs.Words.{Server, Some, State, ℕ, [], ap, append-nil, arith, break_begun, break_notice, false}
-use Rattle.lease_laws.proofs.Words.{has_lease, if◌then◌else◌, inl, inr, is_breaking, lease_broken, lease_lowered}
+use Rattle.lease_laws.proofs.Words.{◌&&◌, ◌++◌, ◌∙◌, ◌∷◌, ◌≡◌, ◌⊎◌, Bool, Key, Lease, List, Open, Out, Progress, Reply}
+use Rattle.lease_laws.proofs.Words.{Server, State, ℕ, [], ap, append-nil, arith, break_begun, break_notice, false}
+use Rattle.lease_laws.proofs.Words.{has_lease, if◌then◌else◌, is_breaking, lease_broken, lease_lowered}
 use Rattle.lease_laws.proofs.Words.{needs_acknowledgment, not, opens_dropped, refl, replied, sym, true, with_lease, with_opens}
 use Rattle.lease_laws.proofs.Words.{without}
 use Rattle.lease_model.specs.server.Progress.{stepped}
-use Rattle.lease_laws.proofs.server.Lists.{if_cases, clash, not_parts, and_parts}
 use Rattle.lease_laws.proofs.server.cases.Tries.{breaks_whole, isnt_broken}
 use Rattle.share_server.specs.Outs.{progress_of}
 use Rattle.share_server.specs.Table.{Table, server_of}

@@ -14,18 +14,18 @@ use Rattle.share_server.specs.Filed.{has_id}
 use Rattle.share_server.specs.Kept.{AreKept, listed, is_one_of}
 use Rattle.share_server.specs.Looks.{is_elsewhere}
 use Rattle.share_server.specs.OneFile.{on_file, asks_with}
-use Rattle.share_server.specs.declared.summaries.LeaseRecord.{LeaseRecord}
+use Rattle.share_server.specs.declared.tables.summaries.LeaseRecord.{LeaseRecord}
 use Rattle.share_server.specs.StillWaiting.{counted, IsTriedInVain, WaitStill, HasOnlyToWait, deciding, count_in, StaysAt}
 use Rattle.share_server.specs.StillWaiting.{StaysLocally, AreCounted, HaveForgotten, HaveForgottenFor}
 use Rattle.share_server.specs.Summaries.{Agrees, RecordFits, file_order, record_at, lease_in, is_on}
 use Rattle.share_server.specs.Table.{Table, File, file_in, lease_at, server_of}
-use Rattle.share_server.specs.declared.summaries.Summaries.{Summaries}
-use Rattle.share_server.specs.declared.waiting.Waiting.{Waiting}
+use Rattle.share_server.specs.declared.tables.summaries.Summaries.{Summaries}
+use Rattle.share_server.specs.declared.tables.waiting.Waiting.{Waiting}
 use Rattle.share_server.proofs.FilePlaces.{place_set}
 use Rattle.share_server.proofs.Places.{file_there}
 use Rattle.share_server.proofs.Recording.{lease_unused}
 use Rattle.share_server.proofs.StillWaiting.{HasNoSpare, in_vain, decider, waits_decided, waits_really, about_same, none_counted}
-use Rattle.share_server.proofs.StillWaiting.{one_counted, counted_before}
+use Rattle.share_server.proofs.StillWaiting.{counted_before}
 use Rattle.share_server.proofs.OneFile.{none_within, waits_here_only, waits_there_too}
 use Rattle.share_server.proofs.Tabling.{leases_are, listed_lease, one_more}
 

@@ -4,7 +4,7 @@ use Rattle.lease_laws.proofs.Words.{Key, Lease, Less, List, None, Open, Option, 
 use Rattle.lease_laws.proofs.Words.{arith, conflict, conflicts_on, false, filter, has_key, has_own_key, holds_any, if◌then◌else◌}
 use Rattle.lease_laws.proofs.Words.{inl, inr, is_at, is_eq, is_key, is_other_on, is_some, key_before, key_eq, key_of, keys_of}
 use Rattle.lease_laws.proofs.Words.{lease_of, length, list_any, map, nat_lt, nat_tests, not, refl, subst, suc, sym, true}
-use Rattle.lease_laws.proofs.Words.{true≢false, wants_where}
+use Rattle.lease_laws.proofs.Words.{true≢false}
 use Rattle.std.specs.BTreeSet.{BTreeSet, contains}
 use Rattle.std.specs.List.{AllByRecursion}
 use Rattle.std.specs.List.Sorted.{IsStrictlySortedBy}
@@ -23,13 +23,13 @@ use Rattle.share_server.specs.Summaries.{is_keyless_on}
 use Rattle.share_server.specs.Tallies.{tally_conflicts}
 use Rattle.share_server.specs.Wanted.{is_own_key, own_count, keys_for, needs_known, is_wanted_key}
 use Rattle.share_server.specs.Wishes.{is_wanted, is_demanded}
-use Rattle.share_server.specs.declared.summaries.LeaseRecord.{LeaseRecord}
-use Rattle.share_server.specs.declared.summaries.Summaries.{Summaries}
-use Rattle.share_server.specs.declared.want.Demand.{Demand}
-use Rattle.share_server.specs.declared.want.Wish.{Wish}
-use Rattle.share_server.specs.declared.want.Wish.TheVariants.{NoHandles, NoWrites, Nothing}
+use Rattle.share_server.specs.declared.tables.summaries.LeaseRecord.{LeaseRecord}
+use Rattle.share_server.specs.declared.tables.summaries.Summaries.{Summaries}
+use Rattle.share_server.specs.declared.values.want.Demand.{Demand}
+use Rattle.share_server.specs.declared.values.want.Wish.{Wish}
+use Rattle.share_server.specs.declared.values.want.Wish.TheVariants.{NoHandles, NoWrites, Nothing}
 use Rattle.share_server.proofs.Tallies.{conflicts_are}
-use Rattle.share_server.specs.declared.file_summary.FileSummary.{FileSummary}
+use Rattle.share_server.specs.declared.tables.file_summary.FileSummary.{FileSummary}
 use Rattle.share_server.proofs.Ordering.{order_eq, order_eq-back, order_before}
 
 -- ---- lists of keys in order

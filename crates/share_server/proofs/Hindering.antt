@@ -1,9 +1,8 @@
 -- Whether a lease hinders a write, by summaries, by the list of opens and by what the rules want.
-use Rattle.lease_laws.proofs.Words.{◌&&◌, ◌+◌, ◌-◌, ◌||◌, ◌∙◌, ◌∷◌, ◌≡◌, Bool, Finding, Key, Lease, Less, List, None, Open}
+use Rattle.lease_laws.proofs.Words.{◌&&◌, ◌+◌, ◌-◌, ◌∙◌, ◌∷◌, ◌≡◌, Bool, Finding, Key, Lease, Less, List, None, Open}
 use Rattle.lease_laws.proofs.Words.{Option, Server, Some, Want, ℕ, [], all_wants, ap, arith, breaks_to_none, false, filter}
 use Rattle.lease_laws.proofs.Words.{has_key, holds_any, if◌then◌else◌, is_at, is_other_on, is_some, keys_of, lease_by, lease_of}
-use Rattle.lease_laws.proofs.Words.{length, list_all, list_any, nat_lt, not, nothing_cached, refl, subst, sym, true, true≢false}
-use Rattle.lease_laws.proofs.Words.{wants_where}
+use Rattle.lease_laws.proofs.Words.{length, list_all, list_any, nat_lt, not, nothing_cached, refl, subst, sym, true}
 use Rattle.std.specs.BTreeSet.{contains}
 use Rattle.std.specs.List.{AllByRecursion}
 use Rattle.std.specs.List.Sorted.{IsStrictlySortedBy}
@@ -17,8 +16,8 @@ use Rattle.share_server.specs.Hindering.{hinders_writes, is_harmless, is_hindere
 use Rattle.share_server.specs.KeyOrder.{key_order}
 use Rattle.share_server.specs.Summaries.{StandFor, SumsUp, lease_in, is_on, has_key_on}
 use Rattle.share_server.specs.Wanted.{is_own_key, is_hindering, own_hindering}
-use Rattle.share_server.specs.declared.file_summary.FileSummary.{FileSummary}
-use Rattle.share_server.specs.declared.summaries.Summaries.{Summaries}
+use Rattle.share_server.specs.declared.tables.file_summary.FileSummary.{FileSummary}
+use Rattle.share_server.specs.declared.tables.summaries.Summaries.{Summaries}
 use Rattle.share_server.proofs.Demanding.{filter_ordered, sorted_ordered, one_list, member, among_members, both_so, all_counted}
 use Rattle.share_server.proofs.Demanding.{others_counted, key_there, other_on, on_other, other_here}
 use Rattle.share_server.proofs.Ordering.{order_eq}

@@ -1,19 +1,19 @@
 -- A create that is ready has no open under its key on another file, and a write that is ready ends within the limit of a file.
-use Rattle.lease_laws.proofs.Words.{◌&&◌, ◌==◌, ◌∙◌, ◌≡◌, Access, Bool, Decides-eqb, FileRequest, Finding, IsFree, Key, LeaseOf}
-use Rattle.lease_laws.proofs.Words.{List, None, Open, Option, Outcome, Patch, Progress, Server, Share, Some, Status, Tried, Want}
-use Rattle.lease_laws.proofs.Words.{ℕ, after_breaks, after_finding, all_wants, ap, arith, asked_key, by_open, connected_open}
-use Rattle.lease_laws.proofs.Words.{ended, false, finding, has_key, if◌then◌else◌, is_leased_elsewhere, is_ready, is_within_limit}
-use Rattle.lease_laws.proofs.Words.{key_of_open, key_under, list_any, may_write, must_wait, not, own_key, refl, subst, suc, sym}
-use Rattle.lease_laws.proofs.Words.{tried, tried_for, true, wants_met, write_finding, zero}
-use Rattle.lease_laws.proofs.server.Lists.{if_cases, either, has_none}
-use Rattle.lease_laws.proofs.server.Ready.{RequestFree, CreateFree, ready-free}
+use Rattle.lease_laws.proofs.Words.{◌&&◌, ◌==◌, ◌∙◌, ◌≡◌, Access, Decides-eqb, FileRequest, Finding, IsFree, Key, LeaseOf}
+use Rattle.lease_laws.proofs.Words.{List, None, Open, Option, Outcome, Progress, Server, Share, Some, Tried, Want}
+use Rattle.lease_laws.proofs.Words.{ℕ, ap, arith, asked_key}
+use Rattle.lease_laws.proofs.Words.{ended, false, finding, has_key, is_leased_elsewhere}
+use Rattle.lease_laws.proofs.Words.{key_under, list_any, not, own_key, refl, subst, sym}
+use Rattle.lease_laws.proofs.Words.{tried, tried_for}
+use Rattle.lease_laws.proofs.server.Lists.{either, has_none}
 use Rattle.lease_laws.proofs.server.Tries.{IsFoundReady}
 use Rattle.lease_laws.proofs.server.cases.Findings.{any_needs}
 use Rattle.lease_laws.proofs.server.cases.Tries.{any_rounds}
 use Rattle.share_server.specs.Kept.{CanBeAnswered, IsCreateAtHome}
 use Rattle.share_server.specs.Looks.{is_elsewhere}
+use Rattle.share_server.specs.OneFile.{IsAbout}
 use Rattle.share_server.specs.Summaries.{IsAtHome, RecordFits}
-use Rattle.share_server.specs.declared.summaries.LeaseRecord.{LeaseRecord}
+use Rattle.share_server.specs.declared.tables.summaries.LeaseRecord.{LeaseRecord}
 
 -- where a try ends ready, a look at the request finds it so
 abbrev EndsReady : ℕ → FileRequest → Tried → Type 0
@@ -76,6 +76,13 @@ home_kept a b client (FileRequest.Create file access share (Some ask)) same home
 home_kept a b client (FileRequest.Read file_id) same home = tt
 home_kept a b client (FileRequest.Write file_id number patch) same home = home
 home_kept a b client (FileRequest.Close file_id) same home = tt
+
+pub about_kept : (a b : Server) (file client : ℕ) (request : FileRequest) → a.opens ≡ b.opens
+    → IsAbout a file client request → IsAbout b file client request
+about_kept a b file client (FileRequest.Create other access share contexts) same about = about
+about_kept a b file client (FileRequest.Read file_id) same about = grind arith
+about_kept a b file client (FileRequest.Write file_id number patch) same about = grind arith
+about_kept a b file client (FileRequest.Close file_id) same about = grind arith
 
 pub home_asked : (server : Server) (client file : ℕ) (asked : Option LeaseOf) (bytes : Option (List ℕ)) → bytes ≡ asked_key asked
     → is_leased_elsewhere server (own_key client asked) file ≡ false → IsAtHome (key_under client bytes) file server.opens

@@ -1,5 +1,5 @@
 -- A client that joins: its connection is listed, and its keys are taken off the expired ones.
-use Rattle.lease_laws.proofs.Words.{◌++◌, ◌==◌, ◌∙◌, ◌∷◌, ◌≡◌, Bool, ClientNo, Held, Key, List, Progress, Server, ℕ, [], ap}
+use Rattle.lease_laws.proofs.Words.{◌++◌, ◌==◌, ◌∷◌, ◌≡◌, Bool, ClientNo, Held, Key, List, Progress, Server, ℕ, [], ap}
 use Rattle.lease_laws.proofs.Words.{arith, client_forgotten, false, filter, fun_ext, if◌then◌else◌, joined, key_eq, list_any, map}
 use Rattle.lease_laws.proofs.Words.{nat_tests, not, put, refl, suc, true, zero}
 use Rattle.share_server.specs.Outs.{progress_of}

@@ -1,20 +1,20 @@
 -- The opens that wait for their clients, as opens come, go, are left and are connected again.
 use Rattle.lease_laws.proofs.Words.{◌&&◌, ◌++◌, ◌<◌, ◌==◌, ◌∙◌, ◌∷◌, ◌≡◌, Among, AreInOrder, Bool, Decides-eqb, FileId, Key, Less}
-use Rattle.lease_laws.proofs.Words.{List, None, Open, Option, Some, ℕ, [], ap, ap₂, arith, bytes_eq, drop, false, filter, find}
+use Rattle.lease_laws.proofs.Words.{List, None, Open, Option, Some, ℕ, [], ap, ap₂, arith, drop, false, filter, find}
 use Rattle.lease_laws.proofs.Words.{get_or, has_key, if◌then◌else◌, inl, inr, is_key, is_left_open, length, list_any, map}
-use Rattle.lease_laws.proofs.Words.{nat_cmp, nat_tests, not, option_map, refl, subst, sym, true, true≢false, without}
+use Rattle.lease_laws.proofs.Words.{nat_cmp, nat_tests, option_map, refl, subst, sym, true, true≢false, without}
 use Rattle.std.specs.BTreeSet.{insert_key}
 use Rattle.std.specs.List.{slice_get}
 use Rattle.std.specs.Set.{remove_key}
 use Rattle.std.specs.declared.cmp.Ordering.{Ordering}
 use Rattle.std.specs.declared.cmp.Ordering.TheVariants.{Equal, Greater}
-use Rattle.lease_laws.proofs.server.Lists.{either, among_filter, clash, find_has, none_has, not_true, not_parts, and_parts}
+use Rattle.lease_laws.proofs.server.Lists.{either, among_filter, find_has, none_has, not_true}
 use Rattle.share_server.proofs.Filing.{test_at, at_id, none_behind, some_same, none_changed, greater}
 use Rattle.share_server.specs.Filed.{has_id, connected_at, file_id_order}
 use Rattle.share_server.specs.LeftOpens.{AreWaiting, has_key_in, ids_of, is_owner, left_at, numbers}
 use Rattle.share_server.specs.Looks.{is_elsewhere, is_left_by}
-use Rattle.share_server.specs.declared.left_opens.LeftOpens.{LeftOpens}
-use Rattle.share_server.specs.declared.left_opens.Owner.{Owner}
+use Rattle.share_server.specs.declared.tables.left_opens.LeftOpens.{LeftOpens}
+use Rattle.share_server.specs.declared.tables.left_opens.Owner.{Owner}
 
 abbrev waits : Owner → Open → Bool
 waits owner = is_left_by owner.client.0 owner.file.0

@@ -1,8 +1,8 @@
 -- The opens that a lost connection closes, by the leases that there are.
-use Rattle.lease_laws.proofs.Words.{◌&&◌, ◌==◌, ◌≡◌, ClientNo, Lease, List, None, Open, Option, Server, Some, ℕ, ap, arith}
-use Rattle.lease_laws.proofs.Words.{fun_ext, is_lost, key_under, lease_by, not, outlives_connection, refl}
-use Rattle.share_server.specs.Closing.{closes, lease_under, outlives_under}
-use Rattle.share_server.specs.declared.closing.Closing.TheVariants.{LostBy}
+use Rattle.lease_laws.proofs.Words.{◌≡◌, ClientNo, List, Open, Option, Server, ℕ, arith}
+use Rattle.lease_laws.proofs.Words.{fun_ext, is_lost, key_under, lease_by}
+use Rattle.share_server.specs.Closing.{closes, lease_under}
+use Rattle.share_server.specs.declared.values.closing.Closing.TheVariants.{LostBy}
 
 same_lease : (server : Server) (client : ℕ) (bytes : Option (List ℕ))
     → lease_under server.leases (key_under client bytes) ≡ lease_by server client bytes

@@ -2,15 +2,14 @@
 use Rattle.lease_laws.proofs.Words.{◌&&◌, ◌==◌, ◌∙◌, ◌∷◌, ◌≡◌, Access, Bool, Key, Lease, List, None, Open, Option, Share, Some, ℕ}
 use Rattle.lease_laws.proofs.Words.{[], allowed_by, ap, ap₂, arith, has_key, if◌then◌else◌, is_key, is_some, list_any, map, not}
 use Rattle.lease_laws.proofs.Words.{refl, sym, uses_of}
-use Rattle.lease_laws.proofs.server.Lists.{either}
 use Rattle.share_server.specs.Hindering.{is_harmless}
 use Rattle.share_server.specs.Looks.{is_elsewhere}
 use Rattle.share_server.specs.Summaries.{Agrees, RecordFits, SummaryFits, record_at, summary_at, lease_in, is_on, has_key_on}
 use Rattle.share_server.specs.Summaries.{is_keyless_on}
 use Rattle.share_server.specs.Tallies.{count, tally_of}
-use Rattle.share_server.specs.declared.file_summary.FileSummary.{FileSummary}
-use Rattle.share_server.specs.declared.summaries.LeaseRecord.{LeaseRecord}
-use Rattle.share_server.specs.declared.summaries.Summaries.{Summaries}
+use Rattle.share_server.specs.declared.tables.file_summary.FileSummary.{FileSummary}
+use Rattle.share_server.specs.declared.tables.summaries.LeaseRecord.{LeaseRecord}
+use Rattle.share_server.specs.declared.tables.summaries.Summaries.{Summaries}
 use Rattle.share_server.proofs.Summing.{tally_same}
 
 -- a change that leaves what is counted

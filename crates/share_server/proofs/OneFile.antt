@@ -1,9 +1,9 @@
 -- A look at a request about a file sees the opens on that file alone, and the leases of their keys.
-use Rattle.lease_laws.proofs.Words.{◌&&◌, ◌==◌, ◌||◌, ◌∙◌, ◌∷◌, ◌≡◌, Access, Among, Bool, CreateAsk, Decides-eqb, FileRequest}
+use Rattle.lease_laws.proofs.Words.{◌&&◌, ◌==◌, ◌∙◌, ◌∷◌, ◌≡◌, Access, Among, Bool, CreateAsk, Decides-eqb, FileRequest}
 use Rattle.lease_laws.proofs.Words.{Finding, Key, Lease, List, None, Open, Option, Patch, Server, Share, Some, State, Status}
 use Rattle.lease_laws.proofs.Words.{Want, ℕ, [], all_wants, ap, arith, asked_finding, awaits, breaks_to_none, by_open}
 use Rattle.lease_laws.proofs.Words.{conflicts_on, connected_open, create_finding, false, filter, find, finding, handle_wants}
-use Rattle.lease_laws.proofs.Words.{has_file, has_key, holds_any, if◌then◌else◌, inl, inr, is_breaking, is_key}
+use Rattle.lease_laws.proofs.Words.{has_file, has_key, holds_any, if◌then◌else◌, inr, is_breaking, is_key}
 use Rattle.lease_laws.proofs.Words.{is_leased_elsewhere, is_left_open, is_other_on, is_ready, is_within_limit, key_of}
 use Rattle.lease_laws.proofs.Words.{key_of_open, keys_of, lease_by, lease_of, list_all, list_any, map, may_write, not, option_map}
 use Rattle.lease_laws.proofs.Words.{own_key, reconnect_finding, refl, subst, sym, true, waits_for, wants_where, write_finding}

@@ -1,7 +1,7 @@
 -- Keys in the order in which maps keep them: equal where they are one key, and less where the one is broken before.
 use Rattle.lease_laws.proofs.Words.{◌∷◌, ◌≡◌, Key, List, None, Open, Option, Some, ℕ, [], arith, bytes_before, bytes_eq, false}
-use Rattle.lease_laws.proofs.Words.{has_key, is_eq, is_key, is_some, key_before, key_eq, key_of, key_of_open, key_under, nat_cmp}
-use Rattle.lease_laws.proofs.Words.{nat_tests, refl, sym}
+use Rattle.lease_laws.proofs.Words.{has_key, is_eq, is_key, is_some, key_before, key_eq, key_of_open, key_under, nat_cmp}
+use Rattle.lease_laws.proofs.Words.{nat_tests, refl}
 use Rattle.std.specs.Ordering.{is_lt}
 use Rattle.std.specs.Cmp.Lexicographic.{slice_cmp}
 use Rattle.share_server.specs.KeyOrder.{key_order}

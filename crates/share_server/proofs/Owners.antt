@@ -1,12 +1,10 @@
 -- The map of the opens that wait, as it changes at one client and file.
-use Rattle.lease_laws.proofs.Words.{◌==◌, ◌≡◌, Decides-eqb, FileId, None, Some, Updates, [], ap₂, arith, get, if◌then◌else◌}
-use Rattle.lease_laws.proofs.Words.{is_at, nat_tests, refl, subst, sym, true}
+use Rattle.lease_laws.proofs.Words.{◌≡◌, FileId, None, Some, Updates, [], arith, get, if◌then◌else◌}
 use Rattle.std.specs.BTreeMap.{BTreeMap}
 use Rattle.std.specs.BTreeSet.{BTreeSet, insert_key}
-use Rattle.lease_laws.proofs.server.Lists.{either, and_parts}
 use Rattle.share_server.specs.Filed.{file_id_order}
 use Rattle.share_server.specs.LeftOpens.{ids_or_none, is_owner, owner_order}
-use Rattle.share_server.specs.declared.left_opens.Owner.{Owner}
+use Rattle.share_server.specs.declared.tables.left_opens.Owner.{Owner}
 
 -- nothing changes where the list has the same FileIds
 pub refused_at : (old new : BTreeMap Owner (BTreeSet FileId)) (owner : Owner) (ids written : BTreeSet FileId)

@@ -1,7 +1,7 @@
 -- A pass over a file's queue, place by place, and the passes one after another.
 use Rattle.lease_laws.proofs.Words.{◌++◌, ◌+◌, ◌-◌, ◌<◌, ◌∙◌, ◌∷◌, ◌≡◌, ◌≤◌, Bool, FileRequest, Held, List, Out, Outcome, Pass}
 use Rattle.lease_laws.proofs.Words.{PassesAreEnough, Progress, Server, Some, Tried, ℕ, [], after_try, all_passes, ap, arith}
-use Rattle.lease_laws.proofs.Words.{concluded, drop, ended, false, get_or, held_left, if◌then◌else◌, is_behind, left_waiting}
+use Rattle.lease_laws.proofs.Words.{concluded, drop, ended, false, get_or, held_left, is_behind, left_waiting}
 use Rattle.lease_laws.proofs.Words.{length, numbers_to, one_pass, pass_answered, pass_over, passes, passes_for, passes_over, put}
 use Rattle.lease_laws.proofs.Words.{refl, subst, suc, sym, take, tried, tried_again, true, zero}
 use Rattle.std.proofs.lemmas.List.{drop_all}
@@ -12,8 +12,9 @@ use Rattle.lease_laws.proofs.server.cases.Passes.{file_by_file, goes_on, is_over
 use Rattle.lease_laws.proofs.server.cases.Passes.{over_all, passes_on, passes_stop}
 use Rattle.share_server.proofs.Breaking.{silent}
 use Rattle.share_server.specs.Kept.{CanBeAnswered}
+use Rattle.share_server.specs.OneFile.{IsAbout}
 use Rattle.share_server.specs.Outs.{progress_of}
-use Rattle.share_server.proofs.Homing.{ready_at_home, home_kept}
+use Rattle.share_server.proofs.Homing.{ready_at_home, home_kept, about_kept}
 use Rattle.share_server.specs.Passing.{pass_at, is_waiting}
 use Rattle.share_server.specs.Table.{Table, server_of}
 
@@ -196,6 +197,20 @@ home_again file place before one again during after outs outcome is end left fou
     let home = ready_at_home one.client one.request before (progress_of during outs) outcome end ready in
     subst (λ (h : Held). CanBeAnswered h.client h.request (server_of after)) there
     (home_kept (server_of during) (server_of after) one.client one.request (sym (ap (λ (s : Server). s.opens) left)) home)
+
+-- and it is still about the file that it was found ready on
+pub about_again : (file place : ℕ) (before : Progress) (one again : Held) (during after : Table)
+    (outs : List Out) (outcome : Outcome) → one ≡ get_or (before.server.held file) place one
+    → ended (progress_of during outs) outcome ≡ tried one.client one.request before
+    → server_of after ≡ record (server_of during) {
+      held = put (server_of during).held file (remove ((server_of during).held file) place);
+    } → slice_get ((server_of during).held file) place ≡ Some again → (on : ℕ)
+    → IsAbout (server_of during) on one.client one.request → IsAbout (server_of after) on again.client again.request
+about_again file place before one again during after outs outcome is end left found on about =
+    let same = same_held file one.client one.request before (progress_of during outs) outcome end in
+    let there : one ≡ again = is ∙ got (before.server.held file) place again one (rw same at found) in
+    subst (λ (h : Held). IsAbout (server_of after) on h.client h.request) there
+    (about_kept (server_of during) (server_of after) on one.client one.request (sym (ap (λ (s : Server). s.opens) left)) about)
 
 -- ---- the end of a pass
 

@@ -13,9 +13,9 @@ use Rattle.share_server.specs.Looks.{is_elsewhere}
 use Rattle.share_server.specs.Summaries.{IsOneMore, IsRecord, RecordFits, tally_in, lease_or_none, has_key_on, IsKeyChanged}
 use Rattle.share_server.specs.Summaries.{AreLeft}
 use Rattle.share_server.specs.Tallies.{tally_of, tally_raised, tally_lowered}
-use Rattle.share_server.specs.declared.lease.Lease.{Lease}
-use Rattle.share_server.specs.declared.summaries.LeaseRecord.{LeaseRecord}
-use Rattle.share_server.specs.declared.tally.Tally.{Tally}
+use Rattle.share_server.specs.declared.values.lease.Lease.{Lease}
+use Rattle.share_server.specs.declared.tables.summaries.LeaseRecord.{LeaseRecord}
+use Rattle.share_server.specs.declared.tables.tally.Tally.{Tally}
 use Rattle.share_server.proofs.Tallies.{any_counted, none_tallied}
 use Rattle.share_server.proofs.Summing.{anys, raise_tally, lower_tally, keep_tally, on_itself}
 

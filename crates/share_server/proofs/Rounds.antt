@@ -2,7 +2,6 @@
 use Rattle.lease_laws.proofs.Words.{◌+◌, ◌-◌, ◌<◌, ◌∙◌, ◌≡◌, ◌≤◌, Bool, FileRequest, Finding, List, Outcome, Progress, Tried}
 use Rattle.lease_laws.proofs.Words.{Want, ℕ, after_breaks, after_finding, ap, arith, ended, false, finding, if◌then◌else◌}
 use Rattle.lease_laws.proofs.Words.{is_ready, must_wait, refl, suc, sym, tried_for, true, wants_met}
-use Rattle.lease_laws.proofs.server.Lists.{either}
 use Rattle.lease_laws.proofs.server.cases.Tries.{no_round, one_round}
 use Rattle.share_server.specs.Findings.{Look, looked}
 

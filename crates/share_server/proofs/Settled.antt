@@ -13,8 +13,8 @@ use Rattle.share_server.specs.OneFile.{on_file, local, IsOnlyAbout, own_asked, a
 use Rattle.share_server.specs.StillWaiting.{HasOnlyToWait, deciding, count_in, AreCounted, HaveForgotten, HaveForgottenFor}
 use Rattle.share_server.specs.Summaries.{IsAtHome, lease_in, is_on}
 use Rattle.share_server.specs.Table.{File, file_in}
-use Rattle.share_server.specs.declared.summaries.Summaries.{Summaries}
-use Rattle.share_server.specs.declared.waiting.Waiting.{Waiting}
+use Rattle.share_server.specs.declared.tables.summaries.Summaries.{Summaries}
+use Rattle.share_server.specs.declared.tables.waiting.Waiting.{Waiting}
 use Rattle.share_server.proofs.StillWaiting.{about_same, none_counted}
 use Rattle.share_server.proofs.OneFile.{any_once, none_within, found_on, some_file}
 use Rattle.share_server.proofs.Counted.{Known}

@@ -1,10 +1,10 @@
 -- What a call leaves behind stands for what the rules come to, and keeps the laws of servers.
-use Rattle.lease_laws.proofs.Words.{◌∙◌, ◌≡◌, [], Call, IsSound, List, Progress, Server, ap, arith, called, map, refl, subst, sym}
+use Rattle.lease_laws.proofs.Words.{◌≡◌, [], Call, IsSound, List, Progress, Server, arith, called, map, refl}
 use Rattle.lease_model.specs.messages.Replies as model
 use Rattle.share_server.specs.Outs.{IsAfter, progress_of}
 use Rattle.share_server.specs.Table.{Table, server_of}
 use Rattle.share_server.specs.Written.{out_written}
-use Rattle.share_server.specs.declared.out.Out as code
+use Rattle.share_server.specs.declared.values.out.Out as code
 
 pub stands : (table : Table) (outs : List model.Out) (given : List code.Out) (after : Progress)
     → progress_of table outs ≡ after → given ≡ map out_written outs → IsAfter table given after

@@ -1,12 +1,12 @@
 -- Requests that have only to wait: a try of one changes nothing, and a pass may begin behind them.
-use Rattle.lease_laws.proofs.Words.{◌&&◌, ◌++◌, ◌+◌, ◌<◌, ◌==◌, ◌∙◌, ◌∷◌, ◌≡◌, ◌≤◌, ◌⊎◌, Bool, FileNo, FileRequest, Held, Key}
-use Rattle.lease_laws.proofs.Words.{Lease, LeaseOf, List, None, Open, Option, Out, Outcome, Progress, Server, Some, Updates, Want}
-use Rattle.lease_laws.proofs.Words.{ℕ, ⊎_elim, [], all_wants, ap, append-nil, arith, create_finding, false, find, finding}
-use Rattle.lease_laws.proofs.Words.{fun_ext, get_or, handle_wants, has_key, if◌then◌else◌, inl, inr, is_at, is_behind}
-use Rattle.lease_laws.proofs.Words.{is_breaking, is_leased_elsewhere, is_left_open, is_ready, lease_broken, length, list_all}
-use Rattle.lease_laws.proofs.Words.{list_any, nat_tests, no_lease, not, one_pass, opens_dropped, option_map, own_key}
-use Rattle.lease_laws.proofs.Words.{reconnect_finding, refl, subst, suc, sym, take, true, want_met, wants_met, wants_where}
-use Rattle.lease_laws.proofs.Words.{Finding, Status, asked_finding, has_file, with_opens, without, write_finding, write_wants}
+use Rattle.lease_laws.proofs.Words.{◌++◌, ◌+◌, ◌<◌, ◌==◌, ◌∙◌, ◌∷◌, ◌≡◌, ◌≤◌, Bool, FileNo, FileRequest, Held, Key}
+use Rattle.lease_laws.proofs.Words.{Lease, List, None, Open, Option, Out, Outcome, Progress, Server, Some, Updates, Want}
+use Rattle.lease_laws.proofs.Words.{ℕ, ⊎_elim, [], ap, append-nil, arith, false, finding}
+use Rattle.lease_laws.proofs.Words.{fun_ext, get_or, has_key, if◌then◌else◌, inr, is_at, is_behind}
+use Rattle.lease_laws.proofs.Words.{is_breaking, is_left_open, is_ready, lease_broken, length, list_all}
+use Rattle.lease_laws.proofs.Words.{list_any, nat_tests, no_lease, not, one_pass, opens_dropped, own_key}
+use Rattle.lease_laws.proofs.Words.{refl, subst, suc, sym, take, true, want_met, wants_met}
+use Rattle.lease_laws.proofs.Words.{Finding, Status, asked_finding, has_file, without}
 use Rattle.lease_laws.proofs.Words.{zero}
 use Rattle.std.specs.List.{slice_get}
 use Rattle.lease_laws.proofs.server.Lists.{either, clash, and_parts, not_parts}
@@ -15,7 +15,7 @@ use Rattle.lease_laws.proofs.server.cases.Findings.{look_for_write}
 use Rattle.lease_laws.proofs.server.cases.Tries.{met_in_order, nothing_met}
 use Rattle.share_server.specs.Passing.{pass_at}
 use Rattle.share_server.specs.Summaries.{file_order}
-use Rattle.share_server.specs.declared.waiting.Waiting.{Waiting}
+use Rattle.share_server.specs.declared.tables.waiting.Waiting.{Waiting}
 use Rattle.share_server.specs.StillWaiting.{counted, count_in, at_call, IsTriedInVain, WaitStill, is_under_way, HasOnlyToWait}
 use Rattle.share_server.specs.StillWaiting.{deciding, StaysLocally, AreCounted}
 use Rattle.share_server.specs.OneFile.{IsOnlyAbout}

@@ -1,7 +1,7 @@
 -- How lease records and file summaries follow the list of opens: with one open more or less, and with another lease.
 use Rattle.lease_laws.proofs.Words.{◌&&◌, ◌+◌, ◌<◌, ◌==◌, ◌^◌, ◌||◌, ◌∙◌, ◌∷◌, ◌≡◌, Bool, Decides-eqb, FileNo, Key, Lease, List}
 use Rattle.lease_laws.proofs.Words.{None, Open, Option, Some, Updates, ℕ, [], allowed_by, ap, arith, beq, false, get, has_key}
-use Rattle.lease_laws.proofs.Words.{if◌then◌else◌, is_eq, is_some, key_eq, length, list_any, nat_cmp, nat_tests, not, refl, subst}
+use Rattle.lease_laws.proofs.Words.{if◌then◌else◌, is_some, key_eq, length, list_any, nat_tests, not, refl, subst}
 use Rattle.lease_laws.proofs.Words.{sym, true, true≢false, uses_of}
 use Rattle.std.proofs.Common.{nat_eq}
 use Rattle.std.specs.BTreeMap.{BTreeMap}
@@ -12,9 +12,9 @@ use Rattle.share_server.specs.Looks.{is_elsewhere}
 use Rattle.share_server.specs.Summaries.{IsOneMore, file_order, is_on, has_key_on, is_keyless_on, SumsUp, IsSummary, SummaryFits}
 use Rattle.share_server.specs.Summaries.{Gains, Loses, IsMarked, AreAfter, AreLeft, IsPut}
 use Rattle.share_server.specs.Tallies.{count, tally_of, raised, lowered, tally_raised, tally_lowered}
-use Rattle.share_server.specs.declared.file_summary.FileSummary.{FileSummary}
-use Rattle.share_server.specs.declared.lease_marks.LeaseMarks.{LeaseMarks}
-use Rattle.share_server.specs.declared.tally.Tally.{Tally}
+use Rattle.share_server.specs.declared.tables.file_summary.FileSummary.{FileSummary}
+use Rattle.share_server.specs.declared.tables.lease_marks.LeaseMarks.{LeaseMarks}
+use Rattle.share_server.specs.declared.tables.tally.Tally.{Tally}
 use Rattle.share_server.proofs.Tallies.{count_more, any_more, count_less, any_counted, none_both}
 
 -- ---- one open more

@@ -1,10 +1,10 @@
 -- The tables' opens and lease records as the server that they stand for.
-use Rattle.lease_laws.proofs.Words.{◌&&◌, ◌++◌, ◌+◌, ◌<◌, ◌==◌, ◌^◌, ◌||◌, ◌∙◌, ◌∷◌, ◌≡◌, ◌≤◌, Among, AreInOrder, Bool}
+use Rattle.lease_laws.proofs.Words.{◌++◌, ◌+◌, ◌<◌, ◌^◌, ◌||◌, ◌∙◌, ◌∷◌, ◌≡◌, ◌≤◌, Among, AreInOrder, Bool}
 use Rattle.lease_laws.proofs.Words.{Decides-eqb, FileId, Key, Lease, List, None, Open, Option, Server, Some, ℕ, ⊎_elim, [], ap}
 use Rattle.lease_laws.proofs.Words.{append-nil, ap₂, arith, awaits, disconnected, false, filter, find, fun_ext, get_or, has_key}
 use Rattle.lease_laws.proofs.Words.{if◌then◌else◌, inl, inr, is_at, is_key, is_leased_elsewhere, is_left_behind, key_eq, length}
 use Rattle.lease_laws.proofs.Words.{list_any, map, nat_tests, no_lease, not, put_key, refl, subst, suc, sym, take, true}
-use Rattle.lease_laws.proofs.Words.{true≢false, with_lease, with_opens, without, zero}
+use Rattle.lease_laws.proofs.Words.{with_lease, with_opens, without, zero}
 use Rattle.std.specs.Map.{lookup}
 use Rattle.lease_laws.proofs.server.Goes.{one_id}
 use Rattle.lease_laws.proofs.server.Lists.{either, clash, among_filter, among_filtered, among_append, any_has, has_any, not_true}
@@ -15,14 +15,13 @@ use Rattle.share_server.specs.KeyOrder.{key_order}
 use Rattle.share_server.specs.Kept.{listed, AreKept, HaveClosed, is_one_of, disconnected_where, lease_put_by, opened_with}
 use Rattle.share_server.specs.Leases.{lease_of}
 use Rattle.share_server.specs.Looks.{is_connected_as, is_elsewhere}
-use Rattle.share_server.specs.Summaries.{Agrees, IsOneMore, StandFor, record_at, lease_in, lease_or_none}
+use Rattle.share_server.specs.Summaries.{Agrees, IsOneMore, StandFor, lease_in, lease_or_none}
 use Rattle.share_server.specs.Table.{Table, KeyedLease, lease_at, server_of}
-use Rattle.share_server.specs.declared.closing.Closing.{Closing}
-use Rattle.share_server.specs.declared.summaries.LeaseRecord.{LeaseRecord}
-use Rattle.share_server.specs.declared.summaries.Summaries.{Summaries}
+use Rattle.share_server.specs.declared.values.closing.Closing.{Closing}
+use Rattle.share_server.specs.declared.tables.summaries.LeaseRecord.{LeaseRecord}
+use Rattle.share_server.specs.declared.tables.summaries.Summaries.{Summaries}
 use Rattle.share_server.proofs.Mapping.{KeepsCounted, agrees_mapped}
 use Rattle.share_server.proofs.Ordering.{order_eq}
-use Rattle.share_server.proofs.Recording.{lease_unused}
 
 abbrev listed_entry : Key × LeaseRecord → KeyedLease
 listed_entry entry = record { key = entry.0; lease = lease_of entry.1.lease }

@@ -3,7 +3,7 @@ use Rattle.lease_laws.proofs.Words.{◌&&◌, ◌++◌, ◌+◌, ◌||◌, ◌�
 use Rattle.lease_laws.proofs.Words.{ap, ap₂, arith, conflict, false, if◌then◌else◌, length, list_any, nat_tests, not, refl, sym}
 use Rattle.lease_laws.proofs.Words.{uses_of}
 use Rattle.share_server.specs.Tallies.{count, tally_of, tally_conflicts, is_counted}
-use Rattle.share_server.specs.declared.tally.Tally.{Tally}
+use Rattle.share_server.specs.declared.tables.tally.Tally.{Tally}
 
 pub count_more : (test : Open → Bool) (before behind : List Open) (one : Open)
     → count test (before ++ one ∷ behind) ≡ count test (before ++ behind) + (if test one then 1 else 0)

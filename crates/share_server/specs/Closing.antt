@@ -6,7 +6,7 @@ use Rattle.lease_model.specs.server.Naming.{key_under}
 use Rattle.lease_model.specs.server.State.{Open, Lease, no_lease, is_breaking, has_key}
 use Rattle.lease_model.specs.values.Keys.{Key}
 use Rattle.std.specs.Prelude.{Option, Some, None}
-use Rattle.share_server.specs.declared.closing.Closing as code
+use Rattle.share_server.specs.declared.values.closing.Closing as code
 
 -- the lease of a key, if there is one
 abbrev pub lease_under : (Key → Lease) → Option Key → Lease

@@ -6,7 +6,7 @@ use Rattle.lease_model.specs.server.Ready.{breaks_to_none}
 use Rattle.lease_model.specs.server.State.{Server, Open, Lease}
 use Rattle.lease_model.specs.values.Keys.{Key}
 use Rattle.lease_model.specs.values.LeaseStates.{holds_any}
-use Rattle.share_server.specs.declared.lease_marks.LeaseMarks.{LeaseMarks}
+use Rattle.share_server.specs.declared.tables.lease_marks.LeaseMarks.{LeaseMarks}
 
 -- it holds something, and is not breaking to nothing yet
 abbrev pub hinders_writes : Lease → Bool

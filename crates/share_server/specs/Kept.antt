@@ -14,7 +14,7 @@ use Rattle.share_server.specs.Filed.{has_id}
 use Rattle.share_server.specs.Leases.{lease_of}
 use Rattle.share_server.specs.Summaries.{Agrees, lease_in}
 use Rattle.share_server.specs.Table.{KeyedLease}
-use Rattle.share_server.specs.declared.summaries.Summaries.{Summaries}
+use Rattle.share_server.specs.declared.tables.summaries.Summaries.{Summaries}
 
 -- the leases of the records
 abbrev pub listed : Summaries → List KeyedLease

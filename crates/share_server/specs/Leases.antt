@@ -2,7 +2,7 @@
 use Rattle.std.specs.Option.{option_map}
 use Rattle.lease_state.specs.State.{state_of}
 use Rattle.lease_model.specs.server.State as model
-use Rattle.share_server.specs.declared.lease.Lease.{Lease}
+use Rattle.share_server.specs.declared.values.lease.Lease.{Lease}
 
 abbrev pub lease_of : Lease → model.Lease
 lease_of lease = record { state = state_of lease.state; broken_to = option_map state_of lease.broken_to }

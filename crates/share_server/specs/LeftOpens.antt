@@ -9,8 +9,8 @@ use Rattle.lease_model.specs.values.Keys.{Key}
 use Rattle.lease_state.specs.declared.number.FileId.{FileId}
 use Rattle.share_server.specs.Filed.{has_id}
 use Rattle.share_server.specs.Looks.{is_left_by}
-use Rattle.share_server.specs.declared.left_opens.Owner.{Owner}
-use Rattle.share_server.specs.declared.left_opens.LeftOpens.{LeftOpens}
+use Rattle.share_server.specs.declared.tables.left_opens.Owner.{Owner}
+use Rattle.share_server.specs.declared.tables.left_opens.LeftOpens.{LeftOpens}
 
 -- by the clients' numbers, then by the files'
 abbrev pub owner_order : Owner → Owner → Ordering

@@ -19,14 +19,25 @@ local file server = record server {
   leases = λ key. if list_any (has_key key) (on_file file server.opens) then server.leases key else no_lease;
 }
 
+-- the client's connected open of this FileId is on the file
+abbrev pub IsOpenOn : Server → ℕ → ℕ → ℕ → Type 0
+IsOpenOn server file client file_id =
+    option_map (λ one. one.file) (connected_open server client file_id) ≡ Some file
+
+-- The request is about this file: a create names the file, and any other request a connected open of its client on it.
+abbrev pub IsAbout : Server → ℕ → ℕ → FileRequest → Type 0
+IsAbout server file client (FileRequest.Create other access share contexts) = file ≡ other
+IsAbout server file client (FileRequest.Read file_id) = IsOpenOn server file client file_id
+IsAbout server file client (FileRequest.Write file_id number patch) = IsOpenOn server file client file_id
+IsAbout server file client (FileRequest.Close file_id) = IsOpenOn server file client file_id
+
 -- The request sees no other file: it is a create of the file, whose key has no open on another, or a write by an open on
 -- the file. (No other request waits.)
 abbrev pub IsOnlyAbout : Server → ℕ → ℕ → FileRequest → Type 0
 IsOnlyAbout server file client (FileRequest.Create other access share None) = ⊥
 IsOnlyAbout server file client (FileRequest.Create other access share (Some ask)) =
     (other ≡ file) × (is_leased_elsewhere server (own_key client ask.lease) file ≡ false)
-IsOnlyAbout server file client (FileRequest.Write file_id number patch) =
-    option_map (λ one. one.file) (connected_open server client file_id) ≡ Some file
+IsOnlyAbout server file client (FileRequest.Write file_id number patch) = IsOpenOn server file client file_id
 IsOnlyAbout server file client request = ⊥
 
 -- the key of a create

@@ -4,7 +4,7 @@ use Rattle.lease_model.specs.messages.Replies as model
 use Rattle.lease_model.specs.server.Progress.{Progress}
 use Rattle.share_server.specs.Table.{Table, server_of}
 use Rattle.share_server.specs.Written.{out_written}
-use Rattle.share_server.specs.declared.out.Out as code
+use Rattle.share_server.specs.declared.values.out.Out as code
 
 -- the server that the tables stand for, and what was given out so far
 abbrev pub progress_of : Table → List model.Out → Progress

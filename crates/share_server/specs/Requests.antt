@@ -10,8 +10,8 @@ use Rattle.lease_state.specs.declared.key.LeaseKey.{LeaseKey}
 use Rattle.lease_state.specs.declared.state.LeaseState.{LeaseState}
 use Rattle.lease_wire.specs.declared.create.CreateAsk as wire
 use Rattle.lease_model.specs.messages.Requests as model
-use Rattle.share_server.specs.declared.request.Ask as asked
-use Rattle.share_server.specs.declared.request.FileRequest as code
+use Rattle.share_server.specs.declared.values.request.Ask as asked
+use Rattle.share_server.specs.declared.values.request.FileRequest as code
 
 abbrev pub lease_asked : LeaseKey × LeaseState → model.LeaseOf
 lease_asked lease = record { key = lease.0.0; state = state_of lease.1 }

@@ -16,7 +16,7 @@ use Rattle.share_server.specs.OneFile.{on_file, local, IsOnlyAbout, asks_with}
 use Rattle.lease_laws.specs.server.Laws.{Among}
 use Rattle.share_server.specs.Summaries.{file_order, is_on}
 use Rattle.share_server.specs.Table.{File, file_in}
-use Rattle.share_server.specs.declared.waiting.Waiting.{Waiting}
+use Rattle.share_server.specs.declared.tables.waiting.Waiting.{Waiting}
 
 -- a call under way
 abbrev pub at_call : Server → List Out → Progress

@@ -1,5 +1,6 @@
 -- Lease records and file summaries, and when they agree with a list of opens.
-use Rattle.std.specs.Prelude.{◌≡◌, ℕ, Bool, true, false, not, ◌&&◌, ◌==◌, is_some, Option, Some, None, List, ◌∷◌, ◌++◌, ⊤, ◌||◌, if◌then◌else◌}
+use Rattle.std.specs.Prelude.{◌≡◌, ℕ, Bool, true, false, not, ◌&&◌, ◌==◌, is_some, Option, Some, None, List, ◌∷◌, ◌++◌, ⊤, ◌||◌}
+use Rattle.std.specs.Prelude.{if◌then◌else◌}
 use Rattle.std.specs.List.{list_any}
 use Rattle.std.specs.BTreeMap.{get}
 use Rattle.std.specs.BTreeSet.{contains}
@@ -13,11 +14,11 @@ use Rattle.share_server.specs.KeyOrder.{key_order}
 use Rattle.share_server.specs.Leases.{lease_of}
 use Rattle.share_server.specs.Looks.{is_elsewhere}
 use Rattle.share_server.specs.Tallies.{tally_of, count, tally_raised, tally_lowered, raised, lowered}
-use Rattle.share_server.specs.declared.file_summary.FileSummary.{FileSummary}
-use Rattle.share_server.specs.declared.lease_marks.LeaseMarks.{LeaseMarks}
-use Rattle.share_server.specs.declared.summaries.LeaseRecord.{LeaseRecord}
-use Rattle.share_server.specs.declared.summaries.Summaries.{Summaries}
-use Rattle.share_server.specs.declared.tally.Tally.{Tally}
+use Rattle.share_server.specs.declared.tables.file_summary.FileSummary.{FileSummary}
+use Rattle.share_server.specs.declared.tables.lease_marks.LeaseMarks.{LeaseMarks}
+use Rattle.share_server.specs.declared.tables.summaries.LeaseRecord.{LeaseRecord}
+use Rattle.share_server.specs.declared.tables.summaries.Summaries.{Summaries}
+use Rattle.share_server.specs.declared.tables.tally.Tally.{Tally}
 
 -- ---- what is asked of opens
 

@@ -4,7 +4,7 @@ use Rattle.lease_model.specs.server.State.{Open}
 use Rattle.lease_state.specs.Access.{uses_of, allowed_by}
 use Rattle.lease_state.specs.declared.access.Access.{Access}
 use Rattle.lease_state.specs.declared.access.Share.{Share}
-use Rattle.share_server.specs.declared.tally.Tally.{Tally}
+use Rattle.share_server.specs.declared.tables.tally.Tally.{Tally}
 
 -- how many opens pass the test
 abbrev pub count : (Open → Bool) → List Open → ℕ

@@ -7,12 +7,12 @@ use Rattle.lease_model.specs.values.LeaseStates.{holds_any}
 use Rattle.share_server.specs.KeyOrder.{key_order}
 use Rattle.share_server.specs.Summaries.{record_at}
 use Rattle.share_server.specs.Tallies.{tally_conflicts}
-use Rattle.share_server.specs.declared.file_summary.FileSummary.{FileSummary}
-use Rattle.share_server.specs.declared.summaries.LeaseRecord.{LeaseRecord}
-use Rattle.share_server.specs.declared.summaries.Summaries.{Summaries}
-use Rattle.share_server.specs.declared.want.Demand.{Demand}
-use Rattle.share_server.specs.declared.want.Wish.{Wish}
-use Rattle.share_server.specs.declared.want.Wish.TheVariants.{NoHandles, NoWrites, Nothing}
+use Rattle.share_server.specs.declared.tables.file_summary.FileSummary.{FileSummary}
+use Rattle.share_server.specs.declared.tables.summaries.LeaseRecord.{LeaseRecord}
+use Rattle.share_server.specs.declared.tables.summaries.Summaries.{Summaries}
+use Rattle.share_server.specs.declared.values.want.Demand.{Demand}
+use Rattle.share_server.specs.declared.values.want.Wish.{Wish}
+use Rattle.share_server.specs.declared.values.want.Wish.TheVariants.{NoHandles, NoWrites, Nothing}
 
 abbrev pub is_own_key : Option Key → Key → Bool
 is_own_key None key = false

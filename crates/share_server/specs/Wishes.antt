@@ -7,9 +7,9 @@ use Rattle.lease_model.specs.server.State.{Server, Open, Lease}
 use Rattle.lease_model.specs.server.Wants.{Want, handle_wants, write_wants, all_wants}
 use Rattle.lease_model.specs.values.Keys.{Key}
 use Rattle.lease_model.specs.values.LeaseStates.{holds_any, without_write, without_handle}
-use Rattle.share_server.specs.declared.want.Demand.{Demand}
-use Rattle.share_server.specs.declared.want.Wish.{Wish}
-use Rattle.share_server.specs.declared.want.Wish.TheVariants.{NoHandles, NoWrites, Nothing}
+use Rattle.share_server.specs.declared.values.want.Demand.{Demand}
+use Rattle.share_server.specs.declared.values.want.Wish.{Wish}
+use Rattle.share_server.specs.declared.values.want.Wish.TheVariants.{NoHandles, NoWrites, Nothing}
 
 -- what a state is lowered to
 abbrev pub lowered_for : Wish → State → State

@@ -8,7 +8,7 @@ use Rattle.lease_wire.specs.declared.create.CreateAnswer as wire
 use Rattle.lease_model.specs.messages.FromBytes.{reply_of}
 use Rattle.lease_model.specs.messages.Replies as model
 use Rattle.lease_model.specs.messages.ToBytes.{reply_written}
-use Rattle.share_server.specs.declared.out.Out as code
+use Rattle.share_server.specs.declared.values.out.Out as code
 
 -- bytes are those of `encode`, or the canonical text
 abbrev pub out_written : model.Out → code.Out

@@ -8,12 +8,12 @@ ghost use Rattle.lease_model.specs.server.State.{has_key, is_breaking};
 ghost use Rattle.share_server.specs.Outs.{progress_of};
 ghost use Rattle.share_server.specs.Table.{server_of};
 
-use crate::arrival::arrive;
-use crate::closing::Closing;
-use crate::key::Key;
 use crate::outs::Outs;
-use crate::passes::try_all;
+use crate::requests::arrival::arrive;
+use crate::requests::passes::try_all;
 use crate::tables::Tables;
+use crate::values::closing::Closing;
+use crate::values::key::Key;
 use lease_state::{ClientNo, FileId, Memory, Request};
 
 /// A client connects.

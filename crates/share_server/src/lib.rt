@@ -29,32 +29,12 @@
 //! ```
 #![tactic(auto)]
 
-mod acknowledge;
-mod answer;
-mod arrival;
-mod attempt;
 mod calls;
-mod closing;
-mod file_summary;
-mod finding;
-mod grant;
-mod key;
-mod lease;
-mod lease_marks;
-mod left_opens;
-mod open;
-mod opens;
-mod out;
 mod outs;
-mod passes;
-mod request;
+mod requests;
 mod server;
-mod state;
-mod summaries;
 mod tables;
-mod tally;
-mod waiting;
-mod want;
+mod values;
 
-pub use out::Out;
 pub use server::Server;
+pub use values::out::Out;

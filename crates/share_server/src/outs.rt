@@ -7,9 +7,9 @@ ghost use Rattle.lease_state.specs.State.{state_of};
 ghost use Rattle.share_server.specs.Requests.{file_request_of};
 ghost use Rattle.share_server.specs.Written.{out_of, out_written, answer_told, IsWritten};
 
-use crate::key::Key;
-use crate::out::Out;
-use crate::request::FileRequest;
+use crate::values::key::Key;
+use crate::values::out::Out;
+use crate::values::request::FileRequest;
 use lease_laws::bytes_laws;
 use lease_state::{
     Bytes, ClientNo, FileId, FileNo, LeaseKey, LeaseState, Memory, Patch, Reply, Status,

@@ -13,10 +13,10 @@ ghost use Rattle.share_server.specs.Outs.{IsAfter};
 ghost use Rattle.share_server.specs.Table.{server_of};
 
 use crate::calls;
-use crate::key::Key;
-use crate::out::Out;
 use crate::outs::Outs;
 use crate::tables::Tables;
+use crate::values::key::Key;
+use crate::values::out::Out;
 use lease_laws::laws_of_servers;
 use lease_state::{ClientNo, Content, FileId, FileNo, LeaseKey, LeaseState, Memory, Request};
 use std::alloc::Global;
@@ -123,15 +123,16 @@ impl Server {
     ///
     /// # Errors
     ///
-    /// `Memory` where there is none left, and never where the client isn't connected. The server has forgotten its opens then, and
-    /// the list has nothing of worth.
+    /// `Memory` where there is none left, and never where the client isn't connected. The server has forgotten its opens then,
+    /// and the list has nothing of worth.
     pub fn receive_in_place(
         &mut self,
         client: ClientNo,
         request: Request,
         outs: &mut Vec<Out>,
     ) -> Result<(), Memory>
-        ensures after { OnOk result (IsAfter self.new outs.new.items (rules.receive (server_of self.old) client.0 (request_of request))) }
+        ensures after { OnOk result
+            (IsAfter self.new outs.new.items (rules.receive (server_of self.old) client.0 (request_of request))) }
         ensures idle { (server_of self.old).present client.0 ≡ false → IsOk result }
         ensures forgotten { OnErr result ((server_of self.new).opens ≡ []) }
     {
@@ -172,8 +173,8 @@ impl Server {
     ///
     /// # Errors
     ///
-    /// `Memory` where there is none left, and never where the client isn't connected. The server has forgotten its opens then, and
-    /// the list has nothing of worth.
+    /// `Memory` where there is none left, and never where the client isn't connected. The server has forgotten its opens then,
+    /// and the list has nothing of worth.
     pub fn cut_in_place(&mut self, client: ClientNo, outs: &mut Vec<Out>) -> Result<(), Memory>
         ensures after { OnOk result (IsAfter self.new outs.new.items (rules.cut (server_of self.old) client.0)) }
         ensures idle { (server_of self.old).present client.0 ≡ false → IsOk result }
@@ -212,8 +213,8 @@ impl Server {
         Ok((server, outs))
     }
 
-    /// The timer of a lease break runs out, as by `expire`, and the server is changed in its place (MS-SMB2 3.3.6.5). What the call gives
-    /// out is on the list afterwards, whatever was there.
+    /// The timer of a lease break runs out, as by `expire`, and the server is changed in its place (MS-SMB2 3.3.6.5). What the
+    /// call gives out is on the list afterwards, whatever was there.
     ///
     /// # Errors
     ///
@@ -225,7 +226,8 @@ impl Server {
         key: LeaseKey,
         outs: &mut Vec<Out>,
     ) -> Result<(), Memory>
-        ensures after { OnOk result (IsAfter self.new outs.new.items (rules.expire (server_of self.old) (key_of client.0 key.0))) }
+        ensures after { OnOk result
+            (IsAfter self.new outs.new.items (rules.expire (server_of self.old) (key_of client.0 key.0))) }
         ensures idle { queries.breaking (server_of self.old) (key_of client.0 key.0) ≡ false → IsOk result }
         ensures forgotten { OnErr result ((server_of self.new).opens ≡ []) }
     {
@@ -260,8 +262,8 @@ impl Server {
         Ok((server, outs))
     }
 
-    /// The timer of a durable open runs out, as by `scavenge`, and the server is changed in its place (MS-SMB2 3.3.6.2). What the call gives
-    /// out is on the list afterwards, whatever was there.
+    /// The timer of a durable open runs out, as by `scavenge`, and the server is changed in its place (MS-SMB2 3.3.6.2). What the
+    /// call gives out is on the list afterwards, whatever was there.
     ///
     /// # Errors
     ///

@@ -8,14 +8,14 @@ ghost use Rattle.lease_model.specs.values.Patches.{is_within_limit};
 ghost use Rattle.share_server.specs.OneFile.{asks_with};
 ghost use Rattle.share_server.specs.Table.{no_file, file_in, fresh_file};
 
-use crate::key::Key;
-use crate::lease::Lease;
-use crate::open::Open;
-use crate::opens::Opens;
-use crate::request::Held;
-use crate::state::without_write;
-use crate::summaries::Summaries;
-use crate::waiting::Waiting;
+use crate::tables::opens::Opens;
+use crate::tables::summaries::Summaries;
+use crate::tables::waiting::Waiting;
+use crate::values::key::Key;
+use crate::values::lease::Lease;
+use crate::values::open::Open;
+use crate::values::request::Held;
+use crate::values::state::without_write;
 use lease_state::{
     Access, ClientNo, Content, ContentFault, FileId, FileNo, LeaseState, Memory, Patch, Share,
 };
@@ -23,8 +23,15 @@ use std::alloc::{AllocError, Global};
 use std::marker::Model;
 
 mod changes;
+pub mod file_summary;
+pub mod lease_marks;
+pub mod left_opens;
 mod looks;
+pub mod opens;
 mod still;
+pub mod summaries;
+pub mod tally;
+pub mod waiting;
 mod wants;
 
 /// The last number that a file can have (profile): those of one byte.

@@ -7,7 +7,7 @@ use Rattle.std.proofs.lemmas.Fmt.{decimal_by_steps, decimal_digit, decimal_nonem
 use Rattle.hex.specs.Hex.{IsBytes, encode_with, encode_lower, lower_digits}
 use Rattle.hex.proofs.HexLemmas.{decode_of-encode_lower}
 use Rattle.lease_state.specs.State.{bits_of_state}
-use Rattle.lease_client.specs.declared.note.Settlement.{Settlement}
+use Rattle.lease_client.specs.declared.values.note.Settlement.{Settlement}
 use Rattle.lease_texts.specs.Fields.{digit_behind, number_after, number_in, bytes_in, state_in, ordinal_in, offset_in, content_in}
 use Rattle.lease_texts.specs.Records.{digits_word, outcome_word, outcome_in}
 use Rattle.lease_texts.specs.Words.{state_word}

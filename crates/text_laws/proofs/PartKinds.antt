@@ -2,7 +2,7 @@
 use Rattle.lease_laws.proofs.Words.{◌∙◌, ◌∷◌, ◌≡◌, Among, ClientNo, FileNo, List, None, Option, Some, ℕ, ⊎_elim, [], ap, arith}
 use Rattle.lease_laws.proofs.Words.{bytes_eq, codes, drop, false, inl, inr, map, refl, sym, true}
 use Rattle.uuid.specs.Text.{parsed}
-use Rattle.lease_client.specs.declared.command.Command.TheVariants as command
+use Rattle.lease_client.specs.declared.values.command.Command.TheVariants as command
 use Rattle.lease_facts.specs.Setups.{client_event, client_events, client_named, client_named_among, client_word}
 use Rattle.lease_facts.specs.declared.setup.ClientEvent.{ClientEvent}
 use Rattle.lease_facts.specs.declared.setup.Event.{Event}

@@ -2,7 +2,7 @@
 use Rattle.lease_laws.proofs.Words.{◌++◌, ◌∷◌, ◌≡◌, ClientNo, List, Some, ℕ, [], append_assoc, arith, codes, decimal, drop, false}
 use Rattle.lease_laws.proofs.Words.{refl, state_of, true}
 use Rattle.hex.specs.Hex.{encode_lower}
-use Rattle.lease_client.specs.declared.command.Command.TheVariants as command
+use Rattle.lease_client.specs.declared.values.command.Command.TheVariants as command
 use Rattle.lease_state.specs.declared.request.Request.TheVariants as request
 use Rattle.lease_facts.proofs.Alone.{event_in}
 use Rattle.lease_facts.specs.Setups.{client_event, client_event_of, client_word, event_client}

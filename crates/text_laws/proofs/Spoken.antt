@@ -8,7 +8,7 @@ use Rattle.hex.specs.Hex.{IsBytes, encode_lower}
 use Rattle.hex.proofs.HexLemmas.{decode_sized-encode_lower}
 use Rattle.uuid.specs.Text.{hyphenated_text, lower, parsed}
 use Rattle.uuid.proofs.RoundTrips.{parses_hyphenated}
-use Rattle.lease_client.specs.declared.note.Settlement.{Settlement}
+use Rattle.lease_client.specs.declared.values.note.Settlement.{Settlement}
 use Rattle.lease_state.specs.State.{bits_of_state}
 use Rattle.lease_state.specs.declared.number.FileId.{FileId}
 use Rattle.lease_state.specs.declared.state.LeaseState.{LeaseState}

@@ -6,7 +6,7 @@ use Rattle.lease_state.specs.declared.number.ClientNo.{ClientNo}
 use Rattle.lease_state.specs.declared.number.FileId as file_ids
 use Rattle.lease_state.specs.declared.number.FileNo.{FileNo}
 use Rattle.lease_state.specs.declared.state.LeaseState.{LeaseState}
-use Rattle.lease_client.specs.declared.note.Settlement.{Settlement}
+use Rattle.lease_client.specs.declared.values.note.Settlement.{Settlement}
 use Rattle.lease_laws.specs.server.Laws.{Among}
 use Rattle.lease_texts.specs.Fields.{ordinal_in, number_in, offset_in, bytes_in, content_in, access_in, share_in, state_in}
 use Rattle.lease_texts.specs.Pieces.{fields_of}

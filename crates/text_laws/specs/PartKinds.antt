@@ -1,7 +1,7 @@
 -- The lines of schedules: one row a kind of line; where a word may stand or not, one for each.
 use Rattle.std.specs.Prelude.{true, false, List, [], ◌∷◌, codes, map}
-use Rattle.lease_client.specs.declared.command.Command.{Command}
-use Rattle.lease_client.specs.declared.command.Command.TheVariants as command
+use Rattle.lease_client.specs.declared.values.command.Command.{Command}
+use Rattle.lease_client.specs.declared.values.command.Command.TheVariants as command
 use Rattle.lease_facts.specs.Setups.{client_event, client_events, client_word}
 use Rattle.lease_facts.specs.declared.setup.ClientEvent.{ClientEvent}
 use Rattle.lease_facts.specs.declared.setup.Event.TheVariants as event

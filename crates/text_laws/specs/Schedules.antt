@@ -1,8 +1,8 @@
 -- Schedules that a text can state, and that it is read back as them.
 use Rattle.std.specs.Prelude.{◌≡◌, ◌≤◌, ◌<◌, ℕ, List, length, Ok}
 use Rattle.hex.specs.Hex.{IsBytes}
-use Rattle.lease_client.specs.declared.command.Command.{Command}
-use Rattle.lease_client.specs.declared.command.Command.TheVariants as command
+use Rattle.lease_client.specs.declared.values.command.Command.{Command}
+use Rattle.lease_client.specs.declared.values.command.Command.TheVariants as command
 use Rattle.lease_state.specs.declared.content.TheConstants.{FILE_LIMIT}
 use Rattle.lease_state.specs.declared.request.Request.{Request}
 use Rattle.lease_state.specs.declared.request.Request.TheVariants as request

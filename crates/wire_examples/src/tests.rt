@@ -185,8 +185,8 @@ fn writes_break_messages(rt: HostRuntime) {
         new: LeaseState::from_wire(3),
     };
     let bytes = notification.encode();
-    let text =
-        b"\x2c\0\0\0\x01\0\0\0\0\x01\x02\x03\x04\x05\x06\x07\x08\x09\x0a\x0b\x0c\x0d\x0e\x0f\x07\0\0\0\x03\0\0\0\0\0\0\0\0\0\0\0\0\0\0\0";
+    let text = b"\x2c\0\0\0\x01\0\0\0\0\x01\x02\x03\x04\x05\x06\x07\x08\x09\x0a\x0b\x0c\x0d\x0e\x0f\
+        \x07\0\0\0\x03\0\0\0\0\0\0\0\0\0\0\0\0\0\0\0";
     assert!(&rt; bytes == *text);
     let message =
         b"\x24\0\0\0\0\0\0\0\0\x01\x02\x03\x04\x05\x06\x07\x08\x09\x0a\x0b\x0c\x0d\x0e\x0f\x03\0\0\0\0\0\0\0\0\0\0\0";

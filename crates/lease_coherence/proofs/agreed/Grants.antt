@@ -1,7 +1,7 @@
 -- A client's belief rises by a grant alone, while no break is in progress.
 use Rattle.lease_laws.proofs.Words.{◌&&◌, ◌||◌, ◌≡◌, ◌⊎◌, Asked, Bool, Client, ClientCall, CreateAnswer, Entry, LeaseGiven, List}
 use Rattle.lease_laws.proofs.Words.{LiveEntry, None, Option, Pending, Phase, Reply, Some, State, Step, ℕ, belief}
-use Rattle.lease_laws.proofs.Words.{belief_in, bytes_eq, connect_turn}
+use Rattle.lease_laws.proofs.Words.{Turn, belief_in, belief_of, bytes_eq, connect_turn}
 use Rattle.lease_laws.proofs.Words.{false, given_state, inl, inr, is_state_within, lease_key}
 use Rattle.lease_laws.proofs.Words.{meet, not, nothing_cached, phase_with}
 use Rattle.lease_laws.proofs.Words.{promoted_belief, put, refl, sent_without, subst}
@@ -13,6 +13,7 @@ use Rattle.lease_coherence.specs.Agreement.{IsGranted, BeliefsRiseByGrants}
 use Rattle.lease_laws.proofs.client.cases.Commands.{HasCommands, any_command, sent_of}
 use Rattle.lease_laws.proofs.client.cases.Replies.{HasTakes, any_reply}
 use Rattle.lease_laws.proofs.client.cases.Links.{HasNotices, any_notice}
+use Rattle.lease_laws.proofs.client.cases.Turns.{by_turn}
 
 -- ---- states
 
@@ -54,27 +55,30 @@ put_low client at entry here file = by_client
     (λ ne off. subst (λ (e : Entry). Within (belief_in e.phase) (belief client file))
     (sym (put_other client.entries at entry file ne)) (same_within (belief client file)))
 
+turn_low : (client : Client) (at : ℕ) (turn : Turn) → Within (belief_of turn.entry) (belief client at)
+    → StaysLow client (turned client at turn)
+turn_low client at turn here = by_turn (StaysLow client) client at turn (put_low client at turn.entry here)
+
 -- an entry that believes what it did
 as_was : (client : Client) (file : ℕ) (live : LiveEntry) → (client.entries file).phase ≡ Phase.Live live
     → Within live.belief (belief client file)
 as_was client file live is = subst (λ p. Within live.belief (belief_in p)) (sym is) (same_within live.belief)
 
 commands_low : (client : Client) → HasCommands client (StaysLow client)
-unfolding turned
 commands_low client = record {
   refused = λ refusal file. same_within (belief client file);
-  opening = λ file terms is on. put_low client file _ refl;
-  added = λ file live is. put_low client file _ (as_was client file live is.is_so);
-  asked = λ file live terms is idle some. put_low client file _ (as_was client file live is.is_so);
-  anew = λ file live terms is idle none. put_low client file _ refl;
-  fewer = λ file live is more. put_low client file _ (as_was client file live is.is_so);
-  parked = λ file live is idle done stays. put_low client file _ (as_was client file live is.is_so);
-  closed = λ file live is idle done goes. put_low client file _ refl;
+  opening = λ file terms is on. turn_low client file _ refl;
+  added = λ file live is. turn_low client file _ (as_was client file live is.is_so);
+  asked = λ file live terms is idle some. turn_low client file _ (as_was client file live is.is_so);
+  anew = λ file live terms is idle none. turn_low client file _ refl;
+  fewer = λ file live is more. turn_low client file _ (as_was client file live is.is_so);
+  parked = λ file live is idle done stays. turn_low client file _ (as_was client file live is.is_so);
+  closed = λ file live is idle done goes. turn_low client file _ refl;
   cached = λ file live base is reads has f. same_within (belief client f);
-  read = λ file live is idle. put_low client file _ (as_was client file live is.is_so);
+  read = λ file live is idle. turn_low client file _ (as_was client file live is.is_so);
   buffered = λ file live patch is fits caches. put_low client file _ (as_was client file live is.is_so);
   written = λ file live patch is fits sends. put_low client file _ (as_was client file live is.is_so);
-  flushed = λ file live is. put_low client file _ (as_was client file live is.is_so);
+  flushed = λ file live is. turn_low client file _ (as_was client file live is.is_so);
 }
 
 -- ---- replies
@@ -85,19 +89,19 @@ LowOrGranted client reply step = (file : ℕ)
     → Within (belief step.client file) (belief client file) ⊎ IsGranted client (ClientCall.Taken reply) file
 
 -- an entry that a reply to a create makes live, believing this
-granted_low : (client : Client) (at file_id : ℕ) (answer : CreateAnswer) (entry : Entry)
-    → Within (belief_in entry.phase) (belief client at)
+granted_low : (client : Client) (at file_id : ℕ) (answer : CreateAnswer) (turn : Turn)
+    → Within (belief_of turn.entry) (belief client at)
     ⊎ IsGranted client (ClientCall.Taken (Reply.Created at file_id (Some answer))) at
-    → (file : ℕ) → Within (belief_in (put client.entries at entry file).phase) (belief client file)
-    ⊎ IsGranted client (ClientCall.Taken (Reply.Created at file_id (Some answer))) file
-granted_low client at file_id answer entry here file = by_client
-    (λ f. Within (belief_in (put client.entries at entry f).phase) (belief client f)
+    → LowOrGranted client (Reply.Created at file_id (Some answer)) (turned client at turn)
+granted_low client at file_id answer turn here =
+    by_turn (LowOrGranted client (Reply.Created at file_id (Some answer))) client at turn (λ file. by_client
+    (λ f. Within (belief_in (put client.entries at turn.entry f).phase) (belief client f)
     ⊎ IsGranted client (ClientCall.Taken (Reply.Created at file_id (Some answer))) f) at file
     (subst (λ (e : Entry). Within (belief_in e.phase) (belief client at)
     ⊎ IsGranted client (ClientCall.Taken (Reply.Created at file_id (Some answer))) at)
-    (sym (put_same client.entries at entry)) here)
+    (sym (put_same client.entries at turn.entry)) here)
     (λ ne off. inl (subst (λ (e : Entry). Within (belief_in e.phase) (belief client file))
-    (sym (put_other client.entries at entry file ne)) (same_within (belief client file))))
+    (sym (put_other client.entries at turn.entry file ne)) (same_within (belief client file)))))
 
 -- what a reply gives is nothing, or a grant
 given_or_none : (client : Client) (at file_id : ℕ) (answer : CreateAnswer) (lease : Option LeaseGiven)
@@ -129,11 +133,10 @@ with_same write (Phase.Live live) = same_within live.belief
 with_same write phase = refl
 
 takes_low : (client : Client) → HasTakes client (LowOrGranted client)
-unfolding turned
 takes_low client = record {
   passed = λ reply why file. inl (same_within (belief client file));
-  parked_closes = λ file notice live at is parked f. inl (put_low client file _ refl f);
-  lowered = λ file notice live at is stays f. inl (put_low client file _
+  parked_closes = λ file notice live at is parked f. inl (turn_low client file _ refl f);
+  lowered = λ file notice live at is stays f. inl (turn_low client file _
       (subst (λ p. Within (meet live.belief notice.lowered) (belief_in p)) (sym is) (meet_within live.belief notice.lowered)) f);
   opened = λ at id answer access share is. granted_low client at id answer _
       (given_or_none client at id answer answer.lease refl (belief client at));
@@ -143,17 +146,17 @@ takes_low client = record {
       (subst (λ p. Within (promoted_belief (lease_key client.guid at) live.belief answer.lease) (belief_in p)
       ⊎ IsGranted client (ClientCall.Taken (Reply.Created at id (Some answer))) at) (sym is)
       (promoted_or_none client at id answer answer.lease refl live.belief));
-  not_opened = λ file status access share is f. inl (put_low client file _ refl f);
-  not_reconnected = λ file status parted is f. inl (put_low client file _ refl f);
-  not_promoted = λ file status live asked is asks f. inl (put_low client file _ (as_was client file live is) f);
-  read = λ file id bytes live is same some f. inl (put_low client file _ (as_was client file live is) f);
-  read_closed = λ file id status live is same gone f. inl (put_low client file _
+  not_opened = λ file status access share is f. inl (turn_low client file _ refl f);
+  not_reconnected = λ file status parted is f. inl (turn_low client file _ refl f);
+  not_promoted = λ file status live asked is asks f. inl (turn_low client file _ (as_was client file live is) f);
+  read = λ file id bytes live is same some f. inl (turn_low client file _ (as_was client file live is) f);
+  read_closed = λ file id status live is same gone f. inl (turn_low client file _
       (without_low live.asking (sent_of client file) (belief client file)) f);
-  not_read = λ file id status live is same some f. inl (put_low client file _ (as_was client file live is) f);
-  written = λ file id number has known f. inl (put_low client file _ (with_same _ (client.entries file).phase) f);
-  write_closed = λ file id number status live has known is same gone f. inl (put_low client file _
+  not_read = λ file id status live is same some f. inl (turn_low client file _ (as_was client file live is) f);
+  written = λ file id number has known f. inl (turn_low client file _ (with_same _ (client.entries file).phase) f);
+  write_closed = λ file id number status live has known is same gone f. inl (turn_low client file _
       (without_low live.asking (sent_without number (sent_of client file)) (belief client file)) f);
-  not_written = λ file id number status has known f. inl (put_low client file _ (same_within (belief client file)) f);
+  not_written = λ file id number status has known f. inl (turn_low client file _ (same_within (belief client file)) f);
 }
 
 -- ---- connections

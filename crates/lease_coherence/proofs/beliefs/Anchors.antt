@@ -11,6 +11,7 @@ use Rattle.lease_coherence.proofs.standing.Clients.{writes_close}
 use Rattle.lease_coherence.proofs.beliefs.Forms.{IsAboutFile, file_no_acks, lowered_elsewhere, HasBeliefTakes, parked_still}
 use Rattle.lease_coherence.proofs.beliefs.Forms.{IsStill, takes_by_belief, commands_still}
 use Rattle.lease_coherence.proofs.beliefs.Words.{acks, OpenTillAck, open_before}
+use Rattle.lease_laws.proofs.client.cases.Turns.{by_turn}
 
 -- a step sends none of the file's key, or one behind no Close of the live open
 pub record AnchorsLive (machine : Client) (file : ℕ) (step : Step) : Type 0 where
@@ -26,8 +27,8 @@ about_none machine step about file = inl (file_no_acks (lease_key machine.guid f
 
 turn_none : (machine : Client) (at : ℕ) (turn : Turn) → Each IsAboutFile turn.requests → AnchorsOn machine
     (turned machine at turn)
-unfolding turned
-turn_none machine at turn about = about_none machine (turned machine at turn) about
+turn_none machine at turn about = about_none machine (turned machine at turn)
+    (by_turn (λ step. Each IsAboutFile step.requests) machine at turn about)
 
 pub command_anchors : (machine : Client) (command : Command) → AnchorsOn machine (commanded machine command)
 command_anchors machine command = about_none machine (commanded machine command)
@@ -43,8 +44,7 @@ ack_till key file_id notice state own = if_cases (OpenTillAck key file_id) notic
 lowered_anchors : (machine : Client) (at : ℕ) (notice : BreakNotice) (live : LiveEntry)
     → is_key_of machine notice.key at ≡ true → (machine.entries at).phase ≡ Phase.Live live → AnchorsOn machine (turned machine at
     (belief_lowered live (sent_of machine at) notice (meet live.belief notice.lowered)))
-unfolding turned
-lowered_anchors machine at notice live own is file =
+lowered_anchors machine at notice live own is = by_turn (AnchorsOn machine) machine at _ (λ file.
     let new = meet live.belief notice.lowered in
     either (file == at)
     (λ same. let e = eqb-true file at same in inr (record {
@@ -55,7 +55,7 @@ lowered_anchors machine at notice live own is file =
           (ack_till (lease_key machine.guid file) live.file_id notice new
           (ap (λ f. bytes_eq (lease_key machine.guid f) notice.key) e ∙ own));
     }))
-    (λ other. inl (lowered_elsewhere machine at notice live own file (λ e. clash (file == at) (eq-eqb file at e) other)))
+    (λ other. inl (lowered_elsewhere machine at notice live own file (λ e. clash (file == at) (eq-eqb file at e) other))))
 
 anchoring : (machine : Client) → HasBeliefTakes machine (λ reply step. AnchorsOn machine step)
 anchoring machine = record {

@@ -17,6 +17,7 @@ use Rattle.lease_coherence.proofs.beliefs.Forms.{HadBelief, HasBeliefTakes, IsAb
 use Rattle.lease_coherence.proofs.beliefs.Forms.{as_it_was, idle_still, lowered_elsewhere, one_live, parked_still}
 use Rattle.lease_coherence.proofs.beliefs.Forms.{takes_by_belief}
 use Rattle.lease_coherence.proofs.beliefs.Forms.{writes_about}
+use Rattle.lease_laws.proofs.client.cases.Turns.{by_turn}
 
 -- ---- steps
 
@@ -62,8 +63,8 @@ turn_takes : (machine : Client) (reply : Reply) (at : ℕ) (turn : Turn)
     → IsBelieved (lease_key machine.guid at) at lease (machine.entries at).phase asked (reply ∷ queue)
     → IsBelieved (lease_key machine.guid at) at lease turn.entry.phase (asked ++ turn.requests) queue)
     → TakesBelief machine reply (turned machine at turn)
-unfolding turned
-turn_takes machine reply at turn others here formed file lease asked queue b = by_client
+turn_takes machine reply at turn others here = by_turn (TakesBelief machine reply) machine at turn
+    (λ formed file lease asked queue b. by_client
     (λ f. IsBelieved (lease_key machine.guid f) f lease (machine.entries f).phase asked (reply ∷ queue)
     → IsBelieved (lease_key machine.guid f) f lease (put machine.entries at turn.entry f).phase
     (asked ++ turn.requests) queue) at file
@@ -75,7 +76,7 @@ turn_takes machine reply at turn others here formed file lease asked queue b = b
     (step_kept (lease_key machine.guid file) file lease (machine.entries file).phase (machine.entries file).phase asked
     turn.requests queue (λ live is. had_live (machine.entries file).phase live.belief
     (as_it_was (machine.entries file).phase live is)) (others file ne)
-    (reply_kept (lease_key machine.guid file) file lease (machine.entries file).phase asked reply queue own))) b
+    (reply_kept (lease_key machine.guid file) file lease (machine.entries file).phase asked reply queue own))) b)
 
 -- a break that an entry meets
 less_meet : (old : Phase) (live next : LiveEntry) (notice : BreakNotice) → old ≡ Phase.Live live

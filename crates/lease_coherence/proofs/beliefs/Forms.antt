@@ -18,6 +18,7 @@ use Rattle.lease_coherence.specs.Creates.{one_if}
 use Rattle.lease_coherence.specs.Names.{Each}
 use Rattle.lease_coherence.proofs.names.Words.{each_append}
 use Rattle.lease_coherence.proofs.beliefs.Words.{acks, acks_append}
+use Rattle.lease_laws.proofs.client.cases.Turns.{by_turn}
 
 -- ---- requests about files
 
@@ -105,8 +106,8 @@ put_still machine at entry had file now is = by_client (λ f. (put machine.entri
 turned_still : (machine : Client) (at : ℕ) (turn : Turn) → Each IsAboutFile turn.requests
     → ((now : LiveEntry) → turn.entry.phase ≡ Phase.Live now → HadBelief (machine.entries at).phase now.belief)
     → IsStill machine (turned machine at turn)
-unfolding turned
-turned_still machine at turn about had = record { about = about; beliefs = put_still machine at turn.entry had }
+turned_still machine at turn about had =
+    by_turn (IsStill machine) machine at turn (record { about = about; beliefs = put_still machine at turn.entry had })
 
 wrote_still : (machine : Client) (at : ℕ) (entry : Entry) (answer : Answer) (requests : List Request) (write : Pending)
     → Each IsAboutFile requests

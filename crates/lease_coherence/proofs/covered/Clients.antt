@@ -18,6 +18,7 @@ use Rattle.lease_coherence.proofs.standing.Clients.{FitsGiven}
 use Rattle.lease_coherence.proofs.covered.Words.{ClosedBefore, closed_more, closed_behind, closed_behind_writes, IsGrantOf}
 use Rattle.lease_coherence.proofs.covered.Words.{IsLiveUnder, IsCovered, cover_by, NotFailed}
 use Rattle.lease_coherence.proofs.creates.Counts.{none_asked}
+use Rattle.lease_laws.proofs.client.cases.Turns.{by_turn}
 
 -- ---- commands
 
@@ -85,8 +86,8 @@ put_covers machine at entry more covers file file_id asked queue quiet c = by_cl
 
 turned_covers : (machine : Client) (at : ℕ) (turn : Turn)
     → TurnCovers at (machine.entries at).phase turn.entry.phase turn.requests → StepCovers machine (turned machine at turn)
-unfolding turned
-turned_covers machine at turn covers = put_covers machine at turn.entry turn.requests covers
+turned_covers machine at turn covers =
+    by_turn (StepCovers machine) machine at turn (put_covers machine at turn.entry turn.requests covers)
 
 wrote_covers : (machine : Client) (at : ℕ) (entry : Entry) (answer : Answer) (requests : List Request) (write : Pending)
     → TurnCovers at (machine.entries at).phase entry.phase requests
@@ -169,8 +170,8 @@ turn_takes : (machine : Client) (reply : Reply) (at : ℕ) (turn : Turn)
     → ((queue : List Reply) (file_id : ℕ) (asked : List Request) → IsMetWith machine reply queue at file_id asked
     → IsGrantOf at file_id reply → IsCovered turn.entry.phase at file_id (asked ++ turn.requests) queue)
     → TakeCovers machine reply (turned machine at turn)
-unfolding turned
-turn_takes machine reply at turn others live granted queue file file_id asked m c = by_client
+turn_takes machine reply at turn others live granted = by_turn (TakeCovers machine reply) machine at turn
+    (λ queue file file_id asked m c. by_client
     (λ f. IsMetWith machine reply queue f file_id asked → IsCovered (machine.entries f).phase f file_id asked (reply ∷ queue)
     → IsCovered (put machine.entries at turn.entry f).phase f file_id (asked ++ turn.requests) queue) at file
     (λ k own. subst (λ (e : Entry). IsCovered e.phase at file_id (asked ++ turn.requests) queue)
@@ -181,7 +182,7 @@ turn_takes machine reply at turn others live granted queue file file_id asked m 
     (λ ne off k own. subst (λ (e : Entry). IsCovered e.phase file file_id (asked ++ turn.requests) queue)
     (sym (put_other machine.entries at turn.entry file ne))
     (still_covers (machine.entries file).phase file file_id asked turn.requests queue
-    (rest_covers (machine.entries file).phase reply queue file file_id asked (others file file_id ne) own))) m c
+    (rest_covers (machine.entries file).phase reply queue file file_id asked (others file file_id ne) own))) m c)
 
 -- a turn of a reply that grants nothing
 plain_turn : (machine : Client) (reply : Reply) (at : ℕ) (turn : Turn) → IsNoGrant reply

@@ -14,6 +14,7 @@ use Rattle.lease_coherence.specs.Names.{IsNamedReply}
 use Rattle.lease_laws.proofs.client.cases.Commands.{HasCommands, sent_of}
 use Rattle.lease_laws.proofs.client.cases.Replies.{HasTakes, PassesOver}
 use Rattle.lease_coherence.proofs.creates.Counts.{creates_append, writes_create, none_asked}
+use Rattle.lease_laws.proofs.client.cases.Turns.{by_turn}
 
 -- a step of the client: so many creates were answered to it
 abbrev pub IsCountedStep : Client → (ℕ → ℕ) → Step → Type 0
@@ -28,14 +29,13 @@ turned_counts : (client : Client) (answered : ℕ → ℕ) (file : ℕ) (turn : 
     → ((other : ℕ) → other ≢ file → answered other ≡ creates other turn.requests)
     → answered file + one_if (has_asked turn.entry.phase) ≡ creates file turn.requests + asked_by client file
     → IsCountedStep client answered (turned client file turn)
-unfolding turned
-turned_counts client answered file turn others here other = by_client
+turned_counts client answered file turn others here = by_turn (IsCountedStep client answered) client file turn (λ other. by_client
     (λ f. answered f + one_if (has_asked (put client.entries file turn.entry f).phase)
     ≡ creates f turn.requests + asked_by client f) file other
     (subst (λ (e : Entry). answered file + one_if (has_asked e.phase) ≡ creates file turn.requests + asked_by client file)
     (sym (put_same client.entries file turn.entry)) here)
     (λ ne apart. ap₂ (λ (n : ℕ) (e : Entry). n + one_if (has_asked e.phase)) (others other ne)
-    (put_other client.entries file turn.entry other ne))
+    (put_other client.entries file turn.entry other ne)))
 
 -- one that sends no create
 quiet_turn : (client : Client) (file : ℕ) (turn : Turn) → ((other : ℕ) → creates other turn.requests ≡ 0)

@@ -22,6 +22,7 @@ use Rattle.lease_coherence.proofs.names.Words.{each_weaker}
 use Rattle.lease_coherence.proofs.writes.Counts.{settles_of, numbered_in, none_numbered}
 use Rattle.lease_coherence.proofs.writes.Steps.{IsKnownBy, IsOwnNumber}
 use Rattle.lease_coherence.proofs.creates.Counts.{none_asked}
+use Rattle.lease_laws.proofs.client.cases.Turns.{step_of, by_turn}
 
 -- ---- entries that stay live as they were
 
@@ -68,9 +69,8 @@ put_live machine at entry here file now = by_client
 pub turned_keeps : (machine : Client) (at : ℕ) (turn : Turn) → Each IsAboutFile turn.requests
     → ((now : LiveEntry) → turn.entry.phase ≡ Phase.Live now → WasSoLive (machine.entries at).phase now)
     → KeepsLive machine (turned machine at turn)
-unfolding turned
-turned_keeps machine at turn about here =
-    record { live = λ file now e. put_live machine at turn.entry here file now e; about = about }
+turned_keeps machine at turn about here = by_turn (KeepsLive machine) machine at turn
+    (record { live = λ file now e. put_live machine at turn.entry here file now e; about = about })
 
 wrote_keeps : (machine : Client) (at : ℕ) (entry : Entry) (answer : Answer) (requests : List Request) (write : Pending)
     → Each IsAboutFile requests → ((now : LiveEntry) → entry.phase ≡ Phase.Live now → WasSoLive (machine.entries at).phase now)
@@ -221,14 +221,14 @@ pub turn_fresh : (c : ℕ) (machine : Client) (past : List Fact) (reply : Reply)
     → ((place : List Fact) (queue : List Reply) (old : List ℕ) → IsMetBy c machine past reply place queue at old
     → IsFreshAfter machine (turned machine at turn) reply place queue at)
     → TakesFresh c machine past reply (turned machine at turn)
-unfolding turned
 turn_fresh c machine past reply at turn s others acks here due place queue file old m = either (at == file)
     (λ same. subst (λ f. IsMetBy c machine past reply place queue f old
     → IsFreshAfter machine (turned machine at turn) reply place queue f) (eqb-true at file same) (here place queue old) m)
     (λ apart. let ne : file ≢ at = λ e. clash (at == file) (eq-eqb at file (sym e)) apart in
-    same_entry c machine past reply (turned machine at turn) s place queue file old (others file ne)
+    by_turn (λ step. IsFreshAfter machine step reply place queue file) machine at turn
+    (same_entry c machine past reply (step_of machine at turn) s place queue file old (others file ne)
     (λ now e. was_it (machine.entries file).phase now
-    (ap (λ (x : Entry). x.phase) (sym (put_other machine.entries at turn.entry file ne)) ∙ e)) (acks file _ ne) m)
+    (ap (λ (x : Entry). x.phase) (sym (put_other machine.entries at turn.entry file ne)) ∙ e)) (acks file _ ne) m))
 
 -- what the turn leaves at its file
 pub here_fresh : (machine : Client) (reply : Reply) (at : ℕ) (turn : Turn) (place : List Fact) (queue : List Reply)
@@ -237,14 +237,14 @@ pub here_fresh : (machine : Client) (reply : Reply) (at : ℕ) (turn : Turn) (pl
     → ((live : LiveEntry) → turn.entry.phase ≡ Phase.Live live → (bytes : List ℕ) → live.base ≡ Some bytes
     → bytes ≡ content_of at place) → Each (AckReads (lease_key machine.guid at) (reads_after (lease_key machine.guid at) at
     (belief_in turn.entry.phase).read queue)) turn.requests → IsFreshAfter machine (turned machine at turn) reply place queue at
-unfolding turned
 here_fresh machine reply at turn place queue reads base acks =
-    let same = put_same machine.entries at turn.entry in record {
+    let same = put_same machine.entries at turn.entry in
+    by_turn (λ step. IsFreshAfter machine step reply place queue at) machine at turn (record {
       reads = λ e. reads (ap (λ (x : Entry). (belief_in x.phase).read) (sym same) ∙ e);
       base = λ live is bytes b. base live (ap (λ (x : Entry). x.phase) (sym same) ∙ is) bytes b;
       acks = subst (λ (x : Entry). Each (AckReads (lease_key machine.guid at) (reads_after (lease_key machine.guid at) at
           (belief_in x.phase).read queue)) turn.requests) (sym same) acks;
-    }
+    })
 
 -- ---- replies that are plain
 

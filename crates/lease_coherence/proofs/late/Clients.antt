@@ -19,6 +19,7 @@ use Rattle.lease_laws.proofs.client.cases.Replies.{HasTakes, PassesOver}
 use Rattle.lease_coherence.proofs.moves.Shift.{append_none}
 use Rattle.lease_coherence.proofs.writes.Counts.{settles_of}
 use Rattle.lease_coherence.proofs.writes.Settled.{number_there, number_append, rising_rest}
+use Rattle.lease_laws.proofs.client.cases.Turns.{by_turn}
 
 -- ---- what is sent
 
@@ -68,14 +69,15 @@ turned_from : (client : Client) (at : ℕ) (turn : Turn) (settles : ℕ → ℕ)
     → EntryFrom (client.entries at) turn.entry settles
     → ((file : ℕ) → file ≢ at → knows_file client file ≡ true → (write : Pending) → Among write (sent_of client file)
     → settles write.number ≡ 0) → StepFrom client settles (turned client at turn)
-unfolding turned
 turned_from client at turn settles sends here others = record {
   sends = sends;
-  entries = λ file known. by_client (λ f. knows_file client f ≡ true
+  entries = by_turn (λ step. (file : ℕ) → knows_file client file ≡ true
+      → EntryFrom (client.entries file) (step.client.entries file) settles) client at turn
+      (λ file known. by_client (λ f. knows_file client f ≡ true
       → EntryFrom (client.entries f) (put client.entries at turn.entry f) settles) at file
       (λ k. subst (λ e. EntryFrom (client.entries at) e settles) (sym (put_same client.entries at turn.entry)) here)
       (λ ne apart k. subst (λ e. EntryFrom (client.entries file) e settles) (sym (put_other client.entries at turn.entry file ne))
-      (same_entry (client.entries file) settles (others file ne k))) known;
+      (same_entry (client.entries file) settles (others file ne k))) known);
 }
 
 wrote_from : (client : Client) (at : ℕ) (entry : Entry) (answer : Answer) (requests : List Request) (write : Pending)
@@ -127,19 +129,18 @@ quiet_from client at turn sends here = turned_from client at turn no_settles sen
 flush_sends : (client : Client) (at : ℕ) (turn : Turn) (live : LiveEntry) (tail : List Request)
     → (client.entries at).phase ≡ Phase.Live live → Each IsOther tail
     → turn.requests ≡ write_requests live.file_id live.unsent ++ tail → SendsWrites client (turned client at turn)
-unfolding turned
-flush_sends client at turn live tail is others are = SendsWrites.Flush at live is live.unsent (λ w a. a) tail others are
+flush_sends client at turn live tail is others are =
+    by_turn (SendsWrites client) client at turn (SendsWrites.Flush at live is live.unsent (λ w a. a) tail others are)
 
 flush_some : (client : Client) (at : ℕ) (turn : Turn) (live : LiveEntry) (writes : List Pending)
     → (client.entries at).phase ≡ Phase.Live live
     → ((write : Pending) → Among write writes → Among write live.unsent) → (tail : List Request) → Each IsOther tail
     → turn.requests ≡ write_requests live.file_id writes ++ tail → SendsWrites client (turned client at turn)
-unfolding turned
-flush_some client at turn live writes is all tail others are = SendsWrites.Flush at live is writes all tail others are
+flush_some client at turn live writes is all tail others are =
+    by_turn (SendsWrites client) client at turn (SendsWrites.Flush at live is writes all tail others are)
 
 plain_sends : (client : Client) (at : ℕ) (turn : Turn) → Each IsOther turn.requests → SendsWrites client (turned client at turn)
-unfolding turned
-plain_sends client at turn others = SendsWrites.NoWrite others
+plain_sends client at turn others = by_turn (SendsWrites client) client at turn (SendsWrites.NoWrite others)
 
 pub commands_from : (client : Client) → HasCommands client (StepFrom client no_settles)
 commands_from client = record {

@@ -21,6 +21,7 @@ use Rattle.lease_coherence.proofs.late.Words.{holds_write, IsClean, LiveSafe, Ke
 use Rattle.lease_coherence.proofs.late.Words.{GrantSafe}
 use Rattle.lease_coherence.proofs.names.Words.{each_append, each_weaker, each_without}
 use Rattle.lease_laws.proofs.client.cases.Links.{HasNotices}
+use Rattle.lease_laws.proofs.client.cases.Turns.{by_turn}
 
 -- ---- lists
 
@@ -66,8 +67,8 @@ put_safe world c client at entry here file = by_client
 turned_safe : (world : World) (c : ℕ) (client : Client) (at : ℕ) (turn : Turn)
     → (PhaseSafe world c at (client.entries at).sent (client.entries at).phase
     → PhaseSafe world c at turn.entry.sent turn.entry.phase) → StepSafe world c client (turned client at turn)
-unfolding turned
-turned_safe world c client at turn here file p = put_safe world c client at turn.entry here file p
+turned_safe world c client at turn here =
+    by_turn (StepSafe world c client) client at turn (λ file p. put_safe world c client at turn.entry here file p)
 
 -- an entry that was live
 was_live : (world : World) (c : ℕ) (client : Client) (at : ℕ) (live : LiveEntry) → (client.entries at).phase ≡ Phase.Live live

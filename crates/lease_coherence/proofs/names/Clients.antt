@@ -23,6 +23,7 @@ use Rattle.lease_coherence.proofs.names.Words.{entry_later}
 use Rattle.lease_coherence.proofs.records.Later.{IsLater, later_fact, later_noted, past_noted}
 use Rattle.lease_coherence.proofs.wellformed.Notes.{EachNote, notes_append}
 use Rattle.lease_laws.proofs.client.cases.Links.{HasNotices, any_notice}
+use Rattle.lease_laws.proofs.client.cases.Turns.{by_turn, step_of}
 
 -- a write that is settled as done was accepted
 abbrev pub IsTrueDone : ℕ → List Fact → Note → Type 0
@@ -64,10 +65,9 @@ turned_named : (client : ℕ) (machine : Client) (past : List Fact) (file : ℕ)
     → HasNames client machine past → IsNamedEntry client file past turn.entry
     → Each (IsNamedRequest client machine.guid past) turn.requests → EachNote (IsTrueDone client past) turn.settled
     → IsStepNamed client machine past (turned machine file turn)
-unfolding turned
 turned_named client machine past file turn names entry requests settled =
-    let notes = (turned machine file turn).notes in
-    let later = later_noted client past notes in record {
+    let notes = (step_of machine file turn).notes in
+    let later = later_noted client past notes in by_turn (IsStepNamed client machine past) machine file turn (record {
       requests = requests_later client machine.guid past (past_noted client past notes) later turn.requests requests;
       entries = λ f. entry_later client f past (past_noted client past notes) later _
           (by_client (λ g. IsNamedEntry client g past (put machine.entries file turn.entry g)) file f
@@ -75,7 +75,7 @@ turned_named client machine past file turn names entry requests settled =
           (λ ne apart. subst (IsNamedEntry client f past) (sym (put_other machine.entries file turn.entry f ne)) (names f)));
       done = notes_append (IsTrueDone client past) turn.settled _ settled
           (believed_true client past file (belief_of (machine.entries file)) (belief_of turn.entry));
-    }
+    })
 
 -- a step that changes no entry, sends nothing and settles nothing
 idle_named : (client : ℕ) (machine : Client) (past : List Fact) (answer : Answer) → HasNames client machine past

@@ -2,7 +2,7 @@
 use Rattle.lease_laws.proofs.Words.{◌++◌, ◌∷◌, ◌≡◌, Among, Client, FileRequest, Held, List, LiveEntry, Pending, Phase, Request}
 use Rattle.lease_laws.proofs.Words.{Step, World, ℕ, ⊎_elim, ⊤, [], acknowledgment, ap}
 use Rattle.lease_laws.proofs.Words.{flushed, meet}
-use Rattle.lease_laws.proofs.Words.{refl, subst, sym, turned}
+use Rattle.lease_laws.proofs.Words.{Turn, refl, subst, sym, turned}
 use Rattle.lease_laws.proofs.Words.{write_requests}
 use Rattle.lease_laws.proofs.server.Lists.{if_cases}
 use Rattle.lease_coherence.specs.Creates.{held_by}
@@ -19,6 +19,7 @@ use Rattle.lease_coherence.proofs.order.Words.{AreOrdered, off_ordered, WriteSta
 use Rattle.lease_coherence.proofs.records.Later.{IsLater, later_same}
 use Rattle.lease_coherence.proofs.standing.Servers.{stands_by}
 use Rattle.lease_coherence.proofs.standing.Words.{asked_weaker, asked_off}
+use Rattle.lease_laws.proofs.client.cases.Turns.{by_turn}
 
 -- ---- what clients send
 
@@ -49,67 +50,66 @@ writes_under client file live is [] more each = each
 writes_under client file live is (write ∷ writes) more each =
     (record { file = file; live = live; is = is; id = refl }, writes_under client file live is writes more each)
 
--- what is sent, whatever else a turn does
+-- what is sent, whatever else a step does
 pub sends : (client : Client) (step : Step) (requests : List Request) → step.requests ≡ requests → AreOrdered requests
     → Each (UnderLive client) requests → SendsInOrder client step
 sends client step requests e o u =
     record { ordered = subst AreOrdered (sym e) o; under = subst (Each (UnderLive client)) (sym e) u }
 
+turn_sends : (client : Client) (file : ℕ) (turn : Turn) → AreOrdered turn.requests → Each (UnderLive client) turn.requests
+    → SendsInOrder client (turned client file turn)
+turn_sends client file turn o u = by_turn (SendsInOrder client) client file turn (record { ordered = o; under = u })
+
 pub commands_send : (client : Client) → HasCommands client (SendsInOrder client)
-unfolding turned
 commands_send client = record {
   refused = λ refusal. record { ordered = tt; under = tt };
-  opening = λ file terms is on. record { ordered = (tt, tt); under = (tt, tt) };
-  added = λ file live is. record { ordered = tt; under = tt };
-  asked = λ file live terms is idle some. record { ordered = (tt, tt); under = (tt, tt) };
-  anew = λ file live terms is idle none. record {
-    ordered = writes_ordered live.file_id live.unsent _ ((tt, tt), (tt, tt));
-    under = writes_under client file live is.is_so live.unsent _ (tt, (tt, tt));
-  };
-  fewer = λ file live is more. record { ordered = tt; under = tt };
-  parked = λ file live is idle done stays. record { ordered = tt; under = tt };
-  closed = λ file live is idle done goes. record {
-    ordered = writes_ordered live.file_id live.unsent _ (tt, tt);
-    under = writes_under client file live is.is_so live.unsent _ (tt, tt);
-  };
+  opening = λ file terms is on. turn_sends client file _ (tt, tt) (tt, tt);
+  added = λ file live is. turn_sends client file _ tt tt;
+  asked = λ file live terms is idle some. turn_sends client file _ (tt, tt) (tt, tt);
+  anew = λ file live terms is idle none. turn_sends client file _
+      (writes_ordered live.file_id live.unsent _ ((tt, tt), (tt, tt)))
+      (writes_under client file live is.is_so live.unsent _ (tt, (tt, tt)));
+  fewer = λ file live is more. turn_sends client file _ tt tt;
+  parked = λ file live is idle done stays. turn_sends client file _ tt tt;
+  closed = λ file live is idle done goes. turn_sends client file _
+      (writes_ordered live.file_id live.unsent _ (tt, tt))
+      (writes_under client file live is.is_so live.unsent _ (tt, tt));
   cached = λ file live base is reads has. record { ordered = tt; under = tt };
-  read = λ file live is idle. record { ordered = (tt, tt); under = (tt, tt) };
+  read = λ file live is idle. turn_sends client file _ (tt, tt) (tt, tt);
   buffered = λ file live patch is fits caches. record { ordered = tt; under = tt };
   written = λ file live patch is fits now. record {
     ordered = (tt, tt);
     under = (record { file = file; live = live; is = is.is_so; id = refl }, tt);
   };
-  flushed = λ file live is. sends client _ (write_requests live.file_id live.unsent ++ [])
-      (sym (append_none (write_requests live.file_id live.unsent)))
-      (writes_ordered live.file_id live.unsent [] tt) (writes_under client file live is.is_so live.unsent [] tt);
+  flushed = λ file live is. turn_sends client file _
+      (subst AreOrdered (append_none (write_requests live.file_id live.unsent)) (writes_ordered live.file_id live.unsent [] tt))
+      (subst (Each (UnderLive client)) (append_none (write_requests live.file_id live.unsent))
+      (writes_under client file live is.is_so live.unsent [] tt));
 }
 
 pub takes_send : (client : Client) → HasTakes client (λ reply step. SendsInOrder client step)
-unfolding turned
 takes_send client = record {
   passed = λ reply why. record { ordered = tt; under = tt };
-  parked_closes = λ file notice live at is parked. record {
-    ordered = writes_ordered live.file_id live.unsent _ (tt, tt);
-    under = writes_under client file live is live.unsent _ (tt, tt);
-  };
-  lowered = λ file notice live at is stays. let new = meet live.belief notice.lowered in record {
-    ordered = writes_ordered live.file_id (flushed live.belief new live.unsent) (acknowledgment notice new)
-        (if_cases AreOrdered notice.ack_required _ [] (λ asks. (tt, tt)) (λ plain. tt));
-    under = writes_under client file live is (flushed live.belief new live.unsent) (acknowledgment notice new)
-        (if_cases (Each (UnderLive client)) notice.ack_required _ [] (λ asks. (tt, tt)) (λ plain. tt));
-  };
-  opened = λ file file_id answer access share is. record { ordered = tt; under = tt };
-  reconnected = λ file file_id answer parted is. record { ordered = tt; under = tt };
-  promoted = λ file file_id answer live asked is asks. record { ordered = (tt, tt); under = (tt, tt) };
-  not_opened = λ file status access share is. record { ordered = tt; under = tt };
-  not_reconnected = λ file status parted is. record { ordered = tt; under = tt };
-  not_promoted = λ file status live asked is asks. record { ordered = tt; under = tt };
-  read = λ file file_id bytes live is id some. record { ordered = tt; under = tt };
-  read_closed = λ file file_id status live is id gone. record { ordered = tt; under = tt };
-  not_read = λ file file_id status live is id some. record { ordered = tt; under = tt };
-  written = λ file file_id number at known. record { ordered = tt; under = tt };
-  write_closed = λ file file_id number status live at known is id gone. record { ordered = tt; under = tt };
-  not_written = λ file file_id number status at known. record { ordered = tt; under = tt };
+  parked_closes = λ file notice live at is parked. turn_sends client file _
+      (writes_ordered live.file_id live.unsent _ (tt, tt))
+      (writes_under client file live is live.unsent _ (tt, tt));
+  lowered = λ file notice live at is stays. let new = meet live.belief notice.lowered in turn_sends client file _
+      (writes_ordered live.file_id (flushed live.belief new live.unsent) (acknowledgment notice new)
+      (if_cases AreOrdered notice.ack_required _ [] (λ asks. (tt, tt)) (λ plain. tt)))
+      (writes_under client file live is (flushed live.belief new live.unsent) (acknowledgment notice new)
+      (if_cases (Each (UnderLive client)) notice.ack_required _ [] (λ asks. (tt, tt)) (λ plain. tt)));
+  opened = λ file file_id answer access share is. turn_sends client file _ tt tt;
+  reconnected = λ file file_id answer parted is. turn_sends client file _ tt tt;
+  promoted = λ file file_id answer live asked is asks. turn_sends client file _ (tt, tt) (tt, tt);
+  not_opened = λ file status access share is. turn_sends client file _ tt tt;
+  not_reconnected = λ file status parted is. turn_sends client file _ tt tt;
+  not_promoted = λ file status live asked is asks. turn_sends client file _ tt tt;
+  read = λ file file_id bytes live is id some. turn_sends client file _ tt tt;
+  read_closed = λ file file_id status live is id gone. turn_sends client file _ tt tt;
+  not_read = λ file file_id status live is id some. turn_sends client file _ tt tt;
+  written = λ file file_id number at known. turn_sends client file _ tt tt;
+  write_closed = λ file file_id number status live at known is id gone. turn_sends client file _ tt tt;
+  not_written = λ file file_id number status at known. turn_sends client file _ tt tt;
 }
 
 -- ---- in another world

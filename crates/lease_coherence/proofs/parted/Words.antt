@@ -1,6 +1,7 @@
 -- What an entry keeps over a lost connection: where the lease of its open still holds writes, no other client opened or changed
 -- the file since.
-use Rattle.lease_laws.proofs.Words.{◌&&◌, ◌==◌, ◌||◌, ◌∷◌, ◌≡◌, ◌⊎◌, Among, Asked, Bool, Client, Entry, Fact, List, LiveEntry}
+use Rattle.lease_laws.proofs.Words.{Turn, ◌&&◌, ◌==◌, ◌||◌, ◌∷◌, ◌≡◌, ◌⊎◌, Among, Asked, Bool, Client, Entry, Fact, List}
+use Rattle.lease_laws.proofs.Words.{LiveEntry}
 use Rattle.lease_laws.proofs.Words.{None, Note, Open, Option, Parted, Patch, Pending, Phase, Some, Step, World, ℕ, ⊤, []}
 use Rattle.lease_laws.proofs.Words.{eq-eqb, fact_of, false, inl}
 use Rattle.lease_laws.proofs.Words.{inr, is_up, not, phase_with, put}
@@ -14,6 +15,7 @@ use Rattle.lease_laws.proofs.client.cases.Replies.{HasTakes}
 use Rattle.lease_coherence.proofs.covered.Words.{IsLiveUnder}
 use Rattle.lease_coherence.proofs.late.Words.{holds_write}
 use Rattle.lease_coherence.proofs.records.Later.{past_noted}
+use Rattle.lease_laws.proofs.client.cases.Turns.{by_turn}
 
 -- ---- one entry
 
@@ -130,26 +132,29 @@ put_parts up machine at entry here file = by_client
     (λ ne off. subst (λ (e : Entry). PartedBy up (machine.entries file).phase e.phase)
     (sym (put_other machine.entries at entry file ne)) (same_parts up (machine.entries file).phase))
 
+turn_parts : (up : Bool) (machine : Client) (at : ℕ) (turn : Turn)
+    → PartedBy up (machine.entries at).phase turn.entry.phase → StepParts up machine (turned machine at turn)
+turn_parts up machine at turn here = by_turn (StepParts up machine) machine at turn (put_parts up machine at turn.entry here)
+
 pub commands_part : (machine : Client) → HasCommands machine (StepParts false machine)
-unfolding turned
 commands_part machine = record {
   refused = λ refusal file. same_parts false (machine.entries file).phase;
-  opening = λ file terms is on. put_parts false machine file _ tt;
-  added = λ file live is. put_parts false machine file _ (λ off. record { live = live; is = is.is_so; id = refl });
-  asked = λ file live terms is idle some. put_parts false machine file _
+  opening = λ file terms is on. turn_parts false machine file _ tt;
+  added = λ file live is. turn_parts false machine file _ (λ off. record { live = live; is = is.is_so; id = refl });
+  asked = λ file live terms is idle some. turn_parts false machine file _
       (λ off. record { live = live; is = is.is_so; id = refl });
-  anew = λ file live terms is idle none. put_parts false machine file _ tt;
-  fewer = λ file live is more. put_parts false machine file _ (λ off. record { live = live; is = is.is_so; id = refl });
-  parked = λ file live is idle done stays. put_parts false machine file _
+  anew = λ file live terms is idle none. turn_parts false machine file _ tt;
+  fewer = λ file live is more. turn_parts false machine file _ (λ off. record { live = live; is = is.is_so; id = refl });
+  parked = λ file live is idle done stays. turn_parts false machine file _
       (λ off. record { live = live; is = is.is_so; id = refl });
-  closed = λ file live is idle done goes. put_parts false machine file _ tt;
+  closed = λ file live is idle done goes. turn_parts false machine file _ tt;
   cached = λ file live base is reads has f. same_parts false (machine.entries f).phase;
-  read = λ file live is idle. put_parts false machine file _ (λ off. record { live = live; is = is.is_so; id = refl });
+  read = λ file live is idle. turn_parts false machine file _ (λ off. record { live = live; is = is.is_so; id = refl });
   buffered = λ file live patch is fits caches. put_parts false machine file _
       (λ off. record { live = live; is = is.is_so; id = refl });
   written = λ file live patch is fits sends. put_parts false machine file _
       (λ off. record { live = live; is = is.is_so; id = refl });
-  flushed = λ file live is. put_parts false machine file _ (λ off. record { live = live; is = is.is_so; id = refl });
+  flushed = λ file live is. turn_parts false machine file _ (λ off. record { live = live; is = is.is_so; id = refl });
 }
 
 gone_parts : (up : Bool) (old : Phase) (asking : Option Asked) (sent : List Pending)
@@ -164,23 +169,22 @@ with_parts old write (Phase.Reconnecting parted) is = is
 with_parts old write phase is = tt
 
 pub takes_part : (machine : Client) → HasTakes machine (λ reply step. StepParts true machine step)
-unfolding turned
 takes_part machine = record {
   passed = λ reply why file. same_parts true (machine.entries file).phase;
-  parked_closes = λ file notice live at is parked. put_parts true machine file _ tt;
-  lowered = λ file notice live at is stays. put_parts true machine file _ (λ off. absurd (true≢false off));
-  opened = λ file id answer access share is. put_parts true machine file _ (λ off. absurd (true≢false off));
-  reconnected = λ file id answer parted is. put_parts true machine file _ (λ off. absurd (true≢false off));
-  promoted = λ file id answer live asked is asks. put_parts true machine file _ (λ off. absurd (true≢false off));
-  not_opened = λ file status access share is. put_parts true machine file _ tt;
-  not_reconnected = λ file status parted is. put_parts true machine file _ tt;
-  not_promoted = λ file status live asked is asks. put_parts true machine file _ (λ off. absurd (true≢false off));
-  read = λ file id bytes live is same some. put_parts true machine file _ (λ off. absurd (true≢false off));
-  read_closed = λ file id status live is same gone. put_parts true machine file _
+  parked_closes = λ file notice live at is parked. turn_parts true machine file _ tt;
+  lowered = λ file notice live at is stays. turn_parts true machine file _ (λ off. absurd (true≢false off));
+  opened = λ file id answer access share is. turn_parts true machine file _ (λ off. absurd (true≢false off));
+  reconnected = λ file id answer parted is. turn_parts true machine file _ (λ off. absurd (true≢false off));
+  promoted = λ file id answer live asked is asks. turn_parts true machine file _ (λ off. absurd (true≢false off));
+  not_opened = λ file status access share is. turn_parts true machine file _ tt;
+  not_reconnected = λ file status parted is. turn_parts true machine file _ tt;
+  not_promoted = λ file status live asked is asks. turn_parts true machine file _ (λ off. absurd (true≢false off));
+  read = λ file id bytes live is same some. turn_parts true machine file _ (λ off. absurd (true≢false off));
+  read_closed = λ file id status live is same gone. turn_parts true machine file _
       (gone_parts true _ live.asking (sent_of machine file));
-  not_read = λ file id status live is same some. put_parts true machine file _ (λ off. absurd (true≢false off));
-  written = λ file id number has known. put_parts true machine file _ (with_parts _ _ (machine.entries file).phase refl);
-  write_closed = λ file id number status live has known is same gone. put_parts true machine file _
+  not_read = λ file id status live is same some. turn_parts true machine file _ (λ off. absurd (true≢false off));
+  written = λ file id number has known. turn_parts true machine file _ (with_parts _ _ (machine.entries file).phase refl);
+  write_closed = λ file id number status live has known is same gone. turn_parts true machine file _
       (gone_parts true _ live.asking (sent_without number (sent_of machine file)));
-  not_written = λ file id number status has known. put_parts true machine file _ (same_parts true (machine.entries file).phase);
+  not_written = λ file id number status has known. turn_parts true machine file _ (same_parts true (machine.entries file).phase);
 }

@@ -1,6 +1,6 @@
 -- A client closes only what it gives up with the same step, and asks as its entries say.
-use Rattle.lease_laws.proofs.Words.{◌++◌, ◌+◌, ◌∙◌, ◌∷◌, ◌≡◌, ◌≢◌, ◌⊎◌, Asked, BreakNotice, Entry, FileRequest, List, LiveEntry}
-use Rattle.lease_laws.proofs.Words.{None, Option, Pending, Phase, Reply, Request, Some, State, Step, World, ℕ, ⊤, []}
+use Rattle.lease_laws.proofs.Words.{Turn, ◌++◌, ◌+◌, ◌∙◌, ◌∷◌, ◌≡◌, ◌≢◌, ◌⊎◌, Asked, BreakNotice, Entry, FileRequest, List}
+use Rattle.lease_laws.proofs.Words.{LiveEntry, None, Option, Pending, Phase, Reply, Request, Some, State, Step, World, ℕ, ⊤, []}
 use Rattle.lease_laws.proofs.Words.{acknowledgment, ap, belief_lowered, create_request}
 use Rattle.lease_laws.proofs.Words.{first_belief, flushed, if◌then◌else◌, inl, inr, is_some, joint_terms}
 use Rattle.lease_laws.proofs.Words.{lease_key, opened_turn, phase_with, promoted_belief}
@@ -13,6 +13,7 @@ use Rattle.lease_coherence.specs.Standing.{AllAsked, FitsPhase, GivenWell, IsNoC
 use Rattle.lease_laws.proofs.client.cases.Commands.{HasCommands, sent_of}
 use Rattle.lease_laws.proofs.client.cases.Replies.{HasTakes}
 use Rattle.lease_coherence.proofs.names.Words.{each_append, each_weaker}
+use Rattle.lease_laws.proofs.client.cases.Turns.{by_turn}
 
 -- an entry isn't under this FileId
 abbrev pub IsNotUnder : ℕ → Phase → Type 0
@@ -144,36 +145,42 @@ leave_turn world c file queue live new more s plain free away stands asks closes
 abbrev pub AllEntries : World → ℕ → List Reply → Type 0
 AllEntries world client queue = (file : ℕ) → EntryStands world client file ((world.clients client).entries file).phase queue
 
+-- a turn of one entry
+turn_stands : (world : World) (c : ℕ) (queue : List Reply) (file : ℕ) (turn : Turn)
+    → TurnStands world c file ((world.clients c).entries file).phase queue turn.entry.phase turn.requests
+    → StepStands world c queue (turned (world.clients c) file turn)
+turn_stands world c queue file turn stands = by_turn (StepStands world c queue) (world.clients c) file turn
+    (StepStands.Turns file turn.entry refl refl stands)
+
 pub commands_stand : (world : World) (c : ℕ) (queue : List Reply) → AllEntries world c queue
     → HasCommands (world.clients c) (StepStands world c queue)
-unfolding turned
 commands_stand world c queue all = record {
   refused = λ refusal. StepStands.Idle refl refl;
-  opening = λ file terms is on. StepStands.Turns file _ refl refl (from file Phase.Closed is.is_so (record {
+  opening = λ file terms is on. turn_stands world c queue file _ (from file Phase.Closed is.is_so (record {
     phase = tt;
     given = free_given file (Phase.Opening terms.access terms.share) (λ id. tt) queue;
     again = inl refl;
     asks = ((refl, refl), tt);
     closes = inl (λ id. (tt, tt));
   }));
-  added = λ file live is. StepStands.Turns file _ refl refl (from file (Phase.Live live) is.is_so
+  added = λ file live is. turn_stands world c queue file _ (from file (Phase.Live live) is.is_so
       (same_turn world c file queue live _ [] refl (known file live is.is_so) tt (λ id. tt)));
-  asked = λ file live terms is idle some. StepStands.Turns file _ refl refl (from file (Phase.Live live) is.is_so
+  asked = λ file live terms is idle some. turn_stands world c queue file _ (from file (Phase.Live live) is.is_so
       (same_turn world c file queue live _ (create_request (world.clients c) file (joint_terms live terms) ∷ []) refl
       (known file live is.is_so) ((refl, refl), tt) (λ id. (tt, tt))));
-  anew = λ file live terms is idle none. StepStands.Turns file _ refl refl (from file (Phase.Live live) is.is_so
+  anew = λ file live terms is idle none. turn_stands world c queue file _ (from file (Phase.Live live) is.is_so
       (leave_turn world c file queue live (Phase.Opening terms.access terms.share)
       (create_request (world.clients c) file terms ∷ []) (known file live is.is_so) refl
       (λ id. tt) (λ id. tt) tt ((refl, refl), tt) (λ id. (tt, tt))));
-  fewer = λ file live is more. StepStands.Turns file _ refl refl (from file (Phase.Live live) is.is_so
+  fewer = λ file live is more. turn_stands world c queue file _ (from file (Phase.Live live) is.is_so
       (same_turn world c file queue live _ [] refl (known file live is.is_so) tt (λ id. tt)));
-  parked = λ file live is idle done stays. StepStands.Turns file _ refl refl (from file (Phase.Live live) is.is_so
+  parked = λ file live is idle done stays. turn_stands world c queue file _ (from file (Phase.Live live) is.is_so
       (same_turn world c file queue live _ [] refl (known file live is.is_so) tt (λ id. tt)));
-  closed = λ file live is idle done goes. StepStands.Turns file _ refl refl (from file (Phase.Live live) is.is_so
+  closed = λ file live is idle done goes. turn_stands world c queue file _ (from file (Phase.Live live) is.is_so
       (leave_turn world c file queue live Phase.Closed [] (known file live is.is_so) refl (λ id. tt) (λ id. tt) tt tt
       (λ id. tt)));
   cached = λ file live base is reads has. StepStands.Idle refl refl;
-  read = λ file live is idle. StepStands.Turns file _ refl refl (from file (Phase.Live live) is.is_so
+  read = λ file live is idle. turn_stands world c queue file _ (from file (Phase.Live live) is.is_so
       (same_turn world c file queue live _ (Request.OnFile (FileRequest.Read live.file_id) ∷ []) refl
       (known file live is.is_so) (tt, tt) (λ id. (tt, tt))));
   buffered = λ file live patch is fits caches. StepStands.Turns file _ refl refl (from file (Phase.Live live) is.is_so
@@ -182,7 +189,7 @@ commands_stand world c queue all = record {
       (same_turn world c file queue live live
       (Request.OnFile (FileRequest.Write live.file_id ((world.clients c).last_number + 1) patch) ∷ []) refl
       (known file live is.is_so) (tt, tt) (λ id. (tt, tt))));
-  flushed = λ file live is. StepStands.Turns file _ refl refl (from file (Phase.Live live) is.is_so
+  flushed = λ file live is. turn_stands world c queue file _ (from file (Phase.Live live) is.is_so
       (same_turn world c file queue live _ (write_requests live.file_id live.unsent) refl (known file live is.is_so)
       (writes_ask file (Phase.Live (record live { unsent = [] })) live.file_id live.unsent)
       (λ id. writes_close live.file_id id live.unsent)));
@@ -284,15 +291,14 @@ with_turn world c queue file write phase s = still_turn world c queue file phase
 
 pub takes_stand : (world : World) (c : ℕ) (queue : List Reply) → AllEntries world c queue
     → HasTakes (world.clients c) (TakeStands world c queue)
-unfolding turned
 takes_stand world c queue all = record {
   passed = λ reply why given last. StepStands.Idle refl refl;
-  parked_closes = λ file notice live at is parked given last. StepStands.Turns file _ refl refl
+  parked_closes = λ file notice live at is parked given last. turn_stands world c queue file _
       (from file (Phase.Live live) is (leave_turn world c file queue live Phase.Closed [] (known file live is) refl
       (λ id. tt) (λ id. tt) tt tt (λ id. tt)));
-  lowered = λ file notice live at is stays given last. StepStands.Turns file _ refl refl (from file (Phase.Live live) is
+  lowered = λ file notice live at is stays given last. turn_stands world c queue file _ (from file (Phase.Live live) is
       (lowered_stands world c queue file live (sent_of (world.clients c) file) notice _ (known file live is)));
-  opened = λ file file_id answer access share is given last. StepStands.Turns file _ refl refl
+  opened = λ file file_id answer access share is given last. turn_stands world c queue file _
       (from file (Phase.Opening access share) is (record {
         phase = (given.stands, given.not_closed);
         given = unanswered file (opened_turn file_id access share (sent_of (world.clients c) file) answer
@@ -303,7 +309,7 @@ takes_stand world c queue all = record {
       }));
   reconnected = λ file file_id answer parted is given last.
       let same : file_id ≡ parted.file_id = subst (λ p. FitsPhase p file_id) is given.fits in
-      StepStands.Turns file _ refl refl (from file (Phase.Reconnecting parted) is (record {
+      turn_stands world c queue file _ (from file (Phase.Reconnecting parted) is (record {
         phase = (subst (Stands world c file) same given.stands, subst (NotClosed world c) same given.not_closed);
         given = unanswered file (reconnected_turn parted (sent_of (world.clients c) file)
             (first_belief (world.clients c) file answer)).entry.phase queue (last (ap has_asked is)).answers;
@@ -313,7 +319,7 @@ takes_stand world c queue all = record {
       }));
   promoted = λ file file_id answer live asked is asks given last.
       let other : file_id ≢ live.file_id = subst (λ p. FitsPhase p file_id) is given.fits in
-      StepStands.Turns file _ refl refl (from file (Phase.Live live) is (record {
+      turn_stands world c queue file _ (from file (Phase.Live live) is (record {
         phase = (given.stands, given.not_closed);
         given = unanswered file (promoted_turn live (sent_of (world.clients c) file) asked file_id answer.durable
             (promoted_belief (lease_key (world.clients c).guid file) live.belief answer.lease)).entry.phase queue
@@ -328,7 +334,7 @@ takes_stand world c queue all = record {
           not_given = others_given file live queue (known file live is).given;
         });
       }));
-  not_opened = λ file status access share is given last. StepStands.Turns file _ refl refl
+  not_opened = λ file status access share is given last. turn_stands world c queue file _
       (from file (Phase.Opening access share) is (record {
         phase = tt;
         given = free_given file Phase.Closed (λ id. tt) queue;
@@ -336,7 +342,7 @@ takes_stand world c queue all = record {
         asks = tt;
         closes = inl (λ id. tt);
       }));
-  not_reconnected = λ file status parted is given last. StepStands.Turns file _ refl refl
+  not_reconnected = λ file status parted is given last. turn_stands world c queue file _
       (from file (Phase.Reconnecting parted) is (record {
         phase = tt;
         given = free_given file Phase.Closed (λ id. tt) queue;
@@ -344,19 +350,19 @@ takes_stand world c queue all = record {
         asks = tt;
         closes = inl (λ id. tt);
       }));
-  not_promoted = λ file status live asked is asks given last. StepStands.Turns file _ refl refl
+  not_promoted = λ file status live asked is asks given last. turn_stands world c queue file _
       (from file (Phase.Live live) is (same_turn world c file queue live _ [] refl (known file live is) tt (λ id. tt)));
-  read = λ file file_id bytes live is id some given last. StepStands.Turns file _ refl refl
+  read = λ file file_id bytes live is id some given last. turn_stands world c queue file _
       (from file (Phase.Live live) is (same_turn world c file queue live _ [] refl (known file live is) tt (λ i. tt)));
-  read_closed = λ file file_id status live is id gone given last. StepStands.Turns file _ refl refl
+  read_closed = λ file file_id status live is id gone given last. turn_stands world c queue file _
       (from file (Phase.Live live) is (gone_turn world c queue file live _ live.asking));
-  not_read = λ file file_id status live is id some given last. StepStands.Turns file _ refl refl
+  not_read = λ file file_id status live is id some given last. turn_stands world c queue file _
       (from file (Phase.Live live) is (same_turn world c file queue live _ [] refl (known file live is) tt (λ i. tt)));
-  written = λ file file_id number at known given last. StepStands.Turns file _ refl refl
+  written = λ file file_id number at known given last. turn_stands world c queue file _
       (with_turn world c queue file _ ((world.clients c).entries file).phase (all file));
-  write_closed = λ file file_id number status live at known is id gone given last. StepStands.Turns file _ refl refl
+  write_closed = λ file file_id number status live at known is id gone given last. turn_stands world c queue file _
       (from file (Phase.Live live) is (gone_turn world c queue file live _ live.asking));
-  not_written = λ file file_id number status at known given last. StepStands.Turns file _ refl refl
+  not_written = λ file file_id number status at known given last. turn_stands world c queue file _
       (still_turn world c queue file ((world.clients c).entries file).phase (all file));
 }
   where

@@ -22,6 +22,7 @@ use Rattle.lease_coherence.proofs.covered.Words.{ClosedBefore, closed_behind, cl
 use Rattle.lease_coherence.proofs.fresh.Clients.{never_passed, sound_live}
 use Rattle.lease_coherence.proofs.told.Words.{HasMet, met_more, IsClosing}
 use Rattle.lease_coherence.proofs.creates.Counts.{none_asked}
+use Rattle.lease_laws.proofs.client.cases.Turns.{by_turn, step_of}
 
 -- ---- commands
 
@@ -45,8 +46,8 @@ put_told machine at entry step is here file = by_client (λ f. StaysOrCloses mac
 
 turn_stays : (machine : Client) (at : ℕ) (turn : Turn)
     → (is_live (machine.entries at).phase ≡ true → is_live turn.entry.phase ≡ true) → StepTold machine (turned machine at turn)
-unfolding turned
-turn_stays machine at turn stays = put_told machine at turn.entry (turned machine at turn) refl (inl stays)
+turn_stays machine at turn stays =
+    by_turn (StepTold machine) machine at turn (put_told machine at turn.entry (step_of machine at turn) refl (inl stays))
 
 wrote_stays : (machine : Client) (at : ℕ) (entry : Entry) (answer : Answer) (requests : List Request) (write : Pending)
     → (is_live (machine.entries at).phase ≡ true → is_live entry.phase ≡ true)
@@ -59,14 +60,14 @@ turn_closes : (machine : Client) (at : ℕ) (turn : Turn) (live : LiveEntry) (mo
     → (machine.entries at).phase ≡ Phase.Live live → is_asking live ≡ false
     → turn.requests ≡ write_requests live.file_id live.unsent ++ Request.OnFile (FileRequest.Close live.file_id) ∷ more
     → StepTold machine (turned machine at turn)
-unfolding turned
-turn_closes machine at turn live more is idle sends = put_told machine at turn.entry (turned machine at turn) refl (inr (record {
-  live = live;
-  was = is;
-  idle = idle;
-  closes = λ asked none. subst (λ q. ClosedBefore at live.file_id (asked ++ q)) (sym sends)
-      (closed_behind at live.file_id asked _ none (closed_behind_writes at live.file_id live.unsent more));
-}))
+turn_closes machine at turn live more is idle sends =
+    by_turn (StepTold machine) machine at turn (put_told machine at turn.entry (step_of machine at turn) refl (inr (record {
+      live = live;
+      was = is;
+      idle = idle;
+      closes = λ asked none. subst (λ q. ClosedBefore at live.file_id (asked ++ q)) (sym sends)
+          (closed_behind at live.file_id asked _ none (closed_behind_writes at live.file_id live.unsent more));
+    })))
 
 pub commands_told : (machine : Client) → HasCommands machine (StepTold machine)
 commands_told machine = record {
@@ -140,13 +141,13 @@ turn_leaves : (machine : Client) (reply : Reply) (at : ℕ) (turn : Turn) → ((
     → (IsWhole reply → (queue : List Reply) (asked : List Request) → IsMetAt machine reply queue at asked
     → (is_live (machine.entries at).phase || is_created at reply) ≡ true → is_live turn.entry.phase ≡ true)
     → LeavesLive machine reply (turned machine at turn)
-unfolding turned
-turn_leaves machine reply at turn others here whole queue file asked m = by_client
+turn_leaves machine reply at turn others here = by_turn (LeavesLive machine reply) machine at turn
+    (λ whole queue file asked m. by_client
     (λ f. IsMetAt machine reply queue f asked → (is_live (machine.entries f).phase || is_created f reply) ≡ true
     → is_live (put machine.entries at turn.entry f).phase ≡ true) at file
     (λ k e. ap (λ (x : Entry). is_live x.phase) (put_same machine.entries at turn.entry) ∙ here whole queue asked k e)
     (λ ne off k e. ap (λ (x : Entry). is_live x.phase) (put_other machine.entries at turn.entry file ne)
-    ∙ was (is_live (machine.entries file).phase) (is_created file reply) (others file ne) e) m
+    ∙ was (is_live (machine.entries file).phase) (is_created file reply) (others file ne) e) m)
   where
     was : (a b : Bool) → b ≡ false → (a || b) ≡ true → a ≡ true
     was true b e f = refl
@@ -270,8 +271,7 @@ lowered_by machine at notice live = belief_lowered live (sent_of machine at) not
 elsewhere_told : (machine : Client) (at : ℕ) (notice : BreakNotice) (turn : Turn) (queue : List Reply) (file : ℕ)
     → is_key_of machine notice.key at ≡ true → (file == at) ≡ false
     → HasMet (lease_key machine.guid file) file (is_live (machine.entries file).phase) (Reply.Break (Some notice) ∷ queue)
-    → IsToldStill machine (turned machine at turn) queue file
-unfolding turned
+    → IsToldStill machine (step_of machine at turn) queue file
 elsewhere_told machine at notice turn queue file own there met = ⊎_elim
     (λ here. absurd (break_apart machine at notice own file ne here.1))
     (λ later. inr (inl (met_more (lease_key machine.guid file) file (is_live (machine.entries file).phase || false)
@@ -289,29 +289,31 @@ elsewhere_told machine at notice turn queue file own there met = ⊎_elim
 parked_told : (machine : Client) → IsSoundClient machine → (at : ℕ) (notice : BreakNotice) (live : LiveEntry)
     → is_key_of machine notice.key at ≡ true → (machine.entries at).phase ≡ Phase.Live live → (live.handles == 0) ≡ true
     → TakeTold machine (Reply.Break (Some notice)) (turned machine at (parked_closed live (sent_of machine at)))
-unfolding turned
-parked_told machine s at notice live own is parked whole queue file asked m met = either (file == at)
+parked_told machine s at notice live own is parked = by_turn (TakeTold machine (Reply.Break (Some notice))) machine at
+    (parked_closed live (sent_of machine at)) (λ whole queue file asked m met. either (file == at)
     (λ here. let e = eqb-true file at here in inr (inr (subst (λ f. IsClosing machine
-    (turned machine at (parked_closed live (sent_of machine at))) f) (sym e) (record {
+    (step_of machine at (parked_closed live (sent_of machine at))) f) (sym e) (record {
       live = live;
       was = is;
       idle = parked_idle live parked (sound_live machine at live s is).asking_with_handles;
       closes = λ before none. closed_behind at live.file_id before _ none (closed_behind_writes at live.file_id live.unsent []);
     }))))
-    (λ there. elsewhere_told machine at notice (parked_closed live (sent_of machine at)) queue file own there met)
+    (λ there. elsewhere_told machine at notice (parked_closed live (sent_of machine at)) queue file own there met))
 
 lowered_told : (machine : Client) (at : ℕ) (notice : BreakNotice) (live : LiveEntry) → is_key_of machine notice.key at ≡ true
     → TakeTold machine (Reply.Break (Some notice)) (turned machine at (lowered_by machine at notice live))
-unfolding turned
-lowered_told machine at notice live own whole queue file asked m met = either (file == at)
-    (λ here. met_here (eqb-true file at here))
-    (λ there. elsewhere_told machine at notice (lowered_by machine at notice live) queue file own there met)
+lowered_told machine at notice live own = by_turn (TakeTold machine (Reply.Break (Some notice))) machine at
+    (lowered_by machine at notice live) (λ whole queue file asked m met. either (file == at)
+    (λ here. met_here queue file met (eqb-true file at here))
+    (λ there. elsewhere_told machine at notice (lowered_by machine at notice live) queue file own there met))
   where
     gone : List Pending
     gone = flushed live.belief (meet live.belief notice.lowered) live.unsent
 
-    met_here : file ≡ at → IsToldStill machine (turned machine at (lowered_by machine at notice live)) queue file
-    met_here e = ⊎_elim
+    met_here : (queue : List Reply) (file : ℕ)
+        → HasMet (lease_key machine.guid file) file (is_live (machine.entries file).phase) (Reply.Break (Some notice) ∷ queue)
+        → file ≡ at → IsToldStill machine (step_of machine at (lowered_by machine at notice live)) queue file
+    met_here queue file met e = ⊎_elim
         (λ now. inl (acks_sent (lease_key machine.guid file) notice (meet live.belief notice.lowered)
         (write_requests live.file_id gone) (writes_about live.file_id gone) now.1))
         (λ later. inr (inl (met_more (lease_key machine.guid file) file (is_live (machine.entries file).phase || false) _ queue
@@ -388,8 +390,8 @@ parked_lives : (machine : Client) → IsSoundClient machine → (at : ℕ) (noti
     → is_key_of machine notice.key at ≡ true → (machine.entries at).phase ≡ Phase.Live live
     → (live.handles == 0 && (live.belief.handle && not (meet live.belief notice.lowered).handle)) ≡ true
     → TakeLives machine (Reply.Break (Some notice)) (turned machine at (parked_closed live (sent_of machine at)))
-unfolding turned
-parked_lives machine s at notice live own is parked whole queue file asked m = either (file == at)
+parked_lives machine s at notice live own is parked = by_turn (TakeLives machine (Reply.Break (Some notice))) machine at
+    (parked_closed live (sent_of machine at)) (λ whole queue file asked m. either (file == at)
     (λ here. inr (subst (IsParkedBreak machine (Reply.Break (Some notice))) (sym (eqb-true file at here)) (record {
       notice = notice;
       is = refl;
@@ -400,7 +402,7 @@ parked_lives machine s at notice live own is parked whole queue file asked m = e
       handles = (and_parts live.belief.handle _ (and_parts (live.handles == 0) _ parked).1).0;
     })))
     (λ there. inl (λ e. ap (λ (x : Entry). is_live x.phase) (put_other machine.entries at _ file
-    (λ same. clash (file == at) (eq-eqb file at same) there)) ∙ was (is_live (machine.entries file).phase) e))
+    (λ same. clash (file == at) (eq-eqb file at same) there)) ∙ was (is_live (machine.entries file).phase) e)))
   where
     was : (a : Bool) → (a || false) ≡ true → a ≡ true
     was true e = refl

@@ -12,6 +12,7 @@ use Rattle.lease_laws.proofs.server.Lists.{if_cases, not_false}
 use Rattle.lease_laws.proofs.client.cases.Commands.{HasCommands, any_command}
 use Rattle.lease_laws.proofs.client.cases.Replies.{HasTakes, any_reply}
 use Rattle.lease_laws.proofs.client.cases.Links.{HasNotices, any_notice}
+use Rattle.lease_laws.proofs.client.cases.Turns.{by_turn}
 
 abbrev pub EachNote : (Note → Type 0) → List Note → Type 0
 EachNote P [] = ⊤
@@ -50,12 +51,12 @@ believed_fine client after file old new known is = if_cases (EachNote (IsFineNot
 -- a turn that settles writes
 turned_fine : (client : Client) (file : ℕ) (turn : Turn) → knows_file client file ≡ true → EachNote IsSettling turn.settled
     → EachNote (IsFineNote client (turned client file turn).client) (turned client file turn).notes
-unfolding turned
 turned_fine client file turn known each =
     let after : Client = record client { entries = put client.entries file turn.entry } in
-    notes_append (IsFineNote client after) turn.settled _ (settling_fine client after turn.settled each)
+    by_turn (λ step. EachNote (IsFineNote client step.client) step.notes) client file turn
+    (notes_append (IsFineNote client after) turn.settled _ (settling_fine client after turn.settled each)
     (believed_fine client after file (belief_of (client.entries file)) (belief_of turn.entry) known
-    (ap belief_of (sym (put_same client.entries file turn.entry))))
+    (ap belief_of (sym (put_same client.entries file turn.entry)))))
 
 abbrev HasFineNotes : Client → Step → Type 0
 HasFineNotes client step = EachNote (IsFineNote client step.client) step.notes

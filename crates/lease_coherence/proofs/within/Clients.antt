@@ -19,6 +19,7 @@ use Rattle.lease_coherence.proofs.beliefs.Words.{acks, IsBelieved}
 use Rattle.lease_coherence.proofs.fresh.Clients.{never_passed}
 use Rattle.lease_coherence.proofs.within.Entries.{IsLess, step_within, reply_within, created_within, quiet_within, break_within}
 use Rattle.lease_coherence.proofs.within.Words.{LowersFormed, IsWithinFor}
+use Rattle.lease_laws.proofs.client.cases.Turns.{by_turn}
 
 -- ---- steps
 
@@ -69,8 +70,8 @@ turn_takes : (machine : Client) (reply : Reply) (at : ℕ) (turn : Turn)
     → IsWithinFor (lease_key machine.guid at) at lease (machine.entries at).phase asked (reply ∷ queue)
     → IsWithinFor (lease_key machine.guid at) at lease turn.entry.phase (asked ++ turn.requests) queue)
     → TakesWithin machine reply (turned machine at turn)
-unfolding turned
-turn_takes machine reply at turn apart others here formed file lease asked queue b w = by_client
+turn_takes machine reply at turn apart others here = by_turn (TakesWithin machine reply) machine at turn
+    (λ formed file lease asked queue b w. by_client
     (λ f. IsBelieved (lease_key machine.guid f) f lease (machine.entries f).phase asked (reply ∷ queue)
     → IsWithinFor (lease_key machine.guid f) f lease (machine.entries f).phase asked (reply ∷ queue)
     → IsWithinFor (lease_key machine.guid f) f lease (put machine.entries at turn.entry f).phase
@@ -84,7 +85,7 @@ turn_takes machine reply at turn apart others here formed file lease asked queue
     turn.requests queue (λ live is. had_less (machine.entries file).phase live.belief
     (as_it_was (machine.entries file).phase live is)) (others file ne)
     (reply_within (lease_key machine.guid file) file lease (machine.entries file).phase asked reply queue
-    (λ live is. apart file ne) own))) b w
+    (λ live is. apart file ne) own))) b w)
 
 -- ---- breaks
 

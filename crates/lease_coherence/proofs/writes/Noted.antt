@@ -12,6 +12,7 @@ use Rattle.lease_coherence.proofs.records.Later.{past_noted}
 use Rattle.lease_coherence.proofs.wellformed.Notes.{EachNote, notes_append, IsSettling, settles}
 use Rattle.lease_coherence.proofs.writes.Settled.{or_later, filter_same, filter_alike, filter_again, number_there, number_append}
 use Rattle.lease_coherence.proofs.writes.Settled.{settles_in, settles_append, settles_these, left_of, left_all, left_front}
+use Rattle.lease_laws.proofs.client.cases.Turns.{by_turn}
 
 -- ---- notes in the record
 
@@ -108,8 +109,7 @@ untouched_left client notes file at s ne own =
 
 pub turned_leaves : (client : Client) (at : ℕ) (turn : Turn) → IsSoundClient client → TurnLeaves (client.entries at) turn
     → LeavesWrites client (turned client at turn)
-unfolding turned
-turned_leaves client at turn s t = record {
+turned_leaves client at turn s t = by_turn (LeavesWrites client) client at turn (record {
   none = notes_append IsPlainNote turn.settled _ (settling_none turn.settled t.each)
       (believed_none at (belief_of (client.entries at)) (belief_of turn.entry));
   left = λ file known. by_client
@@ -122,7 +122,7 @@ turned_leaves client at turn s t = record {
       (λ ne apart. untouched_left client (turn_notes at (client.entries at) turn) file at s ne
       (λ number settled. t.own number (sym (turn_settles at (client.entries at) turn number) ∙ settled))
       ∙ ap (λ (e : Entry). unanswered_in e) (sym (put_other client.entries at turn.entry file ne)));
-}
+})
 
 pub turned_tells : (client : Client) (at : ℕ) (turn : Turn) → IsSoundClient client → TurnLeaves (client.entries at) turn
     → TellsWrites client (turned client at turn)

@@ -23,6 +23,7 @@ use Rattle.lease_coherence.proofs.records.Later.{past_noted}
 use Rattle.lease_coherence.proofs.records.Once.{IsOneWrite, written_number}
 use Rattle.lease_coherence.proofs.writes.Counts.{writes, settles_of, numbered_in, writes_append, numbered_append, writes_asked}
 use Rattle.lease_coherence.proofs.writes.Counts.{numbered_without, none_numbered, writes_under_way}
+use Rattle.lease_laws.proofs.client.cases.Turns.{by_turn}
 
 -- what is known of a client by its record
 pub record IsKnownBy (c : ℕ) (client : Client) (past : List Fact) : Type 0 where
@@ -124,16 +125,16 @@ turned_adds : (c : ℕ) (client : Client) (past : List Fact) (answered : ℕ →
     ≡ numbered_in number (sent_of client file) + writes number turn.requests)
     → ((other number : ℕ) → other ≢ file → IsOwnNumber c client.last_number past other number
     → answered number ≡ writes number turn.requests) → AddsUpWell c client past answered (turned client file turn)
-unfolding turned
-turned_adds c client past answered file turn here others other number known own after = record {
-  sum = by_client (λ f. IsOwnNumber c client.last_number past f number
-      → numbered_in number (put client.entries file turn.entry f).sent + answered number
-      ≡ numbered_in number (client.entries f).sent + writes number turn.requests) file other
-      (λ o. ap (λ (e : Entry). numbered_in number e.sent + answered number) (put_same client.entries file turn.entry)
-      ∙ here number o)
-      (λ ne apart o. ap₂ (λ (e : Entry) n. numbered_in number e.sent + n) (put_other client.entries file turn.entry other ne)
-      (others other number ne o)) own;
-}
+turned_adds c client past answered file turn here others =
+    by_turn (AddsUpWell c client past answered) client file turn (λ other number known own after. record {
+      sum = by_client (λ f. IsOwnNumber c client.last_number past f number
+          → numbered_in number (put client.entries file turn.entry f).sent + answered number
+          ≡ numbered_in number (client.entries f).sent + writes number turn.requests) file other
+          (λ o. ap (λ (e : Entry). numbered_in number e.sent + answered number) (put_same client.entries file turn.entry)
+          ∙ here number o)
+          (λ ne apart o. ap₂ (λ (e : Entry) n. numbered_in number e.sent + n) (put_other client.entries file turn.entry other ne)
+          (others other number ne o)) own;
+    })
 
 -- one that sends these writes, which were unsent
 sends_adds : (c : ℕ) (client : Client) (past : List Fact) → IsKnownBy c client past → (file : ℕ) (turn : Turn)

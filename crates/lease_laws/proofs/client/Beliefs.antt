@@ -13,6 +13,7 @@ use Rattle.lease_laws.proofs.client.Words.{if_either}
 use Rattle.lease_laws.proofs.client.cases.Commands.{HasCommands, any_command}
 use Rattle.lease_laws.proofs.client.cases.Replies.{HasTakes, any_reply}
 use Rattle.lease_laws.proofs.server.Lists.{either, clash}
+use Rattle.lease_laws.proofs.client.cases.Turns.{by_turn}
 
 -- ---- notes that settle writes
 
@@ -69,17 +70,16 @@ by_place P table place x here there n = either (n == place)
 
 -- a turn that settles writes
 turned_tells : (client : Client) (file : ℕ) (turn : Turn) → AreSettlements turn.settled → Tells client (turned client file turn)
-unfolding turned
 turned_tells client file turn settles =
     let old : State = belief_of (client.entries file) in
     let new : State = belief_of turn.entry in
     let notes : List Note = turn.settled ++ believes_noted file old new in
-    record {
+    by_turn (Tells client) client file turn (record {
       tells = by_place (λ n entry. believed_after n (belief client n) notes ≡ belief_of entry) client.entries file turn.entry
           (settle_pass file old turn.settled (believes_noted file old new) settles ∙ noted_own file old new)
           (λ n apart. settle_pass n (belief client n) turn.settled (believes_noted file old new) settles
           ∙ noted_other n file (belief client n) old new apart);
-    }
+    })
 
 -- ---- commands
 
@@ -91,10 +91,11 @@ pub record Behaves (client : Client) (step : Step) : Type 0 where
 -- a turn with an answer that is no refusal
 plain_behaves : (client : Client) (file : ℕ) (turn : Turn) → AreSettlements turn.settled
     → ((refusal : Refusal) → turn.answer ≢ Answer.Refused refusal) → Behaves client (turned client file turn)
-unfolding turned
 plain_behaves client file turn settles never = record {
   told = turned_tells client file turn settles;
-  refused = λ refusal e. absurd (never refusal e);
+  refused = by_turn
+      (λ step. (refusal : Refusal) → step.answer ≡ Answer.Refused refusal → step ≡ refused_step client refusal) client file turn
+      (λ refusal e. absurd (never refusal e));
 }
 
 -- a write that is given leaves the belief

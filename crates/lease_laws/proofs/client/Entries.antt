@@ -13,6 +13,7 @@ use Rattle.lease_laws.proofs.client.cases.Commands.{HasCommands, any_command, se
 use Rattle.lease_laws.proofs.client.cases.Links.{HasNotices, any_notice}
 use Rattle.lease_laws.proofs.client.cases.Replies.{HasTakes, any_reply}
 use Rattle.lease_laws.proofs.server.Lists.{clash}
+use Rattle.lease_laws.proofs.client.cases.Turns.{by_turn}
 
 -- the entries are sound after the step
 abbrev Sound : Step → Type 0
@@ -21,8 +22,8 @@ Sound step = HasSoundEntries step.client
 -- a turn that leaves its entry sound leaves the client sound
 turned_sound : (client : Client) (file : ℕ) (turn : Turn) → HasSoundEntries client
     → IsSoundEntry client.is_online turn.entry → Sound (turned client file turn)
-unfolding turned
-turned_sound client file turn sound entry = put_each (IsSoundEntry client.is_online) client.entries file turn.entry entry sound
+turned_sound client file turn sound entry = by_turn Sound client file turn
+    (put_each (IsSoundEntry client.is_online) client.entries file turn.entry entry sound)
 
 -- only handles, unanswered Reads and what is asked for change
 counted : (live : LiveEntry) (handles reads : ℕ) (asking : Option Asked) → IsSoundLive live

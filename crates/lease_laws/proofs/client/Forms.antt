@@ -1,11 +1,13 @@
 -- What a command or a message makes of a client has one of a few forms; so whatever these forms have,
 -- every such step has.
 use Rattle.lease_laws.proofs.Words.{◌≡◌, Answer, Client, Command, Entry, List, Pending, Refusal, Reply, Request, Step, Turn, ℕ}
+use Rattle.lease_laws.proofs.Words.{refl}
 use Rattle.std.proofs.Common.{arith}
 use Rattle.lease_laws.proofs.Words.{cached_read, commanded, quiet_step, refused_step, taken}
 use Rattle.lease_laws.proofs.Words.{turned, wrote_step}
 use Rattle.lease_laws.proofs.client.cases.Commands.{HasCommands, any_command}
 use Rattle.lease_laws.proofs.client.cases.Replies.{HasTakes, any_reply}
+use Rattle.lease_laws.proofs.client.cases.Turns.{by_turn}
 
 -- a command is refused, nothing happens, an entry has a turn, a write takes a number, a read is cached
 pub record HasForms (client : Client) (P : Step → Type 0) : Type 0 where
@@ -51,9 +53,18 @@ pub record StaysItself (client : Client) (step : Step) : Type 0 where
   pub files : step.client.files ≡ client.files
   pub online : step.client.is_online ≡ client.is_online
 
+turn_stays : (client : Client) (file : ℕ) (turn : Turn) → StaysItself client (turned client file turn)
+turn_stays client file turn =
+    by_turn (StaysItself client) client file turn (record { guid = refl; files = refl; online = refl })
+
 forms_stay : (client : Client) → HasForms client (StaysItself client)
-unfolding turned
-forms_stay client = grind arith
+forms_stay client = record {
+  refused = λ refusal. record { guid = refl; files = refl; online = refl };
+  quiet = record { guid = refl; files = refl; online = refl };
+  turned = turn_stays client;
+  wrote = λ file entry answer requests write. record { guid = refl; files = refl; online = refl };
+  cached = λ file bytes. record { guid = refl; files = refl; online = refl };
+}
 
 pub commanded-stays : (client : Client) (command : Command) → StaysItself client (commanded client command)
 commanded-stays client command = commanded-formed client (StaysItself client) (forms_stay client) command

@@ -8,6 +8,7 @@ use Rattle.lease_laws.proofs.client.cases.Commands.{HasCommands, any_command}
 use Rattle.lease_laws.proofs.client.cases.Files.{found_known}
 use Rattle.lease_laws.proofs.client.cases.Replies.{HasTakes, any_reply}
 use Rattle.lease_laws.proofs.server.Lists.{clash}
+use Rattle.lease_laws.proofs.client.cases.Turns.{by_turn}
 
 abbrev pub InFiles : Client → Type 0
 InFiles client = (file : ℕ) → knows_file client file ≡ false → (client.entries file).phase ≡ Phase.Closed
@@ -24,8 +25,7 @@ put_in client file entry closed known = by_place (λ n e. knows_file client n �
 
 turned_in : (client : Client) (file : ℕ) (turn : Turn) → InFiles client → knows_file client file ≡ true
     → Keeps (turned client file turn)
-unfolding turned
-turned_in client file turn closed known = put_in client file turn.entry closed known
+turned_in client file turn closed known = by_turn Keeps client file turn (put_in client file turn.entry closed known)
 
 commands_in : (client : Client) → InFiles client → HasCommands client Keeps
 commands_in client c = record {

@@ -14,6 +14,7 @@ use Rattle.lease_laws.proofs.client.cases.Commands.{HasCommands, any_command, se
 use Rattle.lease_laws.proofs.client.cases.Links.{HasNotices, any_notice}
 use Rattle.lease_laws.proofs.client.cases.Replies.{HasTakes, any_reply}
 use Rattle.lease_laws.proofs.server.Lists.{clash, and_parts}
+use Rattle.lease_laws.proofs.client.cases.Turns.{by_turn}
 
 -- ---- notes of writes that were given before
 
@@ -83,11 +84,10 @@ Tells client step = TellNumbers client.last_number step.notes step.client.last_n
 -- a turn that settles writes given before
 turned_tells : (client : Client) (file : ℕ) (turn : Turn) → AreOld client.last_number turn.settled
     → Tells client (turned client file turn)
-unfolding turned
-turned_tells client file turn old = old_tells client.last_number
+turned_tells client file turn old = by_turn (Tells client) client file turn (old_tells client.last_number
     (turn.settled ++ believes_noted file (belief_of (client.entries file)) (belief_of turn.entry))
     (old_joined client.last_number turn.settled (believes_noted file (belief_of (client.entries file)) (belief_of turn.entry)) old
-    (old_belief client.last_number file (belief_of (client.entries file)) (belief_of turn.entry)))
+    (old_belief client.last_number file (belief_of (client.entries file)) (belief_of turn.entry))))
 
 -- a write that is given
 wrote_tells : (last : ℕ) (write : Pending) → write.number ≡ last + 1 → (last < write.number) × (write.number ≡ last + 1)

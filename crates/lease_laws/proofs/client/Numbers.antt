@@ -13,6 +13,7 @@ use Rattle.lease_laws.proofs.client.Words.{HasSoundEntries, sound_as}
 use Rattle.lease_laws.proofs.client.cases.Commands.{HasCommands, any_command, sent_of}
 use Rattle.lease_laws.proofs.client.cases.Links.{HasNotices, any_notice}
 use Rattle.lease_laws.proofs.client.cases.Replies.{HasTakes, any_reply}
+use Rattle.lease_laws.proofs.client.cases.Turns.{by_turn}
 
 -- ---- one step
 
@@ -24,12 +25,12 @@ Numbers client = HaveOwnNumbers client.last_number (λ file. unanswered_in (clie
 turned_own : (client : Client) (file : ℕ) (phase : Phase) (turn : Turn) → Numbers client
     → (client.entries file).phase ≡ phase → IsThinner (unanswered_in turn.entry) (sent_of client file ++ unsent_in phase)
     → Numbers (turned client file turn).client
-unfolding turned
-turned_own client file phase turn own is thin = thin_table client.last_number (λ f. unanswered_in (client.entries f))
+turned_own client file phase turn own is thin = by_turn (λ step. Numbers step.client) client file turn
+    (thin_table client.last_number (λ f. unanswered_in (client.entries f))
     (λ f. unanswered_in (put client.entries file turn.entry f))
     (put_at (λ f e. IsThinner (unanswered_in e) (unanswered_in (client.entries f))) client.entries file turn.entry
     (subst (λ p. IsThinner (unanswered_in turn.entry) (sent_of client file ++ unsent_in p)) (sym is) thin)
-    (λ f. thin_same (unanswered_in (client.entries f)))) own
+    (λ f. thin_same (unanswered_in (client.entries f)))) own)
 
 -- one after which they are what they were
 same_own : (client : Client) (file : ℕ) (phase : Phase) (turn : Turn) → Numbers client

@@ -13,6 +13,7 @@ use Rattle.lease_laws.proofs.client.cases.Commands.{HasCommands, any_command}
 use Rattle.lease_laws.proofs.client.cases.Files.{found_so}
 use Rattle.lease_laws.proofs.client.cases.Links.{HasNotices, any_notice}
 use Rattle.lease_laws.proofs.client.cases.Replies.{HasTakes, any_reply}
+use Rattle.lease_laws.proofs.client.cases.Turns.{by_turn}
 
 -- ---- lists of requests
 
@@ -46,11 +47,10 @@ put_writes client file entry w fits = put_each (λ e. HasFileId e.phase) client.
 -- a turn whose requests have bytes, and whose entry's FileId fits
 turned_writes : (client : Client) (file : ℕ) (turn : Turn) → IsWriting client
     → EachRequest HasRequestBytes turn.requests → HasFileId turn.entry.phase → Writes client (turned client file turn)
-unfolding turned
-turned_writes client file turn w each fits = record {
+turned_writes client file turn w each fits = by_turn (Writes client) client file turn (record {
   requests = each;
   writing = record { guid = w.guid; file_ids = put_writes client file turn.entry w fits };
-}
+})
 
 -- a create of the client has bytes
 create_has : (client : Client) (file : ℕ) (terms : OpenTerms) → IsWriting client

@@ -1,5 +1,6 @@
 -- What is true of every client machine, whatever commands and messages come to it, in any order.
-use Rattle.std.specs.Prelude.{◌≡◌, ◌≢◌, ℕ, Bool, true, false, None, List, [], ◌∷◌, ◌++◌, ◌&&◌, ◌==◌, if◌then◌else◌, nat_lt, nat_le, ◌≤◌, ◌<◌}
+use Rattle.std.specs.Prelude.{◌≡◌, ◌≢◌, ℕ, Bool, true, false, None, List, [], ◌∷◌, ◌++◌, ◌&&◌, ◌==◌, if◌then◌else◌, nat_lt}
+use Rattle.std.specs.Prelude.{nat_le, ◌≤◌, ◌<◌}
 use Rattle.std.specs.List.{list_all, list_any}
 use Rattle.lease_model.specs.client.Commanded.{is_asking, commanded}
 use Rattle.lease_model.specs.client.Calls.{ClientCall, client_called}

@@ -21,7 +21,8 @@ noticed_as v = record { ack_required = v.ack_required; key = v.key; current = v.
 
 -- bytes that begin with a message of this value
 abbrev pub AcknowledgmentIsFound : Type 0
-AcknowledgmentIsFound = (bytes : List ℕ) (v : KeyAndState) → IsAcknowledgment (take 36 bytes) v → acknowledged_in bytes ≡ Some (acknowledged_as v)
+AcknowledgmentIsFound = (bytes : List ℕ) (v : KeyAndState) → IsAcknowledgment (take 36 bytes) v → acknowledged_in bytes
+    ≡ Some (acknowledged_as v)
 
 abbrev pub NotificationIsFound : Type 0
 NotificationIsFound = (bytes : List ℕ) (v : Notice) → IsNotification (take 44 bytes) v → notice_in bytes ≡ Some (noticed_as v)

@@ -12,7 +12,8 @@ use Rattle.lease_model.specs.messages.Requests.{FileRequest, Request, LeaseOf}
 use Rattle.lease_model.specs.server.Acknowledge.{acknowledged}
 use Rattle.lease_model.specs.server.Answers.{concluded}
 use Rattle.lease_model.specs.server.Attempt.{Outcome, is_left_open}
-use Rattle.lease_model.specs.server.Calls.{Call, called, join, file_asked, is_lost, opens_disconnected, client_forgotten, key_expired, is_left_behind}
+use Rattle.lease_model.specs.server.Calls.{Call, called, join, file_asked, is_lost, opens_disconnected, client_forgotten}
+use Rattle.lease_model.specs.server.Calls.{key_expired, is_left_behind}
 use Rattle.lease_model.specs.server.Findings.{awaits, connected_open}
 use Rattle.lease_model.specs.server.Naming.{own_key}
 use Rattle.lease_model.specs.server.Passes.{is_behind}

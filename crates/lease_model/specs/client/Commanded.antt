@@ -1,9 +1,11 @@
 -- What a command does to the entry of its file, and to the client (profile, but for the create that is sent: MS-SMB2 3.2.4.3).
-use Rattle.std.specs.Prelude.{ℕ, zero, suc, ◌+◌, Bool, true, false, Option, Some, List, [], ◌∷◌, ◌++◌, if◌then◌else◌, ◌==◌, ◌&&◌, ◌||◌, not, nat_lt, is_some}
+use Rattle.std.specs.Prelude.{ℕ, zero, suc, ◌+◌, Bool, true, false, Option, Some, List, [], ◌∷◌, ◌++◌, if◌then◌else◌, ◌==◌, ◌&&◌}
+use Rattle.std.specs.Prelude.{◌||◌, not, nat_lt, is_some}
 use Rattle.lease_state.specs.declared.patch.Patch.{Patch}
 use Rattle.lease_model.specs.client.Commands.{Command, OpenTerms, Answer, Refusal, Note}
 use Rattle.lease_model.specs.client.Requests.{open_request, close_request}
-use Rattle.lease_model.specs.client.State.{Client, Entry, LiveEntry, Asked, Pending, Phase, closed_entry, live_entry, lease_key, knows_file, view}
+use Rattle.lease_model.specs.client.State.{Client, Entry, LiveEntry, Asked, Pending, Phase, closed_entry, live_entry, lease_key}
+use Rattle.lease_model.specs.client.State.{knows_file, view}
 use Rattle.lease_model.specs.client.Step.{Step, Turn, turned, turn_of, refused_turn, refused_step, with_number, write_requests}
 use Rattle.lease_model.specs.messages.Requests.{FileRequest, Request}
 use Rattle.lease_model.specs.values.Limits.{count_limit, last_write_number}

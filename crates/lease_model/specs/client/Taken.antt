@@ -1,11 +1,13 @@
 -- What a client does with a message of the server.
-use Rattle.std.specs.Prelude.{ℕ, zero, suc, ◌+◌, Bool, true, false, Option, Some, None, List, [], ◌∷◌, ◌++◌, length, if◌then◌else◌, ◌==◌, ◌&&◌, ◌||◌, not, nat_le, bytes_eq, find}
+use Rattle.std.specs.Prelude.{ℕ, zero, suc, ◌+◌, Bool, true, false, Option, Some, None, List, [], ◌∷◌, ◌++◌, length}
+use Rattle.std.specs.Prelude.{if◌then◌else◌, ◌==◌, ◌&&◌, ◌||◌, not, nat_le, bytes_eq, find}
 use Rattle.std.specs.List.{list_any}
 use Rattle.lease_state.specs.State.{State, nothing_cached}
 use Rattle.lease_state.specs.declared.access.Access.{Access}
 use Rattle.lease_state.specs.declared.access.Share.{Share}
 use Rattle.lease_state.specs.declared.status.Status.{Status}
-use Rattle.lease_model.specs.client.State.{Client, Entry, LiveEntry, Asked, Parted, Pending, Phase, closed_entry, live_entry, lease_key, view}
+use Rattle.lease_model.specs.client.State.{Client, Entry, LiveEntry, Asked, Parted, Pending, Phase, closed_entry, live_entry}
+use Rattle.lease_model.specs.client.State.{lease_key, view}
 use Rattle.lease_model.specs.client.Step.{Step, Turn, turned, quiet_step, quiet_turn, write_requests, settled_as}
 use Rattle.lease_model.specs.client.Commands.{Answer, Note, Settlement}
 use Rattle.lease_state.specs.Content.{patch as patched}

@@ -55,7 +55,8 @@ abbrev pub request_of : real_request.Request → requests.Request
 request_of (real_request.TheVariants.Create file access share contexts) =
     requests.Request.OnFile (requests.FileRequest.Create file.0 access share (ask_found (value_of Direction.Request contexts)))
 request_of (real_request.TheVariants.Read fid) = requests.Request.OnFile (requests.FileRequest.Read fid.0)
-request_of (real_request.TheVariants.Write fid number patch) = requests.Request.OnFile (requests.FileRequest.Write fid.0 number patch)
+request_of (real_request.TheVariants.Write fid number patch) = requests.Request.OnFile
+    (requests.FileRequest.Write fid.0 number patch)
 request_of (real_request.TheVariants.Close fid) = requests.Request.OnFile (requests.FileRequest.Close fid.0)
 request_of (real_request.TheVariants.Ack bytes) = requests.Request.Acknowledge (acknowledged_in bytes)
 

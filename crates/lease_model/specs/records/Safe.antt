@@ -5,7 +5,8 @@ use Rattle.lease_model.specs.client.Commands.{Settlement}
 use Rattle.lease_state.specs.Content.{patches}
 use Rattle.lease_model.specs.values.Patches.{is_within_limit}
 use Rattle.lease_model.specs.records.Facts.{Fact}
-use Rattle.lease_model.specs.records.Past.{is_started, has_joined, sendings, takings, has_number, is_good, believed, last_sending, content_at, unanswered, has_strayed, is_touched, is_accepted}
+use Rattle.lease_model.specs.records.Past.{is_started, has_joined, sendings, takings, has_number, is_good, believed, last_sending}
+use Rattle.lease_model.specs.records.Past.{content_at, unanswered, has_strayed, is_touched, is_accepted}
 
 -- P of each fact with the past before it; the list is newest first
 abbrev pub EachFact : (Fact → List Fact → Type 0) → List Fact → Type 0

@@ -5,7 +5,8 @@ use Rattle.lease_model.specs.client.Commands.{Settlement}
 use Rattle.lease_state.specs.Content.{patches}
 use Rattle.lease_model.specs.records.Facts.{Fact}
 use Rattle.lease_model.specs.values.LeaseStates.{holds_any}
-use Rattle.lease_model.specs.records.Past.{is_good, believed, last_sending, content_at, unanswered, has_strayed, is_touched, is_accepted}
+use Rattle.lease_model.specs.records.Past.{is_good, believed, last_sending, content_at, unanswered, has_strayed, is_touched}
+use Rattle.lease_model.specs.records.Past.{is_accepted}
 use Rattle.lease_model.specs.records.Safe.{is_well_formed}
 
 -- Places count facts from 1. Rules: 1 one write cache, 2 fresh cached reads, 3 no late buffered

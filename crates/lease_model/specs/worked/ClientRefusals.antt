@@ -8,7 +8,8 @@ use Rattle.lease_model.specs.client.Calls.{ClientCall}
 use Rattle.lease_model.specs.client.Commands.{Command, Answer, Refusal, Note, Settlement}
 use Rattle.lease_model.specs.client.State.{Client, LiveEntry, Asked, live_entry}
 use Rattle.lease_model.specs.messages.Replies.{Reply}
-use Rattle.lease_model.specs.worked.ClientWords.{shown, steps_along, client_after, one_client, open_it, close_it, read_it, write_it, flush_it}
+use Rattle.lease_model.specs.worked.ClientWords.{shown, steps_along, client_after, one_client, open_it, close_it, read_it}
+use Rattle.lease_model.specs.worked.ClientWords.{write_it, flush_it}
 use Rattle.lease_model.specs.worked.MessageWords.{keyed, keyed_durable, reconnecting, read_of, write_of, close_of, created}
 use Rattle.lease_model.specs.values.Limits.{count_limit, last_write_number}
 use Rattle.lease_model.specs.values.Tables.{put}

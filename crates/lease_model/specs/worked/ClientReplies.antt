@@ -11,7 +11,8 @@ use Rattle.lease_model.specs.client.State.{Client, belief}
 use Rattle.lease_model.specs.client.Step.{quiet_step}
 use Rattle.lease_model.specs.client.Taken.{read_answered}
 use Rattle.lease_model.specs.messages.Replies.{Reply, LeaseGiven}
-use Rattle.lease_model.specs.worked.ClientWords.{Shown, shown, steps_along, client_after, one_client, open_it, read_it, write_it, flush_it}
+use Rattle.lease_model.specs.worked.ClientWords.{Shown, shown, steps_along, client_after, one_client, open_it, read_it, write_it}
+use Rattle.lease_model.specs.worked.ClientWords.{flush_it}
 use Rattle.lease_model.specs.worked.MessageWords.{keyed, read_of, write_of, close_of, acknowledging, created, break_of}
 use Rattle.lease_model.specs.worked.ValueWords.{R, RH, RWH, at, first_key, sample_key}
 

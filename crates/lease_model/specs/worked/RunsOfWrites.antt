@@ -6,7 +6,8 @@ use Rattle.lease_state.specs.declared.access.Share.{Share}
 use Rattle.lease_state.specs.declared.status.Status.{Status}
 use Rattle.lease_model.specs.client.Commands.{Settlement}
 use Rattle.lease_model.specs.messages.Replies.{Reply}
-use Rattle.lease_model.specs.records.Facts.{Fact, Start, Joined, Sent, Took, Opened, Changed, Wrote, Settled, Believes, CachedRead}
+use Rattle.lease_model.specs.records.Facts.{Fact, Start, Joined, Sent, Took, Opened, Changed, Wrote, Settled, Believes}
+use Rattle.lease_model.specs.records.Facts.{CachedRead}
 use Rattle.lease_model.specs.records.Verdict.{Verdict, verdict}
 use Rattle.lease_model.specs.worked.Schedules.{opening, reading, writing, two_clients, three_clients}
 use Rattle.lease_model.specs.worked.ValueWords.{R, RH, at}

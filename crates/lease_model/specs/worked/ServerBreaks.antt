@@ -6,7 +6,8 @@ use Rattle.lease_state.specs.declared.access.Share.{Share}
 use Rattle.lease_state.specs.declared.status.Status.{Status}
 use Rattle.lease_model.specs.messages.Replies.{Reply, Out}
 use Rattle.lease_model.specs.server.Calls.{Call}
-use Rattle.lease_model.specs.worked.MessageWords.{keyed, plain, write_of, close_of, acknowledging, done_acknowledging, created, created_plain, break_of}
+use Rattle.lease_model.specs.worked.MessageWords.{keyed, plain, write_of, close_of, acknowledging, done_acknowledging, created}
+use Rattle.lease_model.specs.worked.MessageWords.{created_plain, break_of}
 use Rattle.lease_model.specs.worked.ServerWords.{outs_along, sample_named, three_joined}
 use Rattle.lease_model.specs.worked.ValueWords.{R, RH, RWH, at, sample_key, later_key}
 

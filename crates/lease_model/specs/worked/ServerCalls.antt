@@ -9,7 +9,8 @@ use Rattle.lease_model.specs.messages.Requests.{Request}
 use Rattle.lease_model.specs.server.Allowed.{allowed}
 use Rattle.lease_model.specs.server.Calls.{Call}
 use Rattle.lease_model.specs.server.State.{Server}
-use Rattle.lease_model.specs.worked.MessageWords.{keyed, plain, write_of, close_of, acknowledging, done_acknowledging, created, created_plain, break_of}
+use Rattle.lease_model.specs.worked.MessageWords.{keyed, plain, write_of, close_of, acknowledging, done_acknowledging, created}
+use Rattle.lease_model.specs.worked.MessageWords.{created_plain, break_of}
 use Rattle.lease_model.specs.worked.ServerWords.{server_after, outs_along, sample_named, two_files}
 use Rattle.lease_model.specs.worked.ValueWords.{R, RH, RWH, at, sample_key}
 

@@ -8,7 +8,8 @@ use Rattle.lease_model.specs.messages.Replies.{Reply, Out}
 use Rattle.lease_model.specs.server.Calls.{Call, called}
 use Rattle.lease_model.specs.server.Progress.{begun}
 use Rattle.lease_model.specs.server.State.{Server}
-use Rattle.lease_model.specs.worked.MessageWords.{keyed, keyed_durable, plain, plain_durable, reconnecting, plain_reconnecting, read_of, write_of, created, created_plain, break_of}
+use Rattle.lease_model.specs.worked.MessageWords.{keyed, keyed_durable, plain, plain_durable, reconnecting, plain_reconnecting}
+use Rattle.lease_model.specs.worked.MessageWords.{read_of, write_of, created, created_plain, break_of}
 use Rattle.lease_model.specs.worked.ServerWords.{server_after, outs_along, three_joined}
 use Rattle.lease_model.specs.worked.ValueWords.{R, RH, RWH, at, sample_key, later_key}
 

@@ -16,7 +16,8 @@ use Rattle.lease_model.specs.messages.Requests.{Request}
 use Rattle.lease_model.specs.server.State.{has_file}
 use Rattle.lease_model.specs.values.Tables.{put}
 use Rattle.lease_model.specs.server.Naming.{key_of}
-use Rattle.lease_model.specs.world.World.{World, Setup, Link, has_client, happened, first_world, all_delivered, requests_sent, noted}
+use Rattle.lease_model.specs.world.World.{World, Setup, Link, has_client, happened, first_world, all_delivered, requests_sent}
+use Rattle.lease_model.specs.world.World.{noted}
 
 -- App: a client's application gives a command. ServerTakes, ClientTakes: the server or a client
 -- takes the oldest message from the client. Cut: the server loses a client's connection. Notice:

@@ -1,7 +1,8 @@
 ghost use Rattle.std.specs.Prelude.{◌≡◌, Some, None, MatchResult};
 ghost use Rattle.lease_texts.specs.Fields.{one};
 ghost use Rattle.lease_texts.specs.Takes.{Takes};
-ghost use Rattle.lease_texts.specs.Records.{way_in, outcome_in, start_in, changed_in, wrote_in, settled_in, believes_in, read_in, other_named, fact_named, fact_told, fact_in};
+ghost use Rattle.lease_texts.specs.Records.{way_in, outcome_in, start_in, changed_in, wrote_in, settled_in, believes_in, read_in};
+ghost use Rattle.lease_texts.specs.Records.{other_named, fact_named, fact_told, fact_in};
 
 use crate::fault::LineFault;
 use crate::fields::{Fields, read_patch};

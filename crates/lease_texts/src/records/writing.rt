@@ -2,7 +2,8 @@ ghost use Rattle.std.specs.Prelude.{◌≡◌, ◌<◌, ◌+◌, ◌++◌, ◌�
 ghost use Rattle.std.specs.Fmt.{decimal};
 ghost use Rattle.std.specs.String.{string_bytes};
 ghost use Rattle.lease_facts.specs.declared.fact.Fact.TheVariants as fact;
-ghost use Rattle.lease_texts.specs.Records.{digits_word, outcome_word, patch_words, pair_words, read_words, client_line, fact_line};
+ghost use Rattle.lease_texts.specs.Records.{digits_word, outcome_word, patch_words, pair_words, read_words, client_line};
+ghost use Rattle.lease_texts.specs.Records.{fact_line};
 
 use crate::words::state_letters;
 use lease_client::{Settlement, SharedBytes};
@@ -96,7 +97,8 @@ fn push_changed(
     number: u64,
     patch: &Patch,
 ) -> Result<(), AllocError>
-    ensures { OnOk result (string_bytes text.new ≡ string_bytes text.old ++ fact_line (fact.Changed file client number patch.now)) }
+    ensures { OnOk result
+        (string_bytes text.new ≡ string_bytes text.old ++ fact_line (fact.Changed file client number patch.now)) }
 {
     push_first(text, "changed ", u64::from(file.0))?;
     push_next(text, u64::from(client.0))?;

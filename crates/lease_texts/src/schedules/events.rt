@@ -1,7 +1,8 @@
 ghost use Rattle.std.specs.Prelude.{◌≡◌, Some, None, MatchResult};
 ghost use Rattle.lease_texts.specs.Fields.{one};
 ghost use Rattle.lease_texts.specs.Takes.{Takes};
-ghost use Rattle.lease_texts.specs.Schedules.{durable_in, open_in, write_in, create_in, raw_write_in, message_in, request_named, request_in, other_of, event_of, event_named};
+ghost use Rattle.lease_texts.specs.Schedules.{durable_in, open_in, write_in, create_in, raw_write_in, message_in, request_named};
+ghost use Rattle.lease_texts.specs.Schedules.{request_in, other_of, event_of, event_named};
 
 use crate::fault::LineFault;
 use crate::fields::{Fields, read_patch};

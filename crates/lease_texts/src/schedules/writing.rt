@@ -1,11 +1,12 @@
 ghost use Rattle.std.specs.Prelude.{◌≡◌, ◌++◌, IfOk, OnOk};
 ghost use Rattle.std.specs.List.{flat_map};
 ghost use Rattle.std.specs.String.{string_bytes};
-ghost use Rattle.lease_client.specs.declared.command.Command.TheVariants as command;
+ghost use Rattle.lease_client.specs.declared.values.command.Command.TheVariants as command;
 ghost use Rattle.lease_state.specs.declared.request.Request.TheVariants as request;
 ghost use Rattle.lease_facts.specs.declared.setup.Event.TheVariants as event;
 ghost use Rattle.lease_texts.specs.Records.{digits_word};
-ghost use Rattle.lease_texts.specs.Schedules.{access_word, share_word, terms_words, request_words, client_event_line, event_line, file_line, client_line, setup_lines};
+ghost use Rattle.lease_texts.specs.Schedules.{access_word, share_word, terms_words, request_words, client_event_line, event_line};
+ghost use Rattle.lease_texts.specs.Schedules.{file_line, client_line, setup_lines};
 
 use crate::records::{digits_of, push_patch};
 use crate::words::state_letters;

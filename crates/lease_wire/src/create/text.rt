@@ -1,6 +1,7 @@
 ghost use Rattle.std.specs.Prelude.{◌≡◌, ◌+◌, ◌≤◌, ◌++◌, length, if◌then◌else◌};
 ghost use Rattle.arrayvec.specs.ArrayVec.{array_vec_len};
-ghost use Rattle.lease_wire.specs.Canonical.{header_bytes, context_bytes, lease_body, lease_bytes, durable_bytes, reconnect_bytes, reconnect_body, canonical_text};
+ghost use Rattle.lease_wire.specs.Canonical.{header_bytes, context_bytes, lease_body, lease_bytes, durable_bytes};
+ghost use Rattle.lease_wire.specs.Canonical.{reconnect_bytes, reconnect_body, canonical_text};
 ghost use Rattle.lease_wire.specs.Views.{lease_of, values_of};
 ghost use Rattle.std.specs.Option.{option_map};
 

@@ -31,7 +31,8 @@ fn append(out: &mut Vec<u8>, direction: Direction, values: &ContextValues) -> Re
 #[inline(always)]
 fn fill(room: &mut [u8], direction: Direction, values: &ContextValues) -> usize
     ensures length { result ≡ length (canonical_text direction (values_of values.now)) }
-    ensures written { result ≤ length room.old → room.new ≡ canonical_text direction (values_of values.now) ++ drop result room.old }
+    ensures written { result ≤ length room.old → room.new ≡ canonical_text direction (values_of values.now)
+        ++ drop result room.old }
     ensures no_room { length room.old < result → room.new ≡ room.old }
 {
     let mut text = ArrayVec::new();

@@ -10,12 +10,12 @@ use Rattle.lease_world.specs.declared.verdict.Verdict.{Verdict}
 use Rattle.lease_world.specs.judge.Added.{PutsClient, PutsFile, IsSafe, StartAdds, JoinedAdds, LeavingAdds, ExpiredAdds}
 use Rattle.lease_world.specs.judge.Added.{StrayedAdds, SentAdds, TookAdds, OpenedAdds, ChangedAdds, WroteAdds, SettledAdds}
 use Rattle.lease_world.specs.judge.Added.{BelievesAdds, CachedReadAdds, ShowsAt, Adds, is_late, is_false, is_rival}
-use Rattle.lease_world.specs.judge.Clients.{can_take, took_from, after_taking, taken_of, Accepts, Writes, WritesCache, Settles}
-use Rattle.lease_world.specs.judge.Clients.{Believes, Sees, with_write, with_belief}
+use Rattle.lease_world.specs.judge.Clients.{can_take, took_from, after_taking, taken_of, Accepts, Writes, Settles}
+use Rattle.lease_world.specs.judge.Clients.{Believes, Sees}
 use Rattle.lease_world.specs.judge.Holders.{is_newcomer, Leaves}
 use Rattle.lease_world.specs.judge.Judged.{is_safe}
 use Rattle.lease_world.specs.judge.Knows.{KnowsFile, KnowsClient, HasContents, RisesTo, KnowsHolders, Knows}
-use Rattle.lease_world.specs.judge.Seen.{Seen, SeenFile, SeenClient, SeenWrite, joined, touched, has_settled, file_in, client_in}
+use Rattle.lease_world.specs.judge.Seen.{Seen, SeenFile, SeenClient, SeenWrite, joined, touched, file_in, client_in}
 use Rattle.lease_world.specs.judge.Seen.{cache_in, write_in, is_good_client, is_conflict}
 use Rattle.lease_world.specs.judge.Tables.{is_started_in, HasSameFiles}
 use Rattle.lease_world.proofs.records.Clients.{client_joins, client_drops, client_expires, client_strays, client_sent}
@@ -24,7 +24,7 @@ use Rattle.lease_world.proofs.records.Files.{file_starts, file_opens, file_chang
 use Rattle.lease_world.proofs.records.Flaws.{malformed-here, two-here, stale-here, late-here, false-here, safe-here}
 use Rattle.lease_world.proofs.records.Holding.{is_steady, holders-same, holders-stay, holders-leave, holders-enter, holders-move}
 use Rattle.lease_world.proofs.records.Holding.{enter-rival, enter-free, believe-rival, believe-free}
-use Rattle.lease_world.proofs.records.Keeping.{contents-later, contents-write, contents-each, contents-change, contents-start}
+use Rattle.lease_world.proofs.records.Keeping.{contents-later, contents-each, contents-change, contents-start}
 use Rattle.lease_world.proofs.records.Knowing.{each_place, is_apart, client-here, client-others, file-here, file-others}
 use Rattle.lease_world.proofs.records.Knowing.{same_files, one_file, same_clients, one_client, Holds, holds_client, holds_file}
 use Rattle.lease_world.proofs.records.Knowing.{started_told, good_told, match_bool}

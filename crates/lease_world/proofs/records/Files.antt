@@ -1,10 +1,9 @@
 -- What is known of the file that a fact is about.
-use Rattle.lease_laws.proofs.Words.{◌++◌, ◌+◌, ◌==◌, ◌∷◌, ◌≡◌, Bool, Fact, List, Patch, Some, ℕ, [], arith, if◌then◌else◌}
-use Rattle.lease_laws.proofs.Words.{is_started, length, not, refl, start_of}
+use Rattle.lease_laws.proofs.Words.{◌++◌, ◌+◌, ◌∷◌, ◌≡◌, Fact, List, Patch, Some, ℕ, [], arith}
+use Rattle.lease_laws.proofs.Words.{is_started, length, start_of}
 use Rattle.lease_world.specs.judge.Knows.{KnowsFile}
-use Rattle.lease_world.specs.judge.Seen.{SeenFile, Touches, touched, touched_by_others}
+use Rattle.lease_world.specs.judge.Seen.{SeenFile, touched}
 use Rattle.lease_world.specs.judge.Told.{placed_changes, last_touch}
-use Rattle.lease_world.proofs.records.Pending.{self}
 
 pub file_starts : (file : ℕ) (bytes : List ℕ) (seen : SeenFile) (past : List Fact) → KnowsFile file seen past
     → KnowsFile file (record seen { start = Some bytes }) (Fact.Start file bytes ∷ past)

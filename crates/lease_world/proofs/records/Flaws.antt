@@ -1,7 +1,7 @@
 -- What the definitions say of one fact, from what is known of each of the tests.
 use Rattle.lease_laws.proofs.Words.{◌++◌, ◌+◌, ◌∙◌, ◌∷◌, ◌≡◌, Fact, List, OneWriteCache, Verdict, ℕ, [], ap, arith, false}
 use Rattle.lease_laws.proofs.Words.{flaw_at, has_two_caches, is_false_done, is_late_write, is_stale_read, is_well_formed, length}
-use Rattle.lease_laws.proofs.Words.{or_else, refl, reverse, reverse_aux, suc, sym, true, verdict, verdict_from}
+use Rattle.lease_laws.proofs.Words.{or_else, refl, reverse, reverse_aux, suc, true, verdict, verdict_from}
 use Rattle.lease_laws.proofs.records.VerdictLemmas.{two_caches-test}
 
 pub malformed-here : (place : ℕ) (fact : Fact) (past : List Fact) → is_well_formed fact past ≡ false

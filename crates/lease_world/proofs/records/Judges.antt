@@ -1,6 +1,6 @@
 -- A judge that was given facts, and is given one more.
-use Rattle.lease_laws.proofs.Words.{◌++◌, ◌+◌, ◌==◌, ◌∙◌, ◌∷◌, ◌≡◌, Bool, Fact, List, OneWriteCache, ℕ, [], ap, arith, believed}
-use Rattle.lease_laws.proofs.Words.{false, flaw_at, has_joined, has_strayed, if◌then◌else◌, is_good, is_served, is_settled}
+use Rattle.lease_laws.proofs.Words.{◌++◌, ◌+◌, ◌∙◌, ◌∷◌, ◌≡◌, Fact, List, OneWriteCache, ℕ, [], ap, arith, believed}
+use Rattle.lease_laws.proofs.Words.{false, flaw_at, has_joined, has_strayed, is_good, is_served, is_settled}
 use Rattle.lease_laws.proofs.Words.{is_started, last_sending, length, length-append, length-reverse, or_else, refl, reverse}
 use Rattle.lease_laws.proofs.Words.{reverse-append, sendings, start_of, subst, suc, sym, takings, true, verdict_from, zero}
 use Rattle.lease_model.specs.records.Verdict as model

@@ -1,6 +1,6 @@
 -- What is kept of a file for a client, over facts that change the file or the client.
-use Rattle.lease_laws.proofs.Words.{◌++◌, ◌==◌, ◌∙◌, ◌∷◌, ◌≡◌, ◌≤◌, Bool, List, None, Option, Patch, Some, ℕ, [], ap, arith}
-use Rattle.lease_laws.proofs.Words.{false, if◌then◌else◌, is_some, length, nat_lt, patches, refl, suc, sym, true, unwrap_or}
+use Rattle.lease_laws.proofs.Words.{◌++◌, ◌∙◌, ◌∷◌, ◌≡◌, ◌≤◌, Bool, List, None, Option, Patch, Some, ℕ, [], ap, arith}
+use Rattle.lease_laws.proofs.Words.{false, if◌then◌else◌, is_some, length, patches, suc, sym, unwrap_or}
 use Rattle.std.proofs.lemmas.List.{take-append-le}
 use Rattle.lease_world.specs.judge.Before.{before, patches_of}
 use Rattle.lease_world.specs.judge.Clients.{HasCache, with_write}

@@ -1,7 +1,7 @@
 -- One write cache, over one fact more.
-use Rattle.lease_laws.proofs.Words.{◌&&◌, ◌==◌, ◌||◌, ◌∙◌, ◌∷◌, ◌≡◌, ◌≢◌, Bool, Fact, List, OneWriteCache, State, ℕ, arith}
-use Rattle.lease_laws.proofs.Words.{believed, both_ways, cases_Bool, eq-eqb, eqb-true, false, has_strayed, has_two_caches, inl}
-use Rattle.lease_laws.proofs.Words.{inr, is_good, is_served, not, nothing_cached, refl, subst, sym, true}
+use Rattle.lease_laws.proofs.Words.{◌∙◌, ◌∷◌, ◌≡◌, ◌≢◌, Bool, Fact, List, OneWriteCache, State, ℕ, arith}
+use Rattle.lease_laws.proofs.Words.{believed, cases_Bool, false, has_strayed, has_two_caches, inl}
+use Rattle.lease_laws.proofs.Words.{inr, is_good, is_served, nothing_cached, subst, sym, true}
 use Rattle.lease_laws.proofs.records.VerdictLemmas.{one_cache-test}
 use Rattle.lease_world.specs.judge.Seen.{is_conflict}
 

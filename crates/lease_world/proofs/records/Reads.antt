@@ -11,7 +11,7 @@ use Rattle.lease_world.specs.judge.Covers.{layers_at, stack_in}
 use Rattle.lease_world.specs.judge.Knows.{KnowsFile, KnowsCache, KnowsClient, IsBase, HasContents}
 use Rattle.lease_world.specs.judge.Seen.{Change, Snapshot, SeenFile, SeenCache, SeenClient, cache_in, is_open, is_good_client}
 use Rattle.lease_world.specs.judge.Told.{placed_changes, pending, place_of, is_unsettled, write_of}
-use Rattle.lease_world.proofs.records.Caches.{filter-agree, cache_over}
+use Rattle.lease_world.proofs.records.Caches.{cache_over}
 use Rattle.lease_world.proofs.records.Contents.{changes-told, unsettled-told, before-told}
 use Rattle.lease_world.proofs.records.Covered.{CoversWith, shown_patched}
 use Rattle.lease_world.proofs.records.Others.{client_over}

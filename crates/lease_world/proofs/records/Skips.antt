@@ -1,6 +1,6 @@
 -- Facts that change nothing of what a record says of a file, or of a client.
 use Rattle.lease_laws.proofs.Words.{◌==◌, ◌∷◌, ◌≡◌, Bool, Fact, List, ℕ, arith, believed, false, has_joined, has_strayed}
-use Rattle.lease_laws.proofs.Words.{is_served, is_settled, is_started, refl, sendings, start_of, takings}
+use Rattle.lease_laws.proofs.Words.{is_served, is_settled, is_started, sendings, start_of, takings}
 use Rattle.lease_world.specs.judge.Told.{placed_changes, last_touch, write_of, pending}
 
 -- the fact starts, opens or changes the file

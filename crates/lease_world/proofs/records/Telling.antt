@@ -1,5 +1,5 @@
 -- What the verdict of the definitions says is what the code's verdict says.
-use Rattle.lease_laws.proofs.Words.{◌∙◌, ◌≡◌, Fact, List, Safe, Says, ap, arith, refl, subst, sym}
+use Rattle.lease_laws.proofs.Words.{◌∙◌, ◌≡◌, Fact, List, Safe, Says, ap, arith, subst, sym}
 use Rattle.std.specs.Prelude.{◌↔◌}
 use Rattle.lease_model.specs.records.Verdict as model
 use Rattle.lease_laws.proofs.records.VerdictLemmas.{verdict-safe, safe-verdict, verdict-says}

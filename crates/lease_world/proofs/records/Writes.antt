@@ -1,6 +1,6 @@
 -- The writes of a client in a record whose facts are well formed: no number is given twice.
 use Rattle.lease_laws.proofs.Words.{◌&&◌, ◌+◌, ◌==◌, ◌||◌, ◌∙◌, ◌∷◌, ◌≡◌, ◌≤◌, Bool, EachFact, Fact, List, None, Option, Patch}
-use Rattle.lease_laws.proofs.Words.{Some, WellFormed, ℕ, ⊤, [], ap, arith, false, has_buffered, has_written, if◌then◌else◌}
+use Rattle.lease_laws.proofs.Words.{Some, WellFormed, ℕ, ⊤, [], arith, false, has_buffered, has_written, if◌then◌else◌}
 use Rattle.lease_laws.proofs.Words.{is_accepted, is_some, is_started, is_touched, is_well_formed, is_within_limit, length, nat_lt}
 use Rattle.lease_laws.proofs.Words.{not, option_map, refl, same_patch, suc, sym, true}
 use Rattle.lease_model.specs.records.Past.{has_number}

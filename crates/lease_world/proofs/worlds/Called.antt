@@ -1,5 +1,5 @@
 -- What a world of the code stands for after one of its machines was called.
-use Rattle.lease_laws.proofs.Words.{◌++◌, ◌∙◌, ◌≡◌, Call, ClientCall, List, Note, ℕ, ap, called, length, map, subst, sym}
+use Rattle.lease_laws.proofs.Words.{◌++◌, ◌≡◌, Call, ClientCall, List, Note, ℕ, called, map, subst, sym}
 use Rattle.lease_facts.specs.Facts.{fact_of}
 use Rattle.lease_model.specs.world.World as model
 use Rattle.lease_world.specs.world.Seats.{IsPresent, ChangesSeat, StepsSeat}
@@ -9,7 +9,7 @@ use Rattle.lease_world.proofs.worlds.Kept.{served_keeps}
 use Rattle.lease_world.proofs.worlds.Standing.{served_stands, stepped_stands}
 use Rattle.share_server.specs.Outs.{IsAfter}
 use Rattle.share_server.specs.Table.{Table, server_of}
-use Rattle.share_server.specs.declared.out.Out.{Out}
+use Rattle.share_server.specs.declared.values.out.Out.{Out}
 
 -- the server was called in its place, and what it gave out is delivered
 pub served_by : (old new : Seen) (call : Call) (after : Table) (outs : List Out)

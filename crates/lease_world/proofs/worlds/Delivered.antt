@@ -1,7 +1,7 @@
 -- What becomes of a world when outs are delivered, notes are told, and requests are sent.
 use Rattle.lease_laws.proofs.Words.{◌++◌, ◌==◌, ◌∙◌, ◌∷◌, ◌≡◌, Bool, EachOut, EachRequest, Fact, HasRequestBytes, List, Note, Out}
 use Rattle.lease_laws.proofs.Words.{OutHasBytes, Reply, Request, World, ℕ, [], all_delivered, ap, append-nil, append_assoc, arith}
-use Rattle.lease_laws.proofs.Words.{delivered, fact_of, false, if◌then◌else◌, map, noted, put, refl, reply_of, reply_written}
+use Rattle.lease_laws.proofs.Words.{delivered, fact_of, false, if◌then◌else◌, map, noted, put, refl, reply_of}
 use Rattle.lease_laws.proofs.Words.{request_of, request_written, reverse, reverse-append, sym, true}
 use Rattle.lease_laws.specs.messages.Written.{RepliesAreReadBack, RequestsAreReadBack}
 use Rattle.lease_world.specs.world.Messages.{sent_among}

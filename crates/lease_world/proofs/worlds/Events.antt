@@ -1,16 +1,15 @@
 -- What a world of the code stands for after an event of a client that there is.
 use Rattle.lease_laws.proofs.Words.{◌&&◌, ◌∙◌, ◌∷◌, ◌≡◌, Bool, Call, CallHasFileId, Client, ClientCall, Command, Event, Fact, Key}
 use Rattle.lease_laws.proofs.Words.{Link, List, None, Option, Progress, Reply, Request, Result, Server, Some, World, ℕ, [], ap}
-use Rattle.lease_laws.proofs.Words.{applied, arith, breaking, called, client_called, client_of, client_takes, connect_over}
-use Rattle.lease_laws.proofs.Words.{cut_over, false, happened, happens, has_file, if◌then◌else◌, is_some, kept, key_of, lease_key}
-use Rattle.lease_laws.proofs.Words.{length, link_connected, link_cut, link_noticed, machine_key, map, nat_le, notice_over}
+use Rattle.lease_laws.proofs.Words.{arith, breaking, called, client_called, client_of, client_takes, connect_over}
+use Rattle.lease_laws.proofs.Words.{cut_over, false, happened, has_file, if◌then◌else◌, is_some, kept, key_of, lease_key}
+use Rattle.lease_laws.proofs.Words.{length, machine_key, nat_le, notice_over}
 use Rattle.lease_laws.proofs.Words.{on_ok_weaker, put, refl, reply_of, request_of, scavenged, served, server_takes, stepped_in}
 use Rattle.lease_laws.proofs.Words.{strayed_over, subst, sym, timer_expired, true}
 use Rattle.std.specs.Prelude.{OnOk}
 use Rattle.lease_model.specs.server.Queries.{content}
 use Rattle.lease_state.specs.declared.request.Request as code_request
 use Rattle.lease_state.specs.declared.reply.Reply as code_reply
-use Rattle.lease_facts.specs.Facts.{fact_of}
 use Rattle.lease_world.specs.declared.world.link.Link as code
 use Rattle.lease_world.specs.world.Messages.{sent_by, sent_by_oldest, oldest, sent_by_cut, sent_by_join, sent_by_scavenge}
 use Rattle.lease_world.specs.world.Messages.{messages_of, messages_in}
@@ -21,7 +20,6 @@ use Rattle.lease_world.proofs.worlds.Delivered.{delivers}
 use Rattle.lease_world.proofs.worlds.Happening.{OnlySeats, no_request, popped_request, no_reply, popped_reply}
 use Rattle.lease_world.proofs.worlds.Kept.{quiet_keeps, quiet_first, quiet_last, kept_keeps}
 use Rattle.lease_world.proofs.worlds.Keys.{request_keys}
-use Rattle.lease_world.proofs.worlds.Standing.{one_seat}
 use Rattle.share_server.specs.Table.{server_of}
 
 -- ---- queues

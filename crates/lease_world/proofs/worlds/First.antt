@@ -6,7 +6,7 @@ use Rattle.lease_laws.proofs.Words.{is_content, length, length-drop, length-map,
 use Rattle.lease_laws.proofs.Words.{nat_lt, nat_tests, new_client, new_server, numbered, refl, reply_of, request_of}
 use Rattle.lease_laws.proofs.Words.{reverse-reverse, slice_get, starts_from, subst, suc, sym, take, true, unwrap_or, zero}
 use Rattle.std.proofs.Math.Seq.{take-suc}
-use Rattle.std.proofs.lemmas.Bool.{le-leb, leb-true}
+use Rattle.std.proofs.lemmas.Bool.{le-leb}
 use Rattle.lease_laws.proofs.server.Calls.{new_server-sound}
 use Rattle.lease_laws.proofs.server.WaitCalls.{first-waits-well}
 use Rattle.lease_state.specs.declared.reply.Reply as code_reply

@@ -1,12 +1,12 @@
 -- What a world of the code stands for after a link or a queue changed.
-use Rattle.lease_laws.proofs.Words.{◌∙◌, ◌∷◌, ◌≡◌, Link, List, None, Reply, Request, Some, World, ℕ, [], ap, arith, map, put}
-use Rattle.lease_laws.proofs.Words.{refl, reply_of, request_of, requests_sent, sent_over, subst, sym}
+use Rattle.lease_laws.proofs.Words.{◌∙◌, ◌∷◌, ◌≡◌, Link, None, Reply, Request, Some, World, ℕ, [], ap, arith, map, put}
+use Rattle.lease_laws.proofs.Words.{refl, reply_of, request_of, requests_sent, sent_over, sym}
 use Rattle.lease_state.specs.declared.request.Request as code_request
 use Rattle.lease_state.specs.declared.reply.Reply as code_reply
 use Rattle.lease_world.specs.declared.world.link.Link as code
 use Rattle.lease_facts.specs.Facts.{fact_of}
 use Rattle.share_server.specs.Table.{server_of}
-use Rattle.lease_world.specs.world.Seats.{Seat, seat_in, IsPresent, ChangesSeat, PopsRequest, PopsReply, with_requests}
+use Rattle.lease_world.specs.world.Seats.{seat_in, IsPresent, ChangesSeat, PopsRequest, PopsReply, with_requests}
 use Rattle.lease_world.specs.world.Stands.{Seen, link_of, IsSeat, Stands}
 use Rattle.lease_world.proofs.worlds.Standing.{one_seat, at_place, off_place, sent_requests}
 

@@ -12,7 +12,7 @@ use Rattle.lease_world.proofs.worlds.Delivered.{replies_given}
 use Rattle.share_server.specs.Outs.{IsAfter}
 use Rattle.share_server.specs.Table.{server_of}
 use Rattle.share_server.specs.Written.{out_written}
-use Rattle.share_server.specs.declared.out.Out as out
+use Rattle.share_server.specs.declared.values.out.Out as out
 
 with_none : (o : Option (List Reply)) → o ≡ option_map (λ replies. replies ++ []) o
 with_none None = refl

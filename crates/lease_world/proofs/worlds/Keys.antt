@@ -1,11 +1,9 @@
 -- What is found in the bytes of a request names a key of 16 bytes, or none.
 use Rattle.lease_laws.proofs.Words.{◌==◌, ◌∷◌, ◌≡◌, Access, Bool, Call, CallHasFullKey, Err, FileRequest, HasFullKey, IfSome}
-use Rattle.lease_laws.proofs.Words.{List, None, Ok, Option, Result, Share, Some, ℕ, ⊤, [], arith, ask_found, bytes_eq, false}
-use Rattle.lease_laws.proofs.Words.{if◌then◌else◌, length, length-take-le, option_map, refl, request_of, true}
-use Rattle.lease_model.specs.messages.FromBytes.{lease_wanted}
+use Rattle.lease_laws.proofs.Words.{List, Ok, Result, Share, ℕ, ⊤, [], arith, ask_found, bytes_eq}
+use Rattle.lease_laws.proofs.Words.{if◌then◌else◌, length, refl, request_of}
 use Rattle.lease_state.specs.declared.request.Request as real
-use Rattle.lease_wire.specs.Field.{bytes_at}
-use Rattle.lease_wire.specs.Gathering.{no_values, with_lease, with_durable, with_reconnect, with_meaning, carried, gathered}
+use Rattle.lease_wire.specs.Gathering.{no_values, with_meaning, carried, gathered}
 use Rattle.lease_wire.specs.Gathering.{value_of}
 use Rattle.lease_wire.specs.Chain.{ContextView}
 use Rattle.lease_wire.specs.Names.{Meaning, LeaseView, CreateView, meaning_of, durable_meaning, reconnect_meaning, lease_view}

@@ -3,7 +3,7 @@ use Rattle.lease_laws.proofs.Words.{◌++◌, ◌==◌, ◌∙◌, ◌∷◌, �
 use Rattle.lease_laws.proofs.Words.{append_assoc, false, if◌then◌else◌, option_map, refl, sym, true}
 use Rattle.lease_state.specs.declared.reply.Reply.{Reply}
 use Rattle.lease_world.specs.world.Seats.{Seat, seat_at, replies_to, replies_among, with_replies, HasReplies, HasKept}
-use Rattle.share_server.specs.declared.out.Out as out
+use Rattle.share_server.specs.declared.values.out.Out as out
 
 replies_append : (client : ℕ) (xs ys : List out.Out) → replies_to client (xs ++ ys) ≡ replies_to client xs ++ replies_to client ys
 replies_append client [] ys = refl

@@ -1,6 +1,6 @@
 -- A client's seat that changes in its place, and a client that is called there.
 use Rattle.lease_laws.proofs.Words.{◌+◌, ◌<◌, ◌==◌, ◌∙◌, ◌≡◌, ◌≢◌, ClientCall, List, ℕ, ap, arith, client_called, false, get_or}
-use Rattle.lease_laws.proofs.Words.{length, length-set, map, refl, slice_set, subst, suc, sym, true, zero}
+use Rattle.lease_laws.proofs.Words.{length, length-set, refl, slice_set, subst, suc, sym, true, zero}
 use Rattle.lease_client.specs.Known.{Known, client_of}
 use Rattle.lease_client.specs.Turns.{Given, IsAfter}
 use Rattle.lease_world.specs.world.Seats.{Seat, seat_in, no_seat, queued, with_requests, IsPresent, ChangesSeat}

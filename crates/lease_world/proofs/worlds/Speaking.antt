@@ -3,7 +3,7 @@ use Rattle.lease_laws.proofs.Words.{◌++◌, ◌+◌, ◌∙◌, ◌∷◌, ◌
 use Rattle.lease_laws.proofs.Words.{Out, Progress, Reply, Request, Setup, Some, Step, World, ℕ, [], after, ap, applied, arith}
 use Rattle.lease_laws.proofs.Words.{breaking, called, client_called, client_of, client_takes, connect_over, cut_over, fact_of}
 use Rattle.lease_laws.proofs.Words.{false, first_world, happened, happens, has_client, has_file, if◌then◌else◌, kept, length}
-use Rattle.lease_laws.proofs.Words.{length-append, length-map, link_connected, link_cut, link_noticed, machine_key, map}
+use Rattle.lease_laws.proofs.Words.{length-append, length-map, machine_key, map}
 use Rattle.lease_laws.proofs.Words.{notice_over, put, refl, reply_of, requests_sent, reverse, reverse-append, reverse-reverse}
 use Rattle.lease_laws.proofs.Words.{scavenged, served, server_takes, starts_from, stepped_in, strayed_over, suc, sym}
 use Rattle.lease_laws.proofs.Words.{timer_expired, true}

@@ -1,9 +1,9 @@
 -- What a world of the code stands for after each thing that happens in it.
-use Rattle.lease_laws.proofs.Words.{◌++◌, ◌<◌, ◌==◌, ◌∙◌, ◌∷◌, ◌≡◌, ◌≢◌, Bool, Call, CallHasFileId, CallHasFullKey, Client}
+use Rattle.lease_laws.proofs.Words.{◌++◌, ◌<◌, ◌==◌, ◌∙◌, ◌∷◌, ◌≡◌, ◌≢◌, Call, CallHasFileId, CallHasFullKey, Client}
 use Rattle.lease_laws.proofs.Words.{ClientCall, Fact, IsWriting, Link, List, Note, Option, Progress, Reply, Request, Some, Step}
 use Rattle.lease_laws.proofs.Words.{World}
-use Rattle.lease_laws.proofs.Words.{ℕ, [], all_delivered, all_turned, ap, arith, called, client_called, connection_made, false}
-use Rattle.lease_laws.proofs.Words.{happened, if◌then◌else◌, length, map, map-append, noted, noticed, option_map, put, refl}
+use Rattle.lease_laws.proofs.Words.{ℕ, [], all_delivered, ap, arith, called, client_called, false}
+use Rattle.lease_laws.proofs.Words.{happened, if◌then◌else◌, length, map, map-append, noted, option_map, put, refl}
 use Rattle.lease_laws.proofs.Words.{reply_of, request_of, request_written, requests_sent, reverse, reverse-append, sent_over}
 use Rattle.lease_laws.proofs.Words.{served, slice_get, stepped_in, suc, sym, true, unwrap_or, zero}
 use Rattle.lease_client.specs.Known.{client_of}
@@ -26,7 +26,7 @@ use Rattle.lease_world.proofs.worlds.Delivered.{requests_back}
 use Rattle.share_server.specs.Outs.{IsAfter}
 use Rattle.share_server.specs.Table.{server_of}
 use Rattle.share_server.specs.Written.{out_written}
-use Rattle.share_server.specs.declared.out.Out as out
+use Rattle.share_server.specs.declared.values.out.Out as out
 
 -- ---- seats
 

@@ -1,6 +1,7 @@
 -- What a judge makes of one fact: its verdict on it, and what it keeps afterwards. Where the verdict isn't Safe, nothing is
 -- said of what it keeps.
-use Rattle.std.specs.Prelude.{◌≡◌, ℕ, ◌<◌, Bool, true, false, not, Option, Some, None, List, [], ◌∷◌, ◌++◌, ◌&&◌, is_some, MatchBool}
+use Rattle.std.specs.Prelude.{◌≡◌, ℕ, ◌<◌, Bool, true, false, not, Option, Some, None, List, [], ◌∷◌, ◌++◌, ◌&&◌, is_some}
+use Rattle.std.specs.Prelude.{MatchBool}
 use Rattle.lease_state.specs.State.{State}
 use Rattle.lease_state.specs.declared.patch.Patch.{Patch}
 use Rattle.lease_model.specs.values.Patches.{is_within_limit}
@@ -8,10 +9,14 @@ use Rattle.lease_model.specs.client.Commands.{Settlement}
 use Rattle.lease_model.specs.records.Facts.{Fact}
 use Rattle.lease_world.specs.declared.verdict.Rule.{Rule}
 use Rattle.lease_world.specs.declared.verdict.Verdict.{Verdict}
-use Rattle.lease_world.specs.judge.Clients.{can_take, after_taking, is_buffered_before, is_accepted_write, taken_of, Accepts, Writes, Settles, Believes, Sees}
-use Rattle.lease_world.specs.judge.Holders.{without_holder, conflicts_with, is_newcomer, HasConflict, HasNoConflict, HasEntered, Leaves, Moves}
-use Rattle.lease_world.specs.judge.Seen.{Seen, SeenFile, SeenCache, SeenClient, Holders, joined, touched, touched_by_others, is_good_client, write_in, file_in, client_in, holders_in}
-use Rattle.lease_world.specs.judge.Tables.{HasClient, ChangesClient, HasSameClients, HasFile, HasSameFiles, is_started_in, belief_in}
+use Rattle.lease_world.specs.judge.Clients.{can_take, after_taking, is_buffered_before, is_accepted_write, taken_of, Accepts}
+use Rattle.lease_world.specs.judge.Clients.{Writes, Settles, Believes, Sees}
+use Rattle.lease_world.specs.judge.Holders.{without_holder, conflicts_with, is_newcomer, HasConflict, HasNoConflict, HasEntered}
+use Rattle.lease_world.specs.judge.Holders.{Leaves, Moves}
+use Rattle.lease_world.specs.judge.Seen.{Seen, SeenFile, SeenCache, SeenClient, Holders, joined, touched, touched_by_others}
+use Rattle.lease_world.specs.judge.Seen.{is_good_client, write_in, file_in, client_in, holders_in}
+use Rattle.lease_world.specs.judge.Tables.{HasClient, ChangesClient, HasSameClients, HasFile, HasSameFiles, is_started_in}
+use Rattle.lease_world.specs.judge.Tables.{belief_in}
 
 -- one client has a new value, and the files are as they were
 abbrev pub PutsClient : ℕ → SeenClient → Seen → Seen → Type 0

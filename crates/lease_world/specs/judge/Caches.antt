@@ -26,7 +26,8 @@ based_at file place cache = record cache { base = Some (base_at file place cache
 
 -- ---- the writes over it
 
--- The fresh writes that aren't settled cover the file, on top of the earlier ones; settled writes that came to lie on top are gone.
+-- The fresh writes that aren't settled cover the file, on top of the earlier ones; settled writes that came to lie on top are
+-- gone.
 pub record IsCovered (settled : Numbers) (old new : SeenCache) : Type 0 where
   pub rest : new ≡ record old { fresh = []; covers = new.covers }
   pub uncovered : (position : ℕ) → IsUncovered (is_open settled)

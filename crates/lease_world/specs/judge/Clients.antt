@@ -1,11 +1,13 @@
 -- How facts change what is kept of a client.
-use Rattle.std.specs.Prelude.{◌≡◌, ℕ, Bool, true, false, not, Option, Some, None, List, [], ◌∷◌, ◌++◌, if◌then◌else◌, ◌==◌, ◌&&◌, nat_lt}
+use Rattle.std.specs.Prelude.{◌≡◌, ℕ, Bool, true, false, not, Option, Some, None, List, [], ◌∷◌, ◌++◌, if◌then◌else◌, ◌==◌, ◌&&◌}
+use Rattle.std.specs.Prelude.{nat_lt}
 use Rattle.std.specs.Option.{option_map}
 use Rattle.lease_state.specs.declared.patch.Patch.{Patch}
 use Rattle.lease_model.specs.values.Lists.{is_empty}
 use Rattle.lease_state.specs.State.{State}
 use Rattle.lease_world.specs.judge.Caches.{IsShown}
-use Rattle.lease_world.specs.judge.Seen.{SeenFile, SeenWrite, SeenWrites, SeenCache, SeenClient, Numbers, cache_in, write_by, write_at, has_settled, accepted_as}
+use Rattle.lease_world.specs.judge.Seen.{SeenFile, SeenWrite, SeenWrites, SeenCache, SeenClient, Numbers, cache_in, write_by}
+use Rattle.lease_world.specs.judge.Seen.{write_at, has_settled, accepted_as}
 
 -- there is a message that was sent since it joined and not taken
 abbrev pub can_take : SeenClient → Bool

@@ -1,5 +1,6 @@
 -- The writes that cover the positions of a file: what a judge keeps of them.
-use Rattle.std.specs.Prelude.{◌≡◌, ◌⊎◌, ◌≢◌, ◌≤◌, ◌<◌, ⊤, ℕ, zero, suc, ◌-◌, max, Bool, true, if◌then◌else◌, ◌==◌, ◌&&◌, nat_lt, nat_le, Option, Some, None, List, [], ◌∷◌, ◌++◌, length, filter, slice_get, slice_index, unwrap_or}
+use Rattle.std.specs.Prelude.{◌≡◌, ◌⊎◌, ◌≢◌, ◌≤◌, ◌<◌, ⊤, ℕ, zero, suc, ◌-◌, max, Bool, true, if◌then◌else◌, ◌==◌, ◌&&◌, nat_lt}
+use Rattle.std.specs.Prelude.{nat_le, Option, Some, None, List, [], ◌∷◌, ◌++◌, length, filter, slice_get, slice_index, unwrap_or}
 use Rattle.lease_state.specs.Content.{end_of}
 use Rattle.lease_world.specs.declared.judging.covers.Cover.{Cover}
 use Rattle.lease_world.specs.declared.judging.covers.Layer.{Layer}

@@ -1,16 +1,19 @@
 -- When what a judge keeps is what a record says.
-use Rattle.std.specs.Prelude.{◌≡◌, ⊤, ℕ, zero, suc, ◌+◌, ◌≤◌, Bool, true, false, Option, Some, None, List, [], ◌∷◌, ◌++◌, length, take, drop, filter, is_some, unwrap_or, if◌then◌else◌}
+use Rattle.std.specs.Prelude.{◌≡◌, ⊤, ℕ, zero, suc, ◌+◌, ◌≤◌, Bool, true, false, Option, Some, None, List, [], ◌∷◌, ◌++◌, length}
+use Rattle.std.specs.Prelude.{take, drop, filter, is_some, unwrap_or, if◌then◌else◌}
 use Rattle.std.specs.Option.{option_map}
 use Rattle.lease_state.specs.Content.{patches}
 use Rattle.lease_state.specs.State.{State, nothing_cached}
 use Rattle.lease_model.specs.values.LeaseStates.{holds_any}
 use Rattle.lease_model.specs.records.Facts.{Fact}
-use Rattle.lease_model.specs.records.Past.{is_started, start_of, has_joined, is_served, has_strayed, is_good, sendings, takings, last_sending, is_settled, believed}
+use Rattle.lease_model.specs.records.Past.{is_started, start_of, has_joined, is_served, has_strayed, is_good, sendings, takings}
+use Rattle.lease_model.specs.records.Past.{last_sending, is_settled, believed}
 use Rattle.lease_model.specs.records.Safe.{EachFact, WellFormed, OneWriteCache}
 use Rattle.lease_world.specs.judge.Before.{before, patches_of}
 use Rattle.lease_world.specs.judge.Clients.{taken_of}
 use Rattle.lease_world.specs.judge.Covers.{layers_at, stack_in}
-use Rattle.lease_world.specs.judge.Seen.{Seen, SeenFile, SeenCache, SeenClient, Snapshot, Holders, file_in, client_in, cache_in, holders_in, touched_by_others, write_in, has_settled}
+use Rattle.lease_world.specs.judge.Seen.{Seen, SeenFile, SeenCache, SeenClient, Snapshot, Holders, file_in, client_in, cache_in}
+use Rattle.lease_world.specs.judge.Seen.{holders_in, touched_by_others, write_in, has_settled}
 use Rattle.lease_world.specs.judge.Told.{placed_changes, last_touch, write_of, pending, place_of, sent_places, is_unsettled}
 
 pub record KnowsFile (file : ℕ) (seen : SeenFile) (past : List Fact) : Type 0 where
@@ -22,7 +25,8 @@ pub record KnowsFile (file : ℕ) (seen : SeenFile) (past : List Fact) : Type 0 
 -- Of the writes that are kept, those that aren't settled cover a position as the record's do.
 pub record KnowsCache (client : ℕ) (file : ℕ) (cache : SeenCache) (past : List Fact) : Type 0 where
   pub belief : cache.belief ≡ believed client file past
-  pub covers : (position : ℕ) → filter (is_unsettled client past) (layers_at position cache.fresh ++ stack_in cache.covers position)
+  pub covers : (position : ℕ)
+      → filter (is_unsettled client past) (layers_at position cache.fresh ++ stack_in cache.covers position)
       ≡ layers_at position (pending client file past past)
 
 -- numbers from the first one on that don't fall, up to the last one

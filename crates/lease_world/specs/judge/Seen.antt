@@ -1,5 +1,6 @@
 -- What a judge keeps, as plain data. Places in a record count facts from 1; 0 is no place.
-use Rattle.std.specs.Prelude.{ℕ, ◌-◌, Bool, true, false, not, Option, None, List, [], if◌then◌else◌, ◌==◌, ◌&&◌, ◌||◌, nat_lt, nat_le, length, get_or, unwrap_or, slice_get}
+use Rattle.std.specs.Prelude.{ℕ, ◌-◌, Bool, true, false, not, Option, None, List, [], if◌then◌else◌, ◌==◌, ◌&&◌, ◌||◌, nat_lt}
+use Rattle.std.specs.Prelude.{nat_le, length, get_or, unwrap_or, slice_get}
 use Rattle.std.specs.List.{list_any}
 use Rattle.std.specs.BTreeMap.{is_at}
 use Rattle.std.specs.Map.{lookup}
@@ -56,8 +57,8 @@ pub record Snapshot : Type 0 where
   pub applied : ℕ
 
 -- What is kept of a client and a file: the belief; the writes since a read was looked at last; by the positions of the file the
--- earlier writes that cover them, the last one first, without some that are settled; and the file at the sending place of a message
--- that the client took.
+-- earlier writes that cover them, the last one first, without some that are settled; and the file at the sending place of a
+-- message that the client took.
 pub record SeenCache : Type 0 where
   pub belief : State
   pub fresh : List Waiting

@@ -1,5 +1,6 @@
 -- Clients of a world, as plain data, by their numbers from 1.
-use Rattle.std.specs.Prelude.{◌≡◌, ◌≢◌, ℕ, zero, suc, ◌≤◌, Bool, true, false, Option, None, List, [], ◌∷◌, ◌++◌, if◌then◌else◌, ◌==◌, slice_get, unwrap_or, length, map, MatchOption}
+use Rattle.std.specs.Prelude.{◌≡◌, ◌≢◌, ℕ, zero, suc, ◌≤◌, Bool, true, false, Option, None, List, [], ◌∷◌, ◌++◌, if◌then◌else◌}
+use Rattle.std.specs.Prelude.{◌==◌, slice_get, unwrap_or, length, map, MatchOption}
 use Rattle.std.specs.Option.{option_map}
 use Rattle.lease_client.specs.Known.{Known, client_of}
 use Rattle.lease_model.specs.client.Calls.{ClientCall, client_called}
@@ -9,7 +10,7 @@ use Rattle.lease_model.specs.records.Facts as model
 use Rattle.lease_state.specs.declared.request.Request.{Request}
 use Rattle.lease_state.specs.declared.reply.Reply.{Reply}
 use Rattle.lease_world.specs.declared.world.link.Link.{Link}
-use Rattle.share_server.specs.declared.out.Out as out
+use Rattle.share_server.specs.declared.values.out.Out as out
 
 pub record Seat : Type 0 where
   pub guid : List ℕ

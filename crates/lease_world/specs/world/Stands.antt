@@ -1,5 +1,5 @@
 -- When a world of the code stands for one of the definitions.
-use Rattle.std.specs.Prelude.{◌≡◌, ℕ, Option, List, [], length, map, reverse}
+use Rattle.std.specs.Prelude.{◌≡◌, ℕ, Option, List, length, map, reverse}
 use Rattle.lease_client.specs.Known.{client_of}
 use Rattle.lease_laws.specs.messages.Written.{HaveFullKeys, IsWriting}
 use Rattle.lease_laws.specs.server.Laws.{IsSound}
@@ -12,7 +12,7 @@ use Rattle.lease_world.specs.declared.world.link.Link as code
 use Rattle.lease_world.specs.world.Seats.{Seat, seat_in, IsPresent}
 use Rattle.lease_state.specs.declared.reply.Reply.{Reply}
 use Rattle.share_server.specs.Table.{Table, server_of}
-use Rattle.share_server.specs.declared.out.Out.{Out}
+use Rattle.share_server.specs.declared.values.out.Out.{Out}
 
 pub record Seen : Type 0 where
   pub server : Table

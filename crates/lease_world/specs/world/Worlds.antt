@@ -16,8 +16,6 @@ use Rattle.lease_state.specs.declared.reply.Reply as code
 use Rattle.lease_world.specs.world.Messages.{sent_by, messages_of, messages_in}
 use Rattle.lease_world.specs.world.Seats.{HasReplies, HasKept, fact_given, replies_among}
 use Rattle.lease_world.specs.world.Stands.{Seen, Stands}
-use Rattle.share_server.specs.Table.{Table}
-use Rattle.share_server.specs.declared.out.Out.{Out}
 
 -- ---- messages
 

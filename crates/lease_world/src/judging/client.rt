@@ -1,7 +1,9 @@
-ghost use Rattle.std.specs.Prelude.{◌≡◌, ◌++◌, ◌<◌, [], ◌∷◌, true, false, ℕ, Some, None, ◌&&◌, ◌==◌, not, OnOk, IfOk, is_some, vec_len};
+ghost use Rattle.std.specs.Prelude.{◌≡◌, ◌++◌, ◌<◌, [], ◌∷◌, true, false, ℕ, Some, None, ◌&&◌, ◌==◌, not, OnOk, IfOk, is_some};
+ghost use Rattle.std.specs.Prelude.{vec_len};
 ghost use Rattle.lease_state.specs.State.{state_of};
 ghost use Rattle.lease_world.specs.judge.Seen.{unseen_client, joined, is_good_client, cache_in, is_among, write_at, write_in};
-ghost use Rattle.lease_world.specs.judge.Clients.{taken_of, TakesOne, is_buffered_before, is_accepted_write, Accepts, Writes, Settles, Believes, Sees, SeesCache, HasCache, WritesCache, with_belief};
+ghost use Rattle.lease_world.specs.judge.Clients.{taken_of, TakesOne, is_buffered_before, is_accepted_write, Accepts, Writes};
+ghost use Rattle.lease_world.specs.judge.Clients.{Settles, Believes, Sees, SeesCache, HasCache, WritesCache, with_belief};
 
 use crate::judging::cache::CacheSeen;
 use crate::judging::file::FileSeen;

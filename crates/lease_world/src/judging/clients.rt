@@ -1,6 +1,7 @@
 ghost use Rattle.std.specs.Prelude.{◌≡◌, ◌++◌, ◌<◌, [], ◌∷◌, true, false, is_some, OnOk, IfOk, vec_len, length};
 ghost use Rattle.lease_state.specs.State.{state_of};
-ghost use Rattle.lease_world.specs.judge.Clients.{can_take, after_taking, is_buffered_before, is_accepted_write, Accepts, Writes, Settles, Believes, Sees, taken_of};
+ghost use Rattle.lease_world.specs.judge.Clients.{can_take, after_taking, is_buffered_before, is_accepted_write, Accepts, Writes};
+ghost use Rattle.lease_world.specs.judge.Clients.{Settles, Believes, Sees, taken_of};
 ghost use Rattle.lease_world.specs.judge.Seen.{joined, is_good_client, write_in, client_in};
 ghost use Rattle.lease_world.specs.judge.Tables.{belief_in, HasClient, ChangesClient, HasSameClients};
 

@@ -1,6 +1,8 @@
-ghost use Rattle.std.specs.Prelude.{◌≡◌, ◌≢◌, ◌⊎◌, ◌<◌, ◌≤◌, ◌-◌, ◌++◌, [], ℕ, List, get_or, length, map, slice_index, vec_len, OnOk, MatchBool};
+ghost use Rattle.std.specs.Prelude.{◌≡◌, ◌≢◌, ◌⊎◌, ◌<◌, ◌≤◌, ◌-◌, ◌++◌, [], ℕ, List, get_or, length, map, slice_index, vec_len};
+ghost use Rattle.std.specs.Prelude.{OnOk, MatchBool};
 ghost use Rattle.lease_world.specs.declared.judging.covers.Cover.{Cover};
-ghost use Rattle.lease_world.specs.judge.Covers.{layer_of, stack_in, seen_byte, Shows, ShowsCovered, HasLayer, IsUncovered, EndsCovered, AreLinked, AreTops, layers_under};
+ghost use Rattle.lease_world.specs.judge.Covers.{layer_of, stack_in, seen_byte, Shows, ShowsCovered, HasLayer, IsUncovered};
+ghost use Rattle.lease_world.specs.judge.Covers.{EndsCovered, AreLinked, AreTops, layers_under};
 ghost use Rattle.lease_world.specs.judge.Seen.{is_open};
 
 use crate::judging::numbers::Numbers;
@@ -98,7 +100,8 @@ impl Covers {
 
     /// Settled writes are taken off where they lie on top, and positions at the end that nothing covers.
     pub fn uncover(&mut self, settled: &Numbers)
-        ensures uncovered { (position : ℕ) → IsUncovered (is_open settled.now) (stack_in self.old position) (stack_in self.new position) }
+        ensures uncovered { (position : ℕ)
+            → IsUncovered (is_open settled.now) (stack_in self.old position) (stack_in self.new position) }
         ensures ends { EndsCovered self.new }
     {
         uncover_each(&self.covers, &mut self.tops, settled);

@@ -1,7 +1,8 @@
 ghost use Rattle.std.specs.Prelude.{◌≡◌, ◌≤◌, [], length, vec_len, OnOk, IfOk, MatchBool};
 ghost use Rattle.lease_state.specs.State.{state_of};
 ghost use Rattle.lease_world.specs.judge.Seen.{unheld, holders_in};
-ghost use Rattle.lease_world.specs.judge.Holders.{with_holder, without_holder, conflicts_with, HasHolders, HasSameHolders, HasConflict, HasNoConflict, HasEntered, HasLeft};
+ghost use Rattle.lease_world.specs.judge.Holders.{with_holder, without_holder, conflicts_with, HasHolders, HasSameHolders};
+ghost use Rattle.lease_world.specs.judge.Holders.{HasConflict, HasNoConflict, HasEntered, HasLeft};
 
 use crate::judging::cache::CacheSeen;
 use lease_state::{FileNo, LeaseState, Memory};

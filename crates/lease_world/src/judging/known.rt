@@ -3,7 +3,9 @@ ghost use Rattle.lease_state.specs.State.{state_of};
 ghost use Rattle.lease_client.specs.Answers.{settlement_of};
 ghost use Rattle.lease_model.specs.values.Patches.{is_within_limit};
 ghost use Rattle.lease_facts.specs.Facts.{fact_of};
-ghost use Rattle.lease_world.specs.judge.Added.{StartAdds, JoinedAdds, LeavingAdds, ExpiredAdds, StrayedAdds, SentAdds, TookAdds, OpenedAdds, ChangedAdds, WroteAdds, SettledAdds, BelievesAdds, CachedReadAdds, LetsGo, Adds};
+ghost use Rattle.lease_world.specs.judge.Added.{StartAdds, JoinedAdds, LeavingAdds, ExpiredAdds, StrayedAdds, SentAdds, TookAdds};
+ghost use Rattle.lease_world.specs.judge.Added.{OpenedAdds, ChangedAdds, WroteAdds, SettledAdds, BelievesAdds, CachedReadAdds};
+ghost use Rattle.lease_world.specs.judge.Added.{LetsGo, Adds};
 
 use crate::judging::clients::Clients;
 use crate::judging::files::Files;

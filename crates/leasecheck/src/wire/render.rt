@@ -144,7 +144,8 @@ fn render_in_message(alloc: Global, direction: Direction, message: &[u8]) -> Res
 // The same, with the place of a message's fault counted from the header in front of it.
 fn behind_header(shown: Result<String, Failure>) -> Result<String, Failure>
     ensures shown { IfOk result (λ text. shown ≡ Ok text) }
-    ensures refused { (fault : Option WireFault) → RefusesExactly fault shown → RefusesExactly (option_map (fault_at 64) fault) result }
+    ensures refused { (fault : Option WireFault) → RefusesExactly fault shown
+        → RefusesExactly (option_map (fault_at 64) fault) result }
 {
     match shown {
         Err(Failure::Wire(fault)) => Err(Failure::Wire(fault.at(HEADER_SIZE))),
@@ -175,8 +176,8 @@ fn render_message(alloc: Global, kind: Kind, message: &[u8]) -> Result<String, F
     }
 }
 
-/// What `leasecheck show` prints for bytes of a kind. Bytes that begin with the ProtocolId of SMB2 are whole messages, of which the
-/// first is shown; others are contexts, or a break message, without the header.
+/// What `leasecheck show` prints for bytes of a kind. Bytes that begin with the ProtocolId of SMB2 are whole messages, of which
+/// the first is shown; others are contexts, or a break message, without the header.
 ///
 /// # Errors
 ///

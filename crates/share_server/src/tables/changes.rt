@@ -20,15 +20,15 @@ ghost use Rattle.share_server.specs.Outs.{progress_of};
 ghost use Rattle.share_server.specs.Summaries.{Agrees, IsAtHome, lease_in};
 ghost use Rattle.share_server.specs.Table.{server_of, file_without};
 
-use crate::closing::Closing;
-use crate::key::Key;
-use crate::lease::Lease;
-use crate::open::Open;
-use crate::opens::Opens;
-use crate::request::Held;
-use crate::summaries::Summaries;
+use crate::tables::opens::Opens;
 use crate::tables::still::{forget_files, forget_for, forget_home};
+use crate::tables::summaries::Summaries;
 use crate::tables::{File, Tables};
+use crate::values::closing::Closing;
+use crate::values::key::Key;
+use crate::values::lease::Lease;
+use crate::values::open::Open;
+use crate::values::request::Held;
 use lease_state::{ClientNo, FileId, FileNo, Memory, Patch};
 use std::alloc::Global;
 

@@ -8,11 +8,11 @@ ghost use Rattle.lease_model.specs.server.State.{has_lease};
 ghost use Rattle.share_server.specs.Leases.{lease_of};
 ghost use Rattle.share_server.specs.Table.{server_of};
 
-use crate::key::Key;
-use crate::lease::Lease;
-use crate::open::Open;
-use crate::request::Held;
 use crate::tables::Tables;
+use crate::values::key::Key;
+use crate::values::lease::Lease;
+use crate::values::open::Open;
+use crate::values::request::Held;
 use lease_state::{Bytes, ClientNo, FileId, FileNo, Memory};
 
 impl Tables {

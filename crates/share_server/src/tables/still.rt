@@ -11,17 +11,17 @@ ghost use Rattle.share_server.specs.StillWaiting.{HaveForgotten, HaveForgottenFo
 ghost use Rattle.share_server.specs.Summaries.{Agrees};
 ghost use Rattle.share_server.specs.Table.{server_of};
 
-use crate::attempt::must_wait;
-use crate::closing::Closing;
-use crate::finding::Finding;
-use crate::key::Key;
-use crate::open::Open;
-use crate::opens::Opens;
-use crate::request::{Ask, key_asked};
-use crate::summaries::Summaries;
+use crate::requests::attempt::must_wait;
+use crate::requests::finding::Finding;
+use crate::tables::opens::Opens;
+use crate::tables::summaries::Summaries;
+use crate::tables::waiting::Waiting;
 use crate::tables::{File, Tables};
-use crate::waiting::Waiting;
-use crate::want::Want;
+use crate::values::closing::Closing;
+use crate::values::key::Key;
+use crate::values::open::Open;
+use crate::values::request::{Ask, key_asked};
+use crate::values::want::Want;
 use lease_state::{ClientNo, FileId, FileNo, Memory};
 
 impl Tables {
@@ -71,7 +71,7 @@ impl Tables {
             return Ok(false);
         }
         match self.finding(client, ask)? {
-            Finding::Fails(_) | Finding::Ready => Ok(false),
+            Finding::Fails(_) | Finding::Ready(_) => Ok(false),
             Finding::Needs(wants) => {
                 let waits = self.only_wait(file, ask, &wants)?;
                 Ok(waits)

@@ -4,9 +4,9 @@ ghost use Rattle.share_server.specs.Hindering.{is_hinderer};
 ghost use Rattle.share_server.specs.Table.{server_of};
 ghost use Rattle.share_server.specs.Wishes.{wants_for, want_of};
 
-use crate::key::Key;
 use crate::tables::Tables;
-use crate::want::{Demand, Want, Wish};
+use crate::values::key::Key;
+use crate::values::want::{Demand, Want, Wish};
 use lease_state::{FileNo, Memory};
 
 impl Tables {

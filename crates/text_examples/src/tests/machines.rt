@@ -32,7 +32,8 @@ fn a_client_opens_and_is_refused(rt: HostRuntime) -> Result<(), Fail> {
     ];
     let told = answers(alloc, Machines::clients(alloc), lines.as_slice())?;
     let expected = format!(in alloc;
-        "answer refused offline\nanswer quiet\nrequest create 1 rw rw {LEASE}\nanswer waiting\nanswer failed c0000999\nfault line 8\n"
+        "answer refused offline\nanswer quiet\nrequest create 1 rw rw {LEASE}\nanswer waiting\n\
+        answer failed c0000999\nfault line 8\n"
     )?;
     assert_eq!(rt; told.as_str(), expected.as_str());
     Ok(())
@@ -52,8 +53,8 @@ fn a_server_opens_and_reads(rt: HostRuntime) -> Result<(), Fail> {
         "file -",
     ];
     let told = answers(alloc, Machines::server(alloc), lines.as_slice())?;
-    let expected =
-        "answer done\nanswer nothing\nopened 1 1\nsent 1 created 1 1 -\nanswer done\nsent 1 readdone 1 6162\nanswer done\nanswer none\nanswer none\nfault line 8\n";
+    let expected = "answer done\nanswer nothing\nopened 1 1\nsent 1 created 1 1 -\nanswer done\n\
+        sent 1 readdone 1 6162\nanswer done\nanswer none\nanswer none\nfault line 8\n";
     assert_eq!(rt; told.as_str(), expected);
     Ok(())
 }

@@ -7,6 +7,28 @@ use Rattle.lease_laws.proofs.Words.{same_state}
 use Rattle.lease_laws.proofs.Words.{cached_read, cached_turn, subst, sym, true, turned, wrote_step, wrote_turn}
 use Rattle.lease_model.specs.client.Step.{with_number}
 
+-- ---- the step of a turn
+
+-- the step that a turn of the entry of a file makes, written out
+abbrev pub step_of : Client → ℕ → Turn → Step
+step_of client file turn = record {
+  client = record client { entries = put client.entries file turn.entry };
+  answer = turn.answer;
+  requests = turn.requests;
+  notes = turn.settled ++ believes_noted file (belief_of (client.entries file)) (belief_of turn.entry);
+}
+
+-- what the written out step has, the turn's has
+pub by_turn : (P : Step → Type 0) (client : Client) (file : ℕ) (turn : Turn) → P (step_of client file turn)
+    → P (turned client file turn)
+unfolding turned
+by_turn P client file turn has = has
+
+pub turned_answer : (client : Client) (file : ℕ) (turn : Turn) → (turned client file turn).answer ≡ turn.answer
+turned_answer client file turn = by_turn (λ step. step.answer ≡ turn.answer) client file turn refl
+
+-- ---- turns that leave the entry as it is
+
 beq_same : (b : Bool) → beq b b ≡ true
 beq_same b = grind arith
 
@@ -27,14 +49,14 @@ answered_step client answer notes = record { client = client; answer = answer; r
 noted_so : (client : Client) (file : ℕ) (answer : Answer) (notes : List Note)
     → turned client file (record { entry = client.entries file; answer = answer; requests = []; settled = notes })
     ≡ answered_step client answer (notes ++ [])
-unfolding turned
-noted_so client file answer notes = ap (λ (more : List Note). record {
-  client = record client { entries = put client.entries file (client.entries file) };
-  answer = answer;
-  requests = [];
-  notes = notes ++ more;
-}) (unnoted file (belief_of (client.entries file)))
-    ∙ ap (λ (t : ℕ → Entry). answered_step (record client { entries = t }) answer (notes ++ [])) (put_same client.entries file)
+noted_so client file answer notes = by_turn (λ step. step ≡ answered_step client answer (notes ++ [])) client file _
+    (ap (λ (more : List Note). record {
+      client = record client { entries = put client.entries file (client.entries file) };
+      answer = answer;
+      requests = [];
+      notes = notes ++ more;
+    }) (unnoted file (belief_of (client.entries file)))
+    ∙ ap (λ (t : ℕ → Entry). answered_step (record client { entries = t }) answer (notes ++ [])) (put_same client.entries file))
 
 -- a turn that notes something and leaves the entry as it is
 pub noted_still : (client : Client) (file : ℕ) (entry : Entry) (answer : Answer) (notes : List Note) → client.entries file ≡ entry

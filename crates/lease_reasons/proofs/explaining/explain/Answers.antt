@@ -1,4 +1,4 @@
-use Rattle.lease_laws.proofs.Words.{◌+◌, ◌<◌, ◌∙◌, ◌≡◌, ◌≤◌, ◌⊎◌, None, Option, Verdict, ℕ, ap, arith, inl, inr, map, subst, sym}
+use Rattle.lease_laws.proofs.Words.{◌+◌, ◌<◌, ◌∙◌, ◌≡◌, ◌≤◌, ◌⊎◌, None, Option, Verdict, ℕ, ap, arith, map, subst, sym}
 use Rattle.lease_laws.proofs.Words.{take, verdict}
 use Rattle.std.proofs.lemmas.Result.{IfOk-weaker}
 use Rattle.lease_facts.specs.Facts.{fact_of}

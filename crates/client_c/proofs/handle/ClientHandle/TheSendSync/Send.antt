@@ -9,7 +9,7 @@ use Rattle.std.specs.declared.option.Option.{Option}
 use Rattle.std.specs.declared.option.Option.TheVariants.{None, Some}
 use Rattle.lease_handles.specs.Owned.{handle_owns}
 use Rattle.lease_handles.proofs.Held.{may_free-Keyless}
-use Rattle.lease_client.proofs.step.Step.TheSendSync.{the_send}
+use Rattle.lease_client.proofs.values.step.Step.TheSendSync.{the_send}
 use Rattle.client_c.proofs.Handles.{R}
 use Rattle.client_c.specs.contracts.handle.ClientHandle.{the_row}
 

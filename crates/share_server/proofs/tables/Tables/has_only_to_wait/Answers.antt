@@ -1,4 +1,4 @@
-use Rattle.lease_laws.proofs.Words.{◌∙◌, ap, arith, finding, is_ready, refl, sym}
+use Rattle.lease_laws.proofs.Words.{◌∙◌, ap, finding, is_ready, refl, sym}
 use Rattle.share_server.specs.Findings.{look_of}
 use Rattle.share_server.specs.Requests.{request_like}
 use Rattle.share_server.specs.StillWaiting.{HasOnlyToWait}
@@ -10,7 +10,7 @@ use Rattle.share_server.proofs.tables.Tables.has_only_to_wait.Goals as goal
 
 pub returns-in_ok-waits-in-Needs-clause-vain : goal.returns-in_ok-waits-in-Needs-clause-vain
 returns-in_ok-waits-in-Needs-clause-vain c = λ yes.
-    let look = sym (ap look_of c.in-Needs.is) ∙ c.in_ok-finding.ensures in
+    let look = sym (ap look_of c.in-Needs.is) ∙ c.in_ok-finding.ensures.look in
     let has : HasOnlyToWait (server_of c.args.self.now) c.args.file.0 c.args.client.0 (request_like c.args.ask) = record {
       wants = c.in-Needs.wants.items;
       found = (needs_unready (λ wants. is_ready (request_like c.args.ask) (server_of c.args.self.now).leases wants)

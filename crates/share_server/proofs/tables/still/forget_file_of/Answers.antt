@@ -1,6 +1,6 @@
 use Rattle.lease_laws.proofs.Words.{refl}
 use Rattle.share_server.specs.Filed.{has_id}
-use Rattle.share_server.specs.contracts.open.Open.{the_view}
+use Rattle.share_server.specs.contracts.values.open.Open.{the_view}
 use Rattle.share_server.proofs.Counted.{forgotten_id, forgotten_none, none_found}
 use Rattle.share_server.proofs.tables.still.forget_file_of.Goals as goal
 

@@ -1,5 +1,5 @@
 use Rattle.lease_laws.proofs.Words.{◌∙◌, inl, sym}
-use Rattle.share_server.specs.contracts.open.Open.{the_view}
+use Rattle.share_server.specs.contracts.values.open.Open.{the_view}
 use Rattle.share_server.proofs.Counted.{forgotten_for}
 use Rattle.share_server.proofs.tables.still.forget_for.Goals as goal
 

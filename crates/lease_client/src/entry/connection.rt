@@ -1,0 +1,178 @@
+ghost use Rattle.std.specs.Prelude.{◌≡◌, ◌++◌, IfOk, OnOk, filter};
+ghost use Rattle.lease_model.specs.values.Lists.{without};
+ghost use Rattle.lease_model.specs.client.Connection.{connected_turn, reconnecting_turn};
+ghost use Rattle.lease_model.specs.client.Connection as rules;
+ghost use Rattle.lease_client.specs.Turns.{turned_to, turn_written};
+
+use crate::entry::turn::{Given, Turn};
+use crate::entry::{Entry, Live, Parted, Pending, Phase};
+use crate::requests;
+use crate::values::command::Answer;
+use crate::values::note::Settlement;
+use crate::writes::push_settled;
+use lease_state::{FileNo, LeaseKey, Memory};
+
+impl Entry {
+    /// The connection is lost (MS-SMB2 3.2.7.1).
+    ///
+    /// # Errors
+    ///
+    /// `Memory` where there is none left for the notes.
+    pub fn noticed(&mut self, given: &mut Given) -> Result<(), Memory>
+        ensures { OnOk result (turned_to self.new given.new
+            ≡ turn_written (rules.notice_turn self.old.sent self.old.phase)) }
+    {
+        let Entry { phase, sent } = self.take();
+        match phase {
+            Phase::Closed | Phase::Opening { .. } => {
+                ended(sent)?.put_into(self, given);
+                Ok(())
+            }
+            Phase::Live(live) => {
+                live.noticed(sent)?.put_into(self, given);
+                Ok(())
+            }
+            Phase::Offline(parted) | Phase::Reconnecting(parted) => {
+                parted.offline(sent)?.put_into(self, given);
+                Ok(())
+            }
+        }
+    }
+
+    /// The client connects: an offline entry reconnects (3.2.4.4).
+    ///
+    /// # Errors
+    ///
+    /// `Memory` where there is none left for the request, and never where the entry isn't offline.
+    pub fn connected(
+        &mut self,
+        file: FileNo,
+        key: LeaseKey,
+        given: &mut Given,
+    ) -> Result<(), Memory>
+        ensures { OnOk result (turned_to self.new given.new
+            ≡ turn_written (connected_turn key.0 file.0 self.old)) }
+    {
+        let Entry { phase, sent } = self.take();
+        match phase {
+            Phase::Offline(parted) => {
+                parted.reconnecting(sent, file, key)?.put_into(self, given);
+                Ok(())
+            }
+            phase => {
+                *self = Entry { phase, sent };
+                given.begin(Answer::Quiet);
+                Ok(())
+            }
+        }
+    }
+}
+
+// An entry that doesn't outlive its connection: of its writes nobody knows.
+fn ended(unanswered: Vec<Pending>) -> Result<Turn, Memory>
+    ensures { IfOk result (λ turn. turn ≡ turn_written (rules.ended_turn unanswered.items)) }
+{
+    let alloc = *unanswered.allocator();
+    let mut notes = Vec::new(alloc);
+    push_settled(&mut notes, Settlement::Unknown, &unanswered)?;
+    Ok(Turn {
+        entry: Entry::closed(alloc),
+        answer: Answer::Quiet,
+        requests: Vec::new(alloc),
+        notes,
+    })
+}
+
+impl Parted {
+    // The open waits for the next connection, and nobody knows of the other writes.
+    fn offline(self, unanswered: Vec<Pending>) -> Result<Turn, Memory>
+        ensures { IfOk result (λ turn. turn ≡ turn_written (rules.offline_turn self unanswered.items)) }
+    {
+        let alloc = *unanswered.allocator();
+        let mut notes = Vec::new(alloc);
+        push_settled(&mut notes, Settlement::Unknown, &unanswered)?;
+        Ok(Turn {
+            entry: Entry {
+                phase: Phase::Offline(self),
+                sent: Vec::new(alloc),
+            },
+            answer: Answer::Quiet,
+            requests: Vec::new(alloc),
+            notes,
+        })
+    }
+
+    fn reconnecting(self, sent: Vec<Pending>, file: FileNo, key: LeaseKey) -> Result<Turn, Memory>
+        ensures { IfOk result (λ turn. turn ≡ turn_written (reconnecting_turn key.0 file.0 self sent.items)) }
+    {
+        let alloc = *sent.allocator();
+        let mut requests = Vec::new(alloc);
+        requests.push(requests::connect_again(alloc, file, key, &self)?)?;
+        Ok(Turn {
+            entry: Entry {
+                phase: Phase::Reconnecting(self),
+                sent,
+            },
+            answer: Answer::Quiet,
+            requests,
+            notes: Vec::new(alloc),
+        })
+    }
+}
+
+impl Live {
+    // A durable open goes offline. Under W it keeps its buffered writes, those sent and those unsent.
+    #[tactic(auto, unfolding(lease_model::specs::client::Connection::live_noticed, lease_model::specs::client::Connection::live_parted))]
+    fn noticed(self, sent: Vec<Pending>) -> Result<Turn, Memory>
+        ensures { IfOk result (λ turn. turn ≡ turn_written (rules.live_noticed self sent.items)) }
+    {
+        let alloc = *sent.allocator();
+        let Live {
+            file_id,
+            access,
+            share,
+            durable,
+            belief,
+            handles,
+            file,
+            ..
+        } = self;
+        let mut unsent = file.into_unsent();
+        let mut unanswered = sent;
+        unanswered.append(&mut unsent)?;
+        if !durable {
+            return ended(unanswered);
+        }
+        let (writes, others) = if belief.caches_writes() {
+            split_buffered(unanswered)?
+        } else {
+            (Vec::new(alloc), unanswered)
+        };
+        let parted = Parted {
+            file_id,
+            access,
+            share,
+            handles: handles.count(),
+            writes,
+        };
+        parted.offline(others)
+    }
+}
+
+// The buffered writes, and the others.
+fn split_buffered(writes: Vec<Pending>) -> Result<(Vec<Pending>, Vec<Pending>), Memory>
+    ensures buffered { IfOk result (λ r. r.0.items ≡ filter (λ write. write.buffered) writes.items) }
+    ensures others { IfOk result (λ r. r.1.items ≡ without (λ write. write.buffered) writes.items) }
+{
+    let alloc = *writes.allocator();
+    let mut buffered = Vec::new(alloc);
+    let mut others = Vec::new(alloc);
+    for write in writes {
+        if write.buffered {
+            buffered.push(write)?;
+        } else {
+            others.push(write)?;
+        }
+    }
+    Ok((buffered, others))
+}

@@ -1,7 +1,0 @@
-use Rattle.lease_laws.proofs.Words.{closed}
-use Rattle.share_server.proofs.Breaking.{dropped_and_told}
-use Rattle.share_server.proofs.answer.close_open.Goals as goal
-
-pub returns : goal.returns
-returns c = dropped_and_told c.args.tables.now c.close.new.self c.args.outs.now c.closed.new.self _ _ _ c.in_ok-close.ensures
-    c.in_ok-closed.ensures

@@ -1,0 +1,106 @@
+ghost use Rattle.std.specs.Prelude.{◌≡◌};
+ghost use Rattle.std.specs.Prelude.{length};
+ghost use Rattle.std.specs.Cmp.{partial_order_from_own_ties};
+ghost use Rattle.std.specs.Cmp.Lexicographic.{slice_cmp, pointwise};
+ghost use Rattle.std.specs.Cmp.Rules.{comparing};
+ghost use Rattle.std.specs.Ordering.{nat_cmp, on, then_cmp, as_partial_cmp, eq_of_both};
+ghost use Rattle.std.specs.Prelude.{◌==◌};
+ghost use Rattle.std.proofs.Common.{rules};
+ghost use Rattle.lease_model.specs.values.Keys.{key_eq, key_before, bytes_before};
+
+use lease_state::{ClientNo, LeaseKey};
+use std::cmp::Ordering;
+use std::marker::Model;
+
+/// What names a lease (MS-SMB2 3.3.1.4, 3.3.5.9.8): its client and the client's LeaseKey.
+#[derive(Clone, Copy, Debug)]
+pub struct Key {
+    pub client: ClientNo,
+    pub bytes: LeaseKey,
+}
+
+impl Model for Key {
+    ghost use Rattle.lease_model.specs.values.Keys as model;
+
+    ghost Value = { model.Key };
+
+    ghost view = { λ key. record { client = key.client.0; bytes = key.bytes.0 } };
+
+    ghost inverse = { λ key. record { client = record { 0 = key.client }; bytes = record { 0 = key.bytes } } };
+}
+
+impl PartialEq for Key {
+    ghost eq = { eq_of_both (on (λ key. key.client) ◌==◌) (on (λ key. key.bytes) (pointwise ◌==◌)) };
+
+    ghost laws = { Prim.search (comparing, rules) };
+
+    fn eq(&self, other: &Key) -> bool {
+        self.client == other.client && self.bytes == other.bytes
+    }
+}
+
+impl Eq for Key {
+    ghost laws = { Prim.search (comparing, rules) };
+}
+
+/// The order in which leases are broken (profile): by their clients' numbers, then by their bytes.
+impl Ord for Key {
+    ghost cmp = { then_cmp (on (λ key. key.client) nat_cmp) (on (λ key. key.bytes) (slice_cmp nat_cmp)) };
+
+    ghost total = { Prim.search (comparing, rules) };
+
+    ghost matches_partial_cmp = { Prim.search (comparing, rules) };
+
+    ghost matches_eq = { Prim.search (comparing, rules) };
+
+    fn cmp(&self, other: &Key) -> Ordering {
+        match self.client.cmp(&other.client) {
+            Ordering::Equal => self.bytes.cmp(&other.bytes),
+            apart => apart,
+        }
+    }
+}
+
+impl PartialOrd for Key {
+    ghost partial_cmp = { as_partial_cmp
+        (then_cmp (on (λ key. key.client) nat_cmp) (on (λ key. key.bytes) (slice_cmp nat_cmp))) };
+
+    ghost laws = { partial_order_from_own_ties (Prim.search (comparing, rules)) (Prim.search (comparing, rules)) };
+
+    fn partial_cmp(&self, other: &Key) -> Option<Ordering> {
+        Some(self.cmp(other))
+    }
+}
+
+impl Key {
+    /// Whether both name one lease.
+    #[tactic(auto, unfolding(lease_model::specs::values::Keys::key_eq))]
+    pub fn is(self, other: Key) -> bool
+        ensures { result ≡ key_eq self other }
+    {
+        self.client == other.client && self.bytes == other.bytes
+    }
+
+    /// Whether the lease of this key is broken before that of the other (profile): by their
+    /// clients' numbers, then by their bytes.
+    #[tactic(auto, unfolding(lease_model::specs::values::Keys::key_before))]
+    pub fn is_before(self, other: Key) -> bool
+        ensures { result ≡ key_before self other }
+    {
+        self.client.0 < other.client.0
+            || (self.client == other.client && come_before(&self.bytes.0, &other.bytes.0))
+    }
+}
+
+// Whether the bytes stand before the others, as words in a dictionary do.
+fn come_before(bytes: &[u8], others: &[u8]) -> bool
+    requires { length bytes.now ≡ length others.now }
+    ensures { result ≡ bytes_before bytes.now others.now }
+{
+    for place in 0..bytes.len() {
+        if bytes[place] != others[place] {
+            return bytes[place] < others[place];
+        }
+    }
+    false
+}
