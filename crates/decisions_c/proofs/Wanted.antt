@@ -11,7 +11,7 @@ use Rattle.lease_laws.proofs.server.Lists.{either, clash, and_parts, and_both, a
 use Rattle.lease_laws.proofs.server.Wanted.{wants_where-exact}
 use Rattle.lease_model.specs.server.Allowed.{is_other_on, conflicts_on}
 use Rattle.lease_model.specs.server.Findings.{Finding, create_finding, is_leased_elsewhere}
-use Rattle.lease_model.specs.server.Naming.{key_of, lease_by, lease_of}
+use Rattle.lease_model.specs.server.Naming.{key_of, lease_by, lease_of_open}
 use Rattle.lease_model.specs.server.State.{Server, Open, has_key, is_key}
 use Rattle.lease_model.specs.server.Wants.{Want, wants_where, handle_wants, write_wants}
 use Rattle.lease_model.specs.values.Keys.{Key, key_eq}
@@ -94,11 +94,11 @@ sees NoWrites state = state.write
 sees Nothing state = holds_any state
 
 wanted_sees : (wish : Wish) (server : Server) (own : Option Key) (one : Open) → is_wanted wish server own one ≡ true
-    → sees wish (lease_of server one).state ≡ true
+    → sees wish (lease_of_open server one).state ≡ true
 wanted_sees (NoHandles access share) server own one t =
-    (and_parts (conflicts_on 1 access share one && is_other_on own 1 one) (lease_of server one).state.handle t).1
-wanted_sees NoWrites server own one t = (and_parts (is_other_on own 1 one) (lease_of server one).state.write t).1
-wanted_sees Nothing server own one t = (and_parts (is_other_on own 1 one) (holds_any (lease_of server one).state) t).1
+    (and_parts (conflicts_on 1 access share one && is_other_on own 1 one) (lease_of_open server one).state.handle t).1
+wanted_sees NoWrites server own one t = (and_parts (is_other_on own 1 one) (lease_of_open server one).state.write t).1
+wanted_sees Nothing server own one t = (and_parts (is_other_on own 1 one) (holds_any (lease_of_open server one).state) t).1
 
 sees_none : (wish : Wish) → sees wish nothing_cached ≡ false
 sees_none wish = grind arith

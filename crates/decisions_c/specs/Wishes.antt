@@ -3,7 +3,7 @@ use Rattle.std.specs.Prelude.{Bool, ◌&&◌, if◌then◌else◌, List, [], ◌
 use Rattle.std.specs.List.{list_any}
 use Rattle.lease_state.specs.State.{State, nothing_cached, bits_of_state}
 use Rattle.lease_model.specs.server.Allowed.{is_other_on, conflicts_on}
-use Rattle.lease_model.specs.server.Naming.{lease_of}
+use Rattle.lease_model.specs.server.Naming.{lease_of_open}
 use Rattle.lease_model.specs.server.State.{Server, Open, has_key}
 use Rattle.lease_model.specs.server.Wants.{Want, handle_wants, write_wants, all_wants}
 use Rattle.lease_model.specs.values.Keys.{Key, key_eq}
@@ -20,9 +20,9 @@ lowered_for Nothing state = nothing_cached
 -- the open's lease is wanted by a request of this key
 abbrev pub is_wanted : Wish → Server → Option Key → Open → Bool
 is_wanted (NoHandles access share) server own one =
-    conflicts_on 1 access share one && is_other_on own 1 one && (lease_of server one).state.handle
-is_wanted NoWrites server own one = is_other_on own 1 one && (lease_of server one).state.write
-is_wanted Nothing server own one = is_other_on own 1 one && holds_any (lease_of server one).state
+    conflicts_on 1 access share one && is_other_on own 1 one && (lease_of_open server one).state.handle
+is_wanted NoWrites server own one = is_other_on own 1 one && (lease_of_open server one).state.write
+is_wanted Nothing server own one = is_other_on own 1 one && holds_any (lease_of_open server one).state
 
 -- the wants of the rules
 abbrev pub wants_for : Wish → Server → Option Key → List Want

@@ -10,7 +10,6 @@ ghost use Rattle.decisions_c.specs.Tables.{server_of, server_with, key_held, lea
 use crate::key::Key;
 use crate::tables::{Lease, LeaseEntry, LeaseOpen, Tables};
 use crate::wants::LeaseRequest;
-use crate::wish::without_write;
 use lease_state::{LeaseState, Status};
 
 impl Lease {
@@ -31,7 +30,7 @@ impl<'a> Tables<'a> {
         ensures { state_of result ≡ allowed (server_of self.now) own.now 1 (state_of want) }
     {
         if self.has_other(own) {
-            without_write(want.granted_form())
+            want.granted_form().without_write()
         } else {
             want.granted_form()
         }

@@ -13,7 +13,7 @@ ghost use Rattle.decisions_c.specs.Wishes.{is_wanted, is_key_wanted};
 
 use crate::key::Key;
 use crate::numbers::{access_of_bits, share_of_bits};
-use crate::wish::{Wish, holds_any};
+use crate::wish::Wish;
 use lease_state::{Access, LeaseState, Share};
 use std::marker::Model;
 
@@ -285,7 +285,7 @@ impl<'a> Tables<'a> {
 
     // The lease under which an open stands.
     fn lease_over(&self, one: &Open) -> Lease
-        ensures { lease_of result ≡ naming.lease_of (server_of self.now) one.now }
+        ensures { lease_of result ≡ naming.lease_of_open (server_of self.now) one.now }
     {
         match one.key() {
             Some(key) => self.lease(key),
@@ -329,7 +329,7 @@ impl<'a> Tables<'a> {
                 one.conflicts(access, share) && one.is_other(own) && state.caches_handles()
             }
             Wish::NoWrites => one.is_other(own) && state.caches_writes(),
-            Wish::Nothing => one.is_other(own) && holds_any(state),
+            Wish::Nothing => one.is_other(own) && state.holds_any(),
         }
     }
 

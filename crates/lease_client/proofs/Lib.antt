@@ -11,4 +11,3 @@ pub mod Steps
 pub mod Turned
 pub mod Views
 pub mod Written
-pub mod Patched

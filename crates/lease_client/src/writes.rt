@@ -1,4 +1,4 @@
-ghost use Rattle.std.specs.Prelude.{◌≡◌, ◌++◌, map, IfOk, OnOk, ◌+◌, ◌≤◌, length, take, drop};
+ghost use Rattle.std.specs.Prelude.{◌≡◌, ◌++◌, map, IfOk, OnOk};
 ghost use Rattle.lease_state.specs.Content.{patch, patches};
 ghost use Rattle.lease_model.specs.client.State.{patches_of, view};
 ghost use Rattle.lease_model.specs.client.Step.{settled_as};
@@ -27,37 +27,6 @@ pub fn push_settled(
     Ok(())
 }
 
-/// Puts a patch onto a file's bytes.
-///
-/// # Errors
-///
-/// `Memory` where the file grows and there is none left.
-pub fn apply(bytes: &mut Vec<u8>, change: &Patch) -> Result<(), Memory>
-    ensures { OnOk result (bytes.new.items ≡ patch bytes.old.items change.now) }
-{
-    let held = bytes.len();
-    let offset = change.offset as usize;
-    let added = change.bytes.as_slice();
-    if added.is_empty() {
-        return Ok(());
-    }
-    if offset <= held && added.len() <= held - offset {
-        write_over(bytes, offset, added);
-    } else {
-        bytes.resize(offset, 0)?;
-        bytes.extend_from_slice(added)?;
-    }
-    Ok(())
-}
-
-// Writes bytes over those from `offset` on.
-fn write_over(items: &mut [u8], offset: usize, bytes: &[u8])
-    requires { offset + length bytes.now ≤ length items.old }
-    ensures { items.new ≡ take offset items.old ++ (bytes.now ++ drop (offset + length bytes.now) items.old) }
-{
-    items[offset..offset + bytes.len()].copy_from_slice(bytes);
-}
-
 /// Puts the patches of the writes onto a file's bytes, in order.
 ///
 /// # Errors
@@ -67,7 +36,7 @@ pub fn apply_all(bytes: &mut Vec<u8>, writes: &[Pending]) -> Result<(), Memory>
     ensures { OnOk result (bytes.new.items ≡ patches bytes.old.items (patches_of writes.now)) }
 {
     for write in writes {
-        apply(bytes, &write.patch)?;
+        write.patch.apply(bytes)?;
     }
     Ok(())
 }
@@ -81,7 +50,7 @@ pub fn patched(base: Bytes, change: &Patch) -> Result<Bytes, Memory>
     ensures { IfOk result (λ bytes. bytes ≡ patch base change.now) }
 {
     let mut bytes = base.into_vec();
-    apply(&mut bytes, change)?;
+    change.apply(&mut bytes)?;
     Ok(Bytes::new(bytes))
 }
 

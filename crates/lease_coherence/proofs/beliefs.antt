@@ -8,9 +8,9 @@ pub mod Forms
 pub mod Given
 pub mod Grants
 pub mod Leases
-pub mod Runs
+pub mod OneLease
 pub mod Sent
 pub mod Steps
 pub mod Trust
-pub mod Words
+pub mod TrustStays
 pub mod WriteCaches

@@ -1,6 +1,6 @@
 pub mod Asked
 pub mod Clients
+pub mod CoveredOpens
 pub mod Moves
-pub mod Runs
+pub mod OpensStayCovered
 pub mod Uses
-pub mod Words

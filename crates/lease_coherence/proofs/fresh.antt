@@ -1,8 +1,8 @@
+pub mod BytesStayFresh
 pub mod Clients
 pub mod Contents
+pub mod FreshBytes
 pub mod Moves
 pub mod Reads
-pub mod Runs
 pub mod Sent
 pub mod Takes
-pub mod Words

@@ -9,7 +9,7 @@ pub mod Likes
 pub mod Links
 pub mod Moves
 pub mod Others
-pub mod Runs
+pub mod SafeWrites
 pub mod Servers
 pub mod Steps
-pub mod Words
+pub mod WritesStaySafe

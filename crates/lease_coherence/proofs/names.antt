@@ -1,4 +1,4 @@
 pub mod Clients
 pub mod Done
+pub mod NamedInRecord
 pub mod Names
-pub mod Words

@@ -1,3 +1,3 @@
-pub mod Runs
+pub mod OrderedRequests
+pub mod RequestsStayInOrder
 pub mod Sends
-pub mod Words

@@ -1,2 +1,2 @@
-pub mod Runs
-pub mod Words
+pub mod FilesStayUntouched
+pub mod UntouchedFiles

@@ -1,7 +1,7 @@
 pub mod AllRuns
 pub mod Clients
-pub mod Runs
+pub mod OpensStayStanding
 pub mod Servers
 pub mod Standing
+pub mod StandingOpens
 pub mod Structure
-pub mod Words

@@ -1,9 +1,9 @@
 pub mod AllRuns
+pub mod BreaksMet
+pub mod BreaksStayTold
 pub mod Clients
 pub mod Leases
 pub mod Lone
 pub mod Meets
 pub mod Moves
-pub mod Runs
 pub mod Servers
-pub mod Words

@@ -1,6 +1,6 @@
+pub mod BeliefsStayWithin
+pub mod BeliefsWithin
 pub mod Clients
 pub mod Entries
 pub mod Leases
 pub mod Moves
-pub mod Runs
-pub mod Words

@@ -1,7 +1,7 @@
 pub mod Answered
 pub mod Counts
 pub mod Noted
-pub mod Runs
 pub mod Settled
 pub mod Steps
 pub mod Unanswered
+pub mod WritesStayUnderWayOnce

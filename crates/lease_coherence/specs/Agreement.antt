@@ -38,8 +38,8 @@ GoodClientsAreTimely = (setup : Setup) (events : List Event) (client : ℕ)
 
 -- ---- one client and one file
 
-abbrev pub lease_of : World → ℕ → ℕ → Lease
-lease_of world client file = world.server.leases (machine_key world client file)
+abbrev pub lease_of_client : World → ℕ → ℕ → Lease
+lease_of_client world client file = world.server.leases (machine_key world client file)
 
 abbrev pub key_of_file : World → ℕ → ℕ → List ℕ
 key_of_file world client file = lease_key (world.clients client).guid file
@@ -74,7 +74,7 @@ pub record IsTold (world : World) (client file : ℕ) : Type 0 where
   pub sent : world.replies client ≡ before ++ Reply.Break (Some notice) ∷ behind
   pub key : notice.key ≡ key_of_file world client file
   pub asks : notice.ack_required ≡ true
-  pub tells : (lease_of world client file).broken_to ≡ Some notice.lowered
+  pub tells : (lease_of_client world client file).broken_to ≡ Some notice.lowered
   pub live : LiveEntry
   pub meets : ((taken_all (world.clients client) before).entries file).phase ≡ Phase.Live live
 
@@ -92,13 +92,13 @@ pub record IsGivenUp (world : World) (client file : ℕ) : Type 0 where
 
 -- While a lease is breaking, its break is on its way and a live entry will meet it, or the acknowledgment or a Close is.
 abbrev pub BreakingIsAnswered : World → ℕ → ℕ → Type 0
-BreakingIsAnswered world client file = is_breaking (lease_of world client file) ≡ true
+BreakingIsAnswered world client file = is_breaking (lease_of_client world client file) ≡ true
     → IsTold world client file ⊎ (IsAnswered world client file ⊎ IsGivenUp world client file)
 
 -- the state that a lease is broken to, of which an acknowledgment tells a part
 pub record IsDue (world : World) (client file : ℕ) (state : State) : Type 0 where
   pub lowered : State
-  pub breaking : (lease_of world client file).broken_to ≡ Some lowered
+  pub breaking : (lease_of_client world client file).broken_to ≡ Some lowered
   pub within : is_state_within state lowered ≡ true
 
 -- An acknowledgment is on its way only while its lease is breaking, and tells no more than the lease is broken to.
@@ -152,7 +152,7 @@ lone_break key = Reply.Break (Some (record {
 -- What a live entry believes the lease holds, or a break of reads alone is on its way.
 abbrev pub BeliefsAreHeld : World → ℕ → ℕ → Type 0
 BeliefsAreHeld world client file = (live : LiveEntry) → IsLive world client file live
-    → (is_state_within live.belief (lease_of world client file).state ≡ true)
+    → (is_state_within live.belief (lease_of_client world client file).state ≡ true)
     ⊎ Among (lone_break (key_of_file world client file)) (world.replies client)
 
 -- ---- cached bytes
@@ -168,7 +168,7 @@ BasesAreCurrent world client file = (live : LiveEntry)
 -- Where the lease of a client's file holds writes, nothing that the client asks of the file is held: no second create of it,
 -- and so nothing after one.
 abbrev pub WritersAreNotHeld : World → ℕ → Type 0
-WritersAreNotHeld world client = (file : ℕ) → (lease_of world client file).state.write ≡ true
+WritersAreNotHeld world client = (file : ℕ) → (lease_of_client world client file).state.write ≡ true
     → held_by client (world.server.held file) ≡ []
 
 -- Nor is anything where a live entry of it believes that it may cache writes.
@@ -213,7 +213,7 @@ KeptIsUntouched world client = (file : ℕ) (parted : Parted)
     → (((world.clients client).entries file).phase ≡ Phase.Offline parted)
     ⊎ (((world.clients client).entries file).phase ≡ Phase.Reconnecting parted)
     → (one : Open) → Among one world.server.opens → one.client ≡ client → one.file_id ≡ parted.file_id
-    → (lease_of world client file).state.write ≡ true → touched_since_lost client file world.past ≡ false
+    → (lease_of_client world client file).state.write ≡ true → touched_since_lost client file world.past ≡ false
 
 -- ---- of every client machine, whatever comes to it
 

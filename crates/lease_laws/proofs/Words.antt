@@ -113,7 +113,7 @@ pub use Rattle.lease_model.specs.server.Grant.{asked_key, connected_again, grant
 pub use Rattle.lease_model.specs.server.Grant.{lease_granted, lease_put, new_open, offered, reconnected, standing_lease}
 pub use Rattle.lease_model.specs.server.KeyOrder.{open_key_added}
 unfoldable pub use Rattle.lease_model.specs.server.KeyOrder.{key_added, keys_of}
-pub use Rattle.lease_model.specs.server.Naming.{key_of, key_of_open, key_under, lease_by, lease_of, own_key}
+pub use Rattle.lease_model.specs.server.Naming.{key_of, key_of_open, key_under, lease_by, lease_of_open, own_key}
 pub use Rattle.lease_model.specs.server.Passes.{Pass, after_try, is_behind, left_waiting, one_pass, pass_answered, passes}
 unfoldable pub use Rattle.lease_model.specs.server.Passes.{all_passes, pass_over, passes_for, passes_over, tried_again}
 pub use Rattle.lease_model.specs.server.Progress.{Progress, begun, break_begun, break_notice, held_left, lease_lowered}

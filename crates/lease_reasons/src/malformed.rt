@@ -9,7 +9,7 @@ use crate::marks::Mark;
 use crate::messages::Messages;
 use crate::reason::Reason;
 use lease_facts::Fact;
-use lease_state::{ClientNo, FILE_LIMIT, FileNo, Memory, Patch};
+use lease_state::{ClientNo, FileNo, Memory, Patch};
 use std::alloc::Global;
 
 fn not_started(facts: &[Fact], file: FileNo) -> Option<Reason>
@@ -31,12 +31,11 @@ fn started_again(facts: &[Fact], file: FileNo) -> Option<Reason>
 fn past_limit(patch: &Patch) -> Option<Reason>
     ensures { result ≡ past_limit patch.now }
 {
-    let end = u128::from(patch.offset) + patch.bytes.len() as u128;
-    if end <= FILE_LIMIT as u128 {
-        None
-    } else {
-        Some(Reason::PastLimit { end })
+    if patch.is_within_limit() {
+        return None;
     }
+    let end = u128::from(patch.offset) + patch.bytes.len() as u128;
+    Some(Reason::PastLimit { end })
 }
 
 fn number_used(facts: &[Fact], client: ClientNo, number: u64) -> Option<Reason>

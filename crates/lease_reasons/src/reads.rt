@@ -12,7 +12,6 @@ use crate::messages::Messages;
 use crate::reason::Expected;
 use lease_facts::Fact;
 use lease_state::{Bytes, ClientNo, FileNo, Memory};
-use lease_world::apply;
 use std::alloc::Global;
 use std::collections::HashSet;
 
@@ -80,7 +79,7 @@ fn put_change(bytes: &mut Vec<u8>, fact: &Fact, file: FileNo) -> Result<(), Memo
     ensures { OnOk result (bytes.new.items ≡ with_change file.0 (fact_of fact.now) bytes.old.items) }
 {
     match fact {
-        Fact::Changed(other, _, _, change) if *other == file => apply(bytes, change),
+        Fact::Changed(other, _, _, change) if *other == file => change.apply(bytes),
         _ => Ok(()),
     }
 }
@@ -111,7 +110,7 @@ fn put_write(bytes: &mut Vec<u8>, fact: &Fact, waits: bool) -> Result<(), Memory
     ensures { OnOk result (bytes.new.items ≡ with_write waits (fact_of fact.now) bytes.old.items) }
 {
     match fact {
-        Fact::Wrote(_, _, _, write, _) if waits => apply(bytes, write),
+        Fact::Wrote(_, _, _, write, _) if waits => write.apply(bytes),
         _ => Ok(()),
     }
 }

@@ -41,3 +41,21 @@ needs_acknowledgment s = s.write || s.handle
 abbrev pub is_state_within : State → State → Bool
 is_state_within one other =
     (not one.read || other.read) && (not one.write || other.write) && (not one.handle || other.handle)
+
+-- the state caches something
+abbrev pub holds_any : State → Bool
+holds_any state = state.read || state.write || state.handle
+
+-- what both cache
+abbrev pub meet : State → State → State
+meet one other = record {
+  read = one.read && other.read;
+  write = one.write && other.write;
+  handle = one.handle && other.handle;
+}
+
+abbrev pub without_write : State → State
+without_write state = record state { write = false }
+
+abbrev pub without_handle : State → State
+without_handle state = record state { handle = false }

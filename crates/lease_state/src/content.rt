@@ -89,18 +89,14 @@ impl Content {
         ensures inside { end_of change.now ≤ length self.old → IsOk result }
         ensures empty { change.now.bytes ≡ [] → end_of change.now ≤ FILE_LIMIT → IsOk result }
     {
-        let held = self.bytes.len();
-        let offset = change.offset as usize;
-        let bytes = change.bytes.as_slice();
-        if bytes.len() > FILE_LIMIT || offset > FILE_LIMIT - bytes.len() {
+        let Content { bytes } = self;
+        if !change.is_within_limit() {
             return Err(ContentFault::TooLong);
         }
-        if !bytes.is_empty() {
-            let end = offset + bytes.len();
-            self.bytes.resize(end.max(held), 0)?;
-            write_over(&mut self.bytes, offset, bytes);
+        match change.apply(bytes) {
+            Ok(()) => Ok(()),
+            Err(Memory) => Err(ContentFault::Memory),
         }
-        Ok(())
     }
 
     /// An equal content in memory of its own, from the allocator of this one.
@@ -114,14 +110,6 @@ impl Content {
         let bytes = Vec::from_slice(*self.bytes.allocator(), self.bytes.as_slice())?;
         Ok(Content { bytes })
     }
-}
-
-// Writes bytes over those from `offset` on.
-fn write_over(items: &mut [u8], offset: usize, bytes: &[u8])
-    requires { offset + length bytes.now ≤ length items.old }
-    ensures { items.new ≡ take offset items.old ++ (bytes.now ++ drop (offset + length bytes.now) items.old) }
-{
-    items[offset..offset + bytes.len()].copy_from_slice(bytes);
 }
 
 #[cfg(test)]

@@ -5,7 +5,8 @@ ghost use Rattle.std.specs.Cmp.Rules.{comparing, hashing};
 ghost use Rattle.std.specs.Ordering.{on};
 ghost use Rattle.std.proofs.Common.{rules};
 ghost use Rattle.lease_state.specs.State.{state_of, state_of_bits, bits_of_state, nothing_cached, granted_form_of};
-ghost use Rattle.lease_state.specs.State.{needs_acknowledgment, is_state_within};
+ghost use Rattle.lease_state.specs.State.{needs_acknowledgment, is_state_within, holds_any, meet, without_write};
+ghost use Rattle.lease_state.specs.State.{without_handle};
 
 use bitflags::{Flag, Flags, bitflag_items};
 use std::hash::{Hash, Hasher};
@@ -13,7 +14,7 @@ use std::hash::{Hash, Hasher};
 /// A lease state (MS-SMB2 2.2.13.2): the set of what a client may cache of a file.
 ///
 /// A value that was made with `from_bits_retain` may carry bits past the three that have a name.
-/// The calls that are listed here (`from_wire` to `needs_ack`), `==` and `Hash` pass over them, and
+/// The calls that are listed here (`from_wire` to `without_handle`), `==` and `Hash` pass over them, and
 /// so does `contains` of a named bit. The other calls of the trait `Flags`, such as `bits` and
 /// `is_empty`, see them: ask `is_none` and `is_within` in their place.
 #[derive(Clone, Copy, Debug)]
@@ -129,7 +130,7 @@ impl LeaseState {
     pub fn is_none(self) -> bool
         ensures { IsTrue result ↔ (state_of self ≡ nothing_cached) }
     {
-        !(self.caches_reads() || self.caches_writes() || self.caches_handles())
+        !self.holds_any()
     }
 
     /// Whether all that the state caches is cached in `other` too.
@@ -148,6 +149,45 @@ impl LeaseState {
     {
         self.caches_writes() || self.caches_handles()
     }
+
+    /// Whether the state caches something.
+    pub fn holds_any(self) -> bool
+        ensures { result ≡ holds_any (state_of self) }
+    {
+        self.caches_reads() || self.caches_writes() || self.caches_handles()
+    }
+
+    /// What both cache.
+    pub fn meet(self, other: LeaseState) -> LeaseState
+        ensures { state_of result ≡ meet (state_of self) (state_of other) }
+    {
+        of_rights(
+            self.caches_reads() && other.caches_reads(),
+            self.caches_writes() && other.caches_writes(),
+            self.caches_handles() && other.caches_handles(),
+        )
+    }
+
+    /// The state without `WRITE_CACHING`.
+    pub fn without_write(self) -> LeaseState
+        ensures { state_of result ≡ without_write (state_of self) }
+    {
+        of_rights(self.caches_reads(), false, self.caches_handles())
+    }
+
+    /// The state without `HANDLE_CACHING`.
+    pub fn without_handle(self) -> LeaseState
+        ensures { state_of result ≡ without_handle (state_of self) }
+    {
+        of_rights(self.caches_reads(), self.caches_writes(), false)
+    }
+}
+
+// The state of these rights.
+fn of_rights(reads: bool, writes: bool, handles: bool) -> LeaseState
+    ensures { state_of result ≡ record { read = reads; write = writes; handle = handles } }
+{
+    LeaseState(u8::from(reads) + 2 * u8::from(handles) + 4 * u8::from(writes))
 }
 
 #[cfg(test)]
@@ -212,6 +252,31 @@ mod tests {
         let mut hasher = DefaultHasher::new();
         state.hash(&mut hasher);
         hasher.finish()
+    }
+
+    #[test]
+    fn rights_are_shared_and_taken_away(rt: HostRuntime) {
+        let (all, none) = (LeaseState::from_wire(7), LeaseState::NONE);
+        let cases: [(u32, u32, u32, u32); 4] = [
+            (7, 3, 5, 3),
+            (5, 1, 5, 1),
+            (6, 2, 4, 2),
+            (2, 2, 0, 2),
+        ];
+        for (state, without_write, without_handle, with_reads_and_handles) in cases {
+            let state = LeaseState::from_wire(state);
+            assert!(rt; state.holds_any());
+            assert_eq!(rt; state.without_write(), LeaseState::from_wire(without_write));
+            assert_eq!(rt;
+                state.without_handle(),
+                LeaseState::from_wire(without_handle)
+            );
+            let met = state.meet(LeaseState::from_wire(3));
+            assert_eq!(rt; met, LeaseState::from_wire(with_reads_and_handles));
+            assert_eq!(rt; state.meet(all), state);
+            assert_eq!(rt; state.meet(none), none);
+        }
+        assert!(rt; !none.holds_any());
     }
 
     #[test]

@@ -7,6 +7,7 @@ use Rattle.lease_state.specs.declared.access.Access.{Access}
 use Rattle.lease_state.specs.declared.access.Access.TheVariants as access
 use Rattle.lease_state.specs.declared.access.Share.{Share}
 use Rattle.lease_state.specs.declared.access.Share.TheVariants as share
+use Rattle.lease_state.specs.declared.content.TheConstants.{FILE_LIMIT}
 use Rattle.lease_state.specs.declared.patch.Patch.{Patch}
 
 -- a decimal number of 64 bits, without sign and without leading zeros
@@ -96,7 +97,7 @@ offset_in field = offset_of (number_in field)
 -- bytes that a file can hold
 abbrev pub content_of : Option (List ℕ) → Option (List ℕ)
 content_of None = None
-content_of (Some bytes) = if nat_le (length bytes) 1048576 then Some bytes else None
+content_of (Some bytes) = if nat_le (length bytes) FILE_LIMIT then Some bytes else None
 
 abbrev pub content_in : List ℕ → Option (List ℕ)
 content_in field = content_of (bytes_in field)

@@ -63,7 +63,3 @@ pub record IsWritable (direction : Direction) (v : CreateView) : Type 0 where
   pub key : IfSome v.lease (λ lease. length lease.key ≡ 16)
   pub file_id : IfSome v.reconnect (λ file_id. file_id < 2 ^ 64)
   pub directed : IsDirected direction v
-
--- the list begins with the older one
-abbrev pub Extends : List ℕ → List ℕ → Type 0
-Extends old new = (more : List ℕ) × (new ≡ old ++ more)

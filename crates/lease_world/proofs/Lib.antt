@@ -1,4 +1,3 @@
-pub mod Changed
 pub mod Linked
 pub mod Numbered
 pub mod Places

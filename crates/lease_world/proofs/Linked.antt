@@ -12,11 +12,6 @@ use Rattle.lease_world.specs.judge.Covers.{EndsCovered, AreLinked, AreTops}
 use Rattle.lease_world.specs.judge.Seen.{Numbers, is_among, is_open}
 use Rattle.lease_world.proofs.Places.{get-put, get-push}
 
-get_within : {X : Type 0} (xs : List X) (n : ℕ) (x : X) → slice_get xs n ≡ Some x → n < length xs
-get_within [] n x e = let c : ⊥ = cc in absurd c
-get_within (y ∷ xs) zero x e = omega arith
-get_within (y ∷ xs) (suc n) x e = let rest = get_within xs n x e in omega (arith, rest)
-
 -- ---- the layers from a cover down
 
 same_layers : (under other : ℕ → List Layer) (found : Option Cover)

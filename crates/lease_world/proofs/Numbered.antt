@@ -1,13 +1,13 @@
 -- Writes by their numbers.
-use Rattle.lease_laws.proofs.Words.{◌&&◌, ◌++◌, ◌+◌, ◌-◌, ◌<◌, ◌==◌, ◌∙◌, ◌∷◌, ◌≡◌, ◌≤◌, List, None, Some, ℕ, [], ap, arith}
+use Rattle.lease_laws.proofs.Words.{◌&&◌, ◌++◌, ◌+◌, ◌-◌, ◌<◌, ◌==◌, ◌∙◌, ◌∷◌, ◌≡◌, List, None, Some, ℕ, [], ap, arith}
 use Rattle.lease_laws.proofs.Words.{get_or, if◌then◌else◌, length, length-append, length-set, nat_le, nat_lt, option_map}
 use Rattle.lease_laws.proofs.Words.{slice_set, sym, true}
 use Rattle.std.specs.List.{slice_get}
 use Rattle.std.proofs.lemmas.Option.{slice_get-get_or}
 use Rattle.lease_world.specs.judge.Clients.{HasWrites}
-use Rattle.lease_world.specs.judge.Seen.{SeenWrite, SeenClient, unseen_client, no_writes, client_in, write_in, is_first, write_at}
+use Rattle.lease_world.specs.judge.Seen.{SeenWrite, no_writes, is_first, write_at}
 use Rattle.lease_world.specs.judge.Seen.{write_by}
-use Rattle.lease_world.proofs.Places.{get-put, get-push, past_the_end}
+use Rattle.lease_world.proofs.Places.{get-put, get-push}
 
 -- ---- writes
 
@@ -59,8 +59,3 @@ write-change first rest number write change within is n = rw there (write-put fi
 pub nothing_written : (number : ℕ) → write_at number no_writes ≡ None
 unfolding write_at
 nothing_written number = grind arith
-
--- a client past the end has no writes
-pub none_past_the_end : (clients : List SeenClient) (client number : ℕ) → length clients ≤ client
-    → write_in (client_in clients client) number ≡ None
-none_past_the_end clients client number past = rw (past_the_end unseen_client clients client past) (nothing_written number)

@@ -6,6 +6,7 @@ pub mod Covers
 pub mod Holders
 pub mod Judged
 pub mod Knows
+pub mod Lends
 pub mod Seen
 pub mod Tables
 pub mod Told

@@ -15,6 +15,7 @@ use std::alloc::Global;
 use std::marker::Model;
 
 mod cache;
+mod caches;
 mod client;
 mod clients;
 mod covers;
@@ -25,8 +26,6 @@ mod known;
 mod numbers;
 mod snapshot;
 mod writes;
-
-pub use snapshot::apply;
 
 /// Judges a record (profile), of any origin, in one pass: it is given fact after fact, and can give
 /// a verdict on the facts so far at any time. For each file it keeps the bytes with which it was

@@ -23,7 +23,7 @@ mod verdict;
 mod whole;
 mod world;
 
-pub use judging::{Judge, apply};
+pub use judging::Judge;
 pub use lease_facts::{Event, Fact, Setup};
 pub use running::{run, run_with_messages};
 pub use setup::RunFault;

@@ -57,7 +57,7 @@ pub(crate) fn digits_in(alloc: Global, text: &[u8]) -> Result<Vec<u8>, AllocErro
 ///
 /// `Hex` where the text writes no bytes so, and `Memory` where there is none for them.
 #[tactic(auto, unfolding(crate::specs::Arguments::argument_bytes), using(crate::proofs::Digits::plain_argument))]
-pub fn bytes_of(alloc: Global, argument: &str) -> Result<Vec<u8>, Failure>
+pub fn argument_bytes(alloc: Global, argument: &str) -> Result<Vec<u8>, Failure>
     ensures bytes { IfOk result (λ bytes. argument_bytes argument.now ≡ Ok bytes.items) }
 
     // Digits alone write what they always do.

@@ -144,7 +144,7 @@ fn acknowledged(alloc: Global, argument: &str) -> Result<Printed, Refusal>
     ensures refused { RefusesArgument (message_fault 44) argument.now result }
     ensures said { IfErr result (λ refusal. Says refusal (IsArgumentRemark (bare_remark kind.Break) argument.now)) }
 {
-    match hexadecimal::bytes_of(alloc, argument) {
+    match hexadecimal::argument_bytes(alloc, argument) {
         Err(failure) => Err(Refusal::of_digits(alloc, failure, argument)),
         Ok(bytes) => match ack_lines(alloc, bytes.as_slice()) {
             Ok(text) => Ok(done(text)),
@@ -159,7 +159,7 @@ fn shown(alloc: Global, kind: Kind, argument: &str) -> Result<Printed, Refusal>
     ensures refused { RefusesArgument (shown_fault kind) argument.now result }
     ensures said { IfErr result (λ refusal. Says refusal (IsArgumentRemark (shown_remark kind) argument.now)) }
 {
-    match hexadecimal::bytes_of(alloc, argument) {
+    match hexadecimal::argument_bytes(alloc, argument) {
         Err(failure) => Err(Refusal::of_digits(alloc, failure, argument)),
         Ok(bytes) => match render(alloc, kind, bytes.as_slice()) {
             Ok(text) => Ok(done(text)),

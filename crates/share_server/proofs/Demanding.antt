@@ -3,7 +3,7 @@ use Rattle.lease_laws.proofs.Words.{◌&&◌, ◌<◌, ◌==◌, ◌∙◌, ◌�
 use Rattle.lease_laws.proofs.Words.{Key, Lease, Less, List, None, Open, Option, Server, Share, Some, State, ℕ, ⊎_elim, ⊤, [], ap}
 use Rattle.lease_laws.proofs.Words.{arith, conflict, conflicts_on, false, filter, has_key, has_own_key, holds_any, if◌then◌else◌}
 use Rattle.lease_laws.proofs.Words.{inl, inr, is_at, is_eq, is_key, is_other_on, is_some, key_before, key_eq, key_of, keys_of}
-use Rattle.lease_laws.proofs.Words.{lease_of, length, list_any, map, nat_lt, nat_tests, not, refl, subst, suc, sym, true}
+use Rattle.lease_laws.proofs.Words.{lease_of_open, length, list_any, map, nat_lt, nat_tests, not, refl, subst, suc, sym, true}
 use Rattle.lease_laws.proofs.Words.{true≢false}
 use Rattle.std.specs.BTreeSet.{BTreeSet, contains}
 use Rattle.std.specs.List.{AllByRecursion}
@@ -214,7 +214,7 @@ record Wants (wish : Wish) (server : Server) (own : Option Key) (file : ℕ) (ke
 
 lease_known : (summaries : Summaries) (server : Server) (key : Key) (one : Open) (known : LeaseRecord)
     → StandFor summaries server → record_at summaries key ≡ Some known → has_key key one ≡ true
-    → lease_of server one ≡ leases.lease_of known.lease
+    → lease_of_open server one ≡ leases.lease_of known.lease
 lease_known summaries server key one known stand is has =
     lease_by-key server key one.client one.lease_key has ∙ (stand.leases key ∙ ap lease_or_none is)
 
@@ -270,7 +270,7 @@ wants_to (NoHandles access share) own file key summaries server summary (Some kn
       one = found.0;
       is_there = found.1;
       is_wanted = and_both (conflicts_on file.0 access share found.0 && is_other_on own file.0 found.0)
-          (lease_of server found.0).state.handle
+          (lease_of_open server found.0).state.handle
           (and_both (conflicts_on file.0 access share found.0) (is_other_on own file.0 found.0)
           (conflicting file.0 access share found.0 on parts.1) (other_on own file.0 key found.0 on parts.0 apart))
           (ap (λ (l : Lease). l.state.handle) (lease_known summaries server key found.0 known stand is parts.0) ∙ both.1);
@@ -284,7 +284,7 @@ wants_to NoWrites own file key summaries server summary (Some known) stand s is 
     record {
       one = found.0;
       is_there = found.1;
-      is_wanted = and_both (is_other_on own file.0 found.0) (lease_of server found.0).state.write
+      is_wanted = and_both (is_other_on own file.0 found.0) (lease_of_open server found.0).state.write
           (other_on own file.0 key found.0 parts.0 parts.1 apart)
           (ap (λ (l : Lease). l.state.write) (lease_known summaries server key found.0 known stand is parts.1) ∙ needs);
       has_it = parts.1;
@@ -295,7 +295,7 @@ wants_to Nothing own file key summaries server summary (Some known) stand s is f
     record {
       one = found.0;
       is_there = found.1;
-      is_wanted = and_both (is_other_on own file.0 found.0) (holds_any (lease_of server found.0).state)
+      is_wanted = and_both (is_other_on own file.0 found.0) (holds_any (lease_of_open server found.0).state)
           (other_on own file.0 key found.0 parts.0 parts.1 apart)
           (ap (λ (l : Lease). holds_any l.state) (lease_known summaries server key found.0 known stand is parts.1) ∙ needs);
       has_it = parts.1;
@@ -316,7 +316,7 @@ wants_from : (wish : Wish) (own : Option Key) (file : FileNo) (key : Key) (summa
 wants_from wish own file key summaries server summary None one stand s is fits there has wanted =
     absurd (true≢false (sym (has_any (has_key key) one server.opens there has) ∙ fits))
 wants_from (NoHandles access share) own file key summaries server summary (Some known) one stand s is fits there has wanted =
-    let a = and_parts (conflicts_on file.0 access share one && is_other_on own file.0 one) (lease_of server one).state.handle
+    let a = and_parts (conflicts_on file.0 access share one && is_other_on own file.0 one) (lease_of_open server one).state.handle
     wanted in
     let b = and_parts (conflicts_on file.0 access share one) (is_other_on own file.0 one) a.0 in
     let o = on_other own file.0 key one b.1 has in
@@ -330,7 +330,7 @@ wants_from (NoHandles access share) own file key summaries server summary (Some 
           (ap (λ (l : Lease). l.state.handle) (sym (lease_known summaries server key one known stand is has)) ∙ a.1);
     }
 wants_from NoWrites own file key summaries server summary (Some known) one stand s is fits there has wanted =
-    let a = and_parts (is_other_on own file.0 one) (lease_of server one).state.write wanted in
+    let a = and_parts (is_other_on own file.0 one) (lease_of_open server one).state.write wanted in
     let o = on_other own file.0 key one a.0 has in
     let writes = ap (λ (l : Lease). l.state.write) (sym (lease_known summaries server key one known stand is has)) ∙ a.1 in
     record {
@@ -340,7 +340,7 @@ wants_from NoWrites own file key summaries server summary (Some known) one stand
       needs = writes;
     }
 wants_from Nothing own file key summaries server summary (Some known) one stand s is fits there has wanted =
-    let a = and_parts (is_other_on own file.0 one) (holds_any (lease_of server one).state) wanted in
+    let a = and_parts (is_other_on own file.0 one) (holds_any (lease_of_open server one).state) wanted in
     let o = on_other own file.0 key one a.0 has in
     record {
       there = s.keys key ∙ has_any (has_key_on file.0 key) one server.opens there o.0;
@@ -380,11 +380,11 @@ on_file : (wish : Wish) (server : Server) (own : Option Key) (file : ℕ) (one :
     → is_wanted wish server own file one ≡ true → is_on file one ≡ true
 on_file (NoHandles access share) server own file one w =
     other_here own file one (and_parts (conflicts_on file access share one) (is_other_on own file one)
-    (and_parts (conflicts_on file access share one && is_other_on own file one) (lease_of server one).state.handle w).0).1
+    (and_parts (conflicts_on file access share one && is_other_on own file one) (lease_of_open server one).state.handle w).0).1
 on_file NoWrites server own file one w =
-    other_here own file one (and_parts (is_other_on own file one) (lease_of server one).state.write w).0
+    other_here own file one (and_parts (is_other_on own file one) (lease_of_open server one).state.write w).0
 on_file Nothing server own file one w =
-    other_here own file one (and_parts (is_other_on own file one) (holds_any (lease_of server one).state) w).0
+    other_here own file one (and_parts (is_other_on own file one) (holds_any (lease_of_open server one).state) w).0
 
 no_keys : (test : Open → Bool) (opens : List Open) → ((one : Open) → Among one opens → test one ≡ false)
     → [] ≡ keys_of (filter test opens)

@@ -1,8 +1,9 @@
 -- Whether a lease hinders a write, by summaries, by the list of opens and by what the rules want.
 use Rattle.lease_laws.proofs.Words.{◌&&◌, ◌+◌, ◌-◌, ◌∙◌, ◌∷◌, ◌≡◌, Bool, Finding, Key, Lease, Less, List, None, Open}
 use Rattle.lease_laws.proofs.Words.{Option, Server, Some, Want, ℕ, [], all_wants, ap, arith, breaks_to_none, false, filter}
-use Rattle.lease_laws.proofs.Words.{has_key, holds_any, if◌then◌else◌, is_at, is_other_on, is_some, keys_of, lease_by, lease_of}
-use Rattle.lease_laws.proofs.Words.{length, list_all, list_any, nat_lt, not, nothing_cached, refl, subst, sym, true}
+use Rattle.lease_laws.proofs.Words.{has_key, holds_any, if◌then◌else◌, is_at, is_other_on, is_some, keys_of, lease_by}
+use Rattle.lease_laws.proofs.Words.{lease_of_open, length, list_all, list_any, nat_lt, not, nothing_cached, refl, subst, sym}
+use Rattle.lease_laws.proofs.Words.{true}
 use Rattle.std.specs.BTreeSet.{contains}
 use Rattle.std.specs.List.{AllByRecursion}
 use Rattle.std.specs.List.Sorted.{IsStrictlySortedBy}
@@ -130,7 +131,7 @@ others_hindering own file opens leases summary s sorted marked =
 -- ---- by summaries
 
 lease_summed : (summaries : Summaries) (server : Server) (key : Key) (one : Open) → StandFor summaries server
-    → has_key key one ≡ true → lease_of server one ≡ lease_in summaries key
+    → has_key key one ≡ true → lease_of_open server one ≡ lease_in summaries key
 lease_summed summaries server key one stand has = lease_by-key server key one.client one.lease_key has ∙ stand.leases key
 
 -- an open without a key has no lease, and hinders nothing
@@ -151,13 +152,13 @@ hindered_by own file summaries server summary stand s = both_so _ _
     let one = any_has (has_key_on file key.0) server.opens used in
     let parts = and_parts (is_on file one.0) (has_key key.0 one.0) one.2 in
     has_any (is_hinderer server own file) one.0 server.opens one.1
-    (and_both (is_other_on own file one.0) (hinders_writes (lease_of server one.0))
+    (and_both (is_other_on own file one.0) (hinders_writes (lease_of_open server one.0))
     (other_on own file key.0 one.0 parts.0 parts.1 apart.0)
     (ap hinders_writes (lease_summed summaries server key.0 one.0 stand parts.1)
     ∙ unmarked _ _ (hinders_writes (lease_in summaries key.0)) (s.harmless key.0) used (not_parts _ hinders.1))))
     (λ some.
     let one = any_has (is_hinderer server own file) server.opens some in
-    let parts = and_parts (is_other_on own file one.0) (hinders_writes (lease_of server one.0)) one.2 in
+    let parts = and_parts (is_other_on own file one.0) (hinders_writes (lease_of_open server one.0)) one.2 in
     let key = key_there (one.0).client (one.0).lease_key (hinderer_keyed server (one.0).client (one.0).lease_key parts.1) in
     let other = on_other own file key.0 one.0 parts.0 key.1 in
     let used = has_any (has_key_on file key.0) one.0 server.opens one.1 other.0 in
@@ -179,7 +180,7 @@ pub hindered_none : (own : Option Key) (file : ℕ) (server : Server) → list_a
     → false ≡ list_any (is_hinderer server own file) server.opens
 hindered_none own file server none = sym (not_true (list_any (is_hinderer server own file) server.opens) (λ some.
     let one = any_has (is_hinderer server own file) server.opens some in
-    let parts = and_parts (is_other_on own file one.0) (hinders_writes (lease_of server one.0)) one.2 in
+    let parts = and_parts (is_other_on own file one.0) (hinders_writes (lease_of_open server one.0)) one.2 in
     clash (is_on file one.0) (other_here own file one.0 parts.0) (none_has (is_on file) one.0 server.opens none one.1)))
 
 -- ---- by what the rules want
@@ -192,7 +193,7 @@ hinders_still : (holds gives : Bool) → (holds && not gives) ≡ true → (hold
 hinders_still holds gives e = grind arith
 
 abbrev is_wanted_of : Server → Option Key → ℕ → Open → Bool
-is_wanted_of server own file one = is_other_on own file one && holds_any (lease_of server one).state
+is_wanted_of server own file one = is_other_on own file one && holds_any (lease_of_open server one).state
 
 abbrev want_at : Key → Want
 want_at key = record { key = key; lowered = nothing_cached }
@@ -205,11 +206,11 @@ unhindered_ready server own file none =
     let key = among_map want_at want (keys_of (filter (is_wanted_of server own file) server.opens)) a in
     let found = keys_of-has key.0 (filter (is_wanted_of server own file) server.opens) key.1 in
     let there = among_filter (is_wanted_of server own file) found.0 server.opens found.1 in
-    let parts = and_parts (is_other_on own file found.0) (holds_any (lease_of server found.0).state) there.1 in
+    let parts = and_parts (is_other_on own file found.0) (holds_any (lease_of_open server found.0).state) there.1 in
     let settled = none_has (is_hinderer server own file) found.0 server.opens none there.0 in
     let same = lease_by-key server key.0 (found.0).client (found.0).lease_key found.2 in
     ap (λ (w : Want). breaks_to_none (server.leases w.key)) key.2 ∙ (ap breaks_to_none (sym same)
-    ∙ gives_up (holds_any (lease_of server found.0).state) (breaks_to_none (lease_of server found.0)) parts.1
+    ∙ gives_up (holds_any (lease_of_open server found.0).state) (breaks_to_none (lease_of_open server found.0)) parts.1
     (rw parts.0 at settled)))
 
 -- and where one hinders it, that one doesn't
@@ -217,14 +218,15 @@ hindered_unready : (server : Server) (own : Option Key) (file : ℕ) → list_an
     → list_all (λ want. breaks_to_none (server.leases want.key)) (all_wants server own file) ≡ false
 hindered_unready server own file some =
     let one = any_has (is_hinderer server own file) server.opens some in
-    let parts = and_parts (is_other_on own file one.0) (hinders_writes (lease_of server one.0)) one.2 in
-    let still = hinders_still (holds_any (lease_of server one.0).state) (breaks_to_none (lease_of server one.0)) parts.1 in
+    let parts = and_parts (is_other_on own file one.0) (hinders_writes (lease_of_open server one.0)) one.2 in
+    let still = hinders_still (holds_any (lease_of_open server one.0).state) (breaks_to_none (lease_of_open server one.0))
+    parts.1 in
     let key = key_there (one.0).client (one.0).lease_key (hinderer_keyed server (one.0).client (one.0).lease_key parts.1) in
     let same = lease_by-key server key.0 (one.0).client (one.0).lease_key key.1 in
     let wanted = among_mapped want_at key.0 (keys_of (filter (is_wanted_of server own file) server.opens))
     (keys_of-all key.0 one.0 (filter (is_wanted_of server own file) server.opens)
     (among_filtered (is_wanted_of server own file) one.0 server.opens one.1
-    (and_both (is_other_on own file one.0) (holds_any (lease_of server one.0).state) parts.0 still.0)) key.1) in
+    (and_both (is_other_on own file one.0) (holds_any (lease_of_open server one.0).state) parts.0 still.0)) key.1) in
     not_true (list_all (λ want. breaks_to_none (server.leases want.key)) (all_wants server own file)) (λ all.
     clash (breaks_to_none (server.leases key.0))
     (all_each (λ want. breaks_to_none (server.leases want.key)) (want_at key.0) (all_wants server own file) all wanted)

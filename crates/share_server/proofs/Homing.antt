@@ -1,11 +1,10 @@
 -- A create that is ready has no open under its key on another file, and a write that is ready ends within the limit of a file.
-use Rattle.lease_laws.proofs.Words.{◌&&◌, ◌==◌, ◌∙◌, ◌≡◌, Access, Decides-eqb, FileRequest, Finding, IsFree, Key, LeaseOf}
-use Rattle.lease_laws.proofs.Words.{List, None, Open, Option, Outcome, Progress, Server, Share, Some, Tried, Want}
+use Rattle.lease_laws.proofs.Words.{◌∙◌, ◌≡◌, FileRequest, Finding, Key, LeaseOf}
+use Rattle.lease_laws.proofs.Words.{List, None, Open, Option, Outcome, Progress, Server, Some, Tried, Want}
 use Rattle.lease_laws.proofs.Words.{ℕ, ap, arith, asked_key}
 use Rattle.lease_laws.proofs.Words.{ended, false, finding, has_key, is_leased_elsewhere}
-use Rattle.lease_laws.proofs.Words.{key_under, list_any, not, own_key, refl, subst, sym}
+use Rattle.lease_laws.proofs.Words.{key_under, list_any, own_key, subst, sym}
 use Rattle.lease_laws.proofs.Words.{tried, tried_for}
-use Rattle.lease_laws.proofs.server.Lists.{either, has_none}
 use Rattle.lease_laws.proofs.server.Tries.{IsFoundReady}
 use Rattle.lease_laws.proofs.server.cases.Findings.{any_needs}
 use Rattle.lease_laws.proofs.server.cases.Tries.{any_rounds}
@@ -28,14 +27,6 @@ tried_ready rounds client request = any_rounds client request (λ rounds progres
   waits = λ rounds progress wants needs wait same. absurd (cc);
   again = λ rounds progress wants done needs goes rest. rest;
 }) rounds
-
-home_free : (server : Server) (own : Option Key) (file : ℕ) (access : Access) (share : Share)
-    → IsFree server.opens server.leases own file access share → is_leased_elsewhere server own file ≡ false
-home_free server None file access share free = refl
-home_free server (Some key) file access share free =
-    has_none (λ one. has_key key one && not (one.file == file)) server.opens (λ one a. either (has_key key one)
-    (λ has. rw (has, (Decides-eqb one.file file).1 (free.at_home one a has)) refl)
-    (λ has. rw has refl))
 
 at_home : (server : Server) (client : ℕ) (request : FileRequest) (wants : List Want)
     → finding server client request ≡ Finding.Needs wants → CanBeAnswered client request server

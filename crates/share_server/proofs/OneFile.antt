@@ -5,8 +5,9 @@ use Rattle.lease_laws.proofs.Words.{Want, ℕ, [], all_wants, ap, arith, asked_f
 use Rattle.lease_laws.proofs.Words.{conflicts_on, connected_open, create_finding, false, filter, find, finding, handle_wants}
 use Rattle.lease_laws.proofs.Words.{has_file, has_key, holds_any, if◌then◌else◌, inr, is_breaking, is_key}
 use Rattle.lease_laws.proofs.Words.{is_leased_elsewhere, is_left_open, is_other_on, is_ready, is_within_limit, key_of}
-use Rattle.lease_laws.proofs.Words.{key_of_open, keys_of, lease_by, lease_of, list_all, list_any, map, may_write, not, option_map}
-use Rattle.lease_laws.proofs.Words.{own_key, reconnect_finding, refl, subst, sym, true, waits_for, wants_where, write_finding}
+use Rattle.lease_laws.proofs.Words.{key_of_open, keys_of, lease_by, lease_of_open, list_all, list_any, map, may_write, not}
+use Rattle.lease_laws.proofs.Words.{option_map, own_key, reconnect_finding, refl, subst, sym, true, waits_for, wants_where}
+use Rattle.lease_laws.proofs.Words.{write_finding}
 use Rattle.lease_laws.proofs.Words.{nothing_cached, without_handle, without_write, write_wants}
 use Rattle.lease_laws.proofs.server.Keys.{is_key-refl}
 use Rattle.lease_laws.proofs.server.Lists.{either, clash, and_parts, and_both, not_parts, not_true, among_filter, among_filtered}
@@ -42,7 +43,7 @@ lease_here file server key one there on has =
     rw some refl
 
 lease_on : (file : ℕ) (server : Server) (one : Open) → Among one server.opens → is_on file one ≡ true
-    → lease_of (local file server) one ≡ lease_of server one
+    → lease_of_open (local file server) one ≡ lease_of_open server one
 lease_on file server one there on = go one.lease_key refl
   where
     go : (bytes : Option (List ℕ)) → one.lease_key ≡ bytes

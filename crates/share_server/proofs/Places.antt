@@ -1,5 +1,5 @@
 -- Places for the numbers of files.
-use Rattle.lease_laws.proofs.Words.{◌++◌, ◌<◌, ◌∷◌, ◌≡◌, List, ℕ, [], arith, get_or, length, map, numbered, refl, suc, unwrap_or}
+use Rattle.lease_laws.proofs.Words.{◌<◌, ◌∷◌, ◌≡◌, List, ℕ, [], arith, get_or, length, map, numbered, refl, suc, unwrap_or}
 use Rattle.lease_laws.proofs.Words.{zero}
 use Rattle.std.specs.List.{slice_get}
 use Rattle.share_server.specs.Table.{File, file_in, no_file, fresh_file}
@@ -10,13 +10,6 @@ pub file_there : (files : List File) (n : ℕ) (file : File) → n < length file
 file_there [] n file inside is = absurd (omega arith)
 file_there (one ∷ files) zero file inside is = is
 file_there (one ∷ files) (suc n) file inside is = file_there files n file (omega arith) is
-
--- one more empty place changes nothing
-pub one_more_place : (files : List File) (n : ℕ) → file_in (files ++ no_file ∷ []) n ≡ file_in files n
-one_more_place [] zero = refl
-one_more_place [] (suc n) = refl
-one_more_place (one ∷ files) zero = refl
-one_more_place (one ∷ files) (suc n) = one_more_place files n
 
 fresh_place : (contents : List (List ℕ)) (n : ℕ)
     → file_in (map fresh_file contents) n ≡ fresh_file (unwrap_or (slice_get contents n) [])

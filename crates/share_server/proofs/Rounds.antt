@@ -47,19 +47,10 @@ again rounds client request progress after wants is met must = breaks rounds cli
 
 -- ---- at most three
 
-less_by_one : (i : ℕ) → i < 3 → suc (3 - (i + 1)) ≡ 3 - i
-less_by_one i less = omega arith
-
 pub one_more : (i client : ℕ) (request : FileRequest) (before now : Progress) (whole : Tried) → i < 3
     → ((rounds : ℕ) → tried_for (suc rounds) client request before ≡ tried_for rounds client request now)
     → tried_for (3 - i) client request before ≡ whole → tried_for (3 - (i + 1)) client request now ≡ whole
 one_more i client request before now whole less step so_far = grind arith
-
-pub the_last : (i client : ℕ) (request : FileRequest) (before : Progress) (done whole : Tried) → i < 3
-    → ((rounds : ℕ) → tried_for (suc rounds) client request before ≡ done)
-    → tried_for (3 - i) client request before ≡ whole → done ≡ whole
-the_last i client request before done whole less step so_far =
-    sym (step (3 - (i + 1))) ∙ (ap (λ n. tried_for n client request before) (less_by_one i less) ∙ so_far)
 
 pub none_left : (i client : ℕ) (request : FileRequest) (now : Progress) (whole : Tried) → 3 ≤ i
     → tried_for (3 - i) client request now ≡ whole → ended now Outcome.Waits ≡ whole

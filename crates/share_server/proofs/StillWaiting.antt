@@ -150,12 +150,6 @@ none_counted server file queue count none = grind arith
 pub none_still : (server : Server) (file : ℕ) → WaitStill server file 0
 none_still server file = record { within = omega arith; each = λ place one less. absurd (omega (arith, less)) }
 
-pub one_counted : (server : Server) (file : ℕ) (queue : List Held) (count place : ℕ)
-    → AreCounted server file queue count → count ≡ place → place < length queue
-    → ((one : Held) → slice_get queue place ≡ Some one → StaysLocally server file (take place queue) one)
-    → AreCounted server file queue (place + 1)
-one_counted server file queue count place known is inside stays = grind arith
-
 got_before : (queue : List Held) (one : Held) (place : ℕ) → place < length queue
     → slice_get (queue ++ one ∷ []) place ≡ slice_get queue place
 got_before [] one place inside = absurd (omega (arith, inside))

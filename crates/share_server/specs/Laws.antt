@@ -1,7 +1,7 @@
 -- What holds of every server, whatever was asked of it, by its opens and its leases.
 use Rattle.std.specs.Prelude.{◌≡◌, ◌≢◌, true, false, Some}
 use Rattle.lease_laws.specs.server.Laws.{Among}
-use Rattle.lease_model.specs.server.Naming.{lease_of}
+use Rattle.lease_model.specs.server.Naming.{lease_of_open}
 use Rattle.lease_model.specs.server.State.{Open, Lease, is_breaking, has_key}
 use Rattle.lease_model.specs.values.Keys.{Key}
 use Rattle.lease_model.specs.values.LeaseStates.{same_state}
@@ -30,7 +30,7 @@ pub record Lasts (one : Open) (lease : Lease) : Type 0 where
 -- An open that isn't connected is durable, and its lease holds H and isn't breaking.
 abbrev pub KeepsWhatLasts : Table → Type 0
 KeepsWhatLasts server = (one : Open) → Among one server.opens → one.connected ≡ false
-    → Lasts one (lease_of (server_of server) one)
+    → Lasts one (lease_of_open (server_of server) one)
 
 -- a part of the state, and less
 pub record IsLess (lowered : State) (state : State) : Type 0 where

@@ -2,7 +2,7 @@
 use Rattle.std.specs.Prelude.{ℕ, Bool, Option, Some, None, List, ◌&&◌, if◌then◌else◌}
 use Rattle.lease_state.specs.State.{State, nothing_cached, needs_acknowledgment}
 use Rattle.lease_model.specs.server.Allowed.{is_other_on, conflicts_on}
-use Rattle.lease_model.specs.server.Naming.{lease_of}
+use Rattle.lease_model.specs.server.Naming.{lease_of_open}
 use Rattle.lease_model.specs.server.State.{Server, Open, Lease}
 use Rattle.lease_model.specs.server.Wants.{Want, handle_wants, write_wants, all_wants}
 use Rattle.lease_model.specs.values.Keys.{Key}
@@ -20,9 +20,9 @@ lowered_for Nothing state = nothing_cached
 -- the open's lease is wanted
 abbrev pub is_wanted : Wish → Server → Option Key → ℕ → Open → Bool
 is_wanted (NoHandles access share) server own file one =
-    conflicts_on file access share one && is_other_on own file one && (lease_of server one).state.handle
-is_wanted NoWrites server own file one = is_other_on own file one && (lease_of server one).state.write
-is_wanted Nothing server own file one = is_other_on own file one && holds_any (lease_of server one).state
+    conflicts_on file access share one && is_other_on own file one && (lease_of_open server one).state.handle
+is_wanted NoWrites server own file one = is_other_on own file one && (lease_of_open server one).state.write
+is_wanted Nothing server own file one = is_other_on own file one && holds_any (lease_of_open server one).state
 
 abbrev pub is_demanded : Demand → Server → Open → Bool
 is_demanded demand server one = is_wanted demand.wish server demand.own demand.file.0 one

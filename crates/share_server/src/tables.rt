@@ -15,7 +15,6 @@ use crate::values::key::Key;
 use crate::values::lease::Lease;
 use crate::values::open::Open;
 use crate::values::request::Held;
-use crate::values::state::without_write;
 use lease_state::{
     Access, ClientNo, Content, ContentFault, FileId, FileNo, LeaseState, Memory, Patch, Share,
 };
@@ -300,7 +299,7 @@ impl Tables {
         ensures { state_of result ≡ allowed.allowed (server_of self.now) own file.0 (state_of want) }
     {
         if self.has_other_on(own, file) {
-            without_write(want.granted_form())
+            want.granted_form().without_write()
         } else {
             want.granted_form()
         }

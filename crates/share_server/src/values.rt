@@ -6,5 +6,4 @@ pub mod lease;
 pub mod open;
 pub mod out;
 pub mod request;
-pub mod state;
 pub mod want;

@@ -15,7 +15,7 @@ use crate::entry::turn::Given;
 use crate::entry::{Entry, Live, Pending, Phase};
 use crate::requests;
 use crate::values::command::Answer;
-use crate::values::state::{gives_up, meet};
+use crate::values::state::gives_up;
 use lease_state::{LeaseState, Memory, Request};
 use lease_wire::Notification;
 
@@ -34,7 +34,7 @@ impl Entry {
             given.begin(Answer::Quiet);
             return Ok(());
         };
-        let new = meet(live.belief, notice.new);
+        let new = live.belief.meet(notice.new);
         if live.is_ended_at(new) {
             live.give_up(&mut self.sent, Answer::Quiet, given)?;
             self.phase = Phase::Closed;

@@ -16,7 +16,7 @@ use crate::requests::Terms;
 use crate::values::command::{Answer, Command, Refusal};
 use crate::values::note::Note;
 use crate::values::shared_bytes::SharedBytes;
-use lease_state::{FILE_LIMIT, FileNo, LeaseKey, Memory, Patch, Request};
+use lease_state::{FileNo, LeaseKey, Memory, Patch, Request};
 
 impl Entry {
     /// A command on the entry's file, whose key this is. A Write takes the next number of the client.
@@ -167,14 +167,6 @@ impl Entry {
     }
 }
 
-// The patch ends within the limit of a file, also one without bytes.
-fn is_within_limit(change: &Patch) -> bool
-    ensures { result ≡ is_within_limit change.now }
-{
-    let count = change.bytes.len();
-    count <= FILE_LIMIT && change.offset as usize <= FILE_LIMIT - count
-}
-
 impl Live {
     // With no handle an entry accepts no command but an Open.
     fn is_parked(&self) -> bool
@@ -281,7 +273,7 @@ impl Live {
             given.begin(Answer::Refused(Refusal::Denied));
             return Ok(());
         }
-        if !is_within_limit(&patch) {
+        if !patch.is_within_limit() {
             given.begin(Answer::Refused(Refusal::TooLong));
             return Ok(());
         }

@@ -4,19 +4,19 @@ use Rattle.lease_laws.proofs.Words.{World, ℕ, ⊎_elim, [], after, ap, arith, 
 use Rattle.lease_laws.proofs.Words.{has_strayed, inl, inr, is_good, is_served, is_some, is_state_within, machine_key, not, refl}
 use Rattle.lease_laws.proofs.Words.{subst, sym, true, true≢false}
 use Rattle.lease_laws.proofs.server.Lists.{either, clash, and_parts, and_both, not_parts}
-use Rattle.lease_coherence.specs.Agreement.{Timely, GoodClientsAreTimely, lease_of, acknowledgment_of, asked_of}
+use Rattle.lease_coherence.specs.Agreement.{Timely, GoodClientsAreTimely, lease_of_client, acknowledgment_of, asked_of}
 use Rattle.lease_coherence.specs.Agreement.{BreakingIsAnswered, IsDue, AcknowledgmentsAreDue, BeliefsAreHeld}
 use Rattle.lease_coherence.specs.Creates.{one_if}
 use Rattle.lease_coherence.specs.Names.{Each}
 use Rattle.lease_coherence.specs.Parts.{OfRuns}
 use Rattle.lease_coherence.proofs.beliefs.Trust.{file_key}
-use Rattle.lease_coherence.proofs.beliefs.Words.{acks}
-use Rattle.lease_coherence.proofs.covered.Words.{ClosedBefore}
+use Rattle.lease_coherence.proofs.beliefs.OneLease.{acks}
+use Rattle.lease_coherence.proofs.covered.CoveredOpens.{ClosedBefore}
 use Rattle.lease_coherence.proofs.fresh.Reads.{timely}
 use Rattle.lease_coherence.proofs.told.Lone.{run_lones}
 use Rattle.lease_coherence.proofs.told.Meets.{is_told}
 use Rattle.lease_coherence.proofs.told.Moves.{breaking_open}
-use Rattle.lease_coherence.proofs.within.Words.{AckFit, IsAckFit}
+use Rattle.lease_coherence.proofs.within.BeliefsWithin.{AckFit, IsAckFit}
 use Rattle.lease_coherence.proofs.told.AllRuns.{run_leases}
 
 -- ---- what counts say stands in the queue
@@ -71,7 +71,7 @@ breaking_is_answered setup events client good up file fresh breaks =
     ⊎_elim
     (λ some. let a = acked key (world.requests client) some in inr (inl (record { state = a.0; sent = a.1 })))
     (λ x. ⊎_elim
-    (λ met. let l = some_state (lease_of world client file).broken_to breaks in
+    (λ met. let l = some_state (lease_of_client world client file).broken_to breaks in
     inl (is_told world client file l.0 (run_lones setup events) good up fresh l.1 met))
     (λ closed. let y = breaking_open world.server (machine_key world client file) v.structure.ground.fine.sound breaks in
     inr (inr (record {
@@ -92,12 +92,14 @@ acknowledgments_are_due setup events client good up file fresh state sent =
     let w = ((run_leases setup events).within client good up).files file fresh in
     let key = file_key world client file in
     let phase = ((world.clients client).entries file).phase in
-    let fit : AckFit key (lease_of world client file) phase (acknowledgment_of key state) =
-    each_one (AckFit key (lease_of world client file) phase) (world.requests client) (acknowledgment_of key state) w.acks sent in
+    let fit : AckFit key (lease_of_client world client file) phase (acknowledgment_of key state) =
+    each_one (AckFit key (lease_of_client world client file) phase) (world.requests client) (acknowledgment_of key state)
+    w.acks sent in
     due world client file state (fit ((bytes_eq-Decides key key).1 refl))
   where
     due : (world : World) (client file : ℕ) (state : State)
-        → IsAckFit (lease_of world client file) ((world.clients client).entries file).phase state → IsDue world client file state
+        → IsAckFit (lease_of_client world client file) ((world.clients client).entries file).phase state
+        → IsDue world client file state
     due world client file state f = record { lowered = f.lowered; breaking = f.breaks; within = f.within }
 
 -- ---- beliefs
@@ -118,7 +120,7 @@ beliefs_are_held setup events client good up file fresh live is =
     let v = run_leases setup events in
     let w = ((v.within client good up).files file fresh).own live is in
     let b = ((v.beliefs client good up).files file fresh).believed in
-    let state = (lease_of world client file).state in
+    let state = (lease_of_client world client file).state in
     let whole : (live.belief.read ≡ true → state.read ≡ true) → is_state_within live.belief state ≡ true =
     λ reads. within_of live.belief state reads (λ x. (b.own live is x).1) (λ h. (w.0 h).1) in
     either live.belief.read

@@ -13,15 +13,16 @@ use Rattle.lease_coherence.specs.Parts.{OfRuns}
 use Rattle.lease_coherence.specs.Standing.{IsNoClose, IsOpenFor, NotClosed, PhaseStands}
 use Rattle.lease_coherence.proofs.agreed.Breaks.{each_one}
 use Rattle.lease_coherence.proofs.beliefs.Trust.{file_key}
-use Rattle.lease_coherence.proofs.beliefs.Words.{AckKeeps, acks}
+use Rattle.lease_coherence.proofs.beliefs.OneLease.{AckKeeps, acks}
 use Rattle.lease_coherence.proofs.fresh.Clients.{sound_live}
 use Rattle.lease_coherence.proofs.late.Facts.{run_late}
-use Rattle.lease_coherence.proofs.late.Runs.{ground_in}
-use Rattle.lease_coherence.proofs.late.Words.{NotBuffered, AcksKeep}
-use Rattle.lease_coherence.proofs.names.Words.{opened_once}
-use Rattle.lease_coherence.proofs.order.Words.{IsInOrder, IsNoWrite, AreOrdered, ordered_behind, WriteStands, WriteStandsOn}
-use Rattle.lease_coherence.proofs.parted.Runs.{run_parted}
-use Rattle.lease_coherence.proofs.parted.Words.{PhaseUntouched}
+use Rattle.lease_coherence.proofs.late.WritesStaySafe.{ground_in}
+use Rattle.lease_coherence.proofs.late.SafeWrites.{NotBuffered, AcksKeep}
+use Rattle.lease_coherence.proofs.names.NamedInRecord.{opened_once}
+use Rattle.lease_coherence.proofs.order.OrderedRequests.{IsInOrder, IsNoWrite, AreOrdered, ordered_behind, WriteStands}
+use Rattle.lease_coherence.proofs.order.OrderedRequests.{WriteStandsOn}
+use Rattle.lease_coherence.proofs.parted.FilesStayUntouched.{run_parted}
+use Rattle.lease_coherence.proofs.parted.UntouchedFiles.{PhaseUntouched}
 use Rattle.lease_coherence.proofs.records.Once.{buffered_written, written_once}
 use Rattle.lease_coherence.proofs.wellformed.WellFormed.{IsWell}
 use Rattle.lease_coherence.proofs.writes.Answered.{names_of}

@@ -4,7 +4,7 @@ use Rattle.lease_laws.proofs.Words.{World, ℕ, [], after, ap, eqb-true, first_w
 use Rattle.lease_laws.proofs.Words.{machine_key, subst, sym, true}
 use Rattle.lease_laws.proofs.server.Lists.{any_has, among_filter, clash, either, find_has, not_true}
 use Rattle.lease_laws.proofs.world.Runs.{servers_of_runs}
-use Rattle.lease_coherence.specs.Agreement.{OfAllowedRuns, Timely, lease_of, WritersAreNotHeld, BelieversAreNotHeld}
+use Rattle.lease_coherence.specs.Agreement.{OfAllowedRuns, Timely, lease_of_client, WritersAreNotHeld, BelieversAreNotHeld}
 use Rattle.lease_coherence.specs.Agreement.{HeldWritesAreThrough}
 use Rattle.lease_coherence.specs.Creates.{held_by}
 use Rattle.lease_coherence.specs.Names.{IsNamedAt, IsNamedOnFile, WasWrittenOn}
@@ -13,8 +13,8 @@ use Rattle.lease_coherence.specs.Standing.{IsOpenFor}
 use Rattle.lease_coherence.proofs.agreed.Flushed.{buffered_open, of_held}
 use Rattle.lease_coherence.proofs.late.Facts.{run_late}
 use Rattle.lease_coherence.proofs.late.Held.{about_asks, first_of, none_waits}
-use Rattle.lease_coherence.proofs.late.Words.{HeldPlain}
-use Rattle.lease_coherence.proofs.order.Words.{none_behind, WriteStands, WriteStandsOn}
+use Rattle.lease_coherence.proofs.late.SafeWrites.{HeldPlain}
+use Rattle.lease_coherence.proofs.order.OrderedRequests.{none_behind, WriteStands, WriteStandsOn}
 use Rattle.lease_coherence.proofs.told.Moves.{open_place}
 use Rattle.lease_coherence.proofs.writes.Answered.{names_of}
 use Rattle.lease_coherence.proofs.told.AllRuns.{run_leases}
@@ -27,7 +27,7 @@ writing_open server key sound writes = either (list_any (has_key key) server.ope
     (λ none. clash (server.leases key).state.write writes (ap (λ (l : Lease). l.state.write) (sound.no_open key none)))
 
 none_held : (world : World) (c file : ℕ) → IsSound world.server → WaitsWell world.server → IsNamedAt world c
-    → (lease_of world c file).state.write ≡ true → held_by c (world.server.held file) ≡ []
+    → (lease_of_client world c file).state.write ≡ true → held_by c (world.server.held file) ≡ []
 none_held world c file sound waits names writes = either (is_behind c (world.server.held file))
     (λ some. absurd (never some)) (λ none. none_behind c (world.server.held file) none)
   where

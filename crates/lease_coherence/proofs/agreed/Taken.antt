@@ -12,7 +12,7 @@ use Rattle.lease_coherence.specs.Agreement.{OfAllowedRuns, Timely, taken_all, Is
 use Rattle.lease_coherence.proofs.beliefs.Trust.{file_key}
 use Rattle.lease_coherence.proofs.creates.Creates.{stepped_machine}
 use Rattle.lease_coherence.proofs.fresh.Clients.{sound_live}
-use Rattle.lease_coherence.proofs.fresh.Words.{IsRelayed, places_of}
+use Rattle.lease_coherence.proofs.fresh.FreshBytes.{IsRelayed, places_of}
 use Rattle.lease_coherence.proofs.moves.Events.{IsCarried, reply_gone, reply_taken, Move}
 use Rattle.lease_coherence.proofs.moves.Frames.{stepped_past, stepped_replies}
 use Rattle.lease_coherence.proofs.records.Later.{past_noted}

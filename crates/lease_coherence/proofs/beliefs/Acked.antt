@@ -13,12 +13,12 @@ use Rattle.lease_laws.proofs.client.cases.Replies.{is_live}
 use Rattle.lease_coherence.proofs.moves.Deeds.{told_to, leased_in, held_in, done_reply}
 use Rattle.lease_coherence.proofs.moves.Ground.{among_put}
 use Rattle.lease_coherence.proofs.moves.Moves.{IsOldest, rest_of, popped}
-use Rattle.lease_coherence.proofs.names.Words.{each_append}
+use Rattle.lease_coherence.proofs.names.NamedInRecord.{each_append}
 use Rattle.lease_coherence.proofs.beliefs.Leases.{plain_sent, asked_less, ack_served}
 use Rattle.lease_coherence.proofs.beliefs.Sent.{told_trusted}
 use Rattle.lease_coherence.proofs.beliefs.Trust.{file_key, IsAnchored, IsAnchoredBut, IsTrustedFor, HasTrust, popped_anchor}
 use Rattle.lease_coherence.proofs.beliefs.Trust.{popped_trusted, trusted_by}
-use Rattle.lease_coherence.proofs.beliefs.Words.{acks, LowersWell, OpenTillAck, IsBelieved, met_mapped}
+use Rattle.lease_coherence.proofs.beliefs.OneLease.{acks, LowersWell, OpenTillAck, IsBelieved, met_mapped}
 
 -- ---- one that leaves its queue
 

@@ -10,7 +10,7 @@ use Rattle.lease_laws.proofs.client.cases.Replies.{any_reply}
 use Rattle.lease_coherence.proofs.standing.Clients.{writes_close}
 use Rattle.lease_coherence.proofs.beliefs.Forms.{IsAboutFile, file_no_acks, lowered_elsewhere, HasBeliefTakes, parked_still}
 use Rattle.lease_coherence.proofs.beliefs.Forms.{IsStill, takes_by_belief, commands_still}
-use Rattle.lease_coherence.proofs.beliefs.Words.{acks, OpenTillAck, open_before}
+use Rattle.lease_coherence.proofs.beliefs.OneLease.{acks, OpenTillAck, open_before}
 use Rattle.lease_laws.proofs.client.cases.Turns.{by_turn}
 
 -- a step sends none of the file's key, or one behind no Close of the live open

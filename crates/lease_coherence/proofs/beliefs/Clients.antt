@@ -10,9 +10,9 @@ use Rattle.lease_laws.proofs.world.Links.{by_client}
 use Rattle.lease_coherence.specs.Names.{Each}
 use Rattle.lease_laws.proofs.client.cases.Commands.{sent_of, any_command}
 use Rattle.lease_laws.proofs.client.cases.Replies.{any_reply}
-use Rattle.lease_coherence.proofs.names.Words.{each_append}
+use Rattle.lease_coherence.proofs.names.NamedInRecord.{each_append}
 use Rattle.lease_coherence.proofs.beliefs.Entries.{WasLive, step_kept, reply_kept, created_kept, break_kept}
-use Rattle.lease_coherence.proofs.beliefs.Words.{acks, LowersWell, IsBelieved}
+use Rattle.lease_coherence.proofs.beliefs.OneLease.{acks, LowersWell, IsBelieved}
 use Rattle.lease_coherence.proofs.beliefs.Forms.{HadBelief, HasBeliefTakes, IsAboutFile, IsStill, commands_still, file_no_acks}
 use Rattle.lease_coherence.proofs.beliefs.Forms.{as_it_was, idle_still, lowered_elsewhere, one_live, parked_still}
 use Rattle.lease_coherence.proofs.beliefs.Forms.{takes_by_belief}

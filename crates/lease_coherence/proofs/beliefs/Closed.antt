@@ -11,12 +11,12 @@ use Rattle.lease_coherence.specs.Standing.{IsStandingAt}
 use Rattle.lease_coherence.proofs.moves.Deeds.{IsSource, told_to, without_opens}
 use Rattle.lease_coherence.proofs.moves.Events.{timed_out}
 use Rattle.lease_coherence.proofs.moves.Foreign.{apart, false_not}
-use Rattle.lease_coherence.proofs.names.Words.{each_append}
+use Rattle.lease_coherence.proofs.names.NamedInRecord.{each_append}
 use Rattle.lease_coherence.proofs.beliefs.Leases.{plain_sent, lease_gone}
 use Rattle.lease_coherence.proofs.beliefs.Sent.{off_fresh, off_trust}
 use Rattle.lease_coherence.proofs.beliefs.Trust.{file_key, IsAnchored, IsTrustedFor, HasTrust, nothing_stands, off_anchors}
 use Rattle.lease_coherence.proofs.beliefs.Trust.{open_has_key}
-use Rattle.lease_coherence.proofs.beliefs.Words.{acks, LowersWell, IsBelieved}
+use Rattle.lease_coherence.proofs.beliefs.OneLease.{acks, LowersWell, IsBelieved}
 
 -- ---- a world with another server, and replies that tell of no lease
 

@@ -6,9 +6,9 @@ use Rattle.lease_laws.proofs.server.Lists.{clash, and_parts, and_both}
 use Rattle.lease_coherence.specs.Creates.{one_if}
 use Rattle.lease_coherence.specs.Names.{Each}
 use Rattle.lease_laws.proofs.client.cases.Replies.{is_live}
-use Rattle.lease_coherence.proofs.names.Words.{each_append}
-use Rattle.lease_coherence.proofs.beliefs.Words.{acks, acks_append, is_created, LowersWell, AckKeeps, met_fewer, met_mapped}
-use Rattle.lease_coherence.proofs.beliefs.Words.{met_none, IsAnswering, IsBelieved}
+use Rattle.lease_coherence.proofs.names.NamedInRecord.{each_append}
+use Rattle.lease_coherence.proofs.beliefs.OneLease.{acks, acks_append, is_created, LowersWell, AckKeeps, met_fewer, met_mapped}
+use Rattle.lease_coherence.proofs.beliefs.OneLease.{met_none, IsAnswering, IsBelieved}
 
 -- ---- requests that are no acknowledgments
 

@@ -16,8 +16,8 @@ use Rattle.lease_laws.proofs.client.cases.Replies.{HasTakes, is_live, PassesOver
 use Rattle.lease_laws.proofs.client.cases.Files.{found_so}
 use Rattle.lease_coherence.specs.Creates.{one_if}
 use Rattle.lease_coherence.specs.Names.{Each}
-use Rattle.lease_coherence.proofs.names.Words.{each_append}
-use Rattle.lease_coherence.proofs.beliefs.Words.{acks, acks_append}
+use Rattle.lease_coherence.proofs.names.NamedInRecord.{each_append}
+use Rattle.lease_coherence.proofs.beliefs.OneLease.{acks, acks_append}
 use Rattle.lease_laws.proofs.client.cases.Turns.{by_turn}
 
 -- ---- requests about files

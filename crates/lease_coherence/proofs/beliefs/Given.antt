@@ -13,7 +13,7 @@ use Rattle.lease_coherence.proofs.beliefs.Grants.{grant_breaking, grant_keeps}
 use Rattle.lease_coherence.proofs.beliefs.Leases.{plain_sent, settled_changed}
 use Rattle.lease_coherence.proofs.beliefs.Sent.{LeaseBears, sent_trusted}
 use Rattle.lease_coherence.proofs.beliefs.Trust.{file_key, HasTrust}
-use Rattle.lease_coherence.proofs.beliefs.Words.{HoldsWrites, IsBelieved}
+use Rattle.lease_coherence.proofs.beliefs.OneLease.{HoldsWrites, IsBelieved}
 
 -- the key that a create of the file names
 pub own_named : (off : World) (c file at : ℕ) (asked : LeaseOf) → asked.key ≡ lease_key (off.clients c).guid file

@@ -5,7 +5,7 @@ use Rattle.lease_laws.proofs.Words.{is_other_on, is_state_within, lease_granted,
 use Rattle.lease_laws.proofs.Words.{sym, true, true≢false}
 use Rattle.lease_laws.proofs.server.Lists.{if_cases, either, clash, and_parts, not_parts, any_has}
 use Rattle.lease_laws.proofs.server.States.{write_of_part}
-use Rattle.lease_coherence.proofs.beliefs.Words.{GivesNothing, HoldsWrites}
+use Rattle.lease_coherence.proofs.beliefs.OneLease.{GivesNothing, HoldsWrites}
 
 -- a state that is granted caches writes only with reads
 pub writes_read : (state : State) → granted_form_of state ≡ state → state.write ≡ true → state.read ≡ true

@@ -5,9 +5,9 @@ use Rattle.lease_laws.proofs.server.Lists.{clash}
 use Rattle.lease_coherence.specs.Creates.{one_if}
 use Rattle.lease_coherence.specs.Names.{Each}
 use Rattle.lease_laws.proofs.client.cases.Replies.{is_live}
-use Rattle.lease_coherence.proofs.names.Words.{each_append, each_weaker}
-use Rattle.lease_coherence.proofs.beliefs.Words.{acks, is_created, is_ack_break, OnGiven, GivesNothing, HoldsWrites, AckKeeps}
-use Rattle.lease_coherence.proofs.beliefs.Words.{met_mapped, met_last, met_nowhere, IsBelieved}
+use Rattle.lease_coherence.proofs.names.NamedInRecord.{each_append, each_weaker}
+use Rattle.lease_coherence.proofs.beliefs.OneLease.{acks, is_created, is_ack_break, OnGiven, GivesNothing, HoldsWrites, AckKeeps}
+use Rattle.lease_coherence.proofs.beliefs.OneLease.{met_mapped, met_last, met_nowhere, IsBelieved}
 
 each_last : {X : Type 0} (P : X → Type 0) (xs : List X) (x : X) → Each P xs → P x → Each P (xs ++ x ∷ [])
 each_last P xs x each last = each_append P xs (x ∷ []) each (last, tt)

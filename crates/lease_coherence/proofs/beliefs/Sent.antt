@@ -9,11 +9,11 @@ use Rattle.lease_laws.proofs.server.Lists.{clash, and_parts, and_both, not_true,
 use Rattle.lease_coherence.specs.Names.{Each}
 use Rattle.lease_coherence.proofs.creates.Creates.{off_rest}
 use Rattle.lease_coherence.proofs.moves.Deeds.{IsSource, told_to, changed_in, leased_in}
-use Rattle.lease_coherence.proofs.names.Words.{each_append}
+use Rattle.lease_coherence.proofs.names.NamedInRecord.{each_append}
 use Rattle.lease_coherence.proofs.beliefs.Grants.{writes_read}
 use Rattle.lease_coherence.proofs.beliefs.Leases.{plain_sent, settled_changed, break_sent}
 use Rattle.lease_coherence.proofs.beliefs.Trust.{file_key, HasTrust, off_trusted, trusted_by}
-use Rattle.lease_coherence.proofs.beliefs.Words.{is_ack_break, OnGiven, GivesNothing, HoldsWrites, LowersWell, IsBelieved}
+use Rattle.lease_coherence.proofs.beliefs.OneLease.{is_ack_break, OnGiven, GivesNothing, HoldsWrites, LowersWell, IsBelieved}
 
 -- ---- one more reply
 

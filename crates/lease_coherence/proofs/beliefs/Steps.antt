@@ -14,13 +14,14 @@ use Rattle.lease_laws.proofs.client.cases.Replies.{is_live}
 use Rattle.lease_coherence.proofs.creates.Creates.{stepped_machine, none_held}
 use Rattle.lease_coherence.proofs.moves.Events.{Ground, come_back, connected}
 use Rattle.lease_coherence.proofs.moves.Frames.{stepped_requests, stepped_replies}
-use Rattle.lease_coherence.proofs.standing.Runs.{each_flat}
+use Rattle.lease_coherence.proofs.standing.OpensStayStanding.{each_flat}
 use Rattle.lease_coherence.proofs.standing.Standing.{IsStepped, step_of}
 use Rattle.lease_coherence.proofs.beliefs.Anchors.{AnchorsOn, AnchorsLive}
 use Rattle.lease_coherence.proofs.beliefs.Forms.{IsAboutFile, file_no_acks}
 use Rattle.lease_coherence.proofs.beliefs.Leases.{lease_gone}
 use Rattle.lease_coherence.proofs.beliefs.Trust.{file_key, IsAnchored, HasTrust}
-use Rattle.lease_coherence.proofs.beliefs.Words.{acks, acks_append, LowersWell, OpenTillAck, open_behind, open_before, IsBelieved}
+use Rattle.lease_coherence.proofs.beliefs.OneLease.{acks, acks_append, LowersWell, OpenTillAck, open_behind, open_before}
+use Rattle.lease_coherence.proofs.beliefs.OneLease.{IsBelieved}
 
 -- ---- a step
 

@@ -12,11 +12,11 @@ use Rattle.lease_laws.proofs.client.cases.Replies.{is_live}
 use Rattle.lease_coherence.proofs.moves.Deeds.{IsSource, with_held}
 use Rattle.lease_coherence.proofs.moves.Ground.{among_put}
 use Rattle.lease_coherence.proofs.moves.Moves.{IsOldest, rest_of, popped}
-use Rattle.lease_coherence.proofs.names.Words.{each_weaker}
+use Rattle.lease_coherence.proofs.names.NamedInRecord.{each_weaker}
 use Rattle.lease_laws.proofs.server.PassWaits.{among_more}
 use Rattle.lease_laws.proofs.server.Lists.{among_behind}
 use Rattle.lease_coherence.proofs.beliefs.Leases.{asked_less}
-use Rattle.lease_coherence.proofs.beliefs.Words.{acks, is_created, LowersWell, AckKeeps, OpenTillAck, IsBelieved}
+use Rattle.lease_coherence.proofs.beliefs.OneLease.{acks, is_created, LowersWell, AckKeeps, OpenTillAck, IsBelieved}
 
 abbrev pub file_key : World → ℕ → ℕ → List ℕ
 file_key world client file = lease_key (world.clients client).guid file

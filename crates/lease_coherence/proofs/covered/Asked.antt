@@ -7,11 +7,11 @@ use Rattle.lease_laws.proofs.server.Lists.{either, clash, and_both}
 use Rattle.lease_coherence.specs.Creates.{held_by}
 use Rattle.lease_coherence.specs.Standing.{IsNoClose}
 use Rattle.lease_laws.proofs.client.cases.Files.{find_absent}
-use Rattle.lease_coherence.proofs.covered.Words.{ClosedBefore, closed_less}
+use Rattle.lease_coherence.proofs.covered.CoveredOpens.{ClosedBefore, closed_less}
 use Rattle.lease_coherence.proofs.moves.Deeds.{IsSource, WasHeld, with_held, held_in}
 use Rattle.lease_coherence.proofs.moves.Moves.{IsOldest, rest_of, popped}
 use Rattle.lease_coherence.specs.Agreement.{as_requests, asked_of}
-use Rattle.lease_coherence.proofs.order.Words.{asked_among, asked_left, none_behind}
+use Rattle.lease_coherence.proofs.order.OrderedRequests.{asked_among, asked_left, none_behind}
 
 -- ---- one that leaves
 

@@ -15,8 +15,8 @@ use Rattle.lease_laws.proofs.client.cases.Commands.{HasCommands}
 use Rattle.lease_laws.proofs.client.cases.Replies.{HasTakes, PassesOver}
 use Rattle.lease_coherence.proofs.fresh.Clients.{sound_live}
 use Rattle.lease_coherence.proofs.standing.Clients.{FitsGiven}
-use Rattle.lease_coherence.proofs.covered.Words.{ClosedBefore, closed_more, closed_behind, closed_behind_writes, IsGrantOf}
-use Rattle.lease_coherence.proofs.covered.Words.{IsLiveUnder, IsCovered, cover_by, NotFailed}
+use Rattle.lease_coherence.proofs.covered.CoveredOpens.{ClosedBefore, closed_more, closed_behind, closed_behind_writes, IsGrantOf}
+use Rattle.lease_coherence.proofs.covered.CoveredOpens.{IsLiveUnder, IsCovered, cover_by, NotFailed}
 use Rattle.lease_coherence.proofs.creates.Counts.{none_asked}
 use Rattle.lease_laws.proofs.client.cases.Turns.{by_turn}
 

@@ -8,16 +8,16 @@ use Rattle.lease_laws.proofs.server.Lists.{if_cases, either, among_append, among
 use Rattle.lease_coherence.specs.Names.{Each, WasOpenedOn}
 use Rattle.lease_coherence.specs.Standing.{AllAsked, IsNoClose}
 use Rattle.lease_coherence.proofs.covered.Asked.{off_closed, never_lost}
-use Rattle.lease_coherence.proofs.covered.Words.{ClosedBefore, HasGrant, grant_more, grant_last, IsCovered, cover_by}
+use Rattle.lease_coherence.proofs.covered.CoveredOpens.{ClosedBefore, HasGrant, grant_more, grant_last, IsCovered, cover_by}
 use Rattle.lease_coherence.proofs.creates.Creates.{off_rest}
-use Rattle.lease_coherence.proofs.late.Words.{KnowsIds}
+use Rattle.lease_coherence.proofs.late.SafeWrites.{KnowsIds}
 use Rattle.lease_coherence.proofs.moves.Deeds.{IsSource, told_to, granted_in, granted_reply, reconnected_in, reconnected_reply}
 use Rattle.lease_coherence.proofs.moves.Deeds.{changed_in}
 use Rattle.lease_coherence.proofs.moves.Frames.{from_source, lease_put_rest}
-use Rattle.lease_coherence.proofs.names.Words.{each_append, each_weaker}
+use Rattle.lease_coherence.proofs.names.NamedInRecord.{each_append, each_weaker}
 use Rattle.lease_coherence.specs.Agreement.{asked_of}
 use Rattle.lease_coherence.proofs.records.Later.{IsLater, later_same, later_fact, later_two}
-use Rattle.lease_coherence.proofs.standing.Words.{asked_weaker, asked_off}
+use Rattle.lease_coherence.proofs.standing.StandingOpens.{asked_weaker, asked_off}
 
 -- ---- opens in another world
 

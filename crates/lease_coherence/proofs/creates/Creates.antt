@@ -28,7 +28,7 @@ use Rattle.lease_coherence.proofs.moves.Frames.{lease_put_rest, stepped_requests
 use Rattle.lease_coherence.proofs.moves.Moves.{IsOldest, rest_of, popped}
 use Rattle.lease_coherence.proofs.moves.Own.{IsOwnMoved}
 use Rattle.lease_coherence.proofs.moves.Shift.{append_none}
-use Rattle.lease_coherence.proofs.names.Words.{reply_later}
+use Rattle.lease_coherence.proofs.names.NamedInRecord.{reply_later}
 use Rattle.lease_coherence.proofs.records.Later.{later_fact}
 use Rattle.lease_coherence.proofs.standing.Structure.{HasStructure}
 

@@ -12,13 +12,13 @@ use Rattle.lease_laws.proofs.world.Links.{by_client}
 use Rattle.lease_coherence.specs.Creates.{answer_of, asked_by, one_if}
 use Rattle.lease_coherence.specs.Names.{Each, WasWritten}
 use Rattle.lease_coherence.proofs.beliefs.Forms.{IsAboutFile, writes_about, writes_close_about, keys_apart}
-use Rattle.lease_coherence.proofs.beliefs.Words.{OnGiven, GivesNothing, is_ack_break}
+use Rattle.lease_coherence.proofs.beliefs.OneLease.{OnGiven, GivesNothing, is_ack_break}
 use Rattle.lease_laws.proofs.client.cases.Commands.{HasCommands}
 use Rattle.lease_laws.proofs.client.cases.Files.{never_found}
 use Rattle.lease_laws.proofs.client.cases.Replies.{PassesOver, is_live}
 use Rattle.lease_laws.proofs.client.cases.Files.{found_so}
-use Rattle.lease_coherence.proofs.fresh.Words.{reads_by, reads_after, AckReads, IsPatched, Follows, TellsBytes}
-use Rattle.lease_coherence.proofs.names.Words.{each_weaker}
+use Rattle.lease_coherence.proofs.fresh.FreshBytes.{reads_by, reads_after, AckReads, IsPatched, Follows, TellsBytes}
+use Rattle.lease_coherence.proofs.names.NamedInRecord.{each_weaker}
 use Rattle.lease_coherence.proofs.writes.Counts.{settles_of, numbered_in, none_numbered}
 use Rattle.lease_coherence.proofs.writes.Steps.{IsKnownBy, IsOwnNumber}
 use Rattle.lease_coherence.proofs.creates.Counts.{none_asked}

@@ -19,7 +19,7 @@ use Rattle.lease_coherence.proofs.beliefs.Trust.{file_key, HasTrust}
 use Rattle.lease_coherence.proofs.fresh.Contents.{HasContents}
 use Rattle.lease_coherence.proofs.fresh.Sent.{IsFreshIn, IsToldTo, left_reads, IsToldIn, sent_fresh, bare_reads, is_still}
 use Rattle.lease_coherence.proofs.fresh.Sent.{still_sends}
-use Rattle.lease_coherence.proofs.fresh.Words.{given_reads, reads_by, AckReads, Follows, IsFreshFor}
+use Rattle.lease_coherence.proofs.fresh.FreshBytes.{given_reads, reads_by, AckReads, Follows, IsFreshFor}
 use Rattle.lease_coherence.proofs.moves.Deeds.{IsSource, told_to, granted_in, reconnected_in, changed_in, leased_in}
 use Rattle.lease_coherence.proofs.moves.Deeds.{granted_reply, reconnected_reply, done_reply}
 use Rattle.lease_coherence.proofs.moves.Events.{Ground}
@@ -27,7 +27,7 @@ use Rattle.lease_coherence.proofs.moves.Frames.{from_source, lease_put_rest}
 use Rattle.lease_coherence.proofs.moves.Moves.{IsOldest, rest_of, popped}
 use Rattle.lease_coherence.proofs.moves.Spared.{ends_by, ends_as}
 use Rattle.lease_coherence.proofs.names.Names.{off_named, off_counted}
-use Rattle.lease_coherence.proofs.names.Words.{each_rest, opened_once}
+use Rattle.lease_coherence.proofs.names.NamedInRecord.{each_rest, opened_once}
 use Rattle.lease_coherence.proofs.records.Later.{later_same, later_fact}
 use Rattle.lease_coherence.proofs.writes.Answered.{names_of}
 use Rattle.lease_coherence.proofs.records.Known.{HasRecord}

@@ -11,15 +11,17 @@ use Rattle.lease_coherence.specs.Standing.{IsStandingAt}
 use Rattle.lease_coherence.proofs.beliefs.Forms.{keys_apart}
 use Rattle.lease_coherence.proofs.beliefs.Sent.{is_bare}
 use Rattle.lease_coherence.proofs.beliefs.Trust.{file_key, nothing_stands}
-use Rattle.lease_coherence.proofs.beliefs.Words.{acks}
+use Rattle.lease_coherence.proofs.beliefs.OneLease.{acks}
 use Rattle.lease_laws.proofs.client.cases.Replies.{is_live}
 use Rattle.lease_coherence.proofs.moves.Foreign.{IsUnmoved, key_client}
 use Rattle.lease_coherence.proofs.moves.Spared.{ends_as}
-use Rattle.lease_coherence.proofs.names.Words.{each_weaker}
+use Rattle.lease_coherence.proofs.names.NamedInRecord.{each_weaker}
 use Rattle.lease_coherence.proofs.records.Later.{IsLater, later_then, later_fact}
-use Rattle.lease_coherence.proofs.fresh.Words.{reads_by, reads_after, reads_last, after_none, AckReads, acks_fewer, no_acks_read}
-use Rattle.lease_coherence.proofs.fresh.Words.{Follows, TellsBytes, IsRelayed, relayed_later, relayed_now, IsLastSeen, HasBase}
-use Rattle.lease_coherence.proofs.fresh.Words.{places_of, IsFreshFor}
+use Rattle.lease_coherence.proofs.fresh.FreshBytes.{reads_by, reads_after, reads_last, after_none, AckReads, acks_fewer}
+use Rattle.lease_coherence.proofs.fresh.FreshBytes.{no_acks_read}
+use Rattle.lease_coherence.proofs.fresh.FreshBytes.{Follows, TellsBytes, IsRelayed, relayed_later, relayed_now, IsLastSeen}
+use Rattle.lease_coherence.proofs.fresh.FreshBytes.{HasBase}
+use Rattle.lease_coherence.proofs.fresh.FreshBytes.{places_of, IsFreshFor}
 
 -- ---- one client and one file of a world
 

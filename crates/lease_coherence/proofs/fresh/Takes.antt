@@ -16,11 +16,12 @@ use Rattle.lease_laws.proofs.client.cases.Commands.{sent_of}
 use Rattle.lease_laws.proofs.client.cases.Files.{find_absent}
 use Rattle.lease_laws.proofs.client.cases.Replies.{HasTakes, is_live}
 use Rattle.lease_laws.proofs.client.cases.Files.{found_so}
-use Rattle.lease_coherence.proofs.fresh.Words.{given_reads, reads_by, reads_after, after_nothing, AckReads, Follows, HasBytes}
+use Rattle.lease_coherence.proofs.fresh.FreshBytes.{given_reads, reads_by, reads_after, after_nothing, AckReads, Follows}
+use Rattle.lease_coherence.proofs.fresh.FreshBytes.{HasBytes}
 use Rattle.lease_coherence.proofs.fresh.Clients.{IsMetBy, TakesFresh, stays_so, not_live, turned_keeps, idle_keeps, plain_fresh}
 use Rattle.lease_coherence.proofs.fresh.Clients.{turn_fresh, here_fresh, base_reads, all_about, created_elsewhere}
 use Rattle.lease_coherence.proofs.fresh.Clients.{broken_elsewhere, number_elsewhere, written_elsewhere, passed_plain}
-use Rattle.lease_coherence.proofs.names.Words.{each_append, opened_once}
+use Rattle.lease_coherence.proofs.names.NamedInRecord.{each_append, opened_once}
 use Rattle.lease_coherence.proofs.writes.Steps.{IsKnownBy}
 
 one_live : (live other : LiveEntry) → Phase.Live other ≡ Phase.Live live → other ≡ live

@@ -10,15 +10,15 @@ use Rattle.lease_coherence.specs.Creates.{one_if}
 use Rattle.lease_coherence.specs.Names.{Each, IsNamedAt, IsNamedRequest}
 use Rattle.lease_coherence.proofs.beliefs.Acked.{served_state}
 use Rattle.lease_coherence.proofs.beliefs.Trust.{file_key, HasTrust}
-use Rattle.lease_coherence.proofs.beliefs.Words.{AckKeeps, acks}
+use Rattle.lease_coherence.proofs.beliefs.OneLease.{AckKeeps, acks}
 use Rattle.lease_coherence.proofs.late.Likes.{sent_past, held_up, acks_like}
 use Rattle.lease_coherence.proofs.late.Moves.{told_late}
 use Rattle.lease_coherence.proofs.late.Servers.{EntryHolds, itself, entries_like, popped_safe, grants_more}
-use Rattle.lease_coherence.proofs.late.Words.{holds_write, WriteSafe, HeldPlain, NotBuffered, AcksKeep, IsSafeUp, IsNotLate}
-use Rattle.lease_coherence.proofs.late.Words.{IsLike, KnowsIds}
+use Rattle.lease_coherence.proofs.late.SafeWrites.{holds_write, WriteSafe, HeldPlain, NotBuffered, AcksKeep, IsSafeUp, IsNotLate}
+use Rattle.lease_coherence.proofs.late.SafeWrites.{IsLike, KnowsIds}
 use Rattle.lease_coherence.proofs.moves.Deeds.{told_to, leased_in, done_reply}
 use Rattle.lease_coherence.proofs.moves.Moves.{IsOldest, rest_of, popped}
-use Rattle.lease_coherence.proofs.names.Words.{each_rest}
+use Rattle.lease_coherence.proofs.names.NamedInRecord.{each_rest}
 
 -- ---- a request leaves its queue
 

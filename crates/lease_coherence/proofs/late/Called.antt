@@ -10,7 +10,7 @@ use Rattle.lease_coherence.specs.Names.{Each, IsNamedAt, IsNamedRequest, IsNamed
 use Rattle.lease_coherence.specs.Standing.{IsOpenFor, GivenWell, PhaseStands, IsStandingAt}
 use Rattle.lease_coherence.proofs.beliefs.Anchors.{AnchorsOn, command_anchors, take_anchors}
 use Rattle.lease_coherence.proofs.beliefs.Trust.{file_key, HasTrust}
-use Rattle.lease_coherence.proofs.beliefs.Words.{HoldsWrites, OnGiven}
+use Rattle.lease_coherence.proofs.beliefs.OneLease.{HoldsWrites, OnGiven}
 use Rattle.lease_laws.proofs.client.cases.Commands.{any_command}
 use Rattle.lease_laws.proofs.client.cases.Replies.{any_reply}
 use Rattle.lease_coherence.proofs.late.Clients.{StepFrom, no_settles, commands_from, takes_from}
@@ -18,17 +18,17 @@ use Rattle.lease_coherence.proofs.late.Entries.{StepSafe, TakesSafe, IsTakenSafe
 use Rattle.lease_coherence.proofs.late.Likes.{ids_of, took_past, named_asked, writes_up, held_up, acks_like, grants_like}
 use Rattle.lease_coherence.proofs.late.Servers.{itself, all_hold, entries_like, live_id}
 use Rattle.lease_coherence.proofs.late.Steps.{IsStepWell, IsOnWay, new_number, stepped_entries, stepped_up}
-use Rattle.lease_coherence.proofs.late.Words.{GrantsSafe, IsSafeAt, IsSafeUp, IsNotLate, IsLike, KnowsIds}
+use Rattle.lease_coherence.proofs.late.SafeWrites.{GrantsSafe, IsSafeAt, IsSafeUp, IsNotLate, IsLike, KnowsIds}
 use Rattle.lease_coherence.proofs.moves.Events.{Ground, reply_gone, reply_taken}
 use Rattle.lease_coherence.proofs.moves.Ground.{called_sound}
 use Rattle.lease_coherence.proofs.names.Names.{IsCountedOff}
-use Rattle.lease_coherence.proofs.names.Words.{request_later}
+use Rattle.lease_coherence.proofs.names.NamedInRecord.{request_later}
 use Rattle.lease_coherence.proofs.records.Later.{later_fact}
 use Rattle.lease_coherence.proofs.records.Once.{unbuffered_clean}
-use Rattle.lease_coherence.proofs.standing.Runs.{was_up}
-use Rattle.lease_coherence.proofs.standing.Words.{asked_weaker}
+use Rattle.lease_coherence.proofs.standing.OpensStayStanding.{was_up}
+use Rattle.lease_coherence.proofs.standing.StandingOpens.{asked_weaker}
 use Rattle.lease_coherence.proofs.writes.Counts.{settles_of}
-use Rattle.lease_coherence.proofs.writes.Runs.{known_took}
+use Rattle.lease_coherence.proofs.writes.WritesStayUnderWayOnce.{known_took}
 use Rattle.lease_coherence.proofs.writes.Steps.{IsKnownBy}
 
 -- what is known of the client where its link is up

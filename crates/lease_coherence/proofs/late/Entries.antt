@@ -14,12 +14,12 @@ use Rattle.lease_laws.proofs.world.Links.{by_client}
 use Rattle.lease_coherence.specs.Names.{Each}
 use Rattle.lease_coherence.specs.Standing.{IsOpenFor, FitsPhase}
 use Rattle.lease_coherence.proofs.beliefs.Trust.{file_key}
-use Rattle.lease_coherence.proofs.beliefs.Words.{HoldsWrites, OnGiven}
+use Rattle.lease_coherence.proofs.beliefs.OneLease.{HoldsWrites, OnGiven}
 use Rattle.lease_laws.proofs.client.cases.Commands.{HasCommands, sent_of}
 use Rattle.lease_laws.proofs.client.cases.Replies.{HasTakes}
-use Rattle.lease_coherence.proofs.late.Words.{holds_write, IsClean, LiveSafe, KeptWrite, KeptSafe, PhaseSafe, given_writes}
-use Rattle.lease_coherence.proofs.late.Words.{GrantSafe}
-use Rattle.lease_coherence.proofs.names.Words.{each_append, each_weaker, each_without}
+use Rattle.lease_coherence.proofs.late.SafeWrites.{holds_write, IsClean, LiveSafe, KeptWrite, KeptSafe, PhaseSafe, given_writes}
+use Rattle.lease_coherence.proofs.late.SafeWrites.{GrantSafe}
+use Rattle.lease_coherence.proofs.names.NamedInRecord.{each_append, each_weaker, each_without}
 use Rattle.lease_laws.proofs.client.cases.Links.{HasNotices}
 use Rattle.lease_laws.proofs.client.cases.Turns.{by_turn}
 

@@ -5,15 +5,15 @@ use Rattle.lease_laws.proofs.Words.{connected_open, connection_made, fact_of, fa
 use Rattle.lease_laws.proofs.Words.{is_touched, noticed, put, refl, reverse-reverse, reverse_aux, starts_from}
 use Rattle.lease_laws.proofs.Words.{stepped_in, subst, sym, taken, true}
 use Rattle.lease_coherence.specs.Parts.{InRuns}
-use Rattle.lease_coherence.proofs.late.Runs.{ground_in}
-use Rattle.lease_coherence.proofs.late.Words.{WriteSafe}
+use Rattle.lease_coherence.proofs.late.WritesStaySafe.{ground_in}
+use Rattle.lease_coherence.proofs.late.SafeWrites.{WriteSafe}
 use Rattle.lease_coherence.proofs.moves.Deeds.{HasDeeds, IsSource, step_deed}
 use Rattle.lease_laws.proofs.world.cases.Events.{IsTold}
 use Rattle.lease_coherence.proofs.moves.Events.{IsMoved, Both, carried_both, runs_have, come_back, reply_gone, Move}
 use Rattle.lease_coherence.proofs.moves.Frames.{from_source, stepped_past}
 use Rattle.lease_coherence.proofs.order.Sends.{off_past}
 use Rattle.lease_coherence.proofs.records.Later.{past_noted}
-use Rattle.lease_coherence.proofs.standing.Words.{asked_off}
+use Rattle.lease_coherence.proofs.standing.StandingOpens.{asked_off}
 use Rattle.lease_coherence.proofs.records.AllRuns.{record_carried, first_record}
 use Rattle.lease_coherence.proofs.records.Known.{HasRecord}
 use Rattle.lease_laws.proofs.server.cases.Ends.{found_open}

@@ -14,7 +14,7 @@ use Rattle.lease_coherence.proofs.beliefs.Trust.{file_key}
 use Rattle.lease_coherence.proofs.late.Likes.{sent_past, opened_past, expired_past}
 use Rattle.lease_coherence.proofs.late.Moves.{replied_late, unsent_late}
 use Rattle.lease_coherence.proofs.late.Servers.{itself, closing_holds, own_has_key, expired_nothing, gives_timely, given_so}
-use Rattle.lease_coherence.proofs.late.Words.{holds_write, given_writes, IsNotLate, IsLike, KnowsIds}
+use Rattle.lease_coherence.proofs.late.SafeWrites.{holds_write, given_writes, IsNotLate, IsLike, KnowsIds}
 use Rattle.lease_coherence.proofs.moves.Deeds.{IsSource, told_to, granted_in, granted_reply, reconnected_in, reconnected_reply}
 use Rattle.lease_coherence.proofs.moves.Deeds.{without_opens}
 use Rattle.lease_coherence.proofs.moves.Events.{timed_out}

@@ -9,12 +9,12 @@ use Rattle.lease_coherence.specs.Names.{IsNamedAt, IsNamedOnFile, IsNamedRequest
 use Rattle.lease_coherence.proofs.late.Acked.{popped_ids, popped_named}
 use Rattle.lease_coherence.proofs.late.Likes.{same_past, acks_like, grants_like}
 use Rattle.lease_coherence.proofs.late.Servers.{itself, popped_safe, own_has_key, none_in_the_way}
-use Rattle.lease_coherence.proofs.late.Words.{holds_write, WriteSafe, HeldPlain, IsNotLate, IsLike, KnowsIds}
+use Rattle.lease_coherence.proofs.late.SafeWrites.{holds_write, WriteSafe, HeldPlain, IsNotLate, IsLike, KnowsIds}
 use Rattle.lease_coherence.proofs.moves.Deeds.{held_in}
 use Rattle.lease_coherence.proofs.moves.Ground.{among_put}
 use Rattle.lease_coherence.proofs.moves.Moves.{IsOldest, popped}
-use Rattle.lease_coherence.proofs.standing.Words.{asked_held, head_of}
-use Rattle.lease_coherence.proofs.writes.Runs.{no_file, same_file}
+use Rattle.lease_coherence.proofs.standing.StandingOpens.{asked_held, head_of}
+use Rattle.lease_coherence.proofs.writes.WritesStayUnderWayOnce.{no_file, same_file}
 use Rattle.lease_laws.proofs.server.cases.Ends.{found_open}
 
 -- the file that a request asks for

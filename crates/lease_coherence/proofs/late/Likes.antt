@@ -4,13 +4,14 @@ use Rattle.lease_laws.proofs.Words.{Patch, Pending, Reply, Request, Some, World,
 use Rattle.lease_laws.proofs.Words.{given_state, has_buffered, inl, inr, is_touched, not, refl, subst, sym, true, was_opened}
 use Rattle.lease_coherence.specs.Names.{Each, IsNamedAt, IsNamedRequest, IsNamedReply, WasWrittenOn}
 use Rattle.lease_coherence.specs.Standing.{AllAsked}
-use Rattle.lease_coherence.proofs.beliefs.Words.{AckKeeps}
-use Rattle.lease_coherence.proofs.late.Words.{WriteSafe, HeldPlain, NotBuffered, AcksKeep, given_writes, GrantSafe, GrantsSafe}
-use Rattle.lease_coherence.proofs.late.Words.{SamePast, IsLike, StillHolds, KnowsIds, same_key, write_like, plain_like}
+use Rattle.lease_coherence.proofs.beliefs.OneLease.{AckKeeps}
+use Rattle.lease_coherence.proofs.late.SafeWrites.{WriteSafe, HeldPlain, NotBuffered, AcksKeep, given_writes, GrantSafe}
+use Rattle.lease_coherence.proofs.late.SafeWrites.{GrantsSafe}
+use Rattle.lease_coherence.proofs.late.SafeWrites.{SamePast, IsLike, StillHolds, KnowsIds, same_key, write_like, plain_like}
 use Rattle.lease_coherence.proofs.moves.Shift.{append_none}
 use Rattle.lease_coherence.proofs.names.Names.{IsCountedOff}
-use Rattle.lease_coherence.proofs.names.Words.{opened_within, opened_once, opened_by}
-use Rattle.lease_coherence.proofs.order.Words.{append_three}
+use Rattle.lease_coherence.proofs.names.NamedInRecord.{opened_within, opened_once, opened_by}
+use Rattle.lease_coherence.proofs.order.OrderedRequests.{append_three}
 use Rattle.lease_coherence.proofs.records.Later.{past_noted}
 
 -- ---- FileIds

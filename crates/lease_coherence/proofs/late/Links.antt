@@ -7,16 +7,16 @@ use Rattle.lease_laws.proofs.client.Thin.{put_same}
 use Rattle.lease_laws.proofs.server.Lists.{if_cases, among_filter, among_filtered, among_map}
 use Rattle.lease_laws.proofs.world.Links.{stepped_links}
 use Rattle.lease_coherence.specs.Names.{Each, IsNamedAt}
-use Rattle.lease_coherence.proofs.beliefs.Words.{acks}
+use Rattle.lease_coherence.proofs.beliefs.OneLease.{acks}
 use Rattle.lease_coherence.proofs.late.Entries.{notices_safe, connect_safe}
 use Rattle.lease_coherence.proofs.late.Likes.{dropped_past, joined_past}
 use Rattle.lease_coherence.proofs.late.Servers.{all_hold, entries_like, itself, closing_holds}
 use Rattle.lease_coherence.proofs.late.Steps.{stepped_entries}
-use Rattle.lease_coherence.proofs.late.Words.{WriteSafe, AcksKeep, GrantsSafe, IsSafeAt, IsNotLate, KnowsIds}
+use Rattle.lease_coherence.proofs.late.SafeWrites.{WriteSafe, AcksKeep, GrantsSafe, IsSafeAt, IsNotLate, KnowsIds}
 use Rattle.lease_coherence.proofs.moves.Events.{Ground, cut_off, come_back, connected, noticed_by}
 use Rattle.lease_coherence.proofs.moves.Frames.{stepped_replies}
-use Rattle.lease_coherence.proofs.names.Words.{each_weaker}
-use Rattle.lease_coherence.proofs.order.Runs.{IsCreate, connect_creates, connect_held}
+use Rattle.lease_coherence.proofs.names.NamedInRecord.{each_weaker}
+use Rattle.lease_coherence.proofs.order.RequestsStayInOrder.{IsCreate, connect_creates, connect_held}
 use Rattle.lease_laws.proofs.client.cases.Links.{any_notice}
 
 -- ---- a connection is lost

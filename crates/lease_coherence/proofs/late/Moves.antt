@@ -10,10 +10,10 @@ use Rattle.lease_coherence.proofs.beliefs.Sent.{is_bare}
 use Rattle.lease_coherence.proofs.late.Likes.{same_past, sent_past, changed_past, grants_like}
 use Rattle.lease_coherence.proofs.late.Servers.{all_hold, entries_like, itself, off_safe, up_like, grant_bare, closing_holds}
 use Rattle.lease_coherence.proofs.late.Servers.{grants_more}
-use Rattle.lease_coherence.proofs.late.Words.{holds_write, GrantSafe, GrantsSafe, IsSafeAt, IsSafeUp, IsNotLate, IsLike}
-use Rattle.lease_coherence.proofs.late.Words.{StillHolds, KnowsIds}
+use Rattle.lease_coherence.proofs.late.SafeWrites.{holds_write, GrantSafe, GrantsSafe, IsSafeAt, IsSafeUp, IsNotLate, IsLike}
+use Rattle.lease_coherence.proofs.late.SafeWrites.{StillHolds, KnowsIds}
 use Rattle.lease_coherence.proofs.moves.Deeds.{IsSource, told_to, changed_in, without_opens, leased_in}
-use Rattle.lease_coherence.proofs.standing.Runs.{link_of}
+use Rattle.lease_coherence.proofs.standing.OpensStayStanding.{link_of}
 
 -- ---- a move that leaves all as it was
 

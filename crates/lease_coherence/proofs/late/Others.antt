@@ -6,15 +6,15 @@ use Rattle.lease_laws.proofs.Words.{machine_key, refl, subst, sym, true, was_ope
 use Rattle.lease_laws.proofs.server.Lists.{among_filter, among_filtered}
 use Rattle.lease_coherence.specs.Names.{Each, IsNamedAt, IsNamedReply}
 use Rattle.lease_coherence.proofs.beliefs.Trust.{file_key}
-use Rattle.lease_coherence.proofs.beliefs.Words.{HoldsWrites, OnGiven, AckKeeps, acks}
+use Rattle.lease_coherence.proofs.beliefs.OneLease.{HoldsWrites, OnGiven, AckKeeps, acks}
 use Rattle.lease_coherence.proofs.late.Entries.{given_so}
 use Rattle.lease_coherence.proofs.late.Servers.{live_id, parted_id, own_has_key}
-use Rattle.lease_coherence.proofs.late.Words.{holds_write, IsClean, KeptWrite, WriteSafe, HeldPlain, NotBuffered, AcksKeep}
-use Rattle.lease_coherence.proofs.late.Words.{PhaseSafe, given_writes, GrantSafe, GrantsSafe, IsSafeUp, IsNotLate, KnowsIds}
-use Rattle.lease_coherence.proofs.late.Words.{same_key}
+use Rattle.lease_coherence.proofs.late.SafeWrites.{holds_write, IsClean, KeptWrite, WriteSafe, HeldPlain, NotBuffered, AcksKeep}
+use Rattle.lease_coherence.proofs.late.SafeWrites.{PhaseSafe, given_writes, GrantSafe, GrantsSafe, IsSafeUp, IsNotLate, KnowsIds}
+use Rattle.lease_coherence.proofs.late.SafeWrites.{same_key}
 use Rattle.lease_coherence.proofs.moves.Foreign.{IsUnmoved}
-use Rattle.lease_coherence.proofs.names.Words.{each_weaker}
-use Rattle.lease_coherence.proofs.standing.Words.{asked_unmoved, asked_weaker}
+use Rattle.lease_coherence.proofs.names.NamedInRecord.{each_weaker}
+use Rattle.lease_coherence.proofs.standing.StandingOpens.{asked_unmoved, asked_weaker}
 
 -- ---- leases and files
 

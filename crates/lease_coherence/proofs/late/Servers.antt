@@ -16,17 +16,18 @@ use Rattle.lease_coherence.specs.Standing.{AllAsked, IsOpenFor, Stands}
 use Rattle.lease_coherence.proofs.beliefs.Closed.{lease_stays}
 use Rattle.lease_coherence.proofs.beliefs.Sent.{is_bare}
 use Rattle.lease_coherence.proofs.beliefs.Trust.{file_key}
-use Rattle.lease_coherence.proofs.beliefs.Words.{acks}
+use Rattle.lease_coherence.proofs.beliefs.OneLease.{acks}
 use Rattle.lease_coherence.proofs.late.Likes.{same_past, asked_both, named_asked, writes_up, held_up, acks_like, grants_like}
 use Rattle.lease_coherence.proofs.late.Likes.{grants_last}
-use Rattle.lease_coherence.proofs.late.Words.{holds_write, WriteSafe, PhaseSafe, IsSafeAt, AcksKeep, given_writes, GrantSafe}
-use Rattle.lease_coherence.proofs.late.Words.{GrantsSafe, IsSafeUp, WasOpen, IsLike, StillHolds, KnowsIds, same_key, phase_like}
+use Rattle.lease_coherence.proofs.late.SafeWrites.{holds_write, WriteSafe, PhaseSafe, IsSafeAt, AcksKeep, given_writes, GrantSafe}
+use Rattle.lease_coherence.proofs.late.SafeWrites.{GrantsSafe, IsSafeUp, WasOpen, IsLike, StillHolds, KnowsIds, same_key}
+use Rattle.lease_coherence.proofs.late.SafeWrites.{phase_like}
 use Rattle.lease_coherence.proofs.moves.Deeds.{IsSource, with_held}
 use Rattle.lease_coherence.proofs.moves.Ground.{among_put}
 use Rattle.lease_coherence.proofs.moves.Moves.{rest_of, popped}
-use Rattle.lease_coherence.proofs.names.Words.{each_rest, opened_once}
-use Rattle.lease_coherence.proofs.order.Words.{WriteStands, WriteStandsOn}
-use Rattle.lease_coherence.proofs.standing.Words.{asked_off, asked_popped}
+use Rattle.lease_coherence.proofs.names.NamedInRecord.{each_rest, opened_once}
+use Rattle.lease_coherence.proofs.order.OrderedRequests.{WriteStands, WriteStandsOn}
+use Rattle.lease_coherence.proofs.standing.StandingOpens.{asked_off, asked_popped}
 use Rattle.lease_coherence.proofs.writes.Counts.{write_of, writes, held_writes, settling, numbered_in, writes_left}
 use Rattle.lease_coherence.proofs.writes.Steps.{IsKnownBy, IsSentOnce}
 

@@ -12,16 +12,17 @@ use Rattle.lease_coherence.specs.Standing.{AllAsked, IsOpenFor}
 use Rattle.lease_coherence.proofs.beliefs.Anchors.{AnchorsOn, AnchorsLive}
 use Rattle.lease_coherence.proofs.beliefs.Entries.{no_acks_keep}
 use Rattle.lease_coherence.proofs.beliefs.Trust.{file_key}
-use Rattle.lease_coherence.proofs.beliefs.Words.{AckKeeps, acks, acks_append}
+use Rattle.lease_coherence.proofs.beliefs.OneLease.{AckKeeps, acks, acks_append}
 use Rattle.lease_coherence.proofs.creates.Creates.{stepped_machine}
 use Rattle.lease_coherence.proofs.late.Clients.{IsOther, SendsWrites, SentFrom, EntryFrom, StepFrom}
 use Rattle.lease_coherence.proofs.late.Entries.{StepSafe, at_among, sound_live, unsent_writes, given_so}
 use Rattle.lease_coherence.proofs.late.Likes.{asked_both, noted_touched}
-use Rattle.lease_coherence.proofs.late.Words.{holds_write, IsSafeWrite, IsClean, WriteSafe, HeldPlain, LiveSafe, KeptWrite}
-use Rattle.lease_coherence.proofs.late.Words.{PhaseSafe, IsSafeAt, NotBuffered, AcksKeep, given_writes, IsGrantSafe, GrantSafe}
-use Rattle.lease_coherence.proofs.late.Words.{GrantsSafe, IsSafeUp, KnowsIds}
+use Rattle.lease_coherence.proofs.late.SafeWrites.{holds_write, IsSafeWrite, IsClean, WriteSafe, HeldPlain, LiveSafe, KeptWrite}
+use Rattle.lease_coherence.proofs.late.SafeWrites.{PhaseSafe, IsSafeAt, NotBuffered, AcksKeep, given_writes, IsGrantSafe}
+use Rattle.lease_coherence.proofs.late.SafeWrites.{GrantSafe}
+use Rattle.lease_coherence.proofs.late.SafeWrites.{GrantsSafe, IsSafeUp, KnowsIds}
 use Rattle.lease_coherence.proofs.moves.Frames.{stepped_past, stepped_replies}
-use Rattle.lease_coherence.proofs.names.Words.{each_append, each_weaker}
+use Rattle.lease_coherence.proofs.names.NamedInRecord.{each_append, each_weaker}
 use Rattle.lease_coherence.proofs.records.Later.{past_noted}
 use Rattle.lease_coherence.proofs.records.Once.{buffered_number, unbuffered_clean, written_number}
 use Rattle.lease_coherence.proofs.standing.Standing.{step_of}

@@ -29,7 +29,7 @@ use Rattle.lease_coherence.proofs.moves.Ground.{moved_past}
 use Rattle.lease_coherence.proofs.moves.Moves.{IsOldest, popped}
 use Rattle.lease_coherence.proofs.moves.Spared.{IsSpared, Spares, spared_fact, spared_noted}
 use Rattle.lease_coherence.proofs.names.Names.{off_counted, awaits_parts}
-use Rattle.lease_coherence.proofs.names.Words.{opened_by}
+use Rattle.lease_coherence.proofs.names.NamedInRecord.{opened_by}
 use Rattle.lease_coherence.proofs.records.Later.{IsLater, later_then, later_fact, later_told, later_noted}
 use Rattle.lease_laws.proofs.server.cases.Ends.{found_open}
 use Rattle.lease_laws.proofs.server.cases.Judgements.{IsRefusedAck}

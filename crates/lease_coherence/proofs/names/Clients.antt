@@ -18,8 +18,9 @@ use Rattle.lease_coherence.specs.Names.{Each, IsNamedEntry, IsNamedPhase, IsName
 use Rattle.lease_laws.proofs.client.cases.Commands.{HasCommands, any_command, sent_of}
 use Rattle.lease_laws.proofs.client.cases.Replies.{HasTakes, any_reply}
 use Rattle.lease_laws.proofs.client.cases.Files.{found_so}
-use Rattle.lease_coherence.proofs.names.Words.{each_append, each_filter, each_without, each_either, request_later, writes_later}
-use Rattle.lease_coherence.proofs.names.Words.{entry_later}
+use Rattle.lease_coherence.proofs.names.NamedInRecord.{each_append, each_filter, each_without, each_either, request_later}
+use Rattle.lease_coherence.proofs.names.NamedInRecord.{writes_later}
+use Rattle.lease_coherence.proofs.names.NamedInRecord.{entry_later}
 use Rattle.lease_coherence.proofs.records.Later.{IsLater, later_fact, later_noted, past_noted}
 use Rattle.lease_coherence.proofs.wellformed.Notes.{EachNote, notes_append}
 use Rattle.lease_laws.proofs.client.cases.Links.{HasNotices, any_notice}

@@ -25,7 +25,7 @@ use Rattle.lease_coherence.proofs.moves.Ground.{ground_carried, first_ground, mo
 use Rattle.lease_coherence.proofs.moves.Moves.{IsNext, moved}
 use Rattle.lease_coherence.proofs.names.Clients.{IsCallNamed, IsTrueDone, call_named}
 use Rattle.lease_coherence.proofs.names.Names.{at_later, replies_later, deeds_named}
-use Rattle.lease_coherence.proofs.names.Words.{each_append, each_weaker, request_later, on_file_later}
+use Rattle.lease_coherence.proofs.names.NamedInRecord.{each_append, each_weaker, request_later, on_file_later}
 use Rattle.lease_coherence.proofs.records.Later.{IsLater, later_same, later_then, later_fact, later_told, later_noted, past_noted}
 use Rattle.lease_coherence.proofs.wellformed.Notes.{EachNote}
 

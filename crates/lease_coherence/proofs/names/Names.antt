@@ -18,8 +18,9 @@ use Rattle.lease_coherence.proofs.moves.Events.{Ground}
 use Rattle.lease_coherence.proofs.moves.Frames.{lease_put_rest}
 use Rattle.lease_coherence.proofs.moves.Ground.{among_put}
 use Rattle.lease_coherence.proofs.moves.Moves.{IsOldest, rest_of, popped}
-use Rattle.lease_coherence.proofs.names.Words.{each_append, each_weaker, each_rest, on_file_later, request_later, reply_later}
-use Rattle.lease_coherence.proofs.names.Words.{entry_later, opened_once}
+use Rattle.lease_coherence.proofs.names.NamedInRecord.{each_append, each_weaker, each_rest, on_file_later, request_later}
+use Rattle.lease_coherence.proofs.names.NamedInRecord.{reply_later}
+use Rattle.lease_coherence.proofs.names.NamedInRecord.{entry_later, opened_once}
 use Rattle.lease_coherence.proofs.records.Later.{IsLater, later_same, later_fact, later_two}
 use Rattle.lease_laws.proofs.server.cases.Ends.{found_open}
 

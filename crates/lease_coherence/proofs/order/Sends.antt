@@ -13,12 +13,12 @@ use Rattle.lease_laws.proofs.client.cases.Commands.{HasCommands}
 use Rattle.lease_laws.proofs.client.cases.Replies.{HasTakes}
 use Rattle.lease_coherence.proofs.moves.Deeds.{IsSource, with_held}
 use Rattle.lease_coherence.proofs.moves.Moves.{popped}
-use Rattle.lease_coherence.proofs.names.Words.{each_weaker}
+use Rattle.lease_coherence.proofs.names.NamedInRecord.{each_weaker}
 use Rattle.lease_coherence.specs.Agreement.{as_requests}
-use Rattle.lease_coherence.proofs.order.Words.{AreOrdered, off_ordered, WriteStands, IsInOrder}
+use Rattle.lease_coherence.proofs.order.OrderedRequests.{AreOrdered, off_ordered, WriteStands, IsInOrder}
 use Rattle.lease_coherence.proofs.records.Later.{IsLater, later_same}
 use Rattle.lease_coherence.proofs.standing.Servers.{stands_by}
-use Rattle.lease_coherence.proofs.standing.Words.{asked_weaker, asked_off}
+use Rattle.lease_coherence.proofs.standing.StandingOpens.{asked_weaker, asked_off}
 use Rattle.lease_laws.proofs.client.cases.Turns.{by_turn}
 
 -- ---- what clients send

@@ -5,19 +5,19 @@ use Rattle.lease_laws.proofs.Words.{true≢false}
 use Rattle.lease_laws.proofs.records.Runs.{all_starts, all_reversed}
 use Rattle.lease_laws.proofs.world.InStep.{contents_are_told}
 use Rattle.lease_coherence.proofs.fresh.Contents.{contents_moves}
-use Rattle.lease_coherence.proofs.fresh.Runs.{fresh_moves}
+use Rattle.lease_coherence.proofs.fresh.BytesStayFresh.{fresh_moves}
 use Rattle.lease_coherence.proofs.fresh.Sent.{IsUpFresh}
-use Rattle.lease_coherence.proofs.late.Runs.{late_moves}
-use Rattle.lease_coherence.proofs.late.Words.{IsNotLate}
+use Rattle.lease_coherence.proofs.late.WritesStaySafe.{late_moves}
+use Rattle.lease_coherence.proofs.late.SafeWrites.{IsNotLate}
 use Rattle.lease_coherence.proofs.moves.Events.{IsCarried, runs_have}
 use Rattle.lease_coherence.proofs.moves.Own.{own_moves}
-use Rattle.lease_coherence.proofs.order.Runs.{order_moves}
-use Rattle.lease_coherence.proofs.order.Words.{IsUpInOrder}
+use Rattle.lease_coherence.proofs.order.RequestsStayInOrder.{order_moves}
+use Rattle.lease_coherence.proofs.order.OrderedRequests.{IsUpInOrder}
 use Rattle.lease_coherence.proofs.records.Known.{HasRecord}
 use Rattle.lease_coherence.proofs.told.AllRuns.{leases_carried, first_leases}
 use Rattle.lease_coherence.proofs.wellformed.WellFormed.{well_moves, first_well}
 use Rattle.lease_coherence.proofs.writes.Answered.{ground_of}
-use Rattle.lease_coherence.proofs.writes.Runs.{once_moves}
+use Rattle.lease_coherence.proofs.writes.WritesStayUnderWayOnce.{once_moves}
 use Rattle.lease_coherence.proofs.writes.Steps.{IsUpSentOnce}
 use Rattle.lease_coherence.proofs.writes.Unanswered.{writes_moves}
 

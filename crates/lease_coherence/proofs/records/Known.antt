@@ -2,9 +2,9 @@
 use Rattle.lease_laws.proofs.Words.{World}
 use Rattle.lease_coherence.proofs.fresh.Contents.{HasContents}
 use Rattle.lease_coherence.proofs.fresh.Sent.{IsUpFresh}
-use Rattle.lease_coherence.proofs.late.Words.{IsNotLate}
+use Rattle.lease_coherence.proofs.late.SafeWrites.{IsNotLate}
 use Rattle.lease_coherence.proofs.moves.Own.{OfGood}
-use Rattle.lease_coherence.proofs.order.Words.{IsUpInOrder}
+use Rattle.lease_coherence.proofs.order.OrderedRequests.{IsUpInOrder}
 use Rattle.lease_coherence.proofs.told.Leases.{HasLeases}
 use Rattle.lease_coherence.proofs.wellformed.WellFormed.{IsWell}
 use Rattle.lease_coherence.proofs.writes.Steps.{IsUpSentOnce}

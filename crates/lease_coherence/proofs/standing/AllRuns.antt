@@ -8,7 +8,7 @@ use Rattle.lease_coherence.proofs.moves.Events.{IsCarried, runs_have}
 use Rattle.lease_coherence.proofs.moves.Ground.{ground_carried, first_ground}
 use Rattle.lease_coherence.proofs.moves.Own.{own_moves}
 use Rattle.lease_coherence.proofs.names.Done.{true_moves, first_true}
-use Rattle.lease_coherence.proofs.standing.Runs.{standing_moves}
+use Rattle.lease_coherence.proofs.standing.OpensStayStanding.{standing_moves}
 use Rattle.lease_coherence.proofs.standing.Structure.{HasStructure}
 
 pub structure_carried : IsCarried HasStructure

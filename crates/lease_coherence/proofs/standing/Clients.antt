@@ -12,7 +12,7 @@ use Rattle.lease_coherence.specs.Names.{Each}
 use Rattle.lease_coherence.specs.Standing.{AllAsked, FitsPhase, GivenWell, IsNoClose, NotClosed, PhaseStands, Stands, again_of}
 use Rattle.lease_laws.proofs.client.cases.Commands.{HasCommands, sent_of}
 use Rattle.lease_laws.proofs.client.cases.Replies.{HasTakes}
-use Rattle.lease_coherence.proofs.names.Words.{each_append, each_weaker}
+use Rattle.lease_coherence.proofs.names.NamedInRecord.{each_append, each_weaker}
 use Rattle.lease_laws.proofs.client.cases.Turns.{by_turn}
 
 -- an entry isn't under this FileId

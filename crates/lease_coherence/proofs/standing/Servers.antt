@@ -19,9 +19,10 @@ use Rattle.lease_coherence.proofs.moves.Foreign.{false_not, IsUnmoved, map_kept,
 use Rattle.lease_coherence.proofs.moves.Frames.{lease_put_rest}
 use Rattle.lease_coherence.proofs.moves.Moves.{IsOldest, popped}
 use Rattle.lease_coherence.proofs.names.Names.{IsCountedOff, awaits_parts}
-use Rattle.lease_coherence.proofs.names.Words.{each_append, each_weaker, opened_within}
-use Rattle.lease_coherence.proofs.standing.Words.{asked_popped, asked_off, asked_held, asked_unmoved, IsFrame, framed_given}
-use Rattle.lease_coherence.proofs.standing.Words.{framed_at}
+use Rattle.lease_coherence.proofs.names.NamedInRecord.{each_append, each_weaker, opened_within}
+use Rattle.lease_coherence.proofs.standing.StandingOpens.{asked_popped, asked_off, asked_held, asked_unmoved, IsFrame}
+use Rattle.lease_coherence.proofs.standing.StandingOpens.{framed_given}
+use Rattle.lease_coherence.proofs.standing.StandingOpens.{framed_at}
 
 -- an open that stays
 pub stands_by : (world new : World) (c file file_id : ℕ) → new.clients c ≡ world.clients c

@@ -12,10 +12,10 @@ use Rattle.lease_coherence.specs.Standing.{AllAsked, AskFits, FitsPhase, GivenWe
 use Rattle.lease_coherence.specs.Standing.{again_of}
 use Rattle.lease_coherence.proofs.creates.Creates.{up_link, stepped_machine}
 use Rattle.lease_coherence.proofs.moves.Frames.{stepped_requests, stepped_replies}
-use Rattle.lease_coherence.proofs.names.Words.{each_append, each_weaker, opened_once}
+use Rattle.lease_coherence.proofs.names.NamedInRecord.{each_append, each_weaker, opened_once}
 use Rattle.lease_coherence.proofs.standing.Clients.{IsNotUnder, FitsGiven, IsNotGiven, IsNoCreate, TurnAsks, ClosesOld}
 use Rattle.lease_coherence.proofs.standing.Clients.{TurnStands, StepStands}
-use Rattle.lease_coherence.proofs.standing.Words.{asked_weaker}
+use Rattle.lease_coherence.proofs.standing.StandingOpens.{asked_weaker}
 
 -- ---- what a step leaves
 

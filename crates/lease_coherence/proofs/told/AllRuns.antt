@@ -1,18 +1,18 @@
 -- Leases and beliefs in every run.
 use Rattle.lease_laws.proofs.Words.{Event, List, Setup, after, first_world, sym, true≢false}
-use Rattle.lease_coherence.proofs.beliefs.Runs.{trust_moves}
+use Rattle.lease_coherence.proofs.beliefs.TrustStays.{trust_moves}
 use Rattle.lease_coherence.proofs.beliefs.Trust.{IsUpTrusted}
 use Rattle.lease_coherence.proofs.covered.Moves.{IsUpCovered}
-use Rattle.lease_coherence.proofs.covered.Runs.{covered_moves}
+use Rattle.lease_coherence.proofs.covered.OpensStayCovered.{covered_moves}
 use Rattle.lease_coherence.proofs.moves.Events.{IsCarried, runs_have}
 use Rattle.lease_coherence.proofs.moves.Own.{own_moves}
 use Rattle.lease_coherence.proofs.standing.AllRuns.{structure_carried, first_structure}
 use Rattle.lease_coherence.proofs.standing.Structure.{HasStructure}
 use Rattle.lease_coherence.proofs.told.Leases.{HasLeases}
 use Rattle.lease_coherence.proofs.told.Moves.{IsUpTold}
-use Rattle.lease_coherence.proofs.told.Runs.{told_moves}
+use Rattle.lease_coherence.proofs.told.BreaksStayTold.{told_moves}
 use Rattle.lease_coherence.proofs.within.Moves.{IsUpWithin}
-use Rattle.lease_coherence.proofs.within.Runs.{within_moves}
+use Rattle.lease_coherence.proofs.within.BeliefsStayWithin.{within_moves}
 
 pub leases_carried : IsCarried HasLeases
 leases_carried world move may v = record {

@@ -13,14 +13,14 @@ use Rattle.lease_laws.proofs.world.Links.{by_client}
 use Rattle.lease_coherence.specs.Creates.{one_if, has_asked}
 use Rattle.lease_coherence.specs.Names.{Each, IsNamedReply}
 use Rattle.lease_coherence.proofs.beliefs.Forms.{IsAboutFile, writes_about, keys_apart}
-use Rattle.lease_coherence.proofs.beliefs.Words.{acks, acks_append, is_created, is_ack_break}
+use Rattle.lease_coherence.proofs.beliefs.OneLease.{acks, acks_append, is_created, is_ack_break}
 use Rattle.lease_laws.proofs.client.cases.Commands.{HasCommands, sent_of}
 use Rattle.lease_laws.proofs.client.cases.Replies.{HasTakes, PassesOver, is_live}
 use Rattle.lease_laws.proofs.client.cases.Files.{found_so}
 use Rattle.lease_coherence.proofs.covered.Clients.{IsCounted, closed_status, parked_idle}
-use Rattle.lease_coherence.proofs.covered.Words.{ClosedBefore, closed_behind, closed_behind_writes, NotFailed}
+use Rattle.lease_coherence.proofs.covered.CoveredOpens.{ClosedBefore, closed_behind, closed_behind_writes, NotFailed}
 use Rattle.lease_coherence.proofs.fresh.Clients.{never_passed, sound_live}
-use Rattle.lease_coherence.proofs.told.Words.{HasMet, met_more, IsClosing}
+use Rattle.lease_coherence.proofs.told.BreaksMet.{HasMet, met_more, IsClosing}
 use Rattle.lease_coherence.proofs.creates.Counts.{none_asked}
 use Rattle.lease_laws.proofs.client.cases.Turns.{by_turn, step_of}
 

@@ -15,9 +15,9 @@ use Rattle.lease_laws.proofs.server.Lists.{if_cases, either, clash, and_parts, n
 use Rattle.lease_laws.proofs.world.Runs.{stepped_server}
 use Rattle.lease_coherence.specs.Names.{Each}
 use Rattle.lease_coherence.proofs.beliefs.Forms.{keys_apart}
-use Rattle.lease_coherence.proofs.beliefs.Runs.{own_create}
+use Rattle.lease_coherence.proofs.beliefs.TrustStays.{own_create}
 use Rattle.lease_coherence.proofs.beliefs.Trust.{file_key}
-use Rattle.lease_coherence.proofs.beliefs.Words.{is_created}
+use Rattle.lease_coherence.proofs.beliefs.OneLease.{is_created}
 use Rattle.lease_coherence.proofs.creates.Creates.{stepped_machine}
 use Rattle.lease_coherence.proofs.moves.Deeds.{IsSource, told_to, without_opens, granted_in, granted_reply, reconnected_in}
 use Rattle.lease_coherence.proofs.moves.Deeds.{reconnected_reply, changed_in, leased_in, done_reply}

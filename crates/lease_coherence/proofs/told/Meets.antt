@@ -5,22 +5,22 @@ use Rattle.lease_laws.proofs.Words.{LiveEntry, None, Phase, Reply, Server, Some,
 use Rattle.lease_laws.proofs.Words.{bytes_eq-Decides, false, has_strayed, is_up, key_of, lease_key, machine_key, not, refl, subst}
 use Rattle.lease_laws.proofs.Words.{sym, taken, true, true≢false}
 use Rattle.lease_laws.proofs.server.Lists.{clash, either, and_parts, and_both}
-use Rattle.lease_coherence.specs.Agreement.{taken_all, IsTold, lease_of}
+use Rattle.lease_coherence.specs.Agreement.{taken_all, IsTold, lease_of_client}
 use Rattle.lease_coherence.specs.Creates.{answers, answer_of, asked_by, creates, one_if, has_asked}
 use Rattle.lease_coherence.specs.Names.{Each, IsNamedReply}
 use Rattle.lease_coherence.specs.Agreement.{asked_of}
 use Rattle.lease_coherence.proofs.agreed.Taken.{IsTaken, one_taken, left_behind_it, still_fresh}
 use Rattle.lease_coherence.proofs.beliefs.Trust.{file_key}
-use Rattle.lease_coherence.proofs.beliefs.Words.{is_created, is_ack_break}
+use Rattle.lease_coherence.proofs.beliefs.OneLease.{is_created, is_ack_break}
 use Rattle.lease_laws.proofs.client.cases.Replies.{any_reply, is_live}
 use Rattle.lease_coherence.proofs.covered.Moves.{FailsGone}
-use Rattle.lease_coherence.proofs.covered.Runs.{counted_of}
+use Rattle.lease_coherence.proofs.covered.OpensStayCovered.{counted_of}
 use Rattle.lease_coherence.proofs.moves.Events.{reply_taken, Move}
 use Rattle.lease_coherence.proofs.told.Clients.{IsParkedBreak, TakeLives, takes_live, whole_of}
 use Rattle.lease_coherence.proofs.told.Lone.{AfterLone, HasLones, NoneCreated, holds_handles, is_lone_break, lones_carried}
-use Rattle.lease_coherence.proofs.told.Runs.{known_here, live_not_failed}
-use Rattle.lease_coherence.proofs.told.Words.{HasMet, met_more}
-use Rattle.lease_coherence.proofs.within.Words.{BreaksTell, TellsState}
+use Rattle.lease_coherence.proofs.told.BreaksStayTold.{known_here, live_not_failed}
+use Rattle.lease_coherence.proofs.told.BreaksMet.{HasMet, met_more}
+use Rattle.lease_coherence.proofs.within.BeliefsWithin.{BreaksTell, TellsState}
 
 -- ---- one reply
 
@@ -66,7 +66,7 @@ record IsWaitingFor (world : World) (c file : ℕ) (lowered : State) : Type 0 wh
   good : has_strayed c world.past ≡ false
   up : is_up (world.links c) ≡ true
   fresh : world.server.expired (machine_key world c file) ≡ false
-  breaking : (lease_of world c file).broken_to ≡ Some lowered
+  breaking : (lease_of_client world c file).broken_to ≡ Some lowered
 
 -- a parked entry that believes in handles meets no other break of its key
 parked_asks : (world : World) (c file : ℕ) (lowered : State) (reply : Reply) (queue : List Reply)
@@ -128,8 +128,8 @@ meets_now world c file lowered reply queue w first live is =
       sent = ap (λ r. r ∷ queue) b.is;
       key = b.key_is;
       asks = b.asks;
-      tells = sym w.breaking ∙ told b.notice (subst (TellsState (file_key world c file) (lease_of world c file).broken_to) b.is
-          (head (subst (BreaksTell (file_key world c file) file (lease_of world c file).broken_to
+      tells = sym w.breaking ∙ told b.notice (subst (TellsState (file_key world c file) (lease_of_client world c file).broken_to)
+          b.is (head (subst (BreaksTell (file_key world c file) file (lease_of_client world c file).broken_to
           (is_live ((world.clients c).entries file).phase)) first ((w.known.0.within c w.good w.up).files file w.fresh).breaks)))
           (and_both (b.notice).ack_required (bytes_eq (file_key world c file) (b.notice).key) b.asks
           ((bytes_eq-Decides (file_key world c file) (b.notice).key).1 (sym b.key_is)));
@@ -137,15 +137,15 @@ meets_now world c file lowered reply queue w first live is =
       meets = l.1;
     }
   where
-    head : BreaksTell (file_key world c file) file (lease_of world c file).broken_to
+    head : BreaksTell (file_key world c file) file (lease_of_client world c file).broken_to
         (is_live ((world.clients c).entries file).phase) (reply ∷ queue)
-        → TellsState (file_key world c file) (lease_of world c file).broken_to reply
+        → TellsState (file_key world c file) (lease_of_client world c file).broken_to reply
     head b = b.0 live
 
     told : (notice : BreakNotice)
-        → TellsState (file_key world c file) (lease_of world c file).broken_to (Reply.Break (Some notice))
+        → TellsState (file_key world c file) (lease_of_client world c file).broken_to (Reply.Break (Some notice))
         → (notice.ack_required && bytes_eq (file_key world c file) notice.key) ≡ true
-        → (lease_of world c file).broken_to ≡ Some notice.lowered
+        → (lease_of_client world c file).broken_to ≡ Some notice.lowered
     told notice t = t
 
 will_meet : (c file : ℕ) (lowered : State) (queue : List Reply) (world : World) → IsWaitingFor world c file lowered
@@ -227,7 +227,7 @@ will_meet c file lowered (reply ∷ queue) world w first met =
 -- the break of a lease that is breaking
 pub is_told : (world : World) (c file : ℕ) (lowered : State) → HasLones world → has_strayed c world.past ≡ false
     → is_up (world.links c) ≡ true → world.server.expired (machine_key world c file) ≡ false
-    → (lease_of world c file).broken_to ≡ Some lowered
+    → (lease_of_client world c file).broken_to ≡ Some lowered
     → HasMet (file_key world c file) file (is_live ((world.clients c).entries file).phase) (world.replies c) → IsTold world c file
 is_told world c file lowered known good up fresh breaking met =
     let m = will_meet c file lowered (world.replies c) world

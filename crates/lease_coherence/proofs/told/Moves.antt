@@ -12,16 +12,16 @@ use Rattle.lease_coherence.specs.Names.{IsOwnOpen}
 use Rattle.lease_coherence.specs.Standing.{IsNoClose}
 use Rattle.lease_coherence.proofs.beliefs.Forms.{keys_apart}
 use Rattle.lease_coherence.proofs.beliefs.Trust.{file_key, file_acks}
-use Rattle.lease_coherence.proofs.beliefs.Words.{acks}
+use Rattle.lease_coherence.proofs.beliefs.OneLease.{acks}
 use Rattle.lease_laws.proofs.client.cases.Replies.{is_live}
 use Rattle.lease_coherence.proofs.covered.Asked.{off_closed}
-use Rattle.lease_coherence.proofs.covered.Words.{ClosedBefore}
+use Rattle.lease_coherence.proofs.covered.CoveredOpens.{ClosedBefore}
 use Rattle.lease_coherence.proofs.creates.Creates.{off_rest}
 use Rattle.lease_coherence.proofs.moves.Deeds.{IsSource}
 use Rattle.lease_coherence.proofs.moves.Frames.{from_source}
 use Rattle.lease_coherence.proofs.moves.Moves.{rest_of}
 use Rattle.lease_coherence.specs.Agreement.{as_requests, asked_of}
-use Rattle.lease_coherence.proofs.told.Words.{HasMet, met_behind}
+use Rattle.lease_coherence.proofs.told.BreaksMet.{HasMet, met_behind}
 
 -- ---- one file
 

@@ -19,12 +19,12 @@ use Rattle.lease_coherence.proofs.beliefs.Forms.{keys_apart}
 use Rattle.lease_coherence.proofs.beliefs.Closed.{left_there}
 use Rattle.lease_coherence.proofs.beliefs.Grants.{grant_settled}
 use Rattle.lease_coherence.proofs.beliefs.Trust.{file_key, file_acks}
-use Rattle.lease_coherence.proofs.beliefs.Words.{acks, is_created, is_ack_break}
+use Rattle.lease_coherence.proofs.beliefs.OneLease.{acks, is_created, is_ack_break}
 use Rattle.lease_laws.proofs.client.cases.Replies.{is_live}
 use Rattle.lease_coherence.proofs.covered.Asked.{popped_closed, held_closed, first_asked}
 use Rattle.lease_coherence.proofs.covered.Moves.{HasCovered, refusal_closes}
-use Rattle.lease_coherence.proofs.covered.Runs.{own_place}
-use Rattle.lease_coherence.proofs.covered.Words.{ClosedBefore, HasGrant, IsGrantOf}
+use Rattle.lease_coherence.proofs.covered.OpensStayCovered.{own_place}
+use Rattle.lease_coherence.proofs.covered.CoveredOpens.{ClosedBefore, HasGrant, IsGrantOf}
 use Rattle.lease_coherence.proofs.moves.Deeds.{IsSource, told_to, held_in, granted_in, granted_reply}
 use Rattle.lease_coherence.proofs.moves.Deeds.{reconnected_in, reconnected_reply, changed_in, leased_in, without_opens}
 use Rattle.lease_coherence.proofs.moves.Deeds.{done_reply}
@@ -35,9 +35,9 @@ use Rattle.lease_coherence.specs.Agreement.{as_requests, asked_of}
 use Rattle.lease_coherence.proofs.told.Moves.{ClosedIn, ToldBy, HasTold, told_map, kept_told, breaking_open, breaking_up}
 use Rattle.lease_coherence.proofs.told.Moves.{IsSameServer}
 use Rattle.lease_coherence.proofs.told.Moves.{open_place, off_server, answered_told, plain_answered}
-use Rattle.lease_coherence.proofs.told.Words.{HasMet, met_behind, met_last, is_granted, met_granted}
+use Rattle.lease_coherence.proofs.told.BreaksMet.{HasMet, met_behind, met_last, is_granted, met_granted}
 use Rattle.lease_coherence.proofs.within.Moves.{HasWithin}
-use Rattle.lease_coherence.proofs.within.Words.{AckFit, IsAckFit}
+use Rattle.lease_coherence.proofs.within.BeliefsWithin.{AckFit, IsAckFit}
 use Rattle.lease_laws.proofs.server.cases.Judgements.{IsRefusedAck}
 
 -- ---- a reply, and nothing else

@@ -11,14 +11,14 @@ use Rattle.lease_coherence.specs.Agreement.{lone_break, reads_alone}
 use Rattle.lease_coherence.specs.Names.{Each}
 use Rattle.lease_laws.proofs.client.cases.Commands.{sent_of, any_command}
 use Rattle.lease_laws.proofs.client.cases.Replies.{PassesOver, is_live, any_reply}
-use Rattle.lease_coherence.proofs.names.Words.{each_append}
+use Rattle.lease_coherence.proofs.names.NamedInRecord.{each_append}
 use Rattle.lease_coherence.proofs.beliefs.Forms.{HadBelief, HasBeliefTakes, IsAboutFile, IsNoBreak, IsStill, commands_still}
 use Rattle.lease_coherence.proofs.beliefs.Forms.{as_it_was, file_no_acks, idle_still, keys_apart, lowered_elsewhere, never_live}
 use Rattle.lease_coherence.proofs.beliefs.Forms.{takes_by_belief, writes_about, writes_close_about}
-use Rattle.lease_coherence.proofs.beliefs.Words.{acks, IsBelieved}
+use Rattle.lease_coherence.proofs.beliefs.OneLease.{acks, IsBelieved}
 use Rattle.lease_coherence.proofs.fresh.Clients.{never_passed}
 use Rattle.lease_coherence.proofs.within.Entries.{IsLess, step_within, reply_within, created_within, quiet_within, break_within}
-use Rattle.lease_coherence.proofs.within.Words.{LowersFormed, IsWithinFor}
+use Rattle.lease_coherence.proofs.within.BeliefsWithin.{LowersFormed, IsWithinFor}
 use Rattle.lease_laws.proofs.client.cases.Turns.{by_turn}
 
 -- ---- steps

@@ -5,11 +5,12 @@ use Rattle.lease_laws.proofs.Words.{inl, inr, is_state_within, meet, not, nothin
 use Rattle.lease_laws.proofs.server.Lists.{clash, and_parts, and_both}
 use Rattle.lease_coherence.specs.Agreement.{lone_break}
 use Rattle.lease_coherence.specs.Names.{Each}
-use Rattle.lease_coherence.proofs.beliefs.Words.{acks, is_created, IsBelieved}
+use Rattle.lease_coherence.proofs.beliefs.OneLease.{acks, is_created, IsBelieved}
 use Rattle.lease_laws.proofs.client.cases.Replies.{is_live}
-use Rattle.lease_coherence.proofs.names.Words.{each_append, each_weaker}
-use Rattle.lease_coherence.proofs.within.Words.{IsWithin, LowersFormed, tell_fewer, no_acks_fit, fit_less, IsAckFit, AckFit}
-use Rattle.lease_coherence.proofs.within.Words.{within_rest, IsWithinFor}
+use Rattle.lease_coherence.proofs.names.NamedInRecord.{each_append, each_weaker}
+use Rattle.lease_coherence.proofs.within.BeliefsWithin.{IsWithin, LowersFormed, tell_fewer, no_acks_fit, fit_less, IsAckFit}
+use Rattle.lease_coherence.proofs.within.BeliefsWithin.{AckFit}
+use Rattle.lease_coherence.proofs.within.BeliefsWithin.{within_rest, IsWithinFor}
 
 -- an entry that is live was, and believes no more
 pub record IsLess (phase : Phase) (belief : State) : Type 0 where

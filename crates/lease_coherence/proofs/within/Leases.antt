@@ -6,11 +6,12 @@ use Rattle.lease_laws.proofs.server.Lists.{if_cases, clash, among_before}
 use Rattle.lease_coherence.specs.Agreement.{lone_break}
 use Rattle.lease_coherence.specs.Names.{Each}
 use Rattle.lease_coherence.proofs.beliefs.Leases.{settled_none}
-use Rattle.lease_coherence.proofs.beliefs.Words.{acks, is_created, OnGiven, GivesNothing, IsMet, IsAnswering, IsBelieved}
+use Rattle.lease_coherence.proofs.beliefs.OneLease.{acks, is_created, OnGiven, GivesNothing, IsMet, IsAnswering, IsBelieved}
 use Rattle.lease_laws.proofs.client.cases.Replies.{is_live}
-use Rattle.lease_coherence.proofs.within.Words.{IsWithin, AreGiven, within_in, given_last, given_changed, given_nowhere}
-use Rattle.lease_coherence.proofs.within.Words.{TellsState, tell_none, tell_last, tell_nowhere, no_acks_fit, IsAckFit, AckFit}
-use Rattle.lease_coherence.proofs.within.Words.{IsWithinFor}
+use Rattle.lease_coherence.proofs.within.BeliefsWithin.{IsWithin, AreGiven, within_in, given_last, given_changed, given_nowhere}
+use Rattle.lease_coherence.proofs.within.BeliefsWithin.{TellsState, tell_none, tell_last, tell_nowhere, no_acks_fit, IsAckFit}
+use Rattle.lease_coherence.proofs.within.BeliefsWithin.{AckFit}
+use Rattle.lease_coherence.proofs.within.BeliefsWithin.{IsWithinFor}
 
 -- one more reply: a lease that is as it was
 pub plain_more : (key : List ℕ) (file : ℕ) (lease : Lease) (phase : Phase) (asked : List Request) (queue : List Reply)

@@ -17,15 +17,15 @@ use Rattle.lease_coherence.proofs.beliefs.Grants.{grant_breaking}
 use Rattle.lease_coherence.proofs.beliefs.Given.{own_named}
 use Rattle.lease_coherence.proofs.beliefs.Sent.{IsSentTo, is_bare}
 use Rattle.lease_coherence.proofs.beliefs.Trust.{file_key, HasTrust}
-use Rattle.lease_coherence.proofs.beliefs.Words.{acks, OnGiven, IsAnswering, IsBelieved}
+use Rattle.lease_coherence.proofs.beliefs.OneLease.{acks, OnGiven, IsAnswering, IsBelieved}
 use Rattle.lease_coherence.proofs.moves.Deeds.{IsSource, with_held, told_to, granted_in, granted_reply, reconnected_in}
 use Rattle.lease_coherence.proofs.moves.Deeds.{reconnected_reply, changed_in, leased_in, done_reply}
 use Rattle.lease_coherence.proofs.moves.Foreign.{map_kept}
 use Rattle.lease_coherence.proofs.moves.Moves.{IsOldest, rest_of, popped}
-use Rattle.lease_coherence.proofs.names.Words.{each_append, each_rest}
+use Rattle.lease_coherence.proofs.names.NamedInRecord.{each_append, each_rest}
 use Rattle.lease_coherence.proofs.standing.Servers.{again_up}
 use Rattle.lease_coherence.proofs.within.Leases.{plain_more, settled_more, lone_sent, break_more, less_asked, ack_more}
-use Rattle.lease_coherence.proofs.within.Words.{IsWithin, TellsState, LowersFormed, AckFit, IsWithinFor}
+use Rattle.lease_coherence.proofs.within.BeliefsWithin.{IsWithin, TellsState, LowersFormed, AckFit, IsWithinFor}
 
 pub record HasWithin (world : World) (client : ℕ) : Type 0 where
   pub formed : Each LowersFormed (world.replies client)

@@ -6,7 +6,7 @@ use Rattle.lease_laws.proofs.Words.{Progress, Server, Share, Some, State, Want, 
 use Rattle.lease_laws.proofs.Words.{breaks_to_some, conflicts_on}
 use Rattle.lease_laws.proofs.Words.{false, filter, finding, handle_wants, has_key, has_lease, has_own_key, holds_any}
 use Rattle.lease_laws.proofs.Words.{is_breaking, is_other_on}
-use Rattle.lease_laws.proofs.Words.{key_of_open, keys_of, lease_of, list_any, must_wait, not, nothing_cached}
+use Rattle.lease_laws.proofs.Words.{key_of_open, keys_of, lease_of_open, list_any, must_wait, not, nothing_cached}
 use Rattle.lease_laws.proofs.Words.{own_key, refl, sym, true, true≢false}
 use Rattle.lease_laws.proofs.Words.{wants_met, wants_where, without_handle, without_write, write_wants}
 use Rattle.lease_laws.proofs.server.Breaking.{some_breaks}
@@ -51,21 +51,21 @@ where_other server own file test lowering other want a =
 handles_other : (server : Server) (own : Option Key) (file : ℕ) (access : Access) (share : Share)
     → AreOtherKeys server own file (handle_wants server own file access share)
 handles_other server own file access share = where_other server own file
-    (λ one. conflicts_on file access share one && is_other_on own file one && (lease_of server one).state.handle) without_handle
-    (λ one t. (and_parts (conflicts_on file access share one) (is_other_on own file one)
-    (and_parts (conflicts_on file access share one && is_other_on own file one) (lease_of server one).state.handle t).0).1)
+    (λ one. conflicts_on file access share one && is_other_on own file one && (lease_of_open server one).state.handle)
+    without_handle (λ one t. (and_parts (conflicts_on file access share one) (is_other_on own file one)
+    (and_parts (conflicts_on file access share one && is_other_on own file one) (lease_of_open server one).state.handle t).0).1)
 
 -- a create wants other keys
 writes_other : (server : Server) (own : Option Key) (file : ℕ) → AreOtherKeys server own file (write_wants server own file)
 writes_other server own file = where_other server own file
-    (λ one. is_other_on own file one && (lease_of server one).state.write) without_write
-    (λ one t. (and_parts (is_other_on own file one) (lease_of server one).state.write t).0)
+    (λ one. is_other_on own file one && (lease_of_open server one).state.write) without_write
+    (λ one t. (and_parts (is_other_on own file one) (lease_of_open server one).state.write t).0)
 
 -- a write wants other keys
 all_other : (server : Server) (own : Option Key) (file : ℕ) → AreOtherKeys server own file (all_wants server own file)
 all_other server own file = where_other server own file
-    (λ one. is_other_on own file one && holds_any (lease_of server one).state) (λ state. nothing_cached)
-    (λ one t. (and_parts (is_other_on own file one) (holds_any (lease_of server one).state) t).0)
+    (λ one. is_other_on own file one && holds_any (lease_of_open server one).state) (λ state. nothing_cached)
+    (λ one t. (and_parts (is_other_on own file one) (holds_any (lease_of_open server one).state) t).0)
 
 -- a key that is breaking has an open
 pub breaking_open : (server : Server) (key : Key) → IsSound server → is_breaking (server.leases key) ≡ true

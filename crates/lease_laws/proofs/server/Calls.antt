@@ -5,7 +5,7 @@ use Rattle.lease_laws.proofs.Words.{IsSound, Key, List, None, Ok, Open, Option, 
 use Rattle.lease_laws.proofs.Words.{Status, ℕ, acknowledged, after_first_try, ap, arrived_on, begun, called}
 use Rattle.lease_laws.proofs.Words.{client_forgotten, cond, disconnected, false, file_asked, file_request_arrived}
 use Rattle.lease_laws.proofs.Words.{has_key, held_of, if◌then◌else◌, is_behind, is_breaking, is_key, is_left_behind, is_lost}
-use Rattle.lease_laws.proofs.Words.{joined, key_expired, key_of, lease_by, lease_of, list_any, new_server, no_lease, not}
+use Rattle.lease_laws.proofs.Words.{joined, key_expired, key_of, lease_by, lease_of_open, list_any, new_server, no_lease, not}
 use Rattle.lease_laws.proofs.Words.{opens_disconnected, opens_dropped, outlives_connection, put_key, refl, request_held}
 use Rattle.lease_laws.proofs.Words.{subst, sym, tried, true, true≢false, without}
 use Rattle.lease_laws.proofs.server.Answers.{acknowledged-sound, refused-sound, concluded-sound, map_same, choose_connection}
@@ -92,16 +92,17 @@ handle_key server client (Some bytes) h = (key_of client bytes, is_key-refl clie
 -- an open that is kept outlives its connection
 pub kept_lasting : (server : Server) (one : Open) → outlives_connection server one ≡ true → IsLasting server.leases one
 kept_lasting server one kept =
-    let outer = and_parts (one.durable && (lease_of server one).state.handle) (not (is_breaking (lease_of server one))) kept in
-    let inner = and_parts one.durable (lease_of server one).state.handle outer.0 in
+    let outer = and_parts (one.durable && (lease_of_open server one).state.handle)
+    (not (is_breaking (lease_of_open server one))) kept in
+    let inner = and_parts one.durable (lease_of_open server one).state.handle outer.0 in
     let k = handle_key server one.client one.lease_key inner.1 in
-    let same : lease_of server one ≡ server.leases k.0 = lease_by-key server k.0 one.client one.lease_key k.1 in
+    let same : lease_of_open server one ≡ server.leases k.0 = lease_by-key server k.0 one.client one.lease_key k.1 in
     record {
       is_durable = inner.0;
       key = k.0;
       has_the_key = k.1;
       holds_handle = ap (λ l. l.state.handle) (sym same) ∙ inner.1;
-      is_settled = ap (λ l. is_breaking l) (sym same) ∙ not_parts (is_breaking (lease_of server one)) outer.1;
+      is_settled = ap (λ l. is_breaking l) (sym same) ∙ not_parts (is_breaking (lease_of_open server one)) outer.1;
     }
 
 -- an open that outlives its connection does so among fewer opens, if it is there

@@ -3,7 +3,7 @@ use Rattle.lease_laws.proofs.Words.{◌&&◌, ◌∙◌, ◌∷◌, ◌≡◌, �
 use Rattle.lease_laws.proofs.Words.{Some, State, Want, ℕ, ⊎_elim, [], ap, arith, break_begun, breaks_to_none, breaks_to_some}
 use Rattle.lease_laws.proofs.Words.{false, filter, find, has_key, has_lease, if◌then◌else◌, inl, inr, is_breaking, is_key}
 use Rattle.lease_laws.proofs.Words.{is_left_open, key_added, key_before, key_eq, key_of, keys_of, lease_broken, lease_by}
-use Rattle.lease_laws.proofs.Words.{lease_lowered, lease_of, list_all, list_any, map, no_lease, not}
+use Rattle.lease_laws.proofs.Words.{lease_lowered, lease_of_open, list_all, list_any, map, no_lease, not}
 use Rattle.lease_laws.proofs.Words.{nothing_cached, open_key_added, opens_dropped, refl, subst, sym, true, want_met, wants_met}
 use Rattle.lease_laws.proofs.Words.{wants_where}
 use Rattle.lease_laws.proofs.server.Breaking.{to_nothing}
@@ -266,7 +266,7 @@ wants_met_met holds wants progress nothing = any_wants
 
 -- an open whose lease is to give something up
 abbrev pub is_wanted : (State → Bool) → (Open → Bool) → Server → Open → Bool
-is_wanted holds base server one = base one && holds (lease_of server one).state
+is_wanted holds base server one = base one && holds (lease_of_open server one).state
 
 -- what is wanted of such opens: that each lease be so lowered
 abbrev pub wanted : (State → Bool) → (Open → Bool) → (State → State) → Server → List Want
@@ -292,7 +292,8 @@ wanted_has holds base lowering server one bytes a e b h =
     among_mapped (λ key. record { key = key; lowered = lowering (server.leases key).state }) (key_of one.client bytes)
     (keys_of (filter (is_wanted holds base server) server.opens))
     (keys_of-own one bytes (filter (is_wanted holds base server) server.opens)
-    (among_filtered (is_wanted holds base server) one server.opens a (and_both (base one) (holds (lease_of server one).state) b
+    (among_filtered (is_wanted holds base server) one server.opens a (and_both (base one)
+    (holds (lease_of_open server one).state) b
     (ap (λ (key : Option (List ℕ)). holds (lease_by server one.client key).state) e ∙ h))) e)
 
 -- an open that is still wanted after a round: its lease was wanted, and is breaking
@@ -309,10 +310,10 @@ still_wanted : (holds : State → Bool) (base : Open → Bool) (lowering : State
     → IsStillWanted holds base lowering before after (key_of one.client bytes)
 still_wanted holds base lowering before after one bytes e round a t =
     let key : Key = key_of one.client bytes in
-    let lease : lease_of after one ≡ after.leases key = ap (λ (k : Option (List ℕ)). lease_by after one.client k) e in
+    let lease : lease_of_open after one ≡ after.leases key = ap (λ (k : Option (List ℕ)). lease_by after one.client k) e in
     let want : Want = record { key = key; lowered = lowering (before.leases key).state } in
-    let parts : (base one ≡ true) × (holds (lease_of after one).state ≡ true) = and_parts (base one)
-    (holds (lease_of after one).state) t in
+    let parts : (base one ≡ true) × (holds (lease_of_open after one).state ≡ true) = and_parts (base one)
+    (holds (lease_of_open after one).state) t in
     let now : holds (after.leases key).state ≡ true = ap (λ (l : Lease). holds l.state) (sym lease) ∙ parts.1 in
     let was : holds (before.leases key).state ≡ true =
     not_false (holds (before.leases key).state) (λ n. clash (holds (after.leases key).state) now
@@ -337,8 +338,8 @@ left_met : (holds : State → Bool) (base : Open → Bool) (lowering : State →
     → NoneIs (λ lease. is_breaking lease) after (wanted holds base lowering before)
     → Among one after.opens → is_wanted holds base after one ≡ false
 left_met holds base lowering before after one None e nothing round ready a =
-    not_true (is_wanted holds base after one) (λ t. clash (holds (lease_of after one).state)
-    (and_parts (base one) (holds (lease_of after one).state) t).1
+    not_true (is_wanted holds base after one) (λ t. clash (holds (lease_of_open after one).state)
+    (and_parts (base one) (holds (lease_of_open after one).state) t).1
     (ap (λ (key : Option (List ℕ)). holds (lease_by after one.client key).state) e ∙ nothing))
 left_met holds base lowering before after one (Some bytes) e nothing round ready a =
     not_true (is_wanted holds base after one) (λ t.

@@ -7,7 +7,7 @@ use Rattle.lease_laws.proofs.Words.{Option, Out, Outcome, Patch, Progress, Reque
 use Rattle.lease_laws.proofs.Words.{[], after_first_try, all_wants, ap, append-nil, arrived_on, begun, breaks_to_none}
 use Rattle.lease_laws.proofs.Words.{connected_open, false, file_asked, file_request_arrived, finding, has_own_key}
 use Rattle.lease_laws.proofs.Words.{held_of, holds_any, inl, inr, is_behind, is_other_on, key_of_open}
-use Rattle.lease_laws.proofs.Words.{lease_of, leaves_nothing, not, nothing_cached, receive, refl, refused}
+use Rattle.lease_laws.proofs.Words.{lease_of_open, leaves_nothing, not, nothing_cached, receive, refl, refused}
 use Rattle.lease_laws.proofs.Words.{request_held, subst, sym, tried, true, ⊤}
 use Rattle.lease_laws.proofs.server.Keys.{lease_by-key}
 use Rattle.lease_laws.proofs.server.EnoughRounds.{AllBreakToNone}
@@ -94,12 +94,12 @@ to_none broken_to e = grind arith
 pub all_wants-given : (server : Server) (one : Open)
     → AllBreakToNone server (all_wants server (key_of_open one) one.file) → CachesAlone server one
 all_wants-given server one ready key other a f strange k =
-    let test : Open → Bool = λ x. is_other_on (key_of_open one) one.file x && holds_any (lease_of server x).state in
+    let test : Open → Bool = λ x. is_other_on (key_of_open one) one.file x && holds_any (lease_of_open server x).state in
     either (holds_any (server.leases key).state)
     (λ held. inr (to_none (server.leases key).broken_to
     (all_each (λ want. breaks_to_none (server.leases want.key)) _ (all_wants server (key_of_open one) one.file) ready
     (wants_where-has server test (λ state. nothing_cached) key other a
-    (and_both (is_other_on (key_of_open one) one.file other) (holds_any (lease_of server other).state)
+    (and_both (is_other_on (key_of_open one) one.file other) (holds_any (lease_of_open server other).state)
     (and_both (other.file == one.file) (not (has_own_key (key_of_open one) other))
     ((Decides-eqb other.file one.file).1 f) (ap not strange))
     (ap (λ l. holds_any l.state) (lease_by-key server key other.client other.lease_key k) ∙ held)) k))))

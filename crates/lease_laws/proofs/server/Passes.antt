@@ -1,12 +1,12 @@
 -- Passes over held requests keep a server's laws.
-use Rattle.lease_laws.proofs.Words.{◌++◌, Access, CreateAsk, FileRequest, Held, IsSound, LeaseOf, List, Option}
+use Rattle.lease_laws.proofs.Words.{◌++◌, Access, FileRequest, Held, IsSound, LeaseOf, List, Option}
 use Rattle.std.proofs.Common.{arith}
 use Rattle.lease_laws.proofs.Words.{Pass, Progress, Share, Tried, ℕ, all_passes, held_left}
 use Rattle.lease_laws.proofs.Words.{pass_answered}
 use Rattle.lease_laws.proofs.Words.{tried, tried_again}
 use Rattle.lease_laws.proofs.server.Answers.{concluded-sound}
 use Rattle.lease_laws.proofs.server.Progress.{held_left-sound}
-use Rattle.lease_laws.proofs.server.Ready.{RequestFree, ContextsFree, CreateFree, ready-free}
+use Rattle.lease_laws.proofs.server.Ready.{RequestFree, CreateFree, ready-free}
 use Rattle.lease_laws.proofs.server.Tries.{IsGoodTry, tried_for-good}
 use Rattle.lease_laws.proofs.server.cases.Passes.{any_try_again, passes_keep}
 
@@ -15,12 +15,6 @@ create_free : (client file : ℕ) (access : Access) (share : Share) (asked : Opt
     (at : ℕ) (left : List Held) (progress : Progress) → CreateFree progress.server client file access share asked again
     → CreateFree (held_left at left progress).server client file access share asked again
 create_free client file access share asked again at left progress free = grind arith
-
--- what a create needs, by its contexts
-contexts_free : (client file : ℕ) (access : Access) (share : Share) (contexts : Option CreateAsk) (at : ℕ)
-    (left : List Held) (progress : Progress) → ContextsFree progress.server client file access share contexts
-    → ContextsFree (held_left at left progress).server client file access share contexts
-contexts_free client file access share contexts at left progress free = grind arith
 
 -- what requests are held has nothing to do with what a create needs
 pub held_left-free : (client : ℕ) (request : FileRequest) (file : ℕ) (left : List Held) (progress : Progress)

@@ -3,8 +3,8 @@
 use Rattle.lease_laws.proofs.Words.{◌&&◌, ◌==◌, ◌∙◌, ◌≡◌, Access, Among, CreateAsk, Decides-eqb, FileRequest, IsFree}
 use Rattle.lease_laws.proofs.Words.{Key, LeaseOf, None, Open, Option, Progress, Server, Share, Some, ℕ}
 use Rattle.lease_laws.proofs.Words.{ap, conflict, conflicts_on, false}
-use Rattle.lease_laws.proofs.Words.{has_key, has_own_key, is_empty, is_leased_elsewhere, is_other_on, is_ready}
-use Rattle.lease_laws.proofs.Words.{lease_of, list_any, not, own_key, subst, sym, true, true≢false, without_write, write_wants}
+use Rattle.lease_laws.proofs.Words.{has_key, has_own_key, is_empty, is_leased_elsewhere, is_other_on, is_ready, lease_of_open}
+use Rattle.lease_laws.proofs.Words.{list_any, not, own_key, subst, sym, true, true≢false, without_write, write_wants}
 use Rattle.lease_laws.proofs.server.Keys.{lease_by-key}
 use Rattle.lease_laws.proofs.server.Lists.{clash, and_both, not_true, not_false, none_has}
 use Rattle.lease_laws.proofs.server.Tries.{IsFoundReady}
@@ -37,11 +37,12 @@ unwritten_at : (server : Server) (own : Option Key) (file : ℕ) → is_empty (w
     → (key : Key) (one : Open) → Among one server.opens → one.file ≡ file → has_own_key own one ≡ false
     → has_key key one ≡ true → (server.leases key).state.write ≡ false
 unwritten_at server own file none key one a f other k = not_true (server.leases key).state.write (λ w.
-    clash (is_other_on own file one && (lease_of server one).state.write)
-    (and_both (is_other_on own file one) (lease_of server one).state.write
+    clash (is_other_on own file one && (lease_of_open server one).state.write)
+    (and_both (is_other_on own file one) (lease_of_open server one).state.write
     (and_both (one.file == file) (not (has_own_key own one)) (same_file one file f) (ap not other))
     (ap (λ l. l.state.write) (lease_by-key server key one.client one.lease_key k) ∙ w))
-    (wants_where-none server (λ x. is_other_on own file x && (lease_of server x).state.write) without_write none key one a k))
+    (wants_where-none server (λ x. is_other_on own file x && (lease_of_open server x).state.write)
+    without_write none key one a k))
 
 -- what is known of a create with these contexts once it is ready
 abbrev pub CreateFree : Server → ℕ → ℕ → Access → Share → Option LeaseOf → Option ℕ → Type 0

@@ -11,7 +11,7 @@ use Rattle.lease_laws.proofs.Words.{is_left_open, is_ready, key_before, key_eq}
 use Rattle.lease_laws.proofs.Words.{lease_broken}
 use Rattle.lease_laws.proofs.Words.{not, opens_dropped, own_count, own_key, refl, step_taken}
 use Rattle.lease_laws.proofs.Words.{steps_taken, subst, sym, tried, tried_for, true, want_met, wants_met}
-use Rattle.lease_laws.proofs.Words.{is_other_on, lease_of, put_key, true≢false, without, without_handle}
+use Rattle.lease_laws.proofs.Words.{is_other_on, lease_of_open, put_key, true≢false, without, without_handle}
 use Rattle.lease_laws.proofs.Words.{holds_any, key_of_open, nothing_cached, without_write}
 use Rattle.lease_laws.proofs.server.Breaks.{left_present, wants_met-sound}
 use Rattle.lease_laws.proofs.server.EnoughTries.{tries_end}
@@ -168,14 +168,14 @@ needs-ordered : (server : Server) (client : ℕ) (request : FileRequest) (wants 
     → finding server client request ≡ Finding.Needs wants → AreInKeyOrder wants
 needs-ordered server client = any_needs server client (λ request. AreInKeyOrder) (record {
   conflicts = λ file access share ask at clash some. let own = own_key client ask.lease in (wants_where-exact server
-      (λ one. conflicts_on file access share one && is_other_on own file one && (lease_of server one).state.handle)
+      (λ one. conflicts_on file access share one && is_other_on own file one && (lease_of_open server one).state.handle)
       without_handle).in_order;
   enters = λ file access share ask at calm. let own = own_key client ask.lease in (wants_where-exact server
-      (λ one. is_other_on own file one && (lease_of server one).state.write) without_write).in_order;
+      (λ one. is_other_on own file one && (lease_of_open server one).state.write) without_write).in_order;
   awaited = λ file access share ask file_id there again some. tt;
   reads = λ file_id one own may. tt;
   writes = λ file_id number patch one own may fits. (wants_where-exact server
-      (λ other. is_other_on (key_of_open one) one.file other && holds_any (lease_of server other).state)
+      (λ other. is_other_on (key_of_open one) one.file other && holds_any (lease_of_open server other).state)
       (λ state. nothing_cached)).in_order;
   closes = λ file_id one own. tt;
 })

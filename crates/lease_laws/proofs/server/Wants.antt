@@ -6,7 +6,7 @@ use Rattle.lease_laws.proofs.Words.{Want, ℕ, ⊎_elim, [], all_wants, ap, conf
 use Rattle.lease_laws.proofs.Words.{false, filter, finding, granted_form_of, handle_wants}
 use Rattle.lease_laws.proofs.Words.{has_key, holds_any, if◌then◌else◌, inl, inr, is_empty, is_key}
 use Rattle.lease_laws.proofs.Words.{is_other_on, key_added, key_before, key_eq, key_of, key_of_open, keys_of}
-use Rattle.lease_laws.proofs.Words.{lease_of, map, no_lease, nothing_cached, open_key_added}
+use Rattle.lease_laws.proofs.Words.{lease_of_open, map, no_lease, nothing_cached, open_key_added}
 use Rattle.lease_laws.proofs.Words.{own_key, refl, subst, sym, true, true≢false, wants_where}
 use Rattle.lease_laws.proofs.Words.{without_handle, without_write, write_wants}
 use Rattle.lease_laws.proofs.server.Keys.{is_key-refl, lease_by-key}
@@ -110,15 +110,16 @@ fits-at server lowering key s held low = grind arith
 
 -- wants fit where each open that passes the test has a lease that can be so lowered
 pub wants_where-fit : (server : Server) (test : Open → Bool) (lowering : State → State) → IsSound server
-    → ((one : Open) → test one ≡ true → granted_form_of (lease_of server one).state ≡ (lease_of server one).state
-    → ((lease_of server one) ≡ no_lease → ⊥) × IsLowered (lease_of server one).state (lowering (lease_of server one).state))
+    → ((one : Open) → test one ≡ true → granted_form_of (lease_of_open server one).state ≡ (lease_of_open server one).state
+    → ((lease_of_open server one) ≡ no_lease → ⊥)
+    × IsLowered (lease_of_open server one).state (lowering (lease_of_open server one).state))
     → AllFit server (wants_where server test lowering)
 wants_where-fit server test lowering s good want a =
     let x = among_map (λ key. record { key = key; lowered = lowering (server.leases key).state }) want
     (keys_of (filter test server.opens)) a in
     let y = keys_of-has x.0 (filter test server.opens) x.1 in
     let z = among_filter test y.0 server.opens y.1 in
-    let same : lease_of server y.0 ≡ server.leases x.0 = lease_by-key server x.0 (y.0).client (y.0).lease_key y.2 in
+    let same : lease_of_open server y.0 ≡ server.leases x.0 = lease_by-key server x.0 (y.0).client (y.0).lease_key y.2 in
     let both = good y.0 z.1 (ap (λ l. granted_form_of l.state) same ∙ (s.lawful x.0).is_granted_form
     ∙ ap (λ l. l.state) (sym same)) in
     subst (λ w. Fits server w) (sym x.2) (fits-at server lowering x.0 s
@@ -128,30 +129,30 @@ wants_where-fit server test lowering s good want a =
 pub handle_wants-fit : (server : Server) (own : Option Key) (file : ℕ) (access : Access) (share : Share)
     → IsSound server → AllFit server (handle_wants server own file access share)
 handle_wants-fit server own file access share s = wants_where-fit server
-    (λ one. conflicts_on file access share one && is_other_on own file one && (lease_of server one).state.handle) without_handle s
-    (λ one t form. let holds = (and_parts (conflicts_on file access share one && is_other_on own file one)
-    (lease_of server one).state.handle t).1 in (
-      (λ e. clash (lease_of server one).state.handle holds (ap (λ l. l.state.handle) e)),
-      without_handle-lowered (lease_of server one).state form holds,
+    (λ one. conflicts_on file access share one && is_other_on own file one && (lease_of_open server one).state.handle)
+    without_handle s (λ one t form. let holds = (and_parts (conflicts_on file access share one && is_other_on own file one)
+    (lease_of_open server one).state.handle t).1 in (
+      (λ e. clash (lease_of_open server one).state.handle holds (ap (λ l. l.state.handle) e)),
+      without_handle-lowered (lease_of_open server one).state form holds,
     ))
 
 -- a create's wants fit
 pub write_wants-fit : (server : Server) (own : Option Key) (file : ℕ) → IsSound server
     → AllFit server (write_wants server own file)
 write_wants-fit server own file s = wants_where-fit server
-    (λ one. is_other_on own file one && (lease_of server one).state.write) without_write s
-    (λ one t form. let holds = (and_parts (is_other_on own file one) (lease_of server one).state.write t).1 in (
-      (λ e. clash (lease_of server one).state.write holds (ap (λ l. l.state.write) e)),
-      without_write-lowered (lease_of server one).state form holds,
+    (λ one. is_other_on own file one && (lease_of_open server one).state.write) without_write s
+    (λ one t form. let holds = (and_parts (is_other_on own file one) (lease_of_open server one).state.write t).1 in (
+      (λ e. clash (lease_of_open server one).state.write holds (ap (λ l. l.state.write) e)),
+      without_write-lowered (lease_of_open server one).state form holds,
     ))
 
 -- a write's wants fit
 pub all_wants-fit : (server : Server) (own : Option Key) (file : ℕ) → IsSound server → AllFit server (all_wants server own file)
 all_wants-fit server own file s = wants_where-fit server
-    (λ one. is_other_on own file one && holds_any (lease_of server one).state) (λ state. nothing_cached) s
-    (λ one t form. let holds = (and_parts (is_other_on own file one) (holds_any (lease_of server one).state) t).1 in (
-      (λ e. clash (holds_any (lease_of server one).state) holds (ap (λ l. holds_any l.state) e)),
-      nothing-lowered (lease_of server one).state holds,
+    (λ one. is_other_on own file one && holds_any (lease_of_open server one).state) (λ state. nothing_cached) s
+    (λ one t form. let holds = (and_parts (is_other_on own file one) (holds_any (lease_of_open server one).state) t).1 in (
+      (λ e. clash (holds_any (lease_of_open server one).state) holds (ap (λ l. holds_any l.state) e)),
+      nothing-lowered (lease_of_open server one).state holds,
     ))
 
 -- all that a look at a request wants fits

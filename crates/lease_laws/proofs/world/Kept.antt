@@ -2,9 +2,9 @@
 -- what speaks of the server, the clients and the record, and not of queues and links.
 use Rattle.lease_laws.proofs.Words.{◌∙◌, ◌∷◌, ◌≡◌, Call, Client, ClientCall, Event, Fact, Link, List, Out, Progress, Reply}
 use Rattle.lease_laws.proofs.Words.{Request, World, ℕ, [], after, all_delivered, called, client_called, delivered, happened}
-use Rattle.lease_laws.proofs.Words.{happens, machine_key, put, refl, served, stepped_in, subst}
+use Rattle.lease_laws.proofs.Words.{machine_key, put, refl, served, stepped_in, subst}
 use Rattle.std.proofs.Common.{arith}
-use Rattle.lease_laws.proofs.world.cases.Events.{HasForms, IsTold, Keeps, call_served, kept_by_event, kept_by_run}
+use Rattle.lease_laws.proofs.world.cases.Events.{HasForms, IsTold, Keeps, call_served, kept_by_run}
 
 -- facts that neither start a file, nor are given out by the server or noted by a client
 abbrev pub IsOfWorld : Fact → Type 0
@@ -90,10 +90,6 @@ kept_forms P k = record {
   scavenge = λ world file_id p. k.call world (Call.Scavenge file_id) p;
   stray = λ world client request some up has p. k.messages world _ world.replies world.links p;
 }
-
--- any event
-pub happens-kept : (P : World → Type 0) → IsKept P → (world : World) (event : Event) → P world → P (happens world event)
-happens-kept P k world event p = kept_by_event P (kept_forms P k) world event p
 
 -- any events
 pub after-kept : (P : World → Type 0) → IsKept P → (world : World) (events : List Event) → P world → P (after world events)

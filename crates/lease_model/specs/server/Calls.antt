@@ -14,7 +14,7 @@ use Rattle.lease_model.specs.messages.Requests.{FileRequest, Request, CreateAsk}
 use Rattle.lease_model.specs.server.State.{Server, Open, Held, has_file, has_key, is_breaking}
 use Rattle.lease_model.specs.values.Tables.{put, put_key}
 use Rattle.lease_model.specs.server.Findings.{connected_open}
-use Rattle.lease_model.specs.server.Naming.{lease_of}
+use Rattle.lease_model.specs.server.Naming.{lease_of_open}
 
 -- the file of a request, or the status that refuses it as it comes
 abbrev pub file_of_open : Option Open → Result ℕ Status
@@ -83,7 +83,7 @@ join server client = if server.present client then begun server else joined clie
 -- and the lease isn't breaking.
 abbrev pub outlives_connection : Server → Open → Bool
 outlives_connection server one =
-    one.durable && (lease_of server one).state.handle && not (is_breaking (lease_of server one))
+    one.durable && (lease_of_open server one).state.handle && not (is_breaking (lease_of_open server one))
 
 -- connected opens of the client that don't outlive the connection
 abbrev pub is_lost : Server → ℕ → Open → Bool

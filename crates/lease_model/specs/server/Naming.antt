@@ -25,5 +25,5 @@ abbrev pub lease_by : Server → ℕ → Option (List ℕ) → Lease
 lease_by server client None = no_lease
 lease_by server client (Some bytes) = server.leases (key_of client bytes)
 
-abbrev pub lease_of : Server → Open → Lease
-lease_of server one = lease_by server one.client one.lease_key
+abbrev pub lease_of_open : Server → Open → Lease
+lease_of_open server one = lease_by server one.client one.lease_key

@@ -5,7 +5,7 @@ use Rattle.lease_state.specs.declared.access.Access.{Access}
 use Rattle.lease_state.specs.declared.access.Share.{Share}
 use Rattle.lease_model.specs.server.Allowed.{is_other_on, conflicts_on}
 use Rattle.lease_model.specs.server.KeyOrder.{keys_of}
-use Rattle.lease_model.specs.server.Naming.{lease_of}
+use Rattle.lease_model.specs.server.Naming.{lease_of_open}
 use Rattle.lease_model.specs.server.State.{Server, Open}
 use Rattle.lease_model.specs.values.Keys.{Key}
 use Rattle.lease_model.specs.values.LeaseStates.{holds_any, without_write, without_handle}
@@ -25,17 +25,17 @@ wants_where server test lowering =
 -- keys are wanted).
 abbrev pub handle_wants : Server → Option Key → ℕ → Access → Share → List Want
 handle_wants server own file access share = wants_where server
-    (λ one. conflicts_on file access share one && is_other_on own file one && (lease_of server one).state.handle)
+    (λ one. conflicts_on file access share one && is_other_on own file one && (lease_of_open server one).state.handle)
     without_handle
 
 -- A create that conflicts with none wants no other key on its file to cache writes (profile).
 abbrev pub write_wants : Server → Option Key → ℕ → List Want
 write_wants server own file = wants_where server
-    (λ one. is_other_on own file one && (lease_of server one).state.write)
+    (λ one. is_other_on own file one && (lease_of_open server one).state.write)
     without_write
 
 -- A write wants no other key on its file to cache anything (profile).
 abbrev pub all_wants : Server → Option Key → ℕ → List Want
 all_wants server own file = wants_where server
-    (λ one. is_other_on own file one && holds_any (lease_of server one).state)
+    (λ one. is_other_on own file one && holds_any (lease_of_open server one).state)
     (λ state. nothing_cached)

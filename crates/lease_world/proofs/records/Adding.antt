@@ -581,12 +581,11 @@ module _ (place : ℕ) (old new : Seen) (v : Verdict) (past : List Fact) (k : Kn
       match_bool (is_started_in old.files file) adds
       (λ on more. match_bool (is_good_client (client_in old.clients client)) more
       (λ good shows. shown_judged client file bytes (taken_of (client_in old.clients client)) on good refl shows)
-      (λ bad (e, same). safe_judged fact e (all_well fact refl (sym (started_told old file past k) ∙ on)
+      (λ bad (e, (clients, files, kept)). safe_judged fact e (all_well fact refl (sym (started_told old file past k) ∙ on)
       (read-of-strayed client file bytes (client_in old.clients client) past (k.clients client) bad) refl refl)
-      (same_files old new fact past (λ f. ap (λ (s : Seen). file_in s.files f) same) (λ f. refl) k)
-      (same_clients old new fact past (λ c. ap (λ (s : Seen). client_in s.clients c) same) (λ c. refl) k)
-      (λ c f. rw same (k.contents c f))
-      (holders-stay fact past old.holders new.holders refl (ap (λ (s : Seen). s.holders) same) k.holders)))
+      (same_files old new fact past files (λ f. refl) k) (same_clients old new fact past clients (λ c. refl) k)
+      (λ c f. rw (files f, clients c) (k.contents c f))
+      (holders-stay fact past old.holders new.holders refl kept k.holders)))
       (λ off e. malformed_judged fact e (sym (started_told old file past k) ∙ off))
 
   -- ---- any fact

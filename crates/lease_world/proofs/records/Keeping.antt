@@ -1,9 +1,9 @@
 -- What is kept of a file for a client, over facts that change the file or the client.
-use Rattle.lease_laws.proofs.Words.{◌++◌, ◌∙◌, ◌∷◌, ◌≡◌, ◌≤◌, Bool, List, None, Option, Patch, Some, ℕ, [], ap, arith}
+use Rattle.lease_laws.proofs.Words.{◌++◌, ◌∙◌, ◌∷◌, ◌≡◌, ◌≤◌, Bool, List, None, Option, Some, ℕ, [], ap, arith}
 use Rattle.lease_laws.proofs.Words.{false, if◌then◌else◌, is_some, length, patches, suc, sym, unwrap_or}
 use Rattle.std.proofs.lemmas.List.{take-append-le}
 use Rattle.lease_world.specs.judge.Before.{before, patches_of}
-use Rattle.lease_world.specs.judge.Clients.{HasCache, with_write}
+use Rattle.lease_world.specs.judge.Clients.{HasCache}
 use Rattle.lease_world.specs.judge.Knows.{IsBase, HasContents}
 use Rattle.lease_world.specs.judge.Seen.{Change, Snapshot, SeenFile, SeenCache, Touches, cache_in}
 use Rattle.lease_world.proofs.records.Contents.{before-push}
@@ -26,10 +26,6 @@ pub contents-later : (file : SeenFile) (taken later : ℕ) (cache : SeenCache) �
 contents-later file taken later cache le h = base-later file taken later cache.base le h
 
 -- ---- a write more
-
-pub contents-write : (file : SeenFile) (taken number : ℕ) (patch : Patch) (cache : SeenCache) → HasContents file taken cache
-    → HasContents file taken (with_write number patch cache)
-contents-write file taken number patch cache h = h
 
 -- ---- one cache of a client
 

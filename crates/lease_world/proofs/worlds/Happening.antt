@@ -1,5 +1,5 @@
 -- What a world of the code stands for after a link or a queue changed.
-use Rattle.lease_laws.proofs.Words.{◌∙◌, ◌∷◌, ◌≡◌, Link, None, Reply, Request, Some, World, ℕ, [], ap, arith, map, put}
+use Rattle.lease_laws.proofs.Words.{◌∙◌, ◌∷◌, ◌≡◌, Link, None, Some, World, ℕ, [], ap, arith, map, put}
 use Rattle.lease_laws.proofs.Words.{refl, reply_of, request_of, requests_sent, sent_over, sym}
 use Rattle.lease_state.specs.declared.request.Request as code_request
 use Rattle.lease_state.specs.declared.reply.Reply as code_reply

@@ -21,9 +21,6 @@ with_none : (o : Option Seat) → o ≡ option_map (with_replies []) o
 with_none None = refl
 with_none (Some seat) = ap (λ (rs : List Reply). Some (record seat { replies = rs })) (sym (append-nil seat.replies))
 
-pub no_replies : (seats : List Seat) → HasReplies seats seats []
-no_replies seats n = with_none (seat_at seats n)
-
 with_both : (o : Option Seat) (xs ys : List Reply)
     → option_map (with_replies ys) (option_map (with_replies xs) o) ≡ option_map (with_replies (xs ++ ys)) o
 with_both None xs ys = refl
@@ -57,6 +54,3 @@ more_kept first middle last xs ys a b = b ∙ (ap (λ (o : Option (List Reply)).
 kept_none : (o : Option (List Reply)) → o ≡ option_map (λ kept. kept ++ []) o
 kept_none None = refl
 kept_none (Some kept) = ap (λ (rs : List Reply). Some rs) (sym (append-nil kept))
-
-pub none_kept : (messages : Option (List Reply)) → HasKept messages messages []
-none_kept messages = kept_none messages

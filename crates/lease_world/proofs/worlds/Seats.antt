@@ -1,10 +1,7 @@
 -- A client's seat that changes in its place, and a client that is called there.
-use Rattle.lease_laws.proofs.Words.{◌+◌, ◌<◌, ◌==◌, ◌∙◌, ◌≡◌, ◌≢◌, ClientCall, List, ℕ, ap, arith, client_called, false, get_or}
+use Rattle.lease_laws.proofs.Words.{◌+◌, ◌<◌, ◌==◌, ◌∙◌, ◌≡◌, ◌≢◌, List, ℕ, arith, false, get_or}
 use Rattle.lease_laws.proofs.Words.{length, length-set, refl, slice_set, subst, suc, sym, true, zero}
-use Rattle.lease_client.specs.Known.{Known, client_of}
-use Rattle.lease_client.specs.Turns.{Given, IsAfter}
-use Rattle.lease_world.specs.world.Seats.{Seat, seat_in, no_seat, queued, with_requests, IsPresent, ChangesSeat}
-use Rattle.lease_world.specs.world.Seats.{StepsSeat}
+use Rattle.lease_world.specs.world.Seats.{Seat, seat_in, no_seat, IsPresent, ChangesSeat}
 use Rattle.lease_world.proofs.Places.{value_put, value_there}
 
 same_number : (n : ℕ) → (n == n) ≡ true
@@ -38,10 +35,3 @@ seat_changed Changes seats number place read new at there is changes =
 
 pub still_there : (old new : List Seat) (number : ℕ) → length new ≡ length old → IsPresent number old → IsPresent number new
 still_there old new number count there = (there.0, omega (arith, there.1, count))
-
--- a client is called in its place, and what it sends is queued
-pub steps_seat : (old new : Seat) (call : ClientCall) (client : Known) (given : Given)
-    → IsAfter client given (client_called (client_of old.client) call)
-    → new ≡ with_requests given.requests (record old { client = client }) → StepsSeat call given.notes old new
-steps_seat old new call client given is put =
-    rw put (is.client, refl, ap (λ requests. queued old.link old.requests requests) is.requests, refl, is.notes, refl)

@@ -56,11 +56,6 @@ JoinedAdds place client old new verdict = (client < 256)
     (Enters place (client_in new.clients client).caches old.holders new.holders verdict)
     (IsSafe verdict (KeepsHolders old new))
 
--- a client is no holder any more
-abbrev pub LetsGo : ℕ → Seen → Seen → Type 0
-LetsGo client old new = (new ≡ record old { holders = new.holders })
-    × Leaves (client_in old.clients client) old.holders new.holders
-
 abbrev pub LeavingAdds : ℕ → Seen → Seen → Verdict → Type 0
 LeavingAdds client old new verdict =
     IsSafe verdict (PutsClient client (record (client_in old.clients client) { served = false }) old new
@@ -163,7 +158,7 @@ abbrev pub CachedReadAdds : ℕ → ℕ → ℕ → List ℕ → Seen → Seen �
 CachedReadAdds place client file bytes old new verdict = MatchBool (is_started_in old.files file)
     (MatchBool (is_good_client (client_in old.clients client))
     (ShowsAt place client file bytes old new verdict (taken_of (client_in old.clients client)))
-    (IsSafe verdict (new ≡ old)))
+    (IsSafe verdict (HasSameClients old.clients new.clients × HasSameFiles old.files new.files × KeepsHolders old new)))
     (verdict ≡ Verdict.Malformed place)
 
 abbrev pub Adds : ℕ → Fact → Seen → Seen → Verdict → Type 0

@@ -1,11 +1,11 @@
-ghost use Rattle.std.specs.Prelude.{◌≡◌, ◌++◌, ◌<◌, [], ◌∷◌, true, false, ℕ, Some, None, ◌&&◌, ◌==◌, not, OnOk, IfOk, is_some};
-ghost use Rattle.std.specs.Prelude.{vec_len};
+ghost use Rattle.std.specs.Prelude.{◌≡◌, ◌++◌, [], ◌∷◌, true, false, OnOk, IfOk, is_some};
 ghost use Rattle.lease_state.specs.State.{state_of};
-ghost use Rattle.lease_world.specs.judge.Seen.{unseen_client, joined, is_good_client, cache_in, is_among, write_at, write_in};
+ghost use Rattle.lease_world.specs.judge.Seen.{unseen_client, joined, is_good_client, cache_in, write_in};
 ghost use Rattle.lease_world.specs.judge.Clients.{taken_of, TakesOne, is_buffered_before, is_accepted_write, Accepts, Writes};
-ghost use Rattle.lease_world.specs.judge.Clients.{Settles, Believes, Sees, SeesCache, HasCache, WritesCache, with_belief};
+ghost use Rattle.lease_world.specs.judge.Clients.{Settles, Believes, Sees};
 
 use crate::judging::cache::CacheSeen;
+use crate::judging::caches::Caches;
 use crate::judging::file::FileSeen;
 use crate::judging::numbers::Numbers;
 use crate::judging::writes::{WriteSeen, WritesSeen};
@@ -31,7 +31,7 @@ pub struct ClientSeen {
     /// The numbers of writes that were settled.
     settled: Numbers,
     /// By the numbers of files.
-    caches: Vec<CacheSeen>,
+    caches: Caches,
 }
 
 impl Model for ClientSeen {
@@ -48,7 +48,7 @@ impl Model for ClientSeen {
       has_taken = client.has_taken;
       writes = client.writes;
       settled = client.settled;
-      caches = client.caches.items;
+      caches = client.caches;
     } };
 }
 
@@ -66,7 +66,7 @@ impl ClientSeen {
             has_taken: false,
             writes: WritesSeen::new(alloc),
             settled: Numbers::new(alloc),
-            caches: Vec::new(alloc),
+            caches: Caches::new(alloc),
         }
     }
 
@@ -187,7 +187,11 @@ impl ClientSeen {
     pub fn write(&mut self, number: u64, write: WriteSeen) -> Result<(), Memory>
         ensures { OnOk result (Writes number write self.old self.new) }
     {
-        write_in_cache(&mut self.caches, &self.settled, number, &write)?;
+        // A write that was settled before covers nothing.
+        if !self.settled.contains(number) {
+            let patch = write.patch.try_copy()?;
+            self.caches.get_mut(write.file)?.write(number, patch)?;
+        }
         self.writes.insert(number, write)
     }
 
@@ -213,7 +217,7 @@ impl ClientSeen {
     pub fn belief(&self, file: FileNo) -> LeaseState
         ensures { state_of result ≡ (cache_in self.now.caches file.0).belief }
     {
-        match self.caches.get(usize::from(file.0)) {
+        match self.caches().get(usize::from(file.0)) {
             Some(cache) => cache.belief(),
             None => LeaseState::NONE,
         }
@@ -227,7 +231,8 @@ impl ClientSeen {
     pub fn believe(&mut self, file: FileNo, state: LeaseState) -> Result<(), Memory>
         ensures { OnOk result (Believes file.0 (state_of state) self.old self.new) }
     {
-        believe_in_cache(&mut self.caches, file, state)
+        self.caches.get_mut(file)?.believe(state);
+        Ok(())
     }
 
     /// Whether the client sees these bytes in a file: the file as it stood before the place, with the client's unanswered
@@ -245,68 +250,7 @@ impl ClientSeen {
     ) -> Result<bool, Memory>
         ensures { IfOk result (λ same. Sees number.0 file.now place bytes.now self.old self.new same) }
     {
-        see_in_cache(&mut self.caches, &self.settled, number, file, place, bytes)
+        let cache = self.caches.get_mut(number)?;
+        cache.shows(file, place, &self.settled, bytes)
     }
-}
-
-// Makes a place for what is kept of the file.
-fn reach(caches: &mut Vec<CacheSeen>, file: FileNo) -> Result<(), Memory>
-    ensures there { OnOk result (file.0 < vec_len caches.new) }
-    ensures same { (n : ℕ) → cache_in caches.new.items n ≡ cache_in caches.old.items n }
-{
-    let alloc = *caches.allocator();
-    while caches.len() <= usize::from(file.0) {
-        caches.push(CacheSeen::new(alloc))?;
-    }
-    Ok(())
-}
-
-// A write that isn't settled already is kept with its file.
-fn write_in_cache(
-    caches: &mut Vec<CacheSeen>,
-    settled: &Numbers,
-    number: u64,
-    write: &WriteSeen,
-) -> Result<(), Memory>
-    ensures { OnOk result (WritesCache (is_among number settled.now) number write.now
-        caches.old.items caches.new.items) }
-{
-    if settled.contains(number) {
-        return Ok(());
-    }
-    let file = write.file;
-    reach(caches, file)?;
-    let cache = &mut caches[usize::from(file.0)];
-    cache.write(number, write.patch.try_copy()?)
-}
-
-// Whether the cache of a file shows these bytes.
-fn see_in_cache(
-    caches: &mut Vec<CacheSeen>,
-    settled: &Numbers,
-    number: FileNo,
-    file: &FileSeen,
-    place: u64,
-    bytes: &[u8],
-) -> Result<bool, Memory>
-    ensures { IfOk result (λ same. SeesCache number.0 file.now place settled.now bytes.now
-        caches.old.items caches.new.items same) }
-{
-    reach(caches, number)?;
-    let cache = &mut caches[usize::from(number.0)];
-    cache.shows(file, place, settled, bytes)
-}
-
-fn believe_in_cache(
-    caches: &mut Vec<CacheSeen>,
-    file: FileNo,
-    state: LeaseState,
-) -> Result<(), Memory>
-    ensures { OnOk result (HasCache caches.old.items caches.new.items file.0
-        (with_belief (state_of state) (cache_in caches.old.items file.0))) }
-{
-    reach(caches, file)?;
-    let cache = &mut caches[usize::from(file.0)];
-    cache.believe(state);
-    Ok(())
 }

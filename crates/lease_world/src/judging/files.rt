@@ -1,10 +1,12 @@
-ghost use Rattle.std.specs.Prelude.{◌≡◌, ◌++◌, ◌<◌, [], ◌∷◌, Some, OnOk, IfOk, vec_len, length, slice_get};
+ghost use Rattle.std.specs.Prelude.{◌≡◌, ◌<◌, [], OnOk, IfOk, vec_len, slice_get};
+ghost use Rattle.std.specs.Borrow.{sem};
 ghost use Rattle.std.specs.Option.{option_map};
-ghost use Rattle.lease_world.specs.judge.Seen.{touched, touched_by_others, file_in, unseen_file};
-ghost use Rattle.lease_world.specs.judge.Tables.{HasFile, HasSameFiles, is_started_in};
+ghost use Rattle.lease_world.specs.judge.Lends.{LendsFile};
+ghost use Rattle.lease_world.specs.judge.Seen.{file_in};
+ghost use Rattle.lease_world.specs.judge.Tables.{HasSameFiles, is_started_in};
 
 use crate::judging::file::FileSeen;
-use lease_state::{Bytes, ClientNo, FileNo, Memory, Patch};
+use lease_state::{FileNo, Memory};
 use std::alloc::Global;
 use std::marker::Model;
 
@@ -50,67 +52,17 @@ impl Files {
         }
     }
 
-    /// Where another client than this one opened or changed the file last; 0 is nowhere.
-    pub fn touched_by_others(&self, file: FileNo, client: ClientNo) -> u64
-        ensures { result ≡ touched_by_others client.0 (file_in self.now file.0).touches }
-    {
-        match self.seen.get(usize::from(file.0)) {
-            Some(seen) => seen.touched_by_others(client),
-            None => 0,
-        }
-    }
-
-    /// The file is started with these bytes.
+    /// What is kept of a file, to be looked at and changed in its place.
     ///
     /// # Errors
     ///
-    /// `Memory` where there is none left for what is kept of the file; the same holds of each call below.
-    pub fn start(&mut self, file: FileNo, bytes: Bytes) -> Result<(), Memory>
-        ensures { OnOk result (HasFile self.old self.new file.0
-            (record (file_in self.old file.0) { start = Some bytes })) }
+    /// `Memory` where there is none left for what is kept of the file.
+    pub fn get_mut(&mut self, file: FileNo) -> Result<&mut FileSeen, Memory>
+        ensures* lends { sem 𝓛 (LendsFile self.entry file.0 result) }
+        ensures value { IfOk result (λ seen. seen.now ≡ file_in self.old file.0) }
     {
-        self.reach(file)?;
-        let seen = &mut self.seen[usize::from(file.0)];
-        seen.start(bytes);
-        Ok(())
-    }
-
-    /// A client opened the file at this place.
-    pub fn open(&mut self, file: FileNo, client: ClientNo, place: u64) -> Result<(), Memory>
-        ensures { OnOk result (HasFile self.old self.new file.0 (record (file_in self.old file.0) {
-          touches = touched (file_in self.old file.0).touches client.0 place;
-        })) }
-    {
-        self.reach(file)?;
-        let seen = &mut self.seen[usize::from(file.0)];
-        seen.open(client, place);
-        Ok(())
-    }
-
-    /// A client changed the file at this place.
-    pub fn change(
-        &mut self,
-        file: FileNo,
-        client: ClientNo,
-        place: u64,
-        patch: Patch,
-    ) -> Result<(), Memory>
-        ensures { OnOk result (HasFile self.old self.new file.0 (record (file_in self.old file.0) {
-          changes = (file_in self.old file.0).changes ++ record { place = place; patch = patch } ∷ [];
-          touches = touched (file_in self.old file.0).touches client.0 place;
-        })) }
-    {
-        self.reach(file)?;
-        let seen = &mut self.seen[usize::from(file.0)];
-        seen.change(client, place, patch)
-    }
-
-    // Makes a place for what is kept of the file.
-    fn reach(&mut self, file: FileNo) -> Result<(), Memory>
-        ensures there { OnOk result (file.0 < length self.new) }
-        ensures same { OnOk result (HasSameFiles self.old self.new) }
-    {
-        reach(&mut self.seen, file)
+        reach(&mut self.seen, file)?;
+        Ok(&mut self.seen[usize::from(file.0)])
     }
 }
 

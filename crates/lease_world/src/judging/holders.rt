@@ -2,9 +2,10 @@ ghost use Rattle.std.specs.Prelude.{◌≡◌, ◌≤◌, [], length, vec_len, O
 ghost use Rattle.lease_state.specs.State.{state_of};
 ghost use Rattle.lease_world.specs.judge.Seen.{unheld, holders_in};
 ghost use Rattle.lease_world.specs.judge.Holders.{with_holder, without_holder, conflicts_with, HasHolders, HasSameHolders};
-ghost use Rattle.lease_world.specs.judge.Holders.{HasConflict, HasNoConflict, HasEntered, HasLeft};
+ghost use Rattle.lease_world.specs.judge.Holders.{HasConflict, HasNoConflict, HasEntered, HasLeft, Leaves};
 
 use crate::judging::cache::CacheSeen;
+use crate::judging::client::ClientSeen;
 use lease_state::{FileNo, LeaseState, Memory};
 use std::alloc::Global;
 use std::marker::Model;
@@ -146,11 +147,13 @@ impl FileHolders {
         false
     }
 
-    /// A client less that is good believes this of files.
-    pub fn leave(&mut self, caches: &[CacheSeen])
-        ensures { HasLeft caches.now self.old self.new }
+    /// A client, if it is good, is a holder no more.
+    pub fn let_go(&mut self, client: &ClientSeen)
+        ensures { Leaves client.now self.old self.new }
     {
-        leave_each(&mut self.seen, caches);
+        if client.is_good() {
+            leave_each(&mut self.seen, client.caches());
+        }
     }
 
     /// A good client that believed the one of a file believes the other. Whether it conflicts with another client then.

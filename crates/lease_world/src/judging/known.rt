@@ -1,11 +1,10 @@
 ghost use Rattle.std.specs.Prelude.{◌≡◌, [], IfOk};
 ghost use Rattle.lease_state.specs.State.{state_of};
 ghost use Rattle.lease_client.specs.Answers.{settlement_of};
-ghost use Rattle.lease_model.specs.values.Patches.{is_within_limit};
 ghost use Rattle.lease_facts.specs.Facts.{fact_of};
 ghost use Rattle.lease_world.specs.judge.Added.{StartAdds, JoinedAdds, LeavingAdds, ExpiredAdds, StrayedAdds, SentAdds, TookAdds};
 ghost use Rattle.lease_world.specs.judge.Added.{OpenedAdds, ChangedAdds, WroteAdds, SettledAdds, BelievesAdds, CachedReadAdds};
-ghost use Rattle.lease_world.specs.judge.Added.{LetsGo, Adds};
+ghost use Rattle.lease_world.specs.judge.Added.{Adds};
 
 use crate::judging::clients::Clients;
 use crate::judging::files::Files;
@@ -14,7 +13,7 @@ use crate::judging::writes::WriteSeen;
 use crate::verdict::{Rule, Verdict};
 use lease_client::Settlement;
 use lease_facts::Fact;
-use lease_state::{Bytes, ClientNo, FILE_LIMIT, FileNo, LeaseState, Memory, Patch};
+use lease_state::{Bytes, ClientNo, FileNo, LeaseState, Memory, Patch};
 use std::alloc::Global;
 use std::marker::Model;
 
@@ -86,23 +85,25 @@ impl Known {
     fn start(&mut self, place: u64, file: FileNo, bytes: &Bytes) -> Result<Verdict, Memory>
         ensures { IfOk result (λ verdict. StartAdds place file.0 bytes.now self.old self.new verdict) }
     {
-        if self.files.is_started(file) {
+        let stood = self.files.get_mut(file)?;
+        if stood.is_started() {
             return Ok(Verdict::Malformed { place });
         }
-        self.files.start(file, bytes.try_copy()?)?;
+        stood.start(bytes.try_copy()?);
         Ok(Verdict::Safe)
     }
 
     fn join(&mut self, place: u64, client: ClientNo) -> Result<Verdict, Memory>
         ensures { IfOk result (λ verdict. JoinedAdds place client.0 self.old self.new verdict) }
     {
-        let was_good = self.clients.is_good(client);
-        self.clients.join(client)?;
+        let seen = self.clients.get_mut(client)?;
+        let was_good = seen.is_good();
+        seen.join();
         // What a client believes counts once, and nothing that a strayed one believes does.
-        if was_good || !self.clients.is_good(client) {
+        if was_good || !seen.is_good() {
             return Ok(Verdict::Safe);
         }
-        if self.holders.enter(self.clients.caches(client))? {
+        if self.holders.enter(seen.caches())? {
             return Ok(Verdict::Unsafe {
                 place,
                 rule: Rule::OneWriteCache,
@@ -114,8 +115,9 @@ impl Known {
     fn leave(&mut self, client: ClientNo) -> Result<Verdict, Memory>
         ensures { IfOk result (λ verdict. LeavingAdds client.0 self.old self.new verdict) }
     {
-        self.let_go(client);
-        self.clients.leave(client)?;
+        let seen = self.clients.get_mut(client)?;
+        self.holders.let_go(seen);
+        seen.leave();
         Ok(Verdict::Safe)
     }
 
@@ -131,31 +133,23 @@ impl Known {
     fn stray(&mut self, client: ClientNo) -> Result<Verdict, Memory>
         ensures { IfOk result (λ verdict. StrayedAdds client.0 self.old self.new verdict) }
     {
-        self.let_go(client);
-        self.clients.stray(client)?;
+        let seen = self.clients.get_mut(client)?;
+        self.holders.let_go(seen);
+        seen.stray();
         Ok(Verdict::Safe)
-    }
-
-    // The client, if it is good, is no holder any more.
-    fn let_go(&mut self, client: ClientNo)
-        ensures { LetsGo client.0 self.old self.new }
-    {
-        if self.clients.is_good(client) {
-            self.holders.leave(self.clients.caches(client));
-        }
     }
 
     fn send(&mut self, place: u64, client: ClientNo) -> Result<Verdict, Memory>
         ensures { IfOk result (λ verdict. SentAdds place client.0 self.old self.new verdict) }
     {
-        self.clients.send(client, place)?;
+        self.clients.get_mut(client)?.send(place)?;
         Ok(Verdict::Safe)
     }
 
     fn take(&mut self, place: u64, client: ClientNo) -> Result<Verdict, Memory>
         ensures { IfOk result (λ verdict. TookAdds place client.0 self.old self.new verdict) }
     {
-        if !self.clients.take(client)? {
+        if !self.clients.get_mut(client)?.take() {
             return Ok(Verdict::Malformed { place });
         }
         Ok(Verdict::Safe)
@@ -164,10 +158,11 @@ impl Known {
     fn open(&mut self, place: u64, file: FileNo, client: ClientNo) -> Result<Verdict, Memory>
         ensures { IfOk result (λ verdict. OpenedAdds place file.0 client.0 self.old self.new verdict) }
     {
-        if !self.files.is_started(file) {
+        let stood = self.files.get_mut(file)?;
+        if !stood.is_started() {
             return Ok(Verdict::Malformed { place });
         }
-        self.files.open(file, client, place)?;
+        stood.open(client, place);
         Ok(Verdict::Safe)
     }
 
@@ -181,20 +176,19 @@ impl Known {
     ) -> Result<Verdict, Memory>
         ensures { IfOk result (λ verdict. ChangedAdds place file.0 client.0 number patch.now self.old self.new verdict) }
     {
-        if !self.files.is_started(file) || !is_within_limit(patch) {
+        let stood = self.files.get_mut(file)?;
+        if !stood.is_started() || !patch.is_within_limit() {
             return Ok(Verdict::Malformed { place });
         }
-        let touched = self.files.touched_by_others(file, client);
-        if !self.clients.has_strayed(client)
-            && self.clients.has_buffered(client, file, number, touched)
-        {
+        let seen = self.clients.get_mut(client)?;
+        if !seen.has_strayed() && seen.has_buffered(file, number, stood.touched_by_others(client)) {
             return Ok(Verdict::Unsafe {
                 place,
                 rule: Rule::NoLateWrite,
             });
         }
-        self.clients.accept(client, file, number, patch)?;
-        self.files.change(file, client, place, patch.try_copy()?)?;
+        seen.accept(file, number, patch);
+        stood.change(client, place, patch.try_copy()?)?;
         Ok(Verdict::Safe)
     }
 
@@ -210,10 +204,8 @@ impl Known {
         ensures { IfOk result (λ verdict.
             WroteAdds place client.0 file.0 number patch.now buffered self.old self.new verdict) }
     {
-        if !self.files.is_started(file)
-            || !is_within_limit(patch)
-            || self.clients.has_number(client, number)
-        {
+        let seen = self.clients.get_mut(client)?;
+        if !self.files.is_started(file) || !patch.is_within_limit() || seen.has_number(number) {
             return Ok(Verdict::Malformed { place });
         }
         let write = WriteSeen {
@@ -223,7 +215,7 @@ impl Known {
             patch: patch.try_copy()?,
             accepted: false,
         };
-        self.clients.write(client, number, write)?;
+        seen.write(number, write)?;
         Ok(Verdict::Safe)
     }
 
@@ -237,16 +229,14 @@ impl Known {
         ensures { IfOk result (λ verdict.
             SettledAdds place client.0 number (settlement_of outcome) self.old self.new verdict) }
     {
-        if outcome == Settlement::Done
-            && !self.clients.has_strayed(client)
-            && !self.clients.is_accepted(client, number)
-        {
+        let seen = self.clients.get_mut(client)?;
+        if outcome == Settlement::Done && !seen.has_strayed() && !seen.is_accepted(number) {
             return Ok(Verdict::Unsafe {
                 place,
                 rule: Rule::NoFalseDone,
             });
         }
-        self.clients.settle(client, number)?;
+        seen.settle(number)?;
         Ok(Verdict::Safe)
     }
 
@@ -263,16 +253,14 @@ impl Known {
         if !self.files.is_started(file) {
             return Ok(Verdict::Malformed { place });
         }
-        if self.clients.is_good(client) {
-            let before = self.clients.belief(client, file);
-            if self.holders.change(file, before, state)? {
-                return Ok(Verdict::Unsafe {
-                    place,
-                    rule: Rule::OneWriteCache,
-                });
-            }
+        let seen = self.clients.get_mut(client)?;
+        if seen.is_good() && self.holders.change(file, seen.belief(file), state)? {
+            return Ok(Verdict::Unsafe {
+                place,
+                rule: Rule::OneWriteCache,
+            });
         }
-        self.clients.believe(client, file, state)?;
+        seen.believe(file, state)?;
         Ok(Verdict::Safe)
     }
 
@@ -286,34 +274,27 @@ impl Known {
         ensures { IfOk result (λ verdict.
             CachedReadAdds place client.0 file.0 bytes.now self.old self.new verdict) }
     {
-        let Some(seen) = self.files.get(file) else {
+        let Some(stood) = self.files.get(file) else {
             return Ok(Verdict::Malformed { place });
         };
-        if !seen.is_started() {
+        if !stood.is_started() {
             return Ok(Verdict::Malformed { place });
         }
-        if !self.clients.is_good(client) {
+        let seen = self.clients.get_mut(client)?;
+        if !seen.is_good() {
             return Ok(Verdict::Safe);
         }
         let stale = Verdict::Unsafe {
             place,
             rule: Rule::FreshCachedReads,
         };
-        let Some(taken) = self.clients.taken(client) else {
+        let Some(taken) = seen.taken() else {
             return Ok(stale);
         };
-        if self.clients.sees(client, file, seen, taken, bytes)? {
+        if seen.sees(file, stood, taken, bytes)? {
             Ok(Verdict::Safe)
         } else {
             Ok(stale)
         }
     }
-}
-
-// Whether the patch ends within the limit of a file.
-fn is_within_limit(patch: &Patch) -> bool
-    ensures { result ≡ is_within_limit patch.now }
-{
-    let offset = patch.offset as usize;
-    offset <= FILE_LIMIT && patch.bytes.len() <= FILE_LIMIT - offset
 }

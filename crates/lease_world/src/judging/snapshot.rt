@@ -1,9 +1,9 @@
-ghost use Rattle.std.specs.Prelude.{◌≡◌, ◌+◌, ◌≤◌, IfOk, OnOk, length, take, drop, ◌++◌};
-ghost use Rattle.lease_state.specs.Content.{patch, patches};
+ghost use Rattle.std.specs.Prelude.{◌≡◌, ◌+◌, IfOk, length, drop};
+ghost use Rattle.lease_state.specs.Content.{patches};
 ghost use Rattle.lease_world.specs.judge.Before.{before, patches_of};
 
 use crate::judging::file::Change;
-use lease_state::{Bytes, Memory, Patch};
+use lease_state::{Bytes, Memory};
 use std::marker::Model;
 
 /// The bytes of a file, with how many patches of a list were put onto them.
@@ -63,40 +63,9 @@ impl Snapshot {
             if change.place >= place {
                 break;
             }
-            apply(&mut bytes, &change.patch)?;
+            change.patch.apply(&mut bytes)?;
             applied += 1;
         }
         Ok(Snapshot { bytes, applied })
     }
-}
-
-/// Puts a patch onto a file's bytes.
-///
-/// # Errors
-///
-/// `Memory` where the file grows and there is none left.
-pub fn apply(bytes: &mut Vec<u8>, change: &Patch) -> Result<(), Memory>
-    ensures { OnOk result (bytes.new.items ≡ patch bytes.old.items change.now) }
-{
-    let held = bytes.len();
-    let offset = change.offset as usize;
-    let added = change.bytes.as_slice();
-    if added.is_empty() {
-        return Ok(());
-    }
-    if offset <= held && added.len() <= held - offset {
-        write_over(bytes, offset, added);
-    } else {
-        bytes.resize(offset, 0)?;
-        bytes.extend_from_slice(added)?;
-    }
-    Ok(())
-}
-
-// Writes bytes over those from `offset` on.
-fn write_over(items: &mut [u8], offset: usize, bytes: &[u8])
-    requires { offset + length bytes.now ≤ length items.old }
-    ensures { items.new ≡ take offset items.old ++ (bytes.now ++ drop (offset + length bytes.now) items.old) }
-{
-    items[offset..offset + bytes.len()].copy_from_slice(bytes);
 }

@@ -19,7 +19,6 @@ use crate::values::closing::Closing;
 use crate::values::key::Key;
 use crate::values::lease::Lease;
 use crate::values::request::Ask;
-use crate::values::state::holds_any;
 use crate::values::want::Want;
 use lease_state::{ClientNo, FileNo, LeaseState, Memory, Status};
 
@@ -102,7 +101,7 @@ fn breaks_to_something(lease: Lease) -> bool
     ensures { result ≡ ready.breaks_to_some (lease_of lease) }
 {
     match lease.broken_to {
-        Some(lowered) => holds_any(lowered),
+        Some(lowered) => lowered.holds_any(),
         None => false,
     }
 }

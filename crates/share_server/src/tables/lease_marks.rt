@@ -4,7 +4,6 @@ ghost use Rattle.share_server.specs.Hindering.{hinders_writes, marks_of};
 ghost use Rattle.share_server.specs.Leases.{lease_of};
 
 use crate::values::lease::Lease;
-use crate::values::state::holds_any;
 
 /// What a file's summary marks of the lease of a key.
 #[derive(Clone, Copy, Debug, PartialEq, Eq)]
@@ -32,14 +31,14 @@ impl LeaseMarks {
 fn hinders_writes(lease: Lease) -> bool
     ensures { result ≡ hinders_writes (lease_of lease) }
 {
-    holds_any(lease.state) && !breaks_to_nothing(lease)
+    lease.state.holds_any() && !breaks_to_nothing(lease)
 }
 
 fn breaks_to_nothing(lease: Lease) -> bool
     ensures { result ≡ ready.breaks_to_none (lease_of lease) }
 {
     match lease.broken_to {
-        Some(lowered) => !holds_any(lowered),
+        Some(lowered) => !lowered.holds_any(),
         None => false,
     }
 }

@@ -3,14 +3,11 @@ ghost use Rattle.std.specs.List.{list_any};
 ghost use Rattle.std.specs.Option.{option_map};
 ghost use Rattle.lease_model.specs.server.Calls.{is_left_behind};
 ghost use Rattle.lease_model.specs.server.Findings as findings;
-ghost use Rattle.lease_model.specs.server.Naming as naming;
 ghost use Rattle.lease_model.specs.server.State.{has_lease};
-ghost use Rattle.share_server.specs.Leases.{lease_of};
 ghost use Rattle.share_server.specs.Table.{server_of};
 
 use crate::tables::Tables;
 use crate::values::key::Key;
-use crate::values::lease::Lease;
 use crate::values::open::Open;
 use crate::values::request::Held;
 use lease_state::{Bytes, ClientNo, FileId, FileNo, Memory};
@@ -105,15 +102,5 @@ impl Tables {
         ensures { result.now ≡ (server_of self.now).held file.0 }
     {
         self.place(file).held.as_slice()
-    }
-
-    /// The lease under which an open stands.
-    pub fn lease_of(&self, one: &Open) -> Lease
-        ensures { lease_of result ≡ naming.lease_of (server_of self.now) one.now }
-    {
-        match one.key() {
-            Some(key) => self.lease(key),
-            None => Lease::none(),
-        }
     }
 }

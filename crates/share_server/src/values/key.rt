@@ -1,12 +1,10 @@
-ghost use Rattle.std.specs.Prelude.{◌≡◌};
-ghost use Rattle.std.specs.Prelude.{length};
+ghost use Rattle.std.specs.Prelude.{◌≡◌, ◌==◌};
 ghost use Rattle.std.specs.Cmp.{partial_order_from_own_ties};
 ghost use Rattle.std.specs.Cmp.Lexicographic.{slice_cmp, pointwise};
 ghost use Rattle.std.specs.Cmp.Rules.{comparing};
 ghost use Rattle.std.specs.Ordering.{nat_cmp, on, then_cmp, as_partial_cmp, eq_of_both};
-ghost use Rattle.std.specs.Prelude.{◌==◌};
 ghost use Rattle.std.proofs.Common.{rules};
-ghost use Rattle.lease_model.specs.values.Keys.{key_eq, key_before, bytes_before};
+ghost use Rattle.lease_model.specs.values.Keys.{key_eq};
 
 use lease_state::{ClientNo, LeaseKey};
 use std::cmp::Ordering;
@@ -80,27 +78,4 @@ impl Key {
     {
         self.client == other.client && self.bytes == other.bytes
     }
-
-    /// Whether the lease of this key is broken before that of the other (profile): by their
-    /// clients' numbers, then by their bytes.
-    #[tactic(auto, unfolding(lease_model::specs::values::Keys::key_before))]
-    pub fn is_before(self, other: Key) -> bool
-        ensures { result ≡ key_before self other }
-    {
-        self.client.0 < other.client.0
-            || (self.client == other.client && come_before(&self.bytes.0, &other.bytes.0))
-    }
-}
-
-// Whether the bytes stand before the others, as words in a dictionary do.
-fn come_before(bytes: &[u8], others: &[u8]) -> bool
-    requires { length bytes.now ≡ length others.now }
-    ensures { result ≡ bytes_before bytes.now others.now }
-{
-    for place in 0..bytes.len() {
-        if bytes[place] != others[place] {
-            return bytes[place] < others[place];
-        }
-    }
-    false
 }

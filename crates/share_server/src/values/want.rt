@@ -5,7 +5,6 @@ ghost use Rattle.share_server.specs.Wishes.{lowered_for};
 
 use crate::tables::summaries::LeaseRecord;
 use crate::values::key::Key;
-use crate::values::state::{holds_any, without_handle, without_write};
 use lease_state::{Access, FileNo, LeaseState, Share};
 use std::marker::Model;
 
@@ -27,8 +26,8 @@ impl Wish {
         ensures { state_of result ≡ lowered_for self (state_of state) }
     {
         match self {
-            Wish::NoHandles { .. } => without_handle(state),
-            Wish::NoWrites => without_write(state),
+            Wish::NoHandles { .. } => state.without_handle(),
+            Wish::NoWrites => state.without_write(),
             Wish::Nothing => LeaseState::NONE,
         }
     }
@@ -43,7 +42,7 @@ impl Wish {
                 known.tally.conflicts(access, share) && state.caches_handles()
             }
             Wish::NoWrites => state.caches_writes(),
-            Wish::Nothing => holds_any(state),
+            Wish::Nothing => state.holds_any(),
         }
     }
 }
