@@ -99,8 +99,8 @@ mod tests {
         let mut bytes = Vec::from_slice(rt.alloc(), b"abc")?;
         patch.apply(&mut bytes)?;
         assert_eq!(rt; bytes.len(), 1_048_577);
-        assert_eq!(rt; bytes.as_slice()[..4], *b"abc\0");
-        assert_eq!(rt; bytes.as_slice()[1_048_574..], *b"\0YZ");
+        assert_eq!(rt; &bytes.as_slice()[..4], b"abc\0".as_slice());
+        assert_eq!(rt; &bytes.as_slice()[1_048_574..], b"\0YZ".as_slice());
         Ok(())
     }
 }
