@@ -1,7 +1,6 @@
 -- What writes one after another come to, and where a text's last context may begin.
-use Rattle.std.proofs.Common.{◌≡◌, ◌≢◌, ℕ, zero, suc, ◌+◌, ◌-◌, ◌≤◌, ◌++◌, List, [], ◌∷◌, length, drop, take, Option, Some, None}
-use Rattle.std.proofs.Common.{refl, arith, sym, ap, subst, replicate, ◌∙◌, IfSome, inl, inr}
-use Rattle.std.proofs.lemmas.Bool.Decides.{eqb_tells}
+use Rattle.std.proofs.Common.{◌≡◌, ◌≢◌, ℕ, zero, suc, ◌+◌, ◌-◌, ◌≤◌, ◌++◌, List, [], ◌∷◌, length, drop, take, Option}
+use Rattle.std.proofs.Common.{refl, arith, sym, ap, subst, replicate, ◌∙◌, IfSome}
 use Rattle.std.proofs.lemmas.List.{drop-drop, append_assoc}
 use Rattle.std.proofs.Math.Seq.{take-append_seam, drop-append-add}
 use Rattle.std.proofs.lemmas.List.{length-append, length-take-le, length-drop, length-replicate}

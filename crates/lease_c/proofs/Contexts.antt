@@ -1,14 +1,13 @@
 -- What the fields of a context say of the text that they were read from.
-use Rattle.std.proofs.Common.{◌≡◌, ◌≢◌, ℕ, ◌+◌, ◌-◌, ◌≤◌, ◌==◌, if◌then◌else◌, false, List, length, drop, take, Some, None, refl}
+use Rattle.std.proofs.Common.{◌≡◌, ◌≢◌, ℕ, ◌+◌, ◌-◌, ◌≤◌, ◌==◌, if◌then◌else◌, false, List, length, drop, take, None, refl}
 use Rattle.std.proofs.Common.{arith, sym, ap, length-drop, inl, inr}
 use Rattle.std.proofs.lemmas.Bool.Decides.{eqb_tells, nat_tests}
 use Rattle.std.proofs.lemmas.List.{drop-drop}
 use Rattle.lease_wire.specs.Field.{bytes_at}
-use Rattle.lease_wire.specs.Chain.{ContextView, next_of, name_offset_of, name_length_of, data_offset_of, data_length_of}
-use Rattle.lease_wire.specs.Reading.{Item, item_before, layout_fault, header_of, context_at}
-use Rattle.lease_wire.specs.declared.fault.WireFault.{WireFault}
-use Rattle.lease_wire.proofs.HeaderFacts.{name_inside, data_inside, next_inside}
-use Rattle.lease_wire.proofs.Items.{items_behind-fault, items_behind-last, items_behind-more}
+use Rattle.lease_wire.specs.Chain.{next_of, name_offset_of, name_length_of, data_offset_of, data_length_of}
+use Rattle.lease_wire.specs.Reading.{item_before, layout_fault, header_of, context_at}
+use Rattle.lease_wire.proofs.HeaderFacts.{name_inside, data_inside}
+use Rattle.lease_wire.proofs.Items.{items_behind-last, items_behind-more}
 use Rattle.lease_c.specs.Context.{context_held, context_fields, fault_at, items_from}
 
 -- bytes behind a place, counted from the text's start

@@ -1,5 +1,5 @@
 -- A struct whose fields were written for a value holds that value.
-use Rattle.std.proofs.Common.{◌≡◌, Bool, true, false, Option, Some, None, refl, arith}
+use Rattle.std.proofs.Common.{◌≡◌, Bool, Option, Some, None, refl, arith}
 use Rattle.lease_state.specs.State.{State, state_of, state_of_bits, bits_of_state}
 use Rattle.lease_state.specs.declared.key.LeaseKey.{LeaseKey}
 use Rattle.lease_state.specs.declared.number.FileId.{FileId}

@@ -1,5 +1,5 @@
 -- A client that is put back into its place.
-use Rattle.std.proofs.Common.{◌≡◌, ℕ, zero, suc, ◌+◌, ◌-◌, ◌≤◌, ◌++◌, List, [], ◌∷◌, map, Some, sym, ap, ◌∙◌, arith, slice_get}
+use Rattle.std.proofs.Common.{◌≡◌, ℕ, zero, suc, ◌-◌, ◌≤◌, ◌++◌, List, [], ◌∷◌, map, Some, sym, ap, ◌∙◌, arith, slice_get}
 use Rattle.std.proofs.Common.{slice_set, slice_index_or}
 use Rattle.std.proofs.lemmas.List.{map-set, set-set}
 use Rattle.lease_client.specs.Known.{Known, client_of}

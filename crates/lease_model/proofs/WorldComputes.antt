@@ -1,9 +1,8 @@
 -- To unfold `the_world` is to unfold every definition of the model, so that a worked run computes.
 use Rattle.std.specs.Prelude.{⊤}
 use Rattle.lease_model.specs.world.Allowed.{are_apart, is_allowed_setup, are_too_many}
-use Rattle.lease_model.specs.world.Events.{served, stepped_in, link_cut, link_noticed, link_connected, timer_expired}
-use Rattle.lease_model.specs.world.Events.{strayed_over, applied, happens, after}
-use Rattle.lease_model.specs.world.World.{starts_from, first_world, delivered, all_delivered, requests_sent, noted}
+use Rattle.lease_model.specs.world.Events.{after}
+use Rattle.lease_model.specs.world.World.{starts_from, first_world, all_delivered, noted}
 use Rattle.lease_model.proofs.ServerComputes.{the_server}
 use Rattle.lease_model.proofs.ClientComputes.{the_client}
 use Rattle.lease_model.proofs.RecordsCompute.{the_records}

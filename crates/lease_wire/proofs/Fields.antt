@@ -1,5 +1,5 @@
 -- What a written field of a message reads as.
-use Rattle.std.proofs.Common.{◌≡◌, ◌≤◌, ◌==◌, Bool, true, false, refl, lit≤, if◌then◌else◌, arith}
+use Rattle.std.proofs.Common.{◌≡◌, ◌≤◌, ◌==◌, Bool, if◌then◌else◌, arith}
 use Rattle.std.specs.Int.RustNames.{bit_and}
 use Rattle.byteorder.specs.Endian.{little_number, little_bytes}
 use Rattle.lease_state.specs.State.{State, bits_of_state, state_of_bits}

@@ -1,8 +1,8 @@
 -- What the tests of a context's header say of its fields.
-use Rattle.std.proofs.Common.{◌≡◌, ◌≢◌, ◌≤◌, ◌<◌, ◌%◌, ℕ, ◌+◌, Bool, true, false, ◌||◌, ◌&&◌, not, if◌then◌else◌, ◌==◌, nat_lt}
-use Rattle.std.proofs.Common.{Option, Some, None, refl, arith, ◌⊎◌, inl, inr, rules}
+use Rattle.std.proofs.Common.{◌≡◌, ◌≢◌, ◌≤◌, ◌<◌, ◌%◌, ℕ, ◌+◌, Bool, true, false, ◌||◌, not, if◌then◌else◌, nat_lt}
+use Rattle.std.proofs.Common.{Option, Some, None, refl, arith, inl, inr, rules}
 use Rattle.std.proofs.lemmas.Bool.Decides.{nat_tests, eqb_tells}
-use Rattle.lease_wire.specs.Reading.{header_fault, size_of, has_bad_next, has_bad_name, has_bad_data}
+use Rattle.lease_wire.specs.Reading.{header_fault, size_of}
 use Rattle.lease_wire.specs.declared.fault.WireFault.{WireFault}
 use Rattle.lease_wire.specs.declared.fault.WireFault.TheVariants.{Short}
 use Rattle.lease_wire.specs.declared.chain.Header.{Header}

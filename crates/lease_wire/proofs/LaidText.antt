@@ -9,13 +9,13 @@ use Rattle.std.proofs.lemmas.Bool.Decides.{eqb_tells}
 use Rattle.lease_wire.specs.Chain.{ContextView, IsContext, LeadsOn, AreLinked, AreLaidOut, next_of}
 use Rattle.lease_wire.specs.Reading.{items_behind, layout_fault, context_at}
 use Rattle.lease_wire.specs.Names.{CreateView, HaveValue, meaning_of}
-use Rattle.lease_wire.specs.Faults.{first_fault, meaning_fault}
+use Rattle.lease_wire.specs.Faults.{first_fault}
 use Rattle.lease_wire.specs.Gathering.{gathered, with_meaning}
 use Rattle.lease_wire.specs.declared.create.Direction.{Direction}
 use Rattle.lease_wire.specs.declared.fault.WireFault.{WireFault}
 use Rattle.lease_wire.proofs.Items.{items_behind-fault, items_behind-last, items_behind-more}
 use Rattle.lease_wire.proofs.Pieces.{ends_last, ends_on, front_reads, next_of-front}
-use Rattle.lease_wire.proofs.Values.{Adds, adds, faults, fault_in, passes, one_value}
+use Rattle.lease_wire.proofs.Values.{Adds, adds, faults, passes, one_value}
 
 -- the items of a last piece
 items_of_last : (start : ℕ) (piece : List ℕ) (context : ContextView) → IsContext start piece context → next_of piece ≡ 0

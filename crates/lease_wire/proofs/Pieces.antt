@@ -1,9 +1,8 @@
 -- A piece that stands at the front of some bytes is read as the context that it is, and what is read
 -- there is the context that stands there.
-use Rattle.std.proofs.Common.{◌≡◌, ◌≢◌, ◌≤◌, ℕ, zero, suc, ◌+◌, ◌==◌, false, List, [], ◌++◌, length, take, drop, None, refl}
+use Rattle.std.proofs.Common.{◌≡◌, ◌≢◌, ◌≤◌, ℕ, zero, suc, ◌+◌, List, [], ◌++◌, length, take, drop, None, refl}
 use Rattle.std.proofs.Common.{arith, sym, ◌∙◌, ap, length-append, length-drop, rules}
 use Rattle.std.proofs.lemmas.List.{drop-append-le, take-append-le, take-append-drop, length-take-le, append-nil}
-use Rattle.std.proofs.lemmas.Bool.Decides.{nat_tests}
 use Rattle.byteorder.specs.Numbers.{little_from-append}
 use Rattle.lease_wire.specs.Field.{number_at, bytes_at}
 use Rattle.lease_wire.specs.Chain.{ContextView, IsData, IsContext, LeadsOn, next_of, name_offset_of, name_length_of}

@@ -4,7 +4,6 @@ use Rattle.std.proofs.Common.{◌≡◌, ◌≢◌, ◌≤◌, ℕ, zero, suc, �
 use Rattle.std.proofs.Common.{Result, Ok, Err, refl, arith, sym, ◌∙◌, subst, ◌⊎◌, inl, inr, length-append, add-zero}
 use Rattle.std.specs.List.{concat}
 use Rattle.std.proofs.lemmas.List.{take-append-drop, append-nil, append_assoc}
-use Rattle.std.proofs.lemmas.Bool.Decides.{eqb_tells}
 use Rattle.lease_wire.specs.Chain.{ContextView, IsContext, LeadsOn, AreLinked, AreLaidOut, next_of}
 use Rattle.lease_wire.specs.Reading.{items_behind, layout_fault, context_at}
 use Rattle.lease_wire.specs.Names.{CreateView, HaveValue, meaning_of}

@@ -1,15 +1,13 @@
 -- A reader's answer is right for every text.
-use Rattle.std.proofs.Common.{◌≡◌, ℕ, List, [], ◌∷◌, length, Bool, true, false, if◌then◌else◌, ◌==◌, Option, Some, None, Result}
+use Rattle.std.proofs.Common.{◌≡◌, ℕ, List, [], ◌∷◌, length, Bool, false, if◌then◌else◌, Option, None, Result}
 use Rattle.std.proofs.Common.{Ok, Err, refl, arith, zero-add, sym, ◌∙◌, ap, subst, IfSome}
 use Rattle.std.specs.List.{concat}
-use Rattle.std.specs.Str.{bytes_eq}
 use Rattle.lease_wire.specs.Chain.{ContextView}
 use Rattle.lease_wire.specs.Reading.{Item, items_of}
-use Rattle.lease_wire.specs.Names.{Meaning, CreateView, LeaseView, HaveValue, HoldsValue, meaning_of, lease_view, lease_meaning}
-use Rattle.lease_wire.specs.Names.{durable_meaning, reconnect_meaning, lease_name, durable_name, reconnect_name}
-use Rattle.lease_wire.specs.Names.Meaning.{Unknown, WrongLength, Lease, Durable, Reconnect}
+use Rattle.lease_wire.specs.Names.{Meaning, CreateView, LeaseView, HaveValue, HoldsValue, meaning_of}
+use Rattle.lease_wire.specs.Names.Meaning.{Lease, Reconnect}
 use Rattle.lease_wire.specs.Faults.{IsFaultOf}
-use Rattle.lease_wire.specs.Gathering.{gathered, value_of, no_values, with_meaning, with_lease, with_durable, with_reconnect}
+use Rattle.lease_wire.specs.Gathering.{gathered, value_of, no_values, with_meaning}
 use Rattle.lease_wire.specs.Canonical.{IsDirected}
 use Rattle.lease_wire.specs.Create.{IsReadingOf, ValueIsRead}
 use Rattle.lease_wire.specs.Views.{values_of, lease_of}

@@ -8,11 +8,10 @@ use Rattle.lease_wire.specs.Chain.{ContextView}
 use Rattle.lease_wire.specs.Names.{Meaning, LeaseView, CreateView, HaveValue, meaning_of, values_of_kind, lease_in, durable_in}
 use Rattle.lease_wire.specs.Names.{reconnect_in, wrong_length_in}
 use Rattle.lease_wire.specs.Names.Meaning.{Unknown, WrongLength, Lease, Durable, Reconnect}
-use Rattle.lease_wire.specs.Faults.{meaning_fault, twice_if}
+use Rattle.lease_wire.specs.Faults.{meaning_fault}
 use Rattle.lease_wire.specs.Gathering.{with_meaning, with_lease, with_durable, with_reconnect, no_values}
 use Rattle.lease_wire.specs.declared.create.Direction.{Direction}
 use Rattle.lease_wire.specs.declared.fault.WireFault.{WireFault}
-use Rattle.lease_wire.specs.declared.fault.WireFault.TheVariants.{Twice}
 
 pub value_of_nothing : (direction : Direction) → HaveValue direction [] no_values
 value_of_nothing direction = record { lengths = refl; lease = refl; durable = refl; reconnect = refl }

@@ -1,11 +1,10 @@
 -- What is written of create contexts is laid out as they are, and means what was written.
-use Rattle.std.proofs.Common.{◌≡◌, ◌<◌, ◌^◌, ℕ, zero, suc, ◌+◌, ◌%◌, ◌==◌, List, [], ◌∷◌, length, drop, Bool, true, false}
-use Rattle.std.proofs.Common.{if◌then◌else◌, refl, arith, sym, ◌∙◌, ap}
+use Rattle.std.proofs.Common.{◌≡◌, ◌<◌, ◌^◌, ℕ, ◌+◌, ◌%◌, ◌==◌, List, [], ◌∷◌, length, Bool, true, false}
+use Rattle.std.proofs.Common.{if◌then◌else◌, refl, arith, sym, ◌∙◌}
 use Rattle.std.proofs.Math.Seq.{take-length}
 use Rattle.std.specs.Int.RustNames.{bit_and}
 use Rattle.lease_state.specs.State.{State}
 use Rattle.byteorder.specs.Endian.{little_number, little_bytes}
-use Rattle.byteorder.specs.Numbers.{little_number-reads_back}
 use Rattle.lease_wire.specs.Chain.{ContextView, IsPart, IsData, IsContext, LeadsOn, next_of, name_offset_of, name_length_of}
 use Rattle.lease_wire.specs.Chain.{data_offset_of, data_length_of}
 use Rattle.lease_wire.specs.Names.{Meaning, LeaseView, meaning_of, lease_name, durable_name, reconnect_name}

@@ -3,7 +3,7 @@ use Rattle.lease_laws.proofs.Words.{◌++◌, ◌∙◌, ◌∷◌, ◌≡◌, A
 use Rattle.lease_laws.proofs.Words.{Option, Out, Outcome, Progress, Reply, Server, State, Status, Tried}
 use Rattle.lease_laws.proofs.Words.{None, Some, Want, ℕ, ⊎_elim, [], acknowledged, all_passes}
 use Rattle.lease_laws.proofs.Words.{ap, arith, arrived_on, begun, concluded}
-use Rattle.lease_laws.proofs.Words.{ended, false, file_asked, has_key}
+use Rattle.lease_laws.proofs.Words.{false, file_asked, has_key}
 use Rattle.lease_laws.proofs.Words.{inl, inr, is_behind, is_left_open}
 use Rattle.lease_laws.proofs.Words.{lease_broken, must_wait}
 use Rattle.lease_laws.proofs.Words.{not, opens_dropped, refl, refusal_of, replied, subst, suc, sym, tried}

@@ -1,8 +1,8 @@
 -- What passes over held requests change is the doing of these requests.
 use Rattle.lease_laws.proofs.Words.{◌++◌, ◌==◌, ◌∙◌, ◌∷◌, ◌≡◌, Among, FileRequest, Held, Lease, LeaseOf, List}
 use Rattle.lease_laws.proofs.Words.{Open, Option, Outcome, Pass, Progress, Server, ℕ, ⊎_elim, []}
-use Rattle.lease_laws.proofs.Words.{answered, ap, append_assoc, arith, changed, closed, concluded, connected_again}
-use Rattle.lease_laws.proofs.Words.{eq-eqb, eqb-true, false, granted, held_left, inl, inr}
+use Rattle.lease_laws.proofs.Words.{ap, append_assoc, arith, closed, concluded, connected_again}
+use Rattle.lease_laws.proofs.Words.{eq-eqb, eqb-true, false, held_left, inl, inr}
 use Rattle.lease_laws.proofs.Words.{lease_after, lease_put, left_waiting, map, not}
 use Rattle.lease_laws.proofs.Words.{pass_answered}
 use Rattle.lease_laws.proofs.Words.{put, refl, subst, sym, tried, tried_again}

@@ -1,13 +1,11 @@
 -- What a client does where it notices that its connection is lost, and where it connects
 -- (MS-SMB2 3.2.7.1, 3.2.4.4).
-use Rattle.std.specs.Prelude.{ℕ, Bool, true, false, Some, List, [], ◌∷◌, ◌++◌, filter, flat_map, if◌then◌else◌}
-use Rattle.lease_state.specs.State.{nothing_cached}
+use Rattle.std.specs.Prelude.{ℕ, Bool, true, false, List, [], ◌∷◌, ◌++◌, filter, flat_map, if◌then◌else◌}
 use Rattle.lease_model.specs.client.State.{Client, Entry, LiveEntry, Parted, Pending, Phase, closed_entry, lease_key, belief_of}
 use Rattle.lease_model.specs.client.Step.{Step, Turn, turn_of, quiet_turn, settled_as, believes_noted}
 use Rattle.lease_model.specs.client.Requests.{again_request}
 use Rattle.lease_model.specs.client.Commands.{Answer, Note, Settlement}
 use Rattle.lease_model.specs.values.Lists.{without, numbers_to}
-use Rattle.lease_model.specs.messages.Requests.{FileRequest, Request}
 
 -- every entry has a turn of its own; notes and requests stand file by file
 abbrev pub all_turned : Client → Bool → (ℕ → Entry → Turn) → Step
