@@ -13,7 +13,6 @@ use Rattle.leasecheck.specs.Refusals.{Begins}
 use Rattle.leasecheck.specs.declared.failure.Failure.{Failure}
 use Rattle.leasecheck.specs.declared.failure.Failure.TheVariants as failure
 use Rattle.leasecheck.specs.declared.recording.Gathered.{Gathered}
-use Rattle.leasecheck.specs.declared.tasks.Task.TheVariants as task
 
 -- ---- what is written
 
