@@ -18,6 +18,14 @@ class MachineLost(Exception):
     """
 
 
+class ToolFault(Exception):
+    """What the program `leasecheck` or a tool that uses it can't do, as a text for people.
+
+    >>> str(ToolFault("fault line 3"))
+    'fault line 3'
+    """
+
+
 class Fault(ValueError):
     """Bytes that are refused: why, by `number` and `name`; `place`, where the create context begins that the fault was found in
     (0 in a break message); and `status`, with which a server answers.

@@ -76,18 +76,79 @@ class Share(enum.Enum):
 
 
 class Status(enum.IntEnum):
-    """The statuses that the machines have a name for (MS-ERREF 2.3.1). Any other NTSTATUS is a plain number.
+    """Statuses of answers by their names in MS-ERREF 2.3.1, without `STATUS_`. Any other NTSTATUS is a plain number.
 
     >>> Status.SHARING_VIOLATION == 0xC0000043
     True
     """
 
     SUCCESS = 0x00000000
+    PENDING = 0x00000103
+    BUFFER_OVERFLOW = 0x80000005
+    NO_MORE_FILES = 0x80000006
     UNSUCCESSFUL = 0xC0000001
+    NOT_IMPLEMENTED = 0xC0000002
+    INVALID_INFO_CLASS = 0xC0000003
+    INFO_LENGTH_MISMATCH = 0xC0000004
     INVALID_PARAMETER = 0xC000000D
+    NO_SUCH_FILE = 0xC000000F
+    INVALID_DEVICE_REQUEST = 0xC0000010
+    END_OF_FILE = 0xC0000011
+    MORE_PROCESSING_REQUIRED = 0xC0000016
+    NO_MEMORY = 0xC0000017
     ACCESS_DENIED = 0xC0000022
+    BUFFER_TOO_SMALL = 0xC0000023
+    OBJECT_NAME_INVALID = 0xC0000033
     OBJECT_NAME_NOT_FOUND = 0xC0000034
+    OBJECT_NAME_COLLISION = 0xC0000035
+    OBJECT_PATH_NOT_FOUND = 0xC000003A
     SHARING_VIOLATION = 0xC0000043
+    FILE_LOCK_CONFLICT = 0xC0000054
+    LOCK_NOT_GRANTED = 0xC0000055
+    DELETE_PENDING = 0xC0000056
+    LOGON_FAILURE = 0xC000006D
+    RANGE_NOT_LOCKED = 0xC000007E
     INSUFFICIENT_RESOURCES = 0xC000009A
+    FILE_IS_A_DIRECTORY = 0xC00000BA
+    NOT_SUPPORTED = 0xC00000BB
+    NETWORK_NAME_DELETED = 0xC00000C9
+    BAD_NETWORK_NAME = 0xC00000CC
     REQUEST_NOT_ACCEPTED = 0xC00000D0
+    INVALID_OPLOCK_PROTOCOL = 0xC00000E3
+    DIRECTORY_NOT_EMPTY = 0xC0000101
+    NOT_A_DIRECTORY = 0xC0000103
+    CANCELLED = 0xC0000120
+    CANNOT_DELETE = 0xC0000121
     FILE_CLOSED = 0xC0000128
+    USER_SESSION_DELETED = 0xC0000203
+    NOT_FOUND = 0xC0000225
+
+
+# The statuses that lines of the machines have by name (docs/FORMATS.md).
+_NAMED = (Status.UNSUCCESSFUL, Status.INVALID_PARAMETER, Status.ACCESS_DENIED, Status.OBJECT_NAME_NOT_FOUND,
+          Status.SHARING_VIOLATION, Status.INSUFFICIENT_RESOURCES, Status.REQUEST_NOT_ACCEPTED, Status.FILE_CLOSED)
+_BY_WORD = {f"STATUS_{it.name}": int(it) for it in _NAMED}
+_WORDS = {status: word for word, status in _BY_WORD.items()}
+
+
+def status_word(status: int) -> str:
+    """A status as lines of the machines have it: eight of them by name, any other as eight digits.
+
+    >>> status_word(Status.SHARING_VIOLATION), status_word(Status.NO_MEMORY)
+    ('STATUS_SHARING_VIOLATION', 'c0000017')
+    """
+    return _WORDS.get(status, f"{status:08x}")
+
+
+def read_status(word: str) -> int:
+    """The status that a line of the machines has as this word.
+
+    >>> read_status("STATUS_FILE_CLOSED") == read_status("c0000128") == Status.FILE_CLOSED
+    True
+    """
+    status = _BY_WORD.get(word)
+    if status is None:
+        if len(word) != 8:
+            raise ValueError(f"{word!r} is no status")
+        status = int(word, 16)
+    return status

@@ -1,47 +1,80 @@
 #!/usr/bin/env python3
 """Plays a schedule (docs/FORMATS.md) through the machines of the package smblease, and prints the record of what happened, as
-`leasecheck replay` does but for its last line.
+`leasecheck replay` does but for its last line. A call that there was no memory for changed nothing, and is made once more.
 
     play.py FILE      status 0; 1 where FILE can't be read or isn't a schedule; 2 for a command line that is none; 3 where memory
                       ran out and a machine was lost (the record ends there); 4 where there was no memory at a second try either
 """
+from __future__ import annotations
+
 import os
 import sys
+from collections.abc import Callable
+from typing import TypeVar
 
-TESTS = os.path.dirname(os.path.abspath(__file__))
-TOP = os.path.dirname(os.path.dirname(TESTS))
-sys.path[:0] = [TOP, f"{TOP}/python", TESTS]
+TOP = os.path.dirname(os.path.dirname(os.path.dirname(os.path.abspath(__file__))))
+sys.path.insert(0, f"{TOP}/python")
 
-from drive.faults import DriveFault  # noqa: E402
-from drive.schedules import Event, Schedule, read_schedule  # noqa: E402
-from smblease import MachineLost  # noqa: E402
-from world import World  # noqa: E402
+# pylint: disable=wrong-import-position
+from smblease import MachineLost, Server  # noqa: E402
+from smblease.faults import ToolFault  # noqa: E402
+from smblease.schedules import Event, Schedule  # noqa: E402
+from smblease.world import ClientObjects, MachineWorld  # noqa: E402
+
+Given = TypeVar("Given")
+
+
+def twice(call: Callable[[], Given]) -> Given:
+    """What a call gives at its first try or at its second."""
+    try:
+        return call()
+    except MemoryError:
+        return call()
+
+
+class Printer:
+    """Prints the facts, and no remarks."""
+
+    def fact(self, text: str) -> None:
+        """A fact of the record."""
+        print(text)
+
+    def remark(self, text: str) -> None:
+        """What a message has in it."""
+
+
+class PatientWorld(MachineWorld):
+    """A run in which each call is tried twice."""
+
+    def __init__(self, schedule: Schedule) -> None:
+        super().__init__(schedule, twice(lambda: ClientObjects(schedule)), twice(lambda: Server(schedule.files)), Printer())
+
+    def _called(self, call: Callable[[], Given]) -> Given:
+        return twice(call)
 
 
 def refuse(status: int, why: object) -> int:
+    """Says why, and answers the status."""
     sys.stdout.flush()
     print(f"play: {why}", file=sys.stderr)
     return status
 
 
-def schedule_of(path: str) -> Schedule:
-    with open(path, encoding="ascii", errors="surrogateescape") as text:
-        return read_schedule(text.read())
-
-
-def try_to_happen(world: World, event: Event) -> None:
+def try_to_happen(world: PatientWorld, event: Event) -> None:
+    """Has an event happen, where it is laid out as one."""
     try:
-        world.happen(event)
+        world.happens(event)
     except (LookupError, ValueError):
-        raise DriveFault(f"{event.text} is no event") from None
+        raise ToolFault(f"{event.text} is no event") from None
 
 
 def play(schedule: Schedule) -> int:
+    """Plays a schedule; the status."""
     try:
-        world = World(schedule, print)
+        world = PatientWorld(schedule)
         for event in schedule.events:
             try_to_happen(world, event)
-    except DriveFault as fault:
+    except ToolFault as fault:
         return refuse(1, fault)
     except MachineLost as lost:
         return refuse(3, lost)
@@ -51,11 +84,13 @@ def play(schedule: Schedule) -> int:
 
 
 def main() -> int:
+    """Plays the schedule of the command line; the status."""
     if len(sys.argv) != 2:
         return refuse(2, "FILE is needed")
     try:
-        schedule = schedule_of(sys.argv[1])
-    except (OSError, DriveFault) as error:
+        with open(sys.argv[1], encoding="ascii", errors="surrogateescape") as text:
+            schedule = Schedule.read(text.read())
+    except (OSError, ToolFault) as error:
         return refuse(1, error)
     return play(schedule)
 

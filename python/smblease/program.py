@@ -1,0 +1,91 @@
+"""The program `leasecheck`: where it is, and what it says of schedules and records."""
+from __future__ import annotations
+
+import os
+import re
+import shutil
+import subprocess
+from collections.abc import Sequence
+from dataclasses import dataclass
+
+from smblease.faults import ToolFault
+
+NAME = "leasecheck"
+# The top of the repository, where the package stands in one.
+TOP = os.path.dirname(os.path.dirname(os.path.dirname(os.path.realpath(__file__))))
+SECONDS = 600
+
+
+def find_program() -> str:
+    """The path of the program: that of the repository which the package stands in, else the one that is installed.
+
+    >>> import os
+    >>> os.path.basename(find_program())
+    'leasecheck'
+    """
+    own = os.path.join(TOP, NAME)
+    return own if os.path.isfile(own) else shutil.which(NAME) or NAME
+
+
+@dataclass(frozen=True)
+class Verdict:
+    """What the program says of a record: `safe`, `unsafe PLACE RULE` or `malformed PLACE`.
+
+    >>> Verdict("unsafe 21 2").rule
+    2
+    """
+
+    text: str
+
+    @property
+    def rule(self) -> int | None:
+        """The rule that is broken, where one is.
+
+        >>> Verdict("safe").rule is None
+        True
+        """
+        found = re.fullmatch(r"unsafe \d+ (\d)", self.text)
+        return int(found.group(1)) if found else None
+
+    @property
+    def is_safe(self) -> bool:
+        """Whether no rule is broken, in a record that is one.
+
+        >>> Verdict("malformed 3").is_safe
+        False
+        """
+        return self.text == "safe"
+
+
+def _run(program: str, words: Sequence[str], given: str) -> subprocess.CompletedProcess[str]:
+    try:
+        return subprocess.run([program, *words], input=given, text=True, capture_output=True, timeout=SECONDS, check=False)
+    except (OSError, subprocess.TimeoutExpired) as fault:
+        why = fault.strerror if isinstance(fault, OSError) else "it didn't end within ten minutes"
+        raise ToolFault(f"{program}: {why}") from None
+
+
+def judge(program: str, record: str) -> Verdict:
+    """The verdict on a record.
+
+    >>> judge(find_program(), "start 1 61\\nbelieves 1 1 RW\\n")
+    Verdict(text='safe')
+    """
+    ran = _run(program, ["judge", "-"], record)
+    said = ran.stdout.strip()
+    if not said:
+        raise ToolFault(f"the record isn't judged: {ran.stderr.strip() or f'{program} ended with status {ran.returncode}'}")
+    return Verdict(said)
+
+
+def replay(program: str, schedule: str, *words: str) -> list[str]:
+    """The record of a schedule on the server of this repository, without its verdict; with `--messages` also what is in the messages.
+    A text that is no schedule is refused.
+
+    >>> replay(find_program(), "file 616263\\nclient 11111111-1111-1111-1111-111111111111\\nconnect 1\\n")
+    ['start 1 616263', 'joined 1']
+    """
+    ran = _run(program, ["replay", *words, "-"], schedule)
+    if ran.returncode != 0:
+        raise ToolFault(ran.stderr.strip() or f"{program} ended with status {ran.returncode}")
+    return ran.stdout.splitlines()[:-1]
