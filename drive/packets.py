@@ -76,7 +76,7 @@ def _started(words: List[str], answer: Union[IO[str], int], faults: Union[IO[str
     try:
         return subprocess.Popen(words, stdout=answer, stderr=faults, text=True, errors="replace")
     except OSError as fault:
-        raise DriveFault(f"tshark: {fault.strerror} (drive/setup installs it)") from None
+        raise DriveFault(f"tshark: {fault.strerror} (tools/setup installs it)") from None
 
 
 def _fault(status: int, text: str) -> Optional[str]:

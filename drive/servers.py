@@ -153,7 +153,7 @@ class PrivateServer:
     def __init__(self, log: Optional[str] = None) -> None:
         """`log` is a file that gets smbd's log, at level 10, when it is ended."""
         if os.geteuid() != 0 or not os.path.exists(SMBD):
-            raise DriveFault("a private smbd needs root and /usr/sbin/smbd (drive/setup installs it)")
+            raise DriveFault("a private smbd needs root and /usr/sbin/smbd (tools/setup installs it)")
         clock = library()
         self._log = log
         self._folder = tempfile.mkdtemp(prefix="leasecheck-drive-")

@@ -60,7 +60,7 @@ def prover_of(user: Optional[str]) -> Optional[Prover]:
     try:
         from serve.proving import User
     except ImportError:
-        raise DriveFault("--user needs impacket, which can't be imported (drive/setup installs it); guests don't need it") from None
+        raise DriveFault("--user needs impacket, which can't be imported (tools/setup installs it); guests don't need it") from None
     return User(name, password)
 
 

@@ -76,7 +76,7 @@ def _ran(words: List[str], limit: float) -> "subprocess.CompletedProcess[str]":
         return subprocess.run(words, stdin=subprocess.DEVNULL, capture_output=True, text=True, errors="replace", timeout=limit,
                               check=False)
     except OSError as fault:
-        raise DriveFault(f"smbtorture: {fault.strerror} (drive/setup installs it)") from None
+        raise DriveFault(f"smbtorture: {fault.strerror} (tools/setup installs it)") from None
 
 
 def tortured(name: str, server: Callable[[str], Target], limit: float) -> Row:
@@ -112,7 +112,7 @@ def private_server() -> Target:
     try:
         from drive.servers import PrivateServer
     except ImportError:
-        raise DriveFault("--smbd needs impacket, which can't be imported (drive/setup installs it)") from None
+        raise DriveFault("--smbd needs impacket, which can't be imported (tools/setup installs it)") from None
     return PrivateServer()
 
 

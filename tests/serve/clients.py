@@ -21,7 +21,7 @@ TORTURED = ["smb2.lease.request", "smb2.lease.upgrade", "smb2.lease.upgrade2", "
 APART = "smb2.lease.breaking1"
 # Python with the standard library alone: no folder of packages is looked into.
 BARE = [sys.executable, "-I", "-S"]
-NO_IMPACKET = "serve/run: --user needs impacket, which can't be imported (drive/setup installs it); guests don't need it\n"
+NO_IMPACKET = "serve/run: --user needs impacket, which can't be imported (tools/setup installs it); guests don't need it\n"
 
 
 def torture(program: str) -> List[Case]:
@@ -107,5 +107,5 @@ def cases(program: str) -> List[Case]:
         if shutil.which(tool):
             found += more
         else:
-            print(f"left out: what {tool} does (drive/setup installs it)")
+            print(f"left out: what {tool} does (tools/setup installs it)")
     return found

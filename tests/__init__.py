@@ -1,0 +1,1 @@
+"""What tests the built program, the library, and the tools around them (docs/TESTING.md)."""

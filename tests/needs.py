@@ -1,0 +1,22 @@
+"""Marks of tests that are skipped where a program, a package or a right isn't there."""
+from __future__ import annotations
+
+import importlib.util
+import os
+import shutil
+
+import pytest
+
+INSTALLS = "tools/setup installs it"
+
+
+def program(name: str) -> pytest.MarkDecorator:
+    there = shutil.which(name, path=f"{os.environ.get('PATH', '')}:/usr/sbin:/sbin")
+    return pytest.mark.skipif(not there, reason=f"there is no {name}; {INSTALLS}")
+
+
+def package(name: str) -> pytest.MarkDecorator:
+    return pytest.mark.skipif(importlib.util.find_spec(name) is None, reason=f"there is no package {name}; {INSTALLS}")
+
+
+ROOT = pytest.mark.skipif(os.geteuid() != 0, reason="this isn't root")
