@@ -14,6 +14,10 @@ def files_of(folder: Path, pattern: str = "*") -> list[Path]:
     return sorted(it for it in folder.glob(pattern) if it.is_file())
 
 
+def name_of(path: Path) -> str:
+    return path.name
+
+
 SCHEDULES = files_of(TESTS / "schedules")
 RUNS = files_of(TESTS / "runs")
 RECORDS = files_of(TESTS / "records")

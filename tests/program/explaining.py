@@ -1,24 +1,14 @@
-#!/usr/bin/env python3
-"""Compares what `leasecheck judge --explain` prints with what the rules say, worked out here from the record alone.
+"""What `judge --explain` has to print, worked out from the rules and the record alone, without anything of the program.
 
-  tests/explanations [SEED [COUNT]]      so many damaged records besides those that are kept (1 and 1,000)
-
-Records are those of tests/records, tests/runs and drive/found, and the same with lines left out, doubled, exchanged, or with one of
-their words changed. Of each the first line and the status are those of `judge`; behind it stands what is expected: for a bad fact its line,
-the lines of the facts that make it bad, the rule, and who was judged. Where two clients can be named for the first rule either pair
-will do, and where a fact is malformed in two ways either one. The last line counts records: 'N passed, M failed'.
+For a bad fact that is its line, the lines of the facts that make it bad, the rule, and who was judged. Where two clients can be named for the first
+rule either pair will do, and where a fact is malformed in two ways either one.
 """
-import glob
-import os
-import random
-import subprocess
-import sys
-from dataclasses import dataclass
-from typing import Dict, List, Optional, Sequence, Tuple
+from __future__ import annotations
 
-TESTS = os.path.dirname(os.path.abspath(__file__))
-TOP = os.path.dirname(TESTS)
-PROGRAM = f"{TOP}/leasecheck"
+import random
+from dataclasses import dataclass
+from typing import Optional, Sequence
+
 LIMIT = 1048576
 WORDS = ("1", "2", "3", "7", "none", "R", "RW", "RWH", "58", "-", "done", "failed", "buffered", "through", "1048576")
 RULES = {
@@ -35,7 +25,7 @@ FILE = {"expired": 2, "opened": 1, "changed": 1, "wrote": 2, "believes": 2, "cac
 @dataclass(frozen=True)
 class Fact:
     line: int
-    words: Tuple[str, ...]
+    words: tuple[str, ...]
 
     @property
     def kind(self) -> str:
@@ -113,7 +103,7 @@ class Past:
         return next((it for it in reversed(self.facts)
                      if it.kind in kinds and all(getattr(it, name) == value for name, value in wanted.items())), None)
 
-    def since_joined(self, client: str) -> List[int]:
+    def since_joined(self, client: str) -> list[int]:
         joined = [place for place, it in enumerate(self.facts) if it.words == ("joined", client)]
         return list(range(joined[-1] + 1, len(self.facts))) if joined else list(range(len(self.facts)))
 
@@ -121,12 +111,12 @@ class Past:
         served = self.last("joined", "dropped", "expired", client=client)
         return bool(served and served.kind == "joined") and not self.last("strayed", client=client)
 
-    def messages(self, client: str) -> Tuple[List[int], List[int]]:
+    def messages(self, client: str) -> tuple[list[int], list[int]]:
         """The places since it joined last of the messages that were sent to it, and of those that it took."""
         places = self.since_joined(client)
         return ([it for it in places if self.facts[it].words == ("sent", client)], [it for it in places if self.facts[it].words == ("took", client)])
 
-    def unanswered(self, client: str, file: str) -> List[Fact]:
+    def unanswered(self, client: str, file: str) -> list[Fact]:
         settled = {it.words[2] for it in self.facts if it.kind == "settled" and it.client == client}
         return [it for it in self.facts if it.kind == "wrote" and it.client == client and it.file == file and it.number not in settled]
 
@@ -134,7 +124,7 @@ class Past:
         return next((it for it in reversed(self.facts) if it.kind == "start" and it.words[1] == file), None)
 
 
-def malformed(fact: Fact, past: Past) -> List[List[str]]:
+def malformed(fact: Fact, past: Past) -> list[list[str]]:
     """What can be said of a fact that is malformed."""
     ways = []
     if fact.file and not past.start(fact.file):
@@ -153,9 +143,9 @@ def malformed(fact: Fact, past: Past) -> List[List[str]]:
     return ways
 
 
-def two_caches(fact: Fact, past: Past) -> List[List[str]]:
+def two_caches(fact: Fact, past: Past) -> list[list[str]]:
     after = Past([*past.facts, fact])
-    beliefs: Dict[Tuple[str, str], Fact] = {}
+    beliefs: dict[tuple[str, str], Fact] = {}
     for it in after.facts:
         if it.kind == "believes":
             beliefs[it.words[1], it.words[2]] = it
@@ -168,7 +158,7 @@ def two_caches(fact: Fact, past: Past) -> List[List[str]]:
     return ways
 
 
-def stale_read(fact: Fact, past: Past) -> List[List[str]]:
+def stale_read(fact: Fact, past: Past) -> list[list[str]]:
     client, file = str(fact.client), str(fact.file)
     sent, took = past.messages(client)
     if not took:
@@ -186,7 +176,7 @@ def stale_read(fact: Fact, past: Past) -> List[List[str]]:
              *(it.told(", not answered before the read") for it in waiting), RULES["2"]]]
 
 
-def late_write(fact: Fact, past: Past) -> List[List[str]]:
+def late_write(fact: Fact, past: Past) -> list[list[str]]:
     buffered = [place for place, it in enumerate(past.facts) if it.kind == "wrote" and it.words[6] == "buffered"
                 and (it.client, it.file, it.number) == (fact.client, fact.file, fact.number)]
     touched = next(it for it in past.facts[buffered[0] + 1:]
@@ -194,7 +184,7 @@ def late_write(fact: Fact, past: Past) -> List[List[str]]:
     return [[past.facts[buffered[0]].told(", the write"), touched.told(", before that write changes it"), RULES["3"]]]
 
 
-def false_done(fact: Fact, past: Past) -> List[List[str]]:
+def false_done(fact: Fact, past: Past) -> list[list[str]]:
     wrote = past.last("wrote", client=str(fact.client), number=fact.words[2])
     changed = past.last("changed", client=str(fact.client), number=fact.words[2])
     return [[*([wrote.told(", the write")] if wrote else []),
@@ -208,9 +198,9 @@ def counted(count: int, word: str) -> str:
     return f"{count} {word}" if count == 1 else f"{count} {word}s"
 
 
-def explanations(verdict: Sequence[str], facts: Sequence[Fact]) -> List[List[str]]:
+def explanations(verdict: Sequence[str], facts: Sequence[Fact]) -> list[list[str]]:
     """The texts that may stand behind a verdict."""
-    ways: List[List[str]] = [[]]
+    ways: list[list[str]] = [[]]
     judged = facts
     if verdict[0] != "safe":
         place = int(verdict[1])
@@ -225,28 +215,11 @@ def explanations(verdict: Sequence[str], facts: Sequence[Fact]) -> List[List[str
     return [way + behind for way in ways]
 
 
-def facts_of(lines: Sequence[str]) -> List[Fact]:
+def facts_of(lines: Sequence[str]) -> list[Fact]:
     return [Fact(number, tuple(line.split(" "))) for number, line in enumerate(lines, 1) if line and not line.startswith("#")]
 
 
-def judged(text: str, *words: str) -> Tuple[int, List[str], str]:
-    ran = subprocess.run([PROGRAM, "judge", *words, "-"], input=text, capture_output=True, text=True, check=False, timeout=60)
-    return ran.returncode, ran.stdout.splitlines(), ran.stderr
-
-
-def why_not(lines: Sequence[str]) -> str:
-    """What is wrong, or nothing."""
-    text = "".join(f"{it}\n" for it in lines)
-    plain, told = judged(text), judged(text, "--explain")
-    if (plain[0], plain[1], plain[2]) != (told[0], told[1][:1], told[2]):
-        return f"{told[0]} {told[1][:1]} {told[2]!r} in place of {plain}"
-    if not plain[1]:
-        return ""
-    ways = explanations(plain[1][0].split(" "), facts_of(lines))
-    return "" if told[1][1:] in ways else f"{told[1][1:]} and not {ways}"
-
-
-def damaged(chooser: random.Random, lines: List[str]) -> List[str]:
+def damaged(chooser: random.Random, lines: list[str]) -> list[str]:
     lines = list(lines)
     for _ in range(chooser.randint(1, 3)):
         place, other = chooser.randrange(len(lines)), chooser.randrange(len(lines))
@@ -263,37 +236,3 @@ def damaged(chooser: random.Random, lines: List[str]) -> List[str]:
             lines[place] = " ".join(words)
         lines = lines or ["joined 1"]
     return lines
-
-
-def kept() -> List[List[str]]:
-    paths = [*glob.glob(f"{TESTS}/records/*"), *glob.glob(f"{TESTS}/runs/*"), *glob.glob(f"{TOP}/drive/found/*.record")]
-    records = []
-    for path in sorted(paths):
-        with open(path, encoding="utf-8", errors="replace") as record:
-            lines = record.read().splitlines()
-        if lines and all(it.isascii() for it in lines) and sum(map(len, lines)) < 40_000:
-            records.append(lines)
-    return records
-
-
-def main() -> int:
-    words = sys.argv[1:]
-    if len(words) > 2 or not all(it.isdecimal() for it in words):
-        print("usage: tests/explanations [SEED [COUNT]]", file=sys.stderr)
-        return 2
-    seed, count = [int(it) for it in words] + [1, 1000][len(words):]
-    chooser = random.Random(seed)
-    records = kept()
-    cases = [*records, *(damaged(chooser, chooser.choice(records)) for _ in range(count))]
-    failed = 0
-    for number, lines in enumerate(cases, 1):
-        wrong = why_not(lines)
-        if wrong:
-            failed += 1
-            print(f"failed {number}: {wrong}\n" + "".join(f"    {it}\n" for it in lines))
-    print(f"{len(cases) - failed} passed, {failed} failed")
-    return 1 if failed else 0
-
-
-if __name__ == "__main__":
-    sys.exit(main())

@@ -1,0 +1,1 @@
+"""README.md and docs/: their commands give what stands there, and their words are plain."""

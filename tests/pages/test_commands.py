@@ -1,0 +1,116 @@
+"""The commands of README.md and docs/SESSIONS.md, as they stand there and in their order, give what stands there.
+
+In an indented block a line `$ COMMAND` is a command, and the lines after it are what it prints, to the letter. A block of lines that each begin with
+make, export or cc is run too, and has to end well. All is run by one shell, in a folder of its own, with a home of its own.
+"""
+from __future__ import annotations
+
+import os
+import re
+import shutil
+import subprocess
+from pathlib import Path
+from typing import Iterator, NamedTuple, Optional
+
+import pytest
+
+from tests import needs
+from tests.paths import EXAMPLE, TOP
+
+PLAIN = ("make", "export ", "cc ")
+# What is run in the folder as it is run at the top of the repository.
+LINKS = ("Makefile", "crates", "crates.txt", "dist", "drive", "examples", "include", "kit.txt", "leasecheck", "out", "python", "tests", "tools")
+PAGES = ("README.md", "docs/SESSIONS.md")
+# Commands that have these words need these programs.
+NEEDS = {"pkg-config": "pkg-config", "out/c/": "pkg-config", "drive/capture": "tshark"}
+MOST_LINES = 150
+MARK = "-- the end of what the command printed:"
+
+
+class Command(NamedTuple):
+    text: str
+    # None where its status alone counts
+    printed: Optional[str]
+
+
+def page(name: str) -> str:
+    return (TOP / name).read_text(encoding="utf-8")
+
+
+def blocks(text: str) -> Iterator[list[str]]:
+    for block in re.findall(r"(?:^    .*\n)+", text, re.M):
+        yield [line[4:] for line in block.splitlines()]
+
+
+def commands(text: str) -> Iterator[Command]:
+    for block in blocks(text):
+        if all(line.startswith(PLAIN) for line in block):
+            yield from (Command(line, None) for line in block)
+        elif block[0].startswith("$ "):
+            for part in "\n".join(block).split("\n$ "):
+                command, _, printed = part.removeprefix("$ ").partition("\n")
+                yield Command(command, f"{printed}\n" if printed else "")
+
+
+COMMANDS = [command for name in PAGES for command in commands(page(name))]
+
+
+class Session:
+    """One shell, in which the commands are run up to the one that is asked for."""
+
+    def __init__(self, folder: Path) -> None:
+        (TOP / "out").mkdir(exist_ok=True)
+        for name in LINKS:
+            (folder / name).symlink_to(TOP / name)
+        self.shell = subprocess.Popen(["bash"], cwd=folder, env={**os.environ, "HOME": str(folder)}, stdin=subprocess.PIPE,
+                                      stdout=subprocess.PIPE, text=True)
+        self.given = 0
+
+    def result_of(self, number: int) -> tuple[str, int]:
+        while self.given < number:
+            self._run(COMMANDS[self.given])
+        return self._run(COMMANDS[number])
+
+    def _run(self, command: Command) -> tuple[str, int]:
+        """What it prints on both streams, and its status."""
+        assert self.shell.stdin and self.shell.stdout
+        self.given += 1
+        self.shell.stdin.write(f"{{ {command.text}\n}} </dev/null 2>&1; echo \"{MARK} $?\"\n")
+        self.shell.stdin.flush()
+        printed = ""
+        for line in self.shell.stdout:
+            if line.startswith(MARK):
+                return printed, int(line[len(MARK):])
+            printed += line
+        return printed, -1
+
+
+@pytest.fixture(scope="module")
+def session(tmp_path_factory: pytest.TempPathFactory) -> Iterator[Session]:
+    made = Session(tmp_path_factory.mktemp("pages"))
+    yield made
+    made.shell.communicate()
+
+
+def case(number: int, command: Command) -> object:
+    missing = [needs.program(it) for word, it in NEEDS.items() if word in command.text and not shutil.which(it)]
+    return pytest.param(number, id=command.text[:60], marks=missing)
+
+
+@pytest.mark.xdist_group("pages")
+@pytest.mark.parametrize("number", [case(number, command) for number, command in enumerate(COMMANDS)])
+def test_command(session: Session, number: int) -> None:
+    printed, status = session.result_of(number)
+    wanted = COMMANDS[number].printed
+    if wanted is None:
+        assert status == 0, printed
+    else:
+        assert printed == wanted
+
+
+def test_readme_is_short() -> None:
+    assert page("README.md").count("\n") <= MOST_LINES
+
+
+def test_sessions_show_the_example() -> None:
+    assert EXAMPLE.read_text(encoding="utf-8").splitlines() in list(blocks(page("docs/SESSIONS.md")))

@@ -1,0 +1,124 @@
+"""A picture that `leasecheck draw` printed, read with an XML reader, and what has to hold of it.
+
+Each fact of the record has one mark, in order, with its kind and its words. Those that `judge --explain` names are marked as bad, and what it says
+stands below. Arrows lead from where a message was sent to where it is taken, bars reach from a belief to the next one, and a client's line is solid
+where it is connected.
+"""
+from __future__ import annotations
+
+import re
+import xml.etree.ElementTree as xml
+from typing import Optional, Sequence
+
+from tests.program.explaining import Fact
+
+SVG = "{http://www.w3.org/2000/svg}"
+ELEMENTS = {SVG + name for name in ("svg", "style", "defs", "marker", "path", "rect", "line", "text", "tspan", "g", "title", "circle")}
+ROW = 24
+Point = tuple[int, int]
+
+
+def number(element: xml.Element, name: str) -> int:
+    return int(element.attrib[name])
+
+
+def middle(mark: xml.Element) -> Point:
+    [circle] = mark.findall(f"{SVG}circle")
+    return number(circle, "cx"), number(circle, "cy")
+
+
+def ends(line: xml.Element) -> tuple[Point, Point]:
+    return (number(line, "x1"), number(line, "y1")), (number(line, "x2"), number(line, "y2"))
+
+
+def on_server(kind: str) -> bool:
+    return kind in ("start", "expired", "sent", "opened", "changed")
+
+
+class Picture:
+    def __init__(self, text: str, facts: Sequence[Fact]) -> None:
+        self.root = xml.fromstring(text)
+        self.facts = facts
+        self.marks = self.root.findall(f"{SVG}g")
+        self.clients = sorted({int(fact.client) for fact in facts if fact.client})
+        left = (len(self.clients) + 1) // 2
+        order: list[Optional[int]] = [*self.clients[:left], None, *self.clients[left:]]
+        headings = {it.text or "": number(it, "x") for it in self.root.findall(f"{SVG}text") if it.get("class") == "heading"}
+        names = ["server" if it is None else f"client {it}" for it in order]
+        assert sorted(headings, key=lambda it: headings[it]) == names, (headings, names)
+        self.lanes: dict[Optional[str], int] = {
+            None if it is None else str(it): headings[name] + 30 for it, name in zip(order, names)}
+
+    def notes(self) -> list[str]:
+        [notes] = [it for it in self.root.findall(f"{SVG}text") if it.get("class") == "notes"]
+        return [it.text or "" for it in notes.findall(f"{SVG}tspan")]
+
+    def look_at_marks(self, bad: Sequence[int]) -> None:
+        assert len(self.marks) == len(self.facts), (len(self.marks), len(self.facts))
+        for place, (mark, fact) in enumerate(zip(self.marks, self.facts), 1):
+            assert mark.get("id") == f"fact-{place}", place
+            assert mark.get("class") == fact.kind + (" bad" if place in bad else ""), (place, mark.get("class"), bad)
+            assert mark.findtext(f"{SVG}title") == fact.in_words(), place
+            x, y = middle(mark)
+            assert x == self.lanes[None if on_server(fact.kind) else fact.client], place
+            assert place == 1 or y == middle(self.marks[place - 2])[1] + ROW, place
+
+    def look_at_arrows(self) -> None:
+        sent: dict[str, list[int]] = {}
+        taken: dict[str, int] = {}
+        for place, fact in enumerate(self.facts, 1):
+            expected = []
+            if fact.kind == "joined":
+                sent[fact.client], taken[fact.client] = [], 0
+            elif fact.kind == "sent":
+                sent.setdefault(fact.client, []).append(place)
+            elif fact.kind == "took":
+                count = taken.get(fact.client, 0)
+                taken[fact.client] = count + 1
+                if count < len(sent.get(fact.client, [])):
+                    expected = [(middle(self.marks[sent[fact.client][count] - 1]), middle(self.marks[place - 1]))]
+            assert [ends(it) for it in self.marks[place - 1].findall(f"{SVG}line")] == expected, place
+
+    def look_at_beliefs(self) -> None:
+        for place, fact in enumerate(self.facts, 1):
+            bars = [it for it in self.marks[place - 1].findall(f"{SVG}rect") if it.get("class") != "row"]
+            if fact.kind != "believes" or fact.words[3] == "none":
+                assert not bars, place
+                continue
+            later = [at for at, other in enumerate(self.facts[place:], place + 1)
+                     if other.kind == "believes" and other.words[1:3] == fact.words[1:3]]
+            begin = middle(self.marks[place - 1])[1]
+            end = begin + ROW * ((later[0] if later else len(self.facts) + 1) - place)
+            [bar] = bars
+            assert bar.get("class") == ("writecaching" if "W" in fact.words[3] else "caching"), place
+            assert (number(bar, "y"), number(bar, "height")) == (begin, end - begin), place
+            assert number(bar, "x") < self.lanes[fact.client], place
+
+    def look_at_connections(self) -> None:
+        rows = [middle(it)[1] for it in self.marks]
+        rows.append(rows[-1] + ROW if rows else 0)
+        for client in map(str, self.clients):
+            expected, since = [], None
+            for place, fact in enumerate(self.facts):
+                if fact.client != client:
+                    continue
+                if fact.kind == "joined" and since is None:
+                    since = rows[place]
+                elif fact.kind == "dropped" and since is not None:
+                    expected.append((since, rows[place]))
+                    since = None
+            if since is not None:
+                expected.append((since, rows[-1]))
+            found = [(one[1], two[1]) for one, two in map(ends, self.root.findall(f"{SVG}line[@class='connection']"))
+                     if one[0] == self.lanes[client]]
+            assert found == expected, (client, found, expected)
+
+    def look_at(self, explained: str) -> None:
+        """Compares it with what `judge --explain` says of the same facts."""
+        lines = {fact.line: place for place, fact in enumerate(self.facts, 1)}
+        assert self.notes() == explained.splitlines(), (self.notes(), explained)
+        self.look_at_marks([lines[int(it)] for it in re.findall(r"^line ([0-9]+): ", explained, re.M)])
+        self.look_at_arrows()
+        self.look_at_beliefs()
+        self.look_at_connections()
+        assert {it.tag for it in self.root.iter()} <= ELEMENTS

@@ -1,0 +1,40 @@
+"""`judge --explain` prints what the rules say of a record, for records that are kept and for damaged ones."""
+from __future__ import annotations
+
+import random
+
+import pytest
+
+from tests.paths import RECORDS, RUNS, TOP, files_of
+from tests.program.explaining import damaged, explanations, facts_of
+from tests.program.ran import Ended, run
+
+FOUND = files_of(TOP / "drive" / "found", "*.record")
+
+
+def kept() -> dict[str, list[str]]:
+    """The records that are kept, by their names, in lines; but for long ones and those with bytes that are no ASCII."""
+    texts = {f"{path.parent.name}/{path.name}": path.read_text(encoding="latin-1") for path in (*RECORDS, *RUNS, *FOUND)}
+    return {name: text.splitlines() for name, text in texts.items() if text.isascii() and 0 < len(text) < 40_000}
+
+
+KEPT = kept()
+
+
+def check(lines: list[str]) -> None:
+    text = "".join(f"{it}\n" for it in lines)
+    plain, explained = (run(["judge", *words, "-"], text.encode("latin-1")) for words in ([], ["--explain"]))
+    first, *rest = explained.out.decode().splitlines() or [""]
+    assert plain == Ended(explained.status, f"{first}\n".encode() if first else b"", explained.faults), text
+    if first:
+        assert rest in explanations(first.split(" "), facts_of(lines)), text
+
+
+@pytest.mark.parametrize("name", KEPT)
+def test_kept_record(name: str) -> None:
+    check(KEPT[name])
+
+
+@pytest.mark.parametrize("number", range(1000))
+def test_damaged_record(number: int, chooser: random.Random) -> None:
+    check(damaged(chooser, KEPT[chooser.choice(sorted(KEPT))]))

@@ -1,0 +1,54 @@
+"""Good clients that share files with strayed ones stay safe: by `replay`, by `judge`, and by the plain Rust of bench/judge.rs where rustc is there."""
+from __future__ import annotations
+
+import functools
+import random
+import shutil
+import subprocess
+from pathlib import Path
+from typing import Optional
+
+import pytest
+
+from tests.paths import TOP
+from tests.program.ran import SAFE, Ended, run
+from tests.program.straying import StrayingSchedule
+
+pytestmark = pytest.mark.long
+AT_ONCE = 25
+
+
+@functools.lru_cache(maxsize=None)
+def plain_judge() -> Optional[Path]:
+    made = TOP / "out" / "plain_judge"
+    if not made.exists() and shutil.which("rustc"):
+        made.parent.mkdir(exist_ok=True)
+        subprocess.run(["rustc", "--edition", "2021", "-O", "-o", made, TOP / "bench" / "judge.rs"], check=True)
+    return made if made.exists() else None
+
+
+def reads_after_straying(record: str) -> bool:
+    """Whether a client that hasn't strayed reads from its cache after the first request that strayed."""
+    strayed = set()
+    for words in (line.split(" ") for line in record.split("\n")):
+        if words[0] == "strayed":
+            strayed.add(words[1])
+        if words[0] == "cachedread" and strayed and words[1] not in strayed:
+            return True
+    return False
+
+
+@pytest.mark.parametrize("number", range(40))
+def test_records_are_safe(number: int, chooser: random.Random, tmp_path: Path) -> None:
+    seen = 0
+    for _ in range(AT_ONCE):
+        text = StrayingSchedule(chooser).text()
+        record = run(["replay", "-"], text.encode())
+        assert (record.status, record.faults) == (0, b"") and record.out.endswith(b"# safe\n"), text
+        assert run(["judge", "-"], record.out) == Ended(0, SAFE), text
+        judge, path = plain_judge(), tmp_path / f"{number}.record"
+        if judge:
+            path.write_bytes(record.out)
+            assert subprocess.run([judge, path], stdout=subprocess.PIPE, check=False).stdout == SAFE, text
+        seen += reads_after_straying(record.out.decode())
+    assert seen, "no good client read from its cache after a request that strayed"
