@@ -2,7 +2,9 @@
 #
 #   make                        has both at hand: from dist/ where that fits these sources and this machine, else proved and built here
 #   make install PREFIX=DIR     installs them, with the headers and smblease.pc (DESTDIR is put before DIR); make uninstall removes them
-#   make check                  builds the examples and tests in C, runs them, and compares them with leasecheck
+#   make check                  runs the tests that need no kit, in some five minutes; tools/setup installs what they need
+#   make check-long             runs those of these tests that take longer
+#   make lint                   has mypy and pylint look at all Python
 #   make prove                  proves and builds both, whatever is in dist/; needs the Rattle kit
 #   make dist                   does that, and puts them into dist/
 #   make clean                  removes what was built here; what is proved stays
@@ -19,6 +21,9 @@ number = $(shell sed -n 's/^\#define SMBLEASE_VERSION_$(1) //p' include/smblease
 VERSION := $(call number,MAJOR).$(call number,MINOR).$(call number,PATCH)
 SONAME := libsmblease.so.$(call number,MAJOR)
 SHARED := libsmblease.so.$(VERSION)
+
+PYTHON ?= /usr/bin/python3
+JOBS ?= auto
 
 OUT := out/c
 DIST := dist/x86_64-linux
@@ -58,7 +63,13 @@ uninstall:
 	rm -f $(foreach name,$(HEADERS),$(DESTDIR)$(INCLUDEDIR)/$(name))
 
 check: all
-	tests/c/run
+	$(PYTHON) -m pytest -n $(JOBS) --dist loadgroup -q -m "not long" $(TESTS)
+
+check-long: all
+	$(PYTHON) -m pytest -n $(JOBS) --dist loadgroup -q -m long $(TESTS)
+
+lint:
+	tools/lint
 
 prove:
 	tools/prove
@@ -74,4 +85,4 @@ clean:
 
 FORCE:
 
-.PHONY: all install uninstall check prove dist clean FORCE
+.PHONY: all install uninstall check check-long lint prove dist clean FORCE

@@ -1,6 +1,10 @@
 """Finds libsmblease, and declares its functions."""
+from __future__ import annotations
+
 import ctypes
 import os
+import subprocess
+from typing import Iterator
 
 from smblease import _functions
 
@@ -9,35 +13,60 @@ from smblease import _functions
 MAJOR, MINOR = 0, 2
 VARIABLE = "SMBLEASE_LIBRARY"
 SONAME = f"libsmblease.so.{MAJOR}"
-BUILT = os.path.join(os.path.dirname(os.path.realpath(__file__)), "..", "..", "out", "c", "libsmblease.so")
+HERE = os.path.dirname(os.path.realpath(__file__))
+# What an installed package brings, and where the package stands in the repository.
+BROUGHT = os.path.join(HERE, "libsmblease.so")
+TOP = os.path.dirname(os.path.dirname(HERE))
+LINKED = os.path.join(TOP, "out", "c", "libsmblease.so")
+ARCHIVES = [os.path.join(TOP, folder, "libsmblease.a") for folder in ("dist/x86_64-linux", "out/proved")]
 
 
-def _opened() -> ctypes.CDLL:
+def _linked() -> str:
+    """The library of the repository, which `make` links from the archive where it isn't there or is older."""
+    made = [os.path.getmtime(it) for it in ARCHIVES if os.path.exists(it)]
+    if not os.path.exists(LINKED) or os.path.getmtime(LINKED) < max(made, default=0.0):
+        subprocess.run(["make", "--silent", "-C", TOP], stdout=subprocess.DEVNULL, check=False)
+    return LINKED
+
+
+def _places() -> Iterator[str]:
     named = os.environ.get(VARIABLE)
+    if named:
+        yield named
+        return
+    if os.path.exists(BROUGHT):
+        yield BROUGHT
+    if os.path.exists(os.path.join(TOP, "include", "smblease.h")):
+        yield _linked()
+    yield SONAME
+
+
+def _opened() -> tuple[str, ctypes.CDLL]:
+    """Where the library was found, and itself."""
     said = []
-    for place in (named,) if named else (SONAME, os.path.normpath(BUILT)):
+    for place in _places():
         try:
-            return ctypes.CDLL(place)
+            return place, ctypes.CDLL(place)
         except OSError as error:
             said.append(str(error))
     raise ImportError(f"libsmblease can't be loaded: {'; '.join(said)}")
 
 
-def _check_version(library: ctypes.CDLL) -> None:
+def _check_version(place: str, library: ctypes.CDLL) -> None:
     has = library.smblease_version()
     if has.major != MAJOR or has.minor < MINOR:
-        raise ImportError(f"{library._name} has version {has.major}.{has.minor}.{has.patch}; {MAJOR}.{MINOR} is needed")
+        raise ImportError(f"{place} has version {has.major}.{has.minor}.{has.patch}; {MAJOR}.{MINOR} is needed")
 
 
-def _declared(library: ctypes.CDLL) -> ctypes.CDLL:
+def _declared(place: str, library: ctypes.CDLL) -> ctypes.CDLL:
     for name, (result, arguments) in _functions.FUNCTIONS.items():
         try:
             function = getattr(library, f"smblease_{name}")
         except AttributeError:
-            raise ImportError(f"{library._name} has no smblease_{name}") from None
+            raise ImportError(f"{place} has no smblease_{name}") from None
         function.restype, function.argtypes = result, arguments
-    _check_version(library)
+    _check_version(place, library)
     return library
 
 
-library = _declared(_opened())
+library = _declared(*_opened())

@@ -11,20 +11,22 @@ from dataclasses import dataclass
 from smblease.faults import ToolFault
 
 NAME = "leasecheck"
+HERE = os.path.dirname(os.path.realpath(__file__))
 # The top of the repository, where the package stands in one.
-TOP = os.path.dirname(os.path.dirname(os.path.dirname(os.path.realpath(__file__))))
+TOP = os.path.dirname(os.path.dirname(HERE))
 SECONDS = 600
 
 
 def find_program() -> str:
-    """The path of the program: that of the repository which the package stands in, else the one that is installed.
+    """The path of the program: the one that the package brings, else that of the repository which the package stands in, else the one
+    that is installed.
 
     >>> import os
     >>> os.path.basename(find_program())
     'leasecheck'
     """
-    own = os.path.join(TOP, NAME)
-    return own if os.path.isfile(own) else shutil.which(NAME) or NAME
+    own = next(filter(os.path.isfile, (os.path.join(HERE, NAME), os.path.join(TOP, NAME))), None)
+    return own or shutil.which(NAME) or NAME
 
 
 @dataclass(frozen=True)
