@@ -1,4 +1,5 @@
-"""Builds the package with the proved program and the shared library in it, which `make` has at hand; pyproject.toml has all else."""
+"""Builds the package with the proved program and the shared library in it, which `make` has at hand; pyproject.toml has all
+else."""
 import shutil
 import subprocess
 from pathlib import Path

@@ -50,7 +50,8 @@ def with_bytes(read: Callable[..., int], struct: Struct, name: str) -> Tuple[Str
 
 
 class Handle(Generic[Struct]):
-    """A machine. Its methods may be called by any thread: each holds the lock from its call until all is read that it gave out."""
+    """A machine. Its methods may be called by any thread: each holds the lock from its call until all is read that it gave
+    out."""
 
     def __init__(self, handle: Struct, free: Callable[[Any], None], name: str) -> None:
         self._handle = handle
@@ -96,5 +97,6 @@ class Handle(Generic[Struct]):
         self._check_open()
         return self
 
-    def __exit__(self, kind: Optional[Type[BaseException]], value: Optional[BaseException], trace: Optional[TracebackType]) -> None:
+    def __exit__(self, kind: Optional[Type[BaseException]], value: Optional[BaseException],
+                 trace: Optional[TracebackType]) -> None:
         self.close()

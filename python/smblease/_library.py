@@ -8,8 +8,8 @@ from typing import Iterator
 
 from smblease import _functions
 
-# The version of the headers that this package was written for. A library of the same first number fits, where its second one is no
-# lower.
+# The version of the headers that this package was written for. A library of the same first number fits, where its second one is
+# no lower.
 MAJOR, MINOR = 0, 2
 VARIABLE = "SMBLEASE_LIBRARY"
 SONAME = f"libsmblease.so.{MAJOR}"

@@ -75,7 +75,10 @@ class Client(Handle[structs.Client]):
     def _step(self, call: Callable[..., int], *arguments: object) -> steps.Step:
         with self._lock:
             self._check(call(ctypes.byref(self._handle), *arguments))
-            answer, data = with_bytes(partial(library.smblease_client_answer, ctypes.byref(self._handle)), structs.Answer(), "client")
+            answer, data = with_bytes(
+    partial(
+        library.smblease_client_answer, ctypes.byref(
+            self._handle)), structs.Answer(), "client")
             sent = self._parts(library.smblease_client_request_count, library.smblease_client_request_at, structs.ClientRequest)
             noted = self._parts(library.smblease_client_note_count, library.smblease_client_note_at, structs.Note)
         return steps.Step(_ANSWERS[answer.kind](answer, data), tuple(_REQUESTS[has.kind](has, its) for has, its in sent),
@@ -136,7 +139,8 @@ class Client(Handle[structs.Client]):
         Refused(refusal=<Refusal.NOT_OPEN: 1>)
         """
         given = octets(data)
-        return self._step(library.smblease_client_write, number(file, BYTE, "file"), number(offset, WORD, "offset"), given, len(given))
+        return self._step(library.smblease_client_write, number(file, BYTE, "file"),
+                          number(offset, WORD, "offset"), given, len(given))
 
     def flush(self, file: int) -> steps.Step:
         """The application has the buffered writes of a file sent.
@@ -185,7 +189,8 @@ class Client(Handle[structs.Client]):
         >>> Client(uuid.UUID(int=1), 1).take_read_failed(7, 0xC0000128).answer
         Quiet()
         """
-        return self._step(library.smblease_client_take_read_failed, number(file_id, LONG, "file_id"), number(status, WORD, "status"))
+        return self._step(library.smblease_client_take_read_failed, number(
+            file_id, LONG, "file_id"), number(status, WORD, "status"))
 
     def take_write_done(self, file_id: int, write: int) -> steps.Step:
         """The server did the write of this number.
@@ -218,7 +223,8 @@ class Client(Handle[structs.Client]):
         >>> Client(uuid.UUID(int=1), 1).take_close_failed(7, 0xC0000128).answer
         Quiet()
         """
-        return self._step(library.smblease_client_take_close_failed, number(file_id, LONG, "file_id"), number(status, WORD, "status"))
+        return self._step(library.smblease_client_take_close_failed, number(
+            file_id, LONG, "file_id"), number(status, WORD, "status"))
 
     def take_break(self, message: Octets) -> steps.Step:
         """The server breaks a lease: the 44 bytes of a notification.

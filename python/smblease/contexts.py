@@ -98,7 +98,11 @@ class CreateAnswer:
         >>> len(CreateAnswer(uuid.UUID(int=1), LeaseState.R, durable=True).write())
         88
         """
-        answer = structs.CreateAnswer(state=LeaseState(self.state).value, breaking=bool(self.breaking), durable=bool(self.durable))
+        answer = structs.CreateAnswer(
+    state=LeaseState(
+        self.state).value, breaking=bool(
+            self.breaking), durable=bool(
+                self.durable))
         if self.key is not None:
             answer.has_lease, answer.key = 1, (ctypes.c_uint8 * 16)(*key_octets(self.key))
         return written(library.smblease_write_create_answer, answer, CREATE_ANSWER_MOST)
@@ -150,8 +154,9 @@ def find_context(text: Octets, name: Octets) -> Optional[Context]:
 
 
 def append_context(text: Octets, context: Context) -> bytes:
-    """The text with one more context after its others, as MxAc or QFid, which a server answers too. Where the text fails a test of
-    the layout, Fault is raised; where the context doesn't fit the fields of its header, ValueError: a name has 65,512 bytes at most.
+    """The text with one more context after its others, as MxAc or QFid, which a server answers too. Where the text fails a test
+    of the layout, Fault is raised; where the context doesn't fit the fields of its header, ValueError: a name has 65,512 bytes at
+    most.
 
     >>> answer = CreateAnswer(uuid.UUID(int=1), LeaseState.R).write()
     >>> [it.name for it in each_context(append_context(answer, Context(b"QFid", bytes(32))))]

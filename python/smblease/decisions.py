@@ -3,11 +3,11 @@
 Each is given the opens and the leases of one file, in any order, and looks at nothing else. It answers as the server of this
 repository's profile does that has them on the file; docs/PROFILE.md has the rules.
 
-A request is tried so. Look what it finds: a status that isn't 0 refuses it. Where it wants leases broken, each lease that is wanted
-loses its disconnected opens; where no open of it is left it is gone, where it is breaking it is left alone, and else its holder is
-sent a notification. Where `needs_acknowledgment` says so of its state the lease is breaking to the lowered one from then on; else
-it has that state at once. A create waits as long as a wanted lease is breaking, and so does a write for one that is breaking to
-more than nothing; a write goes on where each wanted lease is breaking to nothing. Else look again.
+A request is tried so. Look what it finds: a status that isn't 0 refuses it. Where it wants leases broken, each lease that is
+wanted loses its disconnected opens; where no open of it is left it is gone, where it is breaking it is left alone, and else its
+holder is sent a notification. Where `needs_acknowledgment` says so of its state the lease is breaking to the lowered one from
+then on; else it has that state at once. A create waits as long as a wanted lease is breaking, and so does a write for one that is
+breaking to more than nothing; a write goes on where each wanted lease is breaking to nothing. Else look again.
 """
 from __future__ import annotations
 
@@ -35,8 +35,8 @@ def _key(key: uuid.UUID) -> Any:
 
 @dataclass(frozen=True)
 class Open:
-    """An open of the file. `client` is the number of its client, which stands for the ClientGuid; `access` is None where it neither
-    reads nor writes, and `key` where it was opened without a lease context.
+    """An open of the file. `client` is the number of its client, which stands for the ClientGuid; `access` is None where it
+    neither reads nor writes, and `key` where it was opened without a lease context.
 
     >>> Open(1, Access.READ, Share.READ).key is None
     True
@@ -56,8 +56,8 @@ class Open:
 
 @dataclass(frozen=True)
 class Lease:
-    """A lease of the file. `broken_to` is the state that it is broken to, while a break waits for its acknowledgment, and else None.
-    `expired`: the timer of a break of this key ran out since its client connected.
+    """A lease of the file. `broken_to` is the state that it is broken to, while a break waits for its acknowledgment, and else
+    None. `expired`: the timer of a break of this key ran out since its client connected.
 
     >>> Lease(1, uuid.UUID(int=1), LeaseState.R).broken_to is None
     True
@@ -84,8 +84,8 @@ class Lease:
 
 @dataclass(frozen=True)
 class Asked:
-    """A request for the file: who asks, with the access and the share of a create or of the open that a read or a write names, the
-    lease key, and the state that a create wants.
+    """A request for the file: who asks, with the access and the share of a create or of the open that a read or a write names,
+    the lease key, and the state that a create wants.
 
     >>> Asked(2, Access.READ, Share.READ).want
     <LeaseState none>
@@ -189,8 +189,8 @@ class File:
         return LeaseState(library.smblease_allowed(self._opens, len(self._opens), ctypes.byref(asked._struct())))
 
     def lease_after_grant(self, asked: Asked) -> Optional[Lease]:
-        """The lease that the key has after a grant, or None where the request has no key. The open is durable where that was asked
-        and the lease then caches handles.
+        """The lease that the key has after a grant, or None where the request has no key. The open is durable where that was
+        asked and the lease then caches handles.
 
         >>> File([], []).lease_after_grant(Asked(2, Access.READ, Share.READ, uuid.UUID(int=2), LeaseState.of("RH"))).state
         <LeaseState RH>
@@ -218,8 +218,8 @@ def opens_conflict(access: Optional[Access], share: Share, other_access: Optiona
 
 
 def acknowledge(lease: Lease, state: LeaseState) -> Tuple[int, Lease]:
-    """Judges an acknowledgment of this state for a lease that was found by its client and key (3.3.5.22.2): the status that answers
-    it, and the lease from then on. Where no lease is found the status is Status.OBJECT_NAME_NOT_FOUND.
+    """Judges an acknowledgment of this state for a lease that was found by its client and key (3.3.5.22.2): the status that
+    answers it, and the lease from then on. Where no lease is found the status is Status.OBJECT_NAME_NOT_FOUND.
 
     >>> breaking = Lease(1, uuid.UUID(int=1), LeaseState.of("RWH"), broken_to=LeaseState.of("RH"))
     >>> status, lease = acknowledge(breaking, LeaseState.R)

@@ -23,8 +23,8 @@ RESPONSE_SIZE = 36
 
 
 class MessageKind(enum.Enum):
-    """Which message the body of an OPLOCK_BREAK command is. An acknowledgment, which a client sends, and a response, which a server
-    sends, have one layout; messages on oplocks aren't read by this package.
+    """Which message the body of an OPLOCK_BREAK command is. An acknowledgment, which a client sends, and a response, which a
+    server sends, have one layout; messages on oplocks aren't read by this package.
 
     >>> MessageKind.of(bytes([44]) + bytes(43))
     <MessageKind.NOTIFICATION: 1>

@@ -18,8 +18,8 @@ SECONDS = 600
 
 
 def find_program() -> str:
-    """The path of the program: the one that the package brings, else that of the repository which the package stands in, else the one
-    that is installed.
+    """The path of the program: the one that the package brings, else that of the repository which the package stands in, else the
+    one that is installed.
 
     >>> import os
     >>> os.path.basename(find_program())
@@ -81,8 +81,8 @@ def judge(program: str, record: str) -> Verdict:
 
 
 def replay(program: str, schedule: str, *words: str) -> list[str]:
-    """The record of a schedule on the server of this repository, without its verdict; with `--messages` also what is in the messages.
-    A text that is no schedule is refused.
+    """The record of a schedule on the server of this repository, without its verdict; with `--messages` also what is in the
+    messages. A text that is no schedule is refused.
 
     >>> replay(find_program(), "file 616263\\nclient 11111111-1111-1111-1111-111111111111\\nconnect 1\\n")
     ['start 1 616263', 'joined 1']

@@ -19,7 +19,8 @@ def file_id(number: int) -> bytes:
 def message(command: int, body: bytes, identifier: int = 1, status: int = 0, answers: bool = False, related: bool = False,
             tree: int = 5) -> bytes:
     flags = (1 if answers else 0) | (RELATED if related else 0)
-    return b"\xfeSMB" + struct.pack("<HHLHHLLQLLQ", 64, 0, status, command, 1, flags, 0, identifier, 0, tree, 9) + bytes(16) + body
+    return b"\xfeSMB" + struct.pack("<HHLHHLLQLLQ", 64, 0, status, command, 1, flags,
+                                    0, identifier, 0, tree, 9) + bytes(16) + body
 
 
 def compound(messages: List[bytes]) -> bytes:
@@ -33,7 +34,8 @@ def compound(messages: List[bytes]) -> bytes:
 
 def lease(key: int, state: int, flags: int = 0) -> bytes:
     """The context RqLs (docs/FORMATS.md, "Canonical text")."""
-    return struct.pack("<LHHHHL", 0, 16, 4, 0, 24, 32) + b"RqLs" + bytes(4) + bytes([key] * 16) + struct.pack("<LLQ", state, flags, 0)
+    return struct.pack("<LHHHHL", 0, 16, 4, 0, 24, 32) + b"RqLs" + bytes(4) + \
+                       bytes([key] * 16) + struct.pack("<LLQ", state, flags, 0)
 
 
 def negotiate(guid: int) -> bytes:

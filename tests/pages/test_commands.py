@@ -1,7 +1,8 @@
 """The commands of README.md and docs/SESSIONS.md, as they stand there and in their order, give what stands there.
 
-In an indented block a line `$ COMMAND` is a command, and the lines after it are what it prints, to the letter. A block of lines that each begin with
-make, export or cc is run too, and has to end well. All is run by one shell, in a folder of its own, with a home of its own.
+In an indented block a line `$ COMMAND` is a command, and the lines after it are what it prints, to the letter. A block of lines
+that each begin with make, export or cc is run too, and has to end well. All is run by one shell, in a folder of its own, with a
+home of its own.
 """
 from __future__ import annotations
 
@@ -19,7 +20,20 @@ from tests.paths import EXAMPLE, TOP
 
 PLAIN = ("make", "export ", "cc ")
 # What is run in the folder as it is run at the top of the repository.
-LINKS = ("Makefile", "crates", "crates.txt", "dist", "drive", "examples", "include", "kit.txt", "leasecheck", "out", "python", "tests", "tools")
+LINKS = (
+    "Makefile",
+    "crates",
+    "crates.txt",
+    "dist",
+    "drive",
+    "examples",
+    "include",
+    "kit.txt",
+    "leasecheck",
+    "out",
+    "python",
+    "tests",
+     "tools")
 PAGES = ("README.md", "docs/SESSIONS.md")
 # Commands that have these words need these programs.
 NEEDS = {"pkg-config": "pkg-config", "out/c/": "pkg-config", "drive/capture": "tshark"}

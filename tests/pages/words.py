@@ -1,6 +1,8 @@
-"""Words that a reader of English stumbles over, in README.md, the pages of docs/ and of folders, the doc comments of the crates and the C headers.
+"""Words that a reader of English stumbles over, in README.md, the pages of docs/ and of folders, the doc comments of the crates
+and the C headers.
 
-A line of words.allowed is `FILE | PHRASE | REASON`. The phrase stands once in the file, where line breaks count as spaces, and has the word in it.
+A line of words.allowed is `FILE | PHRASE | REASON`. The phrase stands once in the file, where line breaks count as spaces, and
+has the word in it.
 """
 from __future__ import annotations
 
@@ -12,7 +14,8 @@ from tests.paths import TESTS, TOP
 ALLOWED = TESTS / "pages" / "words.allowed"
 FILES = ("README.md", "docs/*.md", "drive/*.md", "serve/*.md", "crates/*/src/**/*.rt", "include/*.h")
 # A name of code such as left_behind isn't the word: an underscore belongs to the name.
-WORDS = re.compile(r"\b(?:behind|beside|told|tells?|(?:take|takes|taking|took|taken) (?:no )?memory|memory is taken|growths?|hears?|heard|stray(?:s|ed|ing)?)\b"
+WORDS = re.compile(r"\b(?:behind|beside|told|tells?|(?:take|takes|taking|took|taken) (?:no )?memory|memory is taken"
+                   r"|growths?|hears?|heard|stray(?:s|ed|ing)?)\b"
                    r"|\(own[;,)]|; own\)", re.IGNORECASE)
 # The first word of a paragraph, of a cell of a table or of a sentence, after marks such as those of a list.
 FIRST = re.compile(r"(?:^|[.:!?][\"')*`]*\s)[-*#>\s\"'(]*(That|And)\b")
@@ -72,7 +75,7 @@ def read_allowed() -> list[Allowed]:
 def is_covered(text: str, span: tuple[int, int], phrases: list[str]) -> bool:
     for phrase in phrases:
         at = text.find(phrase)
-        if at >= 0 and at <= span[0] and span[1] <= at + len(phrase):
+        if 0 <= at <= span[0] and span[1] <= at + len(phrase):
             return True
     return False
 

@@ -1,8 +1,8 @@
 """A picture that `leasecheck draw` printed, read with an XML reader, and what has to hold of it.
 
-Each fact of the record has one mark, in order, with its kind and its words. Those that `judge --explain` names are marked as bad, and what it says
-stands below. Arrows lead from where a message was sent to where it is taken, bars reach from a belief to the next one, and a client's line is solid
-where it is connected.
+Each fact of the record has one mark, in order, with its kind and its words. Those that `judge --explain` names are marked as bad,
+and what it says stands below. Arrows lead from where a message was sent to where it is taken, bars reach from a belief to the
+next one, and a client's line is solid where it is connected.
 """
 from __future__ import annotations
 
@@ -13,7 +13,21 @@ from typing import Optional, Sequence
 from tests.program.explaining import Fact
 
 SVG = "{http://www.w3.org/2000/svg}"
-ELEMENTS = {SVG + name for name in ("svg", "style", "defs", "marker", "path", "rect", "line", "text", "tspan", "g", "title", "circle")}
+ELEMENTS = {
+    SVG +
+    name for name in (
+        "svg",
+        "style",
+        "defs",
+        "marker",
+        "path",
+        "rect",
+        "line",
+        "text",
+        "tspan",
+        "g",
+        "title",
+         "circle")}
 ROW = 24
 Point = tuple[int, int]
 
@@ -67,16 +81,16 @@ class Picture:
         sent: dict[str, list[int]] = {}
         taken: dict[str, int] = {}
         for place, fact in enumerate(self.facts, 1):
-            expected = []
+            expected, client = [], fact.client or ""
             if fact.kind == "joined":
-                sent[fact.client], taken[fact.client] = [], 0
+                sent[client], taken[client] = [], 0
             elif fact.kind == "sent":
-                sent.setdefault(fact.client, []).append(place)
+                sent.setdefault(client, []).append(place)
             elif fact.kind == "took":
-                count = taken.get(fact.client, 0)
-                taken[fact.client] = count + 1
-                if count < len(sent.get(fact.client, [])):
-                    expected = [(middle(self.marks[sent[fact.client][count] - 1]), middle(self.marks[place - 1]))]
+                count = taken.get(client, 0)
+                taken[client] = count + 1
+                if count < len(sent.get(client, [])):
+                    expected = [(middle(self.marks[sent[client][count] - 1]), middle(self.marks[place - 1]))]
             assert [ends(it) for it in self.marks[place - 1].findall(f"{SVG}line")] == expected, place
 
     def look_at_beliefs(self) -> None:

@@ -1,13 +1,13 @@
 """What `judge --explain` has to print, worked out from the rules and the record alone, without anything of the program.
 
-For a bad fact that is its line, the lines of the facts that make it bad, the rule, and who was judged. Where two clients can be named for the first
-rule either pair will do, and where a fact is malformed in two ways either one.
+For a bad fact that is its line, the lines of the facts that make it bad, the rule, and who was judged. Where two clients can be
+named for the first rule either pair will do, and where a fact is malformed in two ways either one.
 """
 from __future__ import annotations
 
 import random
 from dataclasses import dataclass
-from typing import Optional, Sequence
+from typing import Callable, Optional, Sequence
 
 LIMIT = 1048576
 WORDS = ("1", "2", "3", "7", "none", "R", "RW", "RWH", "58", "-", "done", "failed", "buffered", "through", "1048576")
@@ -62,8 +62,9 @@ class Fact:
             patch = f"{shown(self.data)} at {self.offset}"
             if kind == "changed":
                 return f"file {one} is changed by write {self.number} of client {two}: {patch}"
-            return f"client {one} is given write {self.number} of file {two}: {patch}, {'buffered' if rest[5] == 'buffered' else 'sent on'}"
-        return {
+            manner = "buffered" if rest[5] == "buffered" else "sent on"
+            return f"client {one} is given write {self.number} of file {two}: {patch}, {manner}"
+        sentences: dict[str, Callable[[], str]] = {
             "start": lambda: f"file {one} is started with {shown(bytes_of(two))}", "joined": lambda: f"client {one} joins",
             "dropped": lambda: f"client {one} loses its connection",
             "expired": lambda: f"client {one} lets the timer of a break of file {two} run out",
@@ -73,7 +74,8 @@ class Fact:
             "believes": lambda: f"client {one} believes {rest[2]} of file {two}",
             "cachedread": lambda: f"client {one} reads from its cache of file {two}: {shown(bytes_of(rest[2]))}",
             "strayed": lambda: f"client {one} strays",
-        }[kind]()
+        }
+        return sentences[kind]()
 
 
 def bytes_of(word: str) -> bytes:
@@ -114,11 +116,13 @@ class Past:
     def messages(self, client: str) -> tuple[list[int], list[int]]:
         """The places since it joined last of the messages that were sent to it, and of those that it took."""
         places = self.since_joined(client)
-        return ([it for it in places if self.facts[it].words == ("sent", client)], [it for it in places if self.facts[it].words == ("took", client)])
+        return ([it for it in places if self.facts[it].words == ("sent", client)],
+                [it for it in places if self.facts[it].words == ("took", client)])
 
     def unanswered(self, client: str, file: str) -> list[Fact]:
         settled = {it.words[2] for it in self.facts if it.kind == "settled" and it.client == client}
-        return [it for it in self.facts if it.kind == "wrote" and it.client == client and it.file == file and it.number not in settled]
+        return [it for it in self.facts if it.kind == "wrote" and it.client ==
+            client and it.file == file and it.number not in settled]
 
     def start(self, file: str) -> Optional[Fact]:
         return next((it for it in reversed(self.facts) if it.kind == "start" and it.words[1] == file), None)
@@ -149,13 +153,10 @@ def two_caches(fact: Fact, past: Past) -> list[list[str]]:
     for it in after.facts:
         if it.kind == "believes":
             beliefs[it.words[1], it.words[2]] = it
-    ways = []
-    for (writer, file), one in beliefs.items():
-        for (client, other), two in beliefs.items():
-            if writer != client and file == other and "W" in one.words[3] and two.words[3] != "none" \
-                    and after.is_good(writer) and after.is_good(client):
-                ways.append([*(it.told(", since here") for it in (one, two) if it is not fact), RULES["1"]])
-    return ways
+    pairs = [(one, two) for (writer, file), one in beliefs.items() for (client, other), two in beliefs.items()
+             if writer != client and file == other and after.is_good(writer) and after.is_good(client)]
+    return [[*(it.told(", since here") for it in pair if it is not fact), RULES["1"]] for pair in pairs
+            if "W" in pair[0].words[3] and pair[1].words[3] != "none"]
 
 
 def stale_read(fact: Fact, past: Past) -> list[list[str]]:
@@ -211,7 +212,11 @@ def explanations(verdict: Sequence[str], facts: Sequence[Fact]) -> list[list[str
     behind = [f"judged: {counted(len(judged), 'fact')} of {counted(len(clients), 'client')}"]
     behind += [f"client {it} hasn't joined: its caches and cached reads aren't judged" for it in clients
                if not any(fact.words == ("joined", it) for fact in judged)]
-    behind += [f"client {it} has strayed, so nothing of it is judged" for it in clients if any(fact.words == ("strayed", it) for fact in judged)]
+    behind += [
+    f"client {it} has strayed, so nothing of it is judged" for it in clients if any(
+        fact.words == (
+            "strayed",
+             it) for fact in judged)]
     return [way + behind for way in ways]
 
 

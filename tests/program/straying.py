@@ -1,8 +1,9 @@
 """Random schedules in which good clients share files with clients in whose names any requests are sent.
 
-Beside what a good client's applications ask, there are requests of every kind that no machine made: creates with leases under the own
-and other clients' keys, with durable opens, reconnects to anybody's FileId, and contexts that are cut or damaged; reads, writes and
-closes of any FileId; acknowledgments for any key and state. Contexts are written here by hand, since they are to be wrong in every way.
+Beside what a good client's applications ask, there are requests of every kind that no machine made: creates with leases under the
+own and other clients' keys, with durable opens, reconnects to anybody's FileId, and contexts that are cut or damaged; reads,
+writes and closes of any FileId; acknowledgments for any key and state. Contexts are written here by hand, since they are to be
+wrong in every way.
 """
 from __future__ import annotations
 
@@ -42,7 +43,8 @@ class StrayingSchedule:
         self.only_straying = {client for client in self.straying if self.happens(0.5)}
         self.opens = 0
         self.lines = [f"file {digits(chooser.randbytes(chooser.randrange(6)))}" for _ in range(self.files)]
-        self.lines += [f"client {guid.hex()}" for guid in self.guids] + [f"connect {client}" for client in range(1, self.clients + 1)]
+        self.lines += [f"client {guid.hex()}" for guid in self.guids] + \
+                                          [f"connect {client}" for client in range(1, self.clients + 1)]
 
     def happens(self, probability: float) -> bool:
         return self.chooser.random() < probability

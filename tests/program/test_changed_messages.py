@@ -1,4 +1,5 @@
-"""Whole messages with each byte changed, cut at each length, and parted by each NextCommand: `show` answers as of the part that has to be read."""
+"""Whole messages with each byte changed, cut at each length, and parted by each NextCommand: `show` answers as of the part that
+has to be read."""
 from __future__ import annotations
 
 import re
@@ -10,8 +11,10 @@ from tests.program.ran import BREAK, Ended, answered
 
 pytestmark = pytest.mark.long
 HEADER = bytes.fromhex("fe534d424000") + bytes(58)
-LEASE = bytes.fromhex("0000000010000400000018002000000052714c7300000000000102030405060708090a0b0c0d0e0f07000000000000000000000000000000")
-# The fixed part, StructureSize, and where CreateContextsOffset stands, of a CREATE request and response; StructureSize of break messages.
+LEASE = bytes.fromhex(
+    "0000000010000400000018002000000052714c7300000000000102030405060708090a0b0c0d0e0f07000000000000000000000000000000")
+# The fixed part, StructureSize, and where CreateContextsOffset stands, of a CREATE request and response; StructureSize of break
+# messages.
 CREATES = {"ask": (120, 57, 112), "reply": (152, 89, 144)}
 BODIES = {"break": 44, "ack": 36, "response": 36}
 

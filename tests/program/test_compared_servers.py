@@ -1,4 +1,5 @@
-"""The proved server gives out and answers the same as a plain server without contracts, over each schedule (crates/server_comparison)."""
+"""The proved server gives out and answers the same as a plain server without contracts, over each schedule
+(crates/server_comparison)."""
 from __future__ import annotations
 
 import os

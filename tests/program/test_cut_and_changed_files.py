@@ -1,4 +1,5 @@
-"""Each prefix of a schedule or record, and each of its bytes changed to several others: it is read, or refused at the right line."""
+"""Each prefix of a schedule or record, and each of its bytes changed to several others: it is read, or refused at the right
+line."""
 from __future__ import annotations
 
 import re

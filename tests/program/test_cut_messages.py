@@ -16,7 +16,8 @@ HEADER = "fe534d424000" + 58 * "00"
 CREATE = HEADER + "3900" + 42 * "00" + "7800" + "1000" + "88000000" + "38000000" + 16 * "61" + LEASE
 # What a request for a lease, and a chain of three contexts, give where they are cut at so many bytes or more.
 CUT_LEASE = {0: "nothing\n", 1: "1 Short at 0", 16: "4 BadName at 0", 20: "5 BadData at 0", 56: LEASE_LINES}
-CUT_CHAIN = {0: "nothing\n", 1: "1 Short at 0", 16: "3 BadNext at 0", 56: "1 Short at 56", 72: "3 BadNext at 56", 80: "1 Short at 80",
+CUT_CHAIN = {0: "nothing\n", 1: "1 Short at 0", 16: "3 BadNext at 0", 56: "1 Short at 56", 72: "3 BadNext at 56",
+             80: "1 Short at 80",
              96: "4 BadName at 80", 100: "5 BadData at 80", 120: CHAIN_LINES}
 CUT_CREATE = {4: "1 Short at 0", 64: "1 Short at 64", 120: "5 BadData at 136", 192: LEASE_LINES}
 CUT_NOTIFICATION = {4: "1 Short at 0", 64: "1 Short at 64"}
@@ -36,7 +37,8 @@ def check(words: list[str], answer: str) -> None:
         assert re.fullmatch(re.escape(f"fault {answer}\n") + "(?:.+\n)?", ended.faults.decode()), ended.faults
 
 
-@pytest.mark.parametrize(("digits", "answer"), [*prefixes(LEASE, CUT_LEASE, 56), *prefixes(CHAIN, CUT_CHAIN, 120), *prefixes(CREATE, CUT_CREATE, 192)])
+@pytest.mark.parametrize(("digits", "answer"), [*prefixes(LEASE, CUT_LEASE, 56),
+                         *prefixes(CHAIN, CUT_CHAIN, 120), *prefixes(CREATE, CUT_CREATE, 192)])
 def test_cut_request(digits: str, answer: str) -> None:
     check(["show", "ask", digits], answer)
 

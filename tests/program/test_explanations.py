@@ -23,7 +23,7 @@ KEPT = kept()
 
 def check(lines: list[str]) -> None:
     text = "".join(f"{it}\n" for it in lines)
-    plain, explained = (run(["judge", *words, "-"], text.encode("latin-1")) for words in ([], ["--explain"]))
+    plain, explained = run(["judge", "-"], text.encode("latin-1")), run(["judge", "--explain", "-"], text.encode("latin-1"))
     first, *rest = explained.out.decode().splitlines() or [""]
     assert plain == Ended(explained.status, f"{first}\n".encode() if first else b"", explained.faults), text
     if first:
@@ -35,6 +35,6 @@ def test_kept_record(name: str) -> None:
     check(KEPT[name])
 
 
-@pytest.mark.parametrize("number", range(1000))
-def test_damaged_record(number: int, chooser: random.Random) -> None:
+@pytest.mark.parametrize("_number", range(1000))
+def test_damaged_record(_number: int, chooser: random.Random) -> None:
     check(damaged(chooser, KEPT[chooser.choice(sorted(KEPT))]))

@@ -1,4 +1,4 @@
-"""Each call of read and write fails in turn, each later one with it; and calls that move one byte. Most records here have several blocks."""
+"""Each call of read and write fails in turn, each later one with it; calls that move one byte; and records of several blocks."""
 from __future__ import annotations
 
 import subprocess
@@ -13,10 +13,13 @@ from tests.shims import shim
 
 # How many bytes of a record gather before they are written, and are read at once.
 BLOCK = 65_536
+# An environment of no variables.
+EMPTY: dict[str, str] = {}
 READ, WRITTEN = b"fault file\n", b"fault output\n"
-SHORT = {
+SHORT: dict[str, tuple[list[str], tuple[bytes, ...]]] = {
     "help": (["--help"], (b"",)), "show": (["show", "ask", ""], (WRITTEN,)), "ack": (["ack", BREAK + "aa"], (WRITTEN,)),
-    **{f"replay {name}": (["replay", str(TESTS / "schedules" / name)], (READ, WRITTEN)) for name in ("break_answered", "raw_requests")},
+    **{f"replay {name}": (["replay", str(TESTS / "schedules" / name)], (READ, WRITTEN))
+       for name in ("break_answered", "raw_requests")},
     **{f"judge {name}": (["judge", str(TESTS / "records" / name)], (READ, WRITTEN))
        for name in ("every_fact_safe", "two_caches_one_writes", "taken_without_a_message")},
 }
@@ -51,7 +54,8 @@ def test_each_call_of_single_bytes_fails(name: str) -> None:
 
 def test_failing_reads_of_a_record_of_several_blocks(tmp_path: Path) -> None:
     """Some blocks end within a line: facts and remarks have many lengths."""
-    lines = ["start 1 616263", "joined 1"] + [f"# {'x' * (count % 97)}" if count % 3 else "sent 1" for count in range(9_000)]
+    lines = ["start 1 616263", "joined 1"]
+    lines += [f"# {'x' * (count % 97)}" if count % 3 else "sent 1" for count in range(9_000)]
     record = tmp_path / "blocks"
     record.write_text("\n".join(lines) + "\n", encoding="ascii")
     safe, reads = Ended(0, SAFE), 0
@@ -67,8 +71,8 @@ def test_failing_reads_of_a_record_of_several_blocks(tmp_path: Path) -> None:
 @pytest.fixture
 def long_schedule(tmp_path: Path) -> Path:
     """A schedule whose record has some 340 KB: a client writes into a file of 4 KiB and reads it from its cache, 40 times."""
-    lines = ["file " + "61" * 4_096, "client 11111111-1111-1111-1111-111111111111", "connect 1", "open 1 1 rw rw RWH", "serve 1", "take 1",
-             "read 1 1", "serve 1", "take 1"]
+    lines = ["file " + "61" * 4_096, "client 11111111-1111-1111-1111-111111111111", "connect 1", "open 1 1 rw rw RWH", "serve 1",
+             "take 1", "read 1 1", "serve 1", "take 1"]
     for turn in range(40):
         lines += [f"write 1 1 {turn} {turn:02x}", "read 1 1"]
     path = tmp_path / "long"
@@ -90,7 +94,7 @@ def test_long_record(long_schedule: Path, task: list[str]) -> None:
 @REPLAYS
 def test_failing_writes_of_a_long_record(long_schedule: Path, task: list[str]) -> None:
     """What went out is a beginning of it."""
-    words = [*task, long_schedule]
+    words = [*task, str(long_schedule)]
     whole, cut = run(words), 0
     for call in range(1, 100):
         ended = run(words, env={"LD_PRELOAD": shim("streams"), "FAILING_CALL": str(call)})
@@ -105,12 +109,12 @@ def test_failing_writes_of_a_long_record(long_schedule: Path, task: list[str]) -
 @pytest.mark.parametrize("room", [0, 1, BLOCK - 1, BLOCK, 100_000, -1])
 def test_disk_with_room_for_so_many_bytes(long_schedule: Path, task: list[str], room: int) -> None:
     """-1 is a byte less than is needed. The signal that a file is too large stays ignored, as Python has it."""
-    words = [*task, long_schedule]
+    words = [*task, str(long_schedule)]
     whole = run(words).out
     room %= len(whole)
     with tempfile.TemporaryFile() as disk:
-        ended = subprocess.run(["prlimit", f"--fsize={room}", built_program(), *words], env={}, stdout=disk, stderr=subprocess.PIPE,
-                               restore_signals=False, check=False)
+        ended = subprocess.run(["prlimit", f"--fsize={room}", built_program(), *words], env=EMPTY, stdout=disk,
+                               stderr=subprocess.PIPE, restore_signals=False, check=False)
         disk.seek(0)
         assert (ended.returncode, ended.stderr) == (1, WRITTEN)
         assert disk.read() == whole[:room]
@@ -119,7 +123,8 @@ def test_disk_with_room_for_so_many_bytes(long_schedule: Path, task: list[str], 
 @REPLAYS
 def test_full_disk(long_schedule: Path, task: list[str]) -> None:
     with open("/dev/full", "wb") as full:
-        ended = subprocess.run([built_program(), *task, long_schedule], env={}, stdout=full, stderr=subprocess.PIPE, check=False)
+        ended = subprocess.run([built_program(), *task, long_schedule], env=EMPTY, stdout=full, stderr=subprocess.PIPE,
+                               check=False)
     assert (ended.returncode, ended.stderr) == (1, WRITTEN)
 
 
@@ -129,7 +134,7 @@ def test_reader_that_goes_away(long_schedule: Path, task: list[str], count: int)
     """More of the record is left than a pipe holds."""
     words = [built_program(), *task, str(long_schedule)]
     whole = run(words[1:]).out
-    with subprocess.Popen(words, env={}, stdout=subprocess.PIPE, stderr=subprocess.PIPE) as process:
+    with subprocess.Popen(words, env=EMPTY, stdout=subprocess.PIPE, stderr=subprocess.PIPE) as process:
         assert process.stdout and process.stderr
         out = process.stdout.read(count)
         process.stdout.close()

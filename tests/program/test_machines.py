@@ -1,8 +1,9 @@
 """`leasecheck client` and `leasecheck server` as two processes.
 
-- tests/conversations: `> ` begins a line that is given to the machines that the file's first line names; after it come the lines that they answer,
-  each read before the next line is given, so that an answer that isn't written and flushed at once is missed.
-- Schedules: the links are kept by smblease.world. The record, with the messages that go over the links, has to be that of `leasecheck replay`.
+- tests/conversations: `> ` begins a line that is given to the machines that the file's first line names; after it come the lines
+  that they answer, each read before the next line is given, so that an answer that isn't written and flushed at once is missed.
+- Schedules: the links are kept by smblease.world. The record, with the messages that go over the links, has to be that of
+  `leasecheck replay`.
 """
 from __future__ import annotations
 
@@ -107,5 +108,6 @@ def test_input_that_ends_within_a_line() -> None:
 
 def test_output_that_is_full() -> None:
     with open("/dev/full", "wb") as full:
-        ended = subprocess.run([built_program(), "server"], input=b"join 1\n", stdout=full, stderr=subprocess.PIPE, timeout=SECONDS, check=False)
+        ended = subprocess.run([built_program(), "server"], input=b"join 1\n", stdout=full,
+                               stderr=subprocess.PIPE, timeout=SECONDS, check=False)
     assert (ended.returncode, ended.stderr) == (1, b"fault output\n")

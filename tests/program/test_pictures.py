@@ -1,4 +1,5 @@
-"""`draw` prints a picture of each schedule and each record that is kept, and of damaged ones; what is neither is refused as `judge` or `replay` does."""
+"""`draw` prints a picture of each schedule and each record that is kept, and of damaged ones; what is neither is refused as
+`judge` or `replay` does."""
 from __future__ import annotations
 
 import random
@@ -16,7 +17,8 @@ MOST = 5000
 PICTURES = {"shared.svg": "examples/shared.txt", "lease_outlives_its_open.svg": "drive/found/lease_outlives_its_open.record"}
 FOUND = TOP / "drive" / "found"
 ALL_RECORDS = [*RECORDS, *RUNS, *files_of(FOUND, "*.record")]
-LABELS = {"created": " opened", "createfailed": "not opened", "readdone": "bytes read", "readfailed": "not read", "writedone": "done",
+LABELS = {"created": " opened", "createfailed": "not opened", "readdone": "bytes read", "readfailed": "not read",
+          "writedone": "done",
           "writefailed": "failed", "closed": "closed", "closefailed": "not closed", "break": "break ", "ackdone": "accepted",
           "ackfailed": "refused"}
 

@@ -49,7 +49,8 @@ def test_judge(record: Path) -> None:
 
 
 @pytest.mark.parametrize(("text", "status", "out", "fault"), [
-    (b"took 1\n\nsent", 1, b"", b"fault line 3\n"), (b"joined 1\ntook 1", 1, b"malformed 2\n", b""), (b"joined 1\r\n", 1, b"", b"fault line 1\n"),
+    (b"took 1\n\nsent", 1, b"", b"fault line 3\n"), (b"joined 1\ntook 1", 1,
+     b"malformed 2\n", b""), (b"joined 1\r\n", 1, b"", b"fault line 1\n"),
 ], ids=["a last line without its line feed that is refused", "a last line without its line feed", "a carriage return"])
 def test_ends_of_lines(text: bytes, status: int, out: bytes, fault: bytes) -> None:
     ended = run(["judge", "-"], text)

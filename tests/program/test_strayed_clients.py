@@ -1,4 +1,5 @@
-"""Good clients that share files with strayed ones stay safe: by `replay`, by `judge`, and by the plain Rust of bench/judge.rs where rustc is there."""
+"""Good clients that share files with strayed ones stay safe: by `replay`, by `judge`, and by the plain Rust of bench/judge.rs
+where rustc is there."""
 from __future__ import annotations
 
 import functools

@@ -1,8 +1,9 @@
 """Command lines whose answers are known, in tests/transcripts.
 
-Behind remarks (`#`) a line `$ WORDS` is a command, and lines that begin with `< ` are its standard input. Then comes what it prints (after `| ` in a text
-with empty lines), after `! ` what standard error gets (of a fault its first line may stand alone: then any second line of that fault will do), and after
-`= ` the status where that isn't 0. Of a refused command line only the beginning is compared: `~ TEXT` of standard output, `~! TEXT` of standard error.
+Behind remarks (`#`) a line `$ WORDS` is a command, and lines that begin with `< ` are its standard input. Then comes what it
+prints (after `| ` in a text with empty lines), after `! ` what standard error gets (of a fault its first line may stand alone:
+then any second line of that fault will do), and after `= ` the status where that isn't 0. Of a refused command line only the
+beginning is compared: `~ TEXT` of standard output, `~! TEXT` of standard error.
 """
 from __future__ import annotations
 
@@ -20,10 +21,12 @@ from tests.program.ran import run
 # What a second line says, by what the first one begins with.
 SECOND = {
     "fault hex": r'HEX(, character \d+: a hexadecimal digit; it is ".+"|: two digits for each byte; there are \d+ digits)',
-    "fault line": r'line \d+(, field \d+: [^;]+; (it is ".+".*|the line .+|two spaces .+)|: files and clients stand before the first event)',
+    "fault line": r'line \d+(, field \d+: [^;]+; (it is ".+".*|the line .+|two spaces .+)'
+                  r"|: files and clients stand before the first event)",
     "fault run 1": r"at most (8 files|16 clients); there are \d+|no two clients with one GUID; clients \d+ and \d+ have one",
     "fault run 2": r"at most 10000 events; there are \d+",
-    **{f"fault {number} ": r'context \d+(, ".*")?: .+|a (CREATE|lease break) .+; .+|the header of .+; .+|NextCommand .+|CreateContextsOffset .+'
+    **{f"fault {number} ": r'context \d+(, ".*")?: .+|a (CREATE|lease break) .+; .+|the header of .+; .+|'
+                           r"NextCommand .+|CreateContextsOffset .+"
        for number in range(1, 8)},
 }
 

@@ -43,9 +43,10 @@ def test_file_without_the_right_to_read_it(command: str) -> None:
         program, closed = Path(folder, "leasecheck"), Path(folder, "closed")
         shutil.copyfile(built_program(), program)
         closed.write_bytes(b"start 1 61\njoined 1\n")
-        for path, mode in ((folder, 0o755), (program, 0o755), (closed, 0)):
-            os.chmod(path, mode)
-        ended = subprocess.run([program, command, closed], capture_output=True, user=NOBODY, group=NOBODY, extra_groups=[], check=False)
+        for path, mode in ((Path(folder), 0o755), (program, 0o755), (closed, 0)):
+            path.chmod(mode)
+        ended = subprocess.run([program, command, closed], capture_output=True,
+                               user=NOBODY, group=NOBODY, extra_groups=[], check=False)
     assert Ended(ended.returncode, ended.stdout, ended.stderr) == FILE
 
 
