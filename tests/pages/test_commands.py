@@ -19,6 +19,7 @@ from tests import needs
 from tests.paths import EXAMPLE, TOP
 
 PLAIN = ("make", "export ", "cc ")
+OWN = "make check"
 # What is run in the folder as it is run at the top of the repository.
 LINKS = (
     "Makefile",
@@ -59,7 +60,7 @@ def blocks(text: str) -> Iterator[list[str]]:
 def commands(text: str) -> Iterator[Command]:
     for block in blocks(text):
         if all(line.startswith(PLAIN) for line in block):
-            yield from (Command(line, None) for line in block)
+            yield from (Command(line, None) for line in block if line != OWN)
         elif block[0].startswith("$ "):
             for part in "\n".join(block).split("\n$ "):
                 command, _, printed = part.removeprefix("$ ").partition("\n")
