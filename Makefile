@@ -35,7 +35,7 @@ all: $(OUT)/libsmblease.so
 $(OUT)/libsmblease.a: FORCE
 	@mkdir -p $(OUT)
 	@found=$$(tools/current) && for file in libsmblease.a leasecheck; do \
-	    cmp -s $$found/$$file $(OUT)/$$file || cp $$found/$$file $(OUT)/$$file || exit 1; done
+	    cmp -s "$$found/$$file" $(OUT)/$$file || cp "$$found/$$file" $(OUT)/$$file || exit 1; done
 
 $(OUT)/$(SHARED): $(OUT)/libsmblease.a include/smblease.map
 	$(CC) $(CFLAGS) -shared -Wl,-soname,$(SONAME) -Wl,--version-script=include/smblease.map -Wl,-z,defs -Wl,-z,noexecstack \
@@ -46,21 +46,21 @@ $(OUT)/libsmblease.so: $(OUT)/$(SHARED)
 	ln -sf $(SONAME) $@
 
 install: all
-	mkdir -p $(DESTDIR)$(BINDIR) $(DESTDIR)$(LIBDIR)/pkgconfig $(DESTDIR)$(INCLUDEDIR)
-	install -m 755 $(OUT)/leasecheck $(DESTDIR)$(BINDIR)/leasecheck
-	install -m 644 $(OUT)/libsmblease.a $(DESTDIR)$(LIBDIR)/libsmblease.a
-	install -m 755 $(OUT)/$(SHARED) $(DESTDIR)$(LIBDIR)/$(SHARED)
-	ln -sf $(SHARED) $(DESTDIR)$(LIBDIR)/$(SONAME)
-	ln -sf $(SONAME) $(DESTDIR)$(LIBDIR)/libsmblease.so
-	for header in $(HEADERS); do install -m 644 include/$$header $(DESTDIR)$(INCLUDEDIR)/$$header || exit 1; done
-	sed -e 's|@PREFIX@|$(PREFIX)|' -e 's|@LIBDIR@|$(LIBDIR:$(PREFIX)/%=$${prefix}/%)|' \
-	    -e 's|@INCLUDEDIR@|$(INCLUDEDIR:$(PREFIX)/%=$${prefix}/%)|' -e 's|@VERSION@|$(VERSION)|' include/smblease.pc.in \
-	    > $(DESTDIR)$(LIBDIR)/pkgconfig/smblease.pc
+	mkdir -p "$(DESTDIR)$(BINDIR)" "$(DESTDIR)$(LIBDIR)/pkgconfig" "$(DESTDIR)$(INCLUDEDIR)"
+	install -m 755 $(OUT)/leasecheck "$(DESTDIR)$(BINDIR)/leasecheck"
+	install -m 644 $(OUT)/libsmblease.a "$(DESTDIR)$(LIBDIR)/libsmblease.a"
+	install -m 755 $(OUT)/$(SHARED) "$(DESTDIR)$(LIBDIR)/$(SHARED)"
+	ln -sf $(SHARED) "$(DESTDIR)$(LIBDIR)/$(SONAME)"
+	ln -sf $(SONAME) "$(DESTDIR)$(LIBDIR)/libsmblease.so"
+	for header in $(HEADERS); do install -m 644 include/$$header "$(DESTDIR)$(INCLUDEDIR)/$$header" || exit 1; done
+	sed -e 's|@PREFIX@|$(PREFIX)|' -e 's|@LIBDIR@|$(subst $(PREFIX)/,$${prefix}/,$(LIBDIR))|' \
+	    -e 's|@INCLUDEDIR@|$(subst $(PREFIX)/,$${prefix}/,$(INCLUDEDIR))|' -e 's|@VERSION@|$(VERSION)|' include/smblease.pc.in \
+	    > "$(DESTDIR)$(LIBDIR)/pkgconfig/smblease.pc"
 
 uninstall:
-	rm -f $(DESTDIR)$(BINDIR)/leasecheck $(DESTDIR)$(LIBDIR)/pkgconfig/smblease.pc
-	rm -f $(foreach name,libsmblease.a libsmblease.so $(SONAME) $(SHARED),$(DESTDIR)$(LIBDIR)/$(name))
-	rm -f $(foreach name,$(HEADERS),$(DESTDIR)$(INCLUDEDIR)/$(name))
+	rm -f "$(DESTDIR)$(BINDIR)/leasecheck" "$(DESTDIR)$(LIBDIR)/pkgconfig/smblease.pc"
+	for name in libsmblease.a libsmblease.so $(SONAME) $(SHARED); do rm -f "$(DESTDIR)$(LIBDIR)/$$name"; done
+	for header in $(HEADERS); do rm -f "$(DESTDIR)$(INCLUDEDIR)/$$header"; done
 
 check: all
 	$(PYTHON) -m pytest -n $(JOBS) --dist loadgroup -q -m "not long" $(TESTS)
