@@ -1,0 +1,65 @@
+"""`./leasecheck` and tools/current: which program is run, and why the one in dist/ isn't, where it can't be."""
+from __future__ import annotations
+
+import shutil
+import subprocess
+from pathlib import Path
+
+import pytest
+
+from tests.paths import TOP
+from tests.program.ran import Ended
+
+PARTS = ("leasecheck", "tools", "dist", "kit.txt", "crates.txt", "crates")
+NO_KIT = "and the command rt of the Rattle kit, which would prove and build it, is not on the path"
+
+
+@pytest.fixture(scope="module")
+def copied(tmp_path_factory: pytest.TempPathFactory) -> Path:
+    """The repository as far as the wrapper looks at it, without what was proved and built here."""
+    folder = tmp_path_factory.mktemp("copied")
+    for name in PARTS:
+        if (TOP / name).is_dir():
+            shutil.copytree(TOP / name, folder / name, ignore=shutil.ignore_patterns("out"))
+        else:
+            shutil.copy2(TOP / name, folder / name)
+    return folder
+
+
+def run(folder: Path, **stand_ins: str) -> Ended:
+    """Runs the wrapper where these programs print these texts, and there is no kit."""
+    programs = folder / "stand_ins"
+    shutil.rmtree(programs, ignore_errors=True)
+    shutil.rmtree(folder / "out", ignore_errors=True)
+    programs.mkdir()
+    for name, text in stand_ins.items():
+        (programs / name).write_text(f"#!/bin/sh\necho '{text}'\n", encoding="ascii")
+        (programs / name).chmod(0o755)
+    had = subprocess.run([folder / "leasecheck", "--version"], env={"PATH": f"{programs}:/usr/bin:/bin"}, capture_output=True,
+                         check=False)
+    return Ended(had.returncode, had.stdout, had.stderr)
+
+
+def test_first_and_second_run(copied: Path) -> None:
+    first = run(copied)
+    assert (first.status, first.faults) == (0, b"") and first.out.startswith(b"leasecheck ")
+    again = subprocess.run([copied / "leasecheck", "--version"], env={"PATH": ""}, capture_output=True, check=False)
+    assert (again.returncode, again.stdout) == (0, first.out)
+
+
+@pytest.mark.parametrize(("stand_ins", "why"), [
+    ({"getconf": "glibc 2.31"}, "this system has no glibc 2.34 or later, which the program in dist/x86_64-linux needs"),
+    ({"uname": "Linux aarch64"}, "this is no x86-64 Linux machine with SSE4.2"),
+], ids=["an older C library", "another processor"])
+def test_machine_that_the_program_does_not_fit(copied: Path, stand_ins: dict[str, str], why: str) -> None:
+    assert run(copied, **stand_ins) == Ended(1, b"", f"leasecheck: {why}, {NO_KIT}\n".encode())
+
+
+def test_other_sources(copied: Path) -> None:
+    kit = copied / "kit.txt"
+    text = kit.read_text(encoding="utf-8")
+    kit.write_text("another kit\n", encoding="utf-8")
+    try:
+        assert run(copied) == Ended(1, b"", f"leasecheck: dist/x86_64-linux was made from other sources, {NO_KIT}\n".encode())
+    finally:
+        kit.write_text(text, encoding="utf-8")
