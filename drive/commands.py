@@ -1,4 +1,4 @@
-"""How the commands of drive/ end."""
+"""What the commands of drive/ and serve/ have in common: how they end, and the files that they read and write."""
 from __future__ import annotations
 
 import argparse
@@ -6,9 +6,12 @@ import logging
 import os
 import signal
 import sys
-from typing import Callable, Sequence
+from collections.abc import Callable, Sequence
 
 from drive.faults import DriveFault, Usage
+from smblease.faults import ToolFault
+from smblease.program import replay
+from smblease.schedules import Schedule
 
 SAFE, NOT_DRIVEN, REFUSED, UNSAFE = 0, 1, 2, 3
 
@@ -29,7 +32,7 @@ def ended(parser: argparse.ArgumentParser, main: Callable[[argparse.Namespace], 
     except Usage as fault:
         print(f"{parser.prog}: {fault}", file=sys.stderr)
         return REFUSED
-    except DriveFault as fault:
+    except ToolFault as fault:
         print(f"{parser.prog}: {fault}", file=sys.stderr)
         return NOT_DRIVEN
     except OSError as fault:
@@ -47,3 +50,26 @@ def _parsed(parser: argparse.ArgumentParser, words: Sequence[str]) -> argparse.N
     finally:
         # (help that can't be written is found out here, and not at the interpreter's end)
         sys.stdout.flush()
+
+
+def schedule_in(path: str, program: str) -> Schedule:
+    """The schedule of a file, which `leasecheck replay` has to take."""
+    try:
+        if path == "-":
+            text = sys.stdin.read()
+        else:
+            with open(path, encoding="utf-8", errors="replace") as stream:
+                text = stream.read()
+    except OSError as fault:
+        raise DriveFault(f"{path}: {fault.strerror}") from None
+    replay(program, text)
+    return Schedule.read(text)
+
+
+def write_text(path: str, text: str) -> None:
+    """Writes a file."""
+    try:
+        with open(path, "w", encoding="utf-8") as stream:
+            stream.write(text)
+    except OSError as fault:
+        raise DriveFault(f"{path}: {fault.strerror}") from None

@@ -1,15 +1,20 @@
 """Goes through a capture, packet by packet, and reports what it shows."""
 from __future__ import annotations
 
+import uuid
+from collections.abc import Callable
 from dataclasses import dataclass
-from typing import Callable, Dict, List, Optional, Tuple
 
 from drive import headers
 from drive.beliefs import Chain, Delivery, Turn
-from drive.headers import NOT_ACCEPTED, PENDING, PREVIOUS, RELATED, SUCCESS, UNASKED, Command, Message, Unreadable
+from drive.capture_state import FILE_LIMIT, MOST, BreakSeen, Client, Connection, File, Open, Pending
+from drive.headers import HEADER, PREVIOUS, RELATED, UNASKED, Command, Message, Unreadable
 from drive.packets import COMPRESSED, ENCRYPTED, PROTOCOL, Packet
-from drive.shown import NONE, Contexts, Shower, word_of
-from drive.sightings import FILE_LIMIT, MOST, BreakSeen, Client, Connection, File, Open, Pending
+from smblease import Acknowledgment, CreateAnswer, CreateAsk, Fault, LeaseState, Notification
+from smblease.lines import digits
+from smblease.values import Status
+
+NONE = LeaseState.NONE
 
 
 @dataclass(frozen=True)
@@ -20,45 +25,48 @@ class Fact:
     rank: int
     text: str
     told: str
-    file: Optional[File] = None
+    file: File | None = None
 
 
 def at(packet: Packet) -> int:
+    """The position of a packet."""
     return 2 * packet.number
 
 
 def before(packet: Packet) -> int:
+    """The position before a packet."""
     return 2 * packet.number - 1
 
 
 class Walk:
     """`at_client` says that the capture shows when clients took messages and sent theirs."""
 
-    def __init__(self, shower: Shower, at_client: bool) -> None:
-        self._shower = shower
+    def __init__(self, at_client: bool) -> None:
         self._at_client = at_client
-        self.facts: List[Fact] = []
-        self.files: List[File] = []
-        self.clients: List[Client] = []
-        self.notes: List[str] = []
-        self.left_out: Dict[str, int] = {}
-        self.connections: Dict[int, Connection] = {}
-        self.breaks: List[BreakSeen] = []
-        self._named: Dict[Tuple[str, str], File] = {}
-        self._kept: Dict[bytes, File] = {}
-        self._opens: Dict[Tuple[int, int, bytes], Open] = {}
-        self._asking: Dict[Command, Callable[[Connection, Pending], None]] = {
+        self.facts: list[Fact] = []
+        self.files: list[File] = []
+        self.clients: list[Client] = []
+        self.notes: list[str] = []
+        self.left_out: dict[str, int] = {}
+        self.connections: dict[int, Connection] = {}
+        self.breaks: list[BreakSeen] = []
+        self._named: dict[tuple[str, str], File] = {}
+        # files by the persistent halves of the FileIds that were given for them
+        self._kept: dict[bytes, File] = {}
+        self._opens: dict[tuple[int, int, bytes], Open] = {}
+        self._asking: dict[Command, Callable[[Connection, Pending], None]] = {
             Command.NEGOTIATE: self._negotiating, Command.SESSION_SETUP: self._setting_up, Command.LOGOFF: self._logging_off,
             Command.TREE_DISCONNECT: self._leaving, Command.CREATE: self._creating, Command.CLOSE: self._closing,
             Command.WRITE: self._writing, Command.OPLOCK_BREAK: self._acknowledging,
         }
-        self._answered: Dict[Command, Callable[[Connection, Pending, Packet, Message, Delivery], None]] = {
+        self._answered: dict[Command, Callable[[Connection, Pending, Packet, Message, Delivery], None]] = {
             Command.NEGOTIATE: self._negotiated, Command.TREE_CONNECT: self._joined_tree, Command.CREATE: self._created,
             Command.CLOSE: self._closed, Command.WRITE: self._written, Command.READ: self._read,
             Command.SET_INFO: self._renamed, Command.OPLOCK_BREAK: self._acknowledged,
         }
 
     def goes(self, packet: Packet) -> None:
+        """Takes the next packet."""
         connection = self.connections.setdefault(packet.stream, Connection(packet.stream))
         if packet.is_gap:
             self._lost(connection, packet, "packets, or parts of them, aren't in the capture")
@@ -77,7 +85,7 @@ class Walk:
     def _note(self, packet: Packet, text: str) -> None:
         self.notes.append(f"{packet.told}: {text}")
 
-    def _fact(self, position: int, rank: int, text: str, packet: Packet, told: str, file: Optional[File] = None) -> None:
+    def _fact(self, position: int, rank: int, text: str, packet: Packet, told: str, file: File | None = None) -> None:
         self.facts.append(Fact(position, rank, text, f"{packet.told}: {told}", file))
 
     def _message(self, connection: Connection, packet: Packet, data: bytes) -> None:
@@ -116,7 +124,7 @@ class Walk:
         if handler:
             handler(connection, pending)
 
-    def _open_of(self, connection: Connection, pending: Pending) -> Optional[Open]:
+    def _open_of(self, connection: Connection, pending: Pending) -> Open | None:
         file_id = pending.request.file_id
         if file_id is None:
             return None
@@ -164,16 +172,17 @@ class Walk:
         if client is None or key is None or any(it.client is client and it.key == key for it in self._opens.values()):
             return
         for seen in self.breaks:
-            if seen.client is client and seen.told.key == key:
+            if seen.client is client and seen.notice.key == key:
                 seen.is_over, seen.is_answered = True, seen.is_answered or not is_lost
         chain = opened.file.chains.get((client.number, key))
         if chain and chain.turns:
             chain.turns.append(Turn(NONE, earliest, f"{packet.told}: {told}", before(packet)))
 
     def _creating(self, connection: Connection, pending: Pending) -> None:
-        pending.asked = self._shower.contexts("ask", pending.request.data)
-        if pending.asked.fault:
-            self._note(pending.packet, f"the contexts of a CREATE request can't be read: {pending.asked.fault}")
+        try:
+            pending.asked = CreateAsk.read(headers.contexts(pending.request))
+        except (Fault, Unreadable) as fault:
+            self._note(pending.packet, f"the contexts of a CREATE request can't be read: {fault}")
 
     def _closing(self, connection: Connection, pending: Pending) -> None:
         opened = self._open_of(connection, pending)
@@ -191,23 +200,24 @@ class Walk:
             return
         connection.client.writes += 1
         pending.number, pending.opened = connection.client.writes, opened
-        text = f"wrote {connection.client.number} {{file}} {pending.number} {span.offset} {span.data.hex() or '-'} through"
+        text = f"wrote {connection.client.number} {{file}} {pending.number} {span.offset} {digits(span.data)} through"
         self._fact(at(pending.packet), 0, text, pending.packet, "WRITE", opened.file)
 
     def _acknowledging(self, connection: Connection, pending: Pending) -> None:
-        given = self._shower.acknowledgment(pending.request.data)
-        if given is None:
+        try:
+            given = Acknowledgment.read(pending.request.data[HEADER:])
+        except Fault:
             self._leave_out("acknowledgments of oplocks")
             return
         seen = next((it for it in reversed(self.breaks)
-                     if it.client is connection.client and it.told.key == given.key and not it.is_over), None)
+                     if it.client is connection.client and it.notice.key == given.key and not it.is_over), None)
         if seen is None:
             self._note(pending.packet, f"an acknowledgment of {given.key}, of which no break is to be acknowledged")
             return
         seen.is_answered, seen.is_over, pending.broken = True, True, seen
-        if given.state != seen.told.left:
-            self._note(pending.packet, f"an acknowledgment of {word_of(given.state)}, where the break of {seen.packet.told} "
-                                       f"is to {word_of(seen.told.left)}")
+        if given.state != seen.notice.new:
+            self._note(pending.packet, f"an acknowledgment of {given.state}, where the break of {seen.packet.told} "
+                                       f"is to {seen.notice.new}")
         if seen.turn.delivery:
             connection.prove(seen.turn.delivery, before(pending.packet))
         seen.turn.state, seen.turn.latest = given.state, before(pending.packet)
@@ -224,10 +234,10 @@ class Walk:
             self._broken(connection, packet, message, delivery)
             return
         pending = connection.pending.get(message.identifier)
-        if pending is None or message.status == PENDING or message.command is None:
+        if pending is None or message.status == Status.PENDING or message.command is None:
             return
         handler = self._answered.get(message.command)
-        if handler and (message.status == SUCCESS or message.command is Command.OPLOCK_BREAK):
+        if handler and (message.status == Status.SUCCESS or message.command is Command.OPLOCK_BREAK):
             handler(connection, pending, packet, message, delivery)
         connection.pending.pop(message.identifier, None)
 
@@ -235,8 +245,8 @@ class Walk:
     def _name(message: Message) -> str:
         if message.identifier == UNASKED:
             return "a break"
-        status = {SUCCESS: "", PENDING: ", pending"}.get(message.status, f", status {message.status:08x}")
-        return f"answer to {message.name}{status}"
+        words: dict[int, str] = {Status.SUCCESS: "", Status.PENDING: ", pending"}
+        return f"answer to {message.name}{words.get(message.status, f', status {message.status:08x}')}"
 
     def _negotiated(self, connection: Connection, pending: Pending, packet: Packet, message: Message,
                     delivery: Delivery) -> None:
@@ -256,40 +266,45 @@ class Walk:
             return
         file_id = message.part(128, 16)
         file = self._file(connection, pending, message, file_id)
-        granted = self._shower.contexts("reply", message.data)
+        granted = self._granted_by(packet, message)
         opened = Open(connection.client, file, granted.key, connection.stream, message.session, pending.request.tree, file_id,
                       delivery)
         pending.opened = opened
         self._opens[connection.stream, message.session, file_id] = opened
         self._kept[file_id[:8]] = file
-        if connection.client and not pending.asked.is_reconnect:
+        if connection.client and pending.asked.reconnect is None:
             self._fact(at(packet), 1, f"opened {{file}} {connection.client.number}", packet, "answer to CREATE", file)
-        if granted.fault:
-            self._note(packet, f"the contexts of a CREATE response can't be read: {granted.fault}")
-        if granted.is_second_version:
+        if granted.has_other_lease:
             self._leave_out("grants of leases of version 2, which aren't judged")
         if connection.judged and granted.key:
             self._granted(connection.judged, pending, packet, opened, granted)
 
-    def _granted(self, client: Client, pending: Pending, packet: Packet, opened: Open, granted: Contexts) -> None:
-        file, key = opened.file, str(granted.key)
+    def _granted_by(self, packet: Packet, message: Message) -> CreateAnswer:
+        try:
+            return CreateAnswer.read(headers.contexts(message))
+        except (Fault, Unreadable) as fault:
+            self._note(packet, f"the contexts of a CREATE response can't be read: {fault}")
+            return CreateAnswer()
+
+    def _granted(self, client: Client, pending: Pending, packet: Packet, opened: Open, granted: CreateAnswer) -> None:
+        file, key = opened.file, granted.key or uuid.UUID(int=0)
         chain = file.chains.setdefault((client.number, key), Chain(client.number, key))
         if pending.asked.key != key:
             self._note(packet, f"a lease under {key}, where {pending.asked.key or 'none'} was asked for")
-        elif not (granted.state <= pending.asked.state | chain.state or granted.is_breaking or pending.asked.is_reconnect):
-            self._note(packet, f"client {client.number} is granted {word_of(granted.state)} of {file.told}, "
-                               f"and asked for {word_of(pending.asked.state)}")
+        elif not (granted.state in pending.asked.state | chain.state or granted.breaking or pending.asked.reconnect is not None):
+            self._note(packet, f"client {client.number} is granted {granted.state} of {file.told}, "
+                               f"and asked for {pending.asked.state}")
         for seen in self.breaks:
             if seen.file is file and not seen.is_over and seen.client is not client and granted.state:
-                self._note(packet, f"client {client.number} is granted {word_of(granted.state)} of {file.told} while the break "
+                self._note(packet, f"client {client.number} is granted {granted.state} of {file.told} while the break "
                                    f"of {seen.packet.told} to client {seen.client.number} isn't acknowledged")
-        if granted.is_breaking:
+        if granted.breaking:
             return
-        told = f"{packet.told}: CREATE granted {word_of(granted.state)}"
+        told = f"{packet.told}: CREATE granted {granted.state}"
         chain.turns.append(Turn(granted.state, at(packet), told, delivery=opened.delivery))
 
     def _file(self, connection: Connection, pending: Pending, message: Message, file_id: bytes) -> File:
-        if pending.asked.is_reconnect and file_id[:8] in self._kept:
+        if pending.asked.reconnect is not None and file_id[:8] in self._kept:
             return self._kept[file_id[:8]]
         share = connection.trees.get((message.session or pending.request.session, pending.request.tree), "?")
         name = headers.create_name(pending.request)
@@ -318,7 +333,7 @@ class Walk:
         span = headers.written(pending.request)
         data = span.data[:message.number(68, 4)]
         file.is_changed = True
-        text = f"changed {{file}} {connection.client.number} {pending.number} {span.offset} {data.hex() or '-'}"
+        text = f"changed {{file}} {connection.client.number} {pending.number} {span.offset} {digits(data)}"
         self._fact(at(packet), 1, text, packet, "answer to WRITE", file)
 
     def _read(self, connection: Connection, pending: Pending, packet: Packet, message: Message,
@@ -348,35 +363,36 @@ class Walk:
         seen = pending.broken
         if seen is None:
             return
-        chain = seen.file.chains[seen.client.number, seen.told.key]
-        if message.status == SUCCESS and seen.doubt in chain.turns:
+        chain = seen.file.chains[seen.client.number, seen.notice.key]
+        if message.status == Status.SUCCESS and seen.doubt in chain.turns:
             chain.turns.remove(seen.doubt)
-        elif message.status != SUCCESS:
+        elif message.status != Status.SUCCESS:
             # Where it was of too much, the break is still to be acknowledged (3.3.5.22.2).
-            seen.is_over = seen.is_answered = message.status != NOT_ACCEPTED
+            seen.is_over = seen.is_answered = message.status != Status.REQUEST_NOT_ACCEPTED
             self._note(packet, f"the acknowledgment of {pending.packet.told} is refused, status {message.status:08x}")
 
     def _broken(self, connection: Connection, packet: Packet, message: Message, delivery: Delivery) -> None:
-        told = self._shower.notification(message.data)
-        if told is None:
+        try:
+            notice = Notification.read(message.data[HEADER:])
+        except Fault:
             self._leave_out("breaks of oplocks")
             return
         client = connection.judged
-        file = next((it for it in self.files if client and (client.number, told.key) in it.chains), None)
-        if not told.left <= told.held or (told.left == told.held and told.held):
-            self._note(packet, f"a break from {word_of(told.held)} to {word_of(told.left)}, which isn't a part of it")
+        file = next((it for it in self.files if client and (client.number, notice.key) in it.chains), None)
+        if notice.new not in notice.current or (notice.new == notice.current and notice.current):
+            self._note(packet, f"a break from {notice.current} to {notice.new}, which isn't a part of it")
         if client is None or file is None:
-            self._note(packet, f"a break of {told.key}, under which the capture shows no lease of that client")
+            self._note(packet, f"a break of {notice.key}, under which the capture shows no lease of that client")
             return
-        chain = file.chains[client.number, told.key]
-        words = f"{packet.told}: break from {word_of(told.held)} to {word_of(told.left)}"
-        turn = Turn(told.left, at(packet), words, delivery=delivery)
+        chain = file.chains[client.number, notice.key]
+        words = f"{packet.told}: break from {notice.current} to {notice.new}"
+        turn = Turn(notice.new, at(packet), words, delivery=delivery)
         chain.turns.append(turn)
-        if told.needs_acknowledgment:
+        if notice.ack_required:
             doubt = Turn(NONE, at(packet), f"{words}, not known to be acknowledged, so nothing is known of the lease",
                          is_doubt=True)
             chain.turns.append(doubt)
-            self.breaks.append(BreakSeen(packet, told, client, file, turn, doubt))
+            self.breaks.append(BreakSeen(packet, notice, client, file, turn, doubt))
 
     # Ends
 
