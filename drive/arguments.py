@@ -4,12 +4,13 @@ from __future__ import annotations
 import argparse
 from collections.abc import Callable
 
+from smblease.program import find_program
+
 from drive.faults import Usage
 from drive.place import Place
 from drive.runner import Runner
 from drive.servers import NamedServer, PrivateServer, Server
 from serve.served import DrivenServer
-from smblease.program import find_program
 
 # Seconds that a server's own timer of a break is waited for.
 BREAK_TIME = 40.0

@@ -6,11 +6,12 @@ import os
 import sys
 from collections.abc import Sequence
 
+from smblease.program import Verdict, find_program, judge
+
 from drive.capture_record import CaptureRecord, record_of
 from drive.commands import NOT_DRIVEN, SAFE, UNSAFE, ended, write_text
 from drive.faults import DriveFault, Usage
 from drive.packets import read_capture
-from smblease.program import Verdict, find_program, judge
 
 EPILOG = """The record is printed, and after it the verdict as a line `# safe` or `# unsafe PLACE RULE` with the packets that
 show it, so that all of it is still a record. With --record it goes to a file, and the verdict and all other findings are

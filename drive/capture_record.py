@@ -6,15 +6,16 @@ from dataclasses import dataclass
 from functools import reduce
 from operator import or_
 
+from smblease.lines import digits
+from smblease.values import LeaseState
+
 from drive.beliefs import Placed, Search
 from drive.capture_state import MOST, Connection, File
 from drive.capture_walk import Fact, Walk
 from drive.packets import Capture
-from smblease.lines import digits
-from smblease.values import LeaseState
 
-CANT = ("A capture shows no cached read, no buffered write, and not what applications were answered: so rules 2 and 3, and that half",
-        "of rule 4, aren't judged. What clients believed of their leases is judged by rule 1.")
+CANT = ("A capture shows no cached read, no buffered write, and not what applications were answered: so rules 2 and 3, and that",
+        "half of rule 4, aren't judged. What clients believed of their leases is judged by rule 1.")
 
 
 @dataclass(frozen=True)

@@ -5,10 +5,11 @@ import uuid
 from bisect import bisect_right
 from dataclasses import dataclass, field
 
+from smblease import CreateAsk, Notification
+
 from drive.beliefs import Chain, Delivery, Turn
 from drive.headers import Message
 from drive.packets import Packet
-from smblease import CreateAsk, Notification
 
 FILE_LIMIT = 1048576
 MOST = 255
@@ -58,6 +59,7 @@ class Open:
 class Pending:
     """A request that isn't answered, or not yet for good."""
 
+    connection: Connection
     request: Message
     packet: Packet
     # where it can have been sent first
@@ -67,6 +69,16 @@ class Pending:
     opened: Open | None = None
     number: int = 0
     broken: BreakSeen | None = None
+
+
+@dataclass(frozen=True)
+class Came:
+    """An answer, and the request that it is to."""
+
+    pending: Pending
+    packet: Packet
+    message: Message
+    delivery: Delivery
 
 
 @dataclass(eq=False)

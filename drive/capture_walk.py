@@ -5,14 +5,15 @@ import uuid
 from collections.abc import Callable
 from dataclasses import dataclass
 
-from drive import headers
-from drive.beliefs import Chain, Delivery, Turn
-from drive.capture_state import FILE_LIMIT, MOST, BreakSeen, Client, Connection, File, Open, Pending
-from drive.headers import HEADER, PREVIOUS, RELATED, UNASKED, Command, Message, Unreadable
-from drive.packets import COMPRESSED, ENCRYPTED, PROTOCOL, Packet
 from smblease import Acknowledgment, CreateAnswer, CreateAsk, Fault, LeaseState, Notification
 from smblease.lines import digits
 from smblease.values import Status
+
+from drive import headers
+from drive.beliefs import Chain, Delivery, Turn
+from drive.capture_state import FILE_LIMIT, MOST, BreakSeen, Came, Client, Connection, File, Open, Pending
+from drive.headers import HEADER, PREVIOUS, RELATED, UNASKED, Command, Message, Unreadable
+from drive.packets import COMPRESSED, ENCRYPTED, PROTOCOL, Packet
 
 NONE = LeaseState.NONE
 
@@ -54,12 +55,12 @@ class Walk:
         # files by the persistent halves of the FileIds that were given for them
         self._kept: dict[bytes, File] = {}
         self._opens: dict[tuple[int, int, bytes], Open] = {}
-        self._asking: dict[Command, Callable[[Connection, Pending], None]] = {
+        self._asking: dict[Command, Callable[[Pending], None]] = {
             Command.NEGOTIATE: self._negotiating, Command.SESSION_SETUP: self._setting_up, Command.LOGOFF: self._logging_off,
             Command.TREE_DISCONNECT: self._leaving, Command.CREATE: self._creating, Command.CLOSE: self._closing,
             Command.WRITE: self._writing, Command.OPLOCK_BREAK: self._acknowledging,
         }
-        self._answered: dict[Command, Callable[[Connection, Pending, Packet, Message, Delivery], None]] = {
+        self._answered: dict[Command, Callable[[Came], None]] = {
             Command.NEGOTIATE: self._negotiated, Command.TREE_CONNECT: self._joined_tree, Command.CREATE: self._created,
             Command.CLOSE: self._closed, Command.WRITE: self._written, Command.READ: self._read,
             Command.SET_INFO: self._renamed, Command.OPLOCK_BREAK: self._acknowledged,
@@ -113,26 +114,27 @@ class Walk:
         connection.is_begun = True
         if message.command in (None, Command.CANCEL):
             return
-        pending = Pending(message, packet, self._earliest(connection, packet))
+        pending = Pending(connection, message, packet, self._earliest(connection, packet))
         if message.flags & RELATED and connection.pending:
             pending.previous = list(connection.pending.values())[-1]
         connection.pending[message.identifier] = pending
-        opened = self._open_of(connection, pending)
+        opened = self._open_of(pending)
         if opened:
             connection.prove(opened.delivery, before(packet))
         handler = self._asking.get(message.command) if message.command is not None else None
         if handler:
-            handler(connection, pending)
+            handler(pending)
 
-    def _open_of(self, connection: Connection, pending: Pending) -> Open | None:
+    def _open_of(self, pending: Pending) -> Open | None:
         file_id = pending.request.file_id
         if file_id is None:
             return None
         if file_id == PREVIOUS:
-            return pending.previous.opened or self._open_of(connection, pending.previous) if pending.previous else None
-        return self._opens.get((connection.stream, pending.request.session, file_id))
+            return pending.previous.opened or self._open_of(pending.previous) if pending.previous else None
+        return self._opens.get((pending.connection.stream, pending.request.session, file_id))
 
-    def _negotiating(self, connection: Connection, pending: Pending) -> None:
+    def _negotiating(self, pending: Pending) -> None:
+        connection = pending.connection
         guid = headers.negotiated(pending.request)[1]
         client = next((it for it in self.clients if it.guid == guid), None)
         if connection.client:
@@ -148,18 +150,18 @@ class Walk:
         if client.connections == 1:
             self._fact(at(pending.packet), 0, f"joined {client.number}", pending.packet, "NEGOTIATE")
 
-    def _setting_up(self, connection: Connection, pending: Pending) -> None:
+    def _setting_up(self, pending: Pending) -> None:
         previous = pending.request.number(80, 8)
         if previous:
             self._end_opens(lambda it: it.session == previous, pending)
 
-    def _logging_off(self, connection: Connection, pending: Pending) -> None:
+    def _logging_off(self, pending: Pending) -> None:
         session = pending.request.session
-        self._end_opens(lambda it: it.stream == connection.stream and it.session == session, pending)
+        self._end_opens(lambda it: it.stream == pending.connection.stream and it.session == session, pending)
 
-    def _leaving(self, connection: Connection, pending: Pending) -> None:
+    def _leaving(self, pending: Pending) -> None:
         session, tree = pending.request.session, pending.request.tree
-        self._end_opens(lambda it: (it.stream, it.session, it.tree) == (connection.stream, session, tree), pending)
+        self._end_opens(lambda it: (it.stream, it.session, it.tree) == (pending.connection.stream, session, tree), pending)
 
     def _end_opens(self, meant: Callable[[Open], bool], pending: Pending) -> None:
         for opened in [it for it in self._opens.values() if meant(it)]:
@@ -178,20 +180,21 @@ class Walk:
         if chain and chain.turns:
             chain.turns.append(Turn(NONE, earliest, f"{packet.told}: {told}", before(packet)))
 
-    def _creating(self, connection: Connection, pending: Pending) -> None:
+    def _creating(self, pending: Pending) -> None:
         try:
             pending.asked = CreateAsk.read(headers.contexts(pending.request))
         except (Fault, Unreadable) as fault:
             self._note(pending.packet, f"the contexts of a CREATE request can't be read: {fault}")
 
-    def _closing(self, connection: Connection, pending: Pending) -> None:
-        opened = self._open_of(connection, pending)
+    def _closing(self, pending: Pending) -> None:
+        opened = self._open_of(pending)
         if opened:
             pending.opened = opened
             self._end_open(opened, pending.earliest, pending.packet, "CLOSE")
 
-    def _writing(self, connection: Connection, pending: Pending) -> None:
-        opened = self._open_of(connection, pending)
+    def _writing(self, pending: Pending) -> None:
+        connection = pending.connection
+        opened = self._open_of(pending)
         span = headers.written(pending.request)
         if connection.client is None or opened is None:
             return
@@ -203,7 +206,8 @@ class Walk:
         text = f"wrote {connection.client.number} {{file}} {pending.number} {span.offset} {digits(span.data)} through"
         self._fact(at(pending.packet), 0, text, pending.packet, "WRITE", opened.file)
 
-    def _acknowledging(self, connection: Connection, pending: Pending) -> None:
+    def _acknowledging(self, pending: Pending) -> None:
+        connection = pending.connection
         try:
             given = Acknowledgment.read(pending.request.data[HEADER:])
         except Fault:
@@ -238,7 +242,7 @@ class Walk:
             return
         handler = self._answered.get(message.command)
         if handler and (message.status == Status.SUCCESS or message.command is Command.OPLOCK_BREAK):
-            handler(connection, pending, packet, message, delivery)
+            handler(Came(pending, packet, message, delivery))
         connection.pending.pop(message.identifier, None)
 
     @staticmethod
@@ -248,36 +252,36 @@ class Walk:
         words: dict[int, str] = {Status.SUCCESS: "", Status.PENDING: ", pending"}
         return f"answer to {message.name}{words.get(message.status, f', status {message.status:08x}')}"
 
-    def _negotiated(self, connection: Connection, pending: Pending, packet: Packet, message: Message,
-                    delivery: Delivery) -> None:
-        connection.dialect = headers.negotiated(message)[0]
-        if connection.dialect not in (0x202, 0x210, 0x2ff):
-            self._leave_out(f"connections of dialect {connection.dialect >> 8}.{connection.dialect >> 4 & 15}"
-                            f"{f'.{connection.dialect & 15}' if connection.dialect & 15 else ''}, whose leases aren't judged")
+    def _negotiated(self, came: Came) -> None:
+        dialect = came.pending.connection.dialect = headers.negotiated(came.message)[0]
+        if dialect not in (0x202, 0x210, 0x2ff):
+            self._leave_out(f"connections of dialect {dialect >> 8}.{dialect >> 4 & 15}"
+                            f"{f'.{dialect & 15}' if dialect & 15 else ''}, whose leases aren't judged")
 
-    def _joined_tree(self, connection: Connection, pending: Pending, packet: Packet, message: Message,
-                     delivery: Delivery) -> None:
+    def _joined_tree(self, came: Came) -> None:
+        pending, message = came.pending, came.message
         share = headers.tree_path(pending.request).rpartition("\\")[2].lower()
-        connection.trees[message.session, message.tree] = share
+        pending.connection.trees[message.session, message.tree] = share
 
-    def _created(self, connection: Connection, pending: Pending, packet: Packet, message: Message,
-                 delivery: Delivery) -> None:
+    def _created(self, came: Came) -> None:
+        pending, packet, message, delivery = came.pending, came.packet, came.message, came.delivery
         if headers.is_directory(pending.request, message):
             return
         file_id = message.part(128, 16)
-        file = self._file(connection, pending, message, file_id)
+        file = self._file(came, file_id)
         granted = self._granted_by(packet, message)
+        connection = pending.connection
         opened = Open(connection.client, file, granted.key, connection.stream, message.session, pending.request.tree, file_id,
                       delivery)
         pending.opened = opened
         self._opens[connection.stream, message.session, file_id] = opened
         self._kept[file_id[:8]] = file
-        if connection.client and pending.asked.reconnect is None:
-            self._fact(at(packet), 1, f"opened {{file}} {connection.client.number}", packet, "answer to CREATE", file)
+        if pending.connection.client and pending.asked.reconnect is None:
+            self._fact(at(packet), 1, f"opened {{file}} {pending.connection.client.number}", packet, "answer to CREATE", file)
         if granted.has_other_lease:
             self._leave_out("grants of leases of version 2, which aren't judged")
-        if connection.judged and granted.key:
-            self._granted(connection.judged, pending, packet, opened, granted)
+        if pending.connection.judged and granted.key:
+            self._granted(pending.connection.judged, came, opened, granted)
 
     def _granted_by(self, packet: Packet, message: Message) -> CreateAnswer:
         try:
@@ -286,7 +290,8 @@ class Walk:
             self._note(packet, f"the contexts of a CREATE response can't be read: {fault}")
             return CreateAnswer()
 
-    def _granted(self, client: Client, pending: Pending, packet: Packet, opened: Open, granted: CreateAnswer) -> None:
+    def _granted(self, client: Client, came: Came, opened: Open, granted: CreateAnswer) -> None:
+        pending, packet = came.pending, came.packet
         file, key = opened.file, granted.key or uuid.UUID(int=0)
         chain = file.chains.setdefault((client.number, key), Chain(client.number, key))
         if pending.asked.key != key:
@@ -303,10 +308,11 @@ class Walk:
         told = f"{packet.told}: CREATE granted {granted.state}"
         chain.turns.append(Turn(granted.state, at(packet), told, delivery=opened.delivery))
 
-    def _file(self, connection: Connection, pending: Pending, message: Message, file_id: bytes) -> File:
+    def _file(self, came: Came, file_id: bytes) -> File:
+        pending, message = came.pending, came.message
         if pending.asked.reconnect is not None and file_id[:8] in self._kept:
             return self._kept[file_id[:8]]
-        share = connection.trees.get((message.session or pending.request.session, pending.request.tree), "?")
+        share = pending.connection.trees.get((message.session or pending.request.session, pending.request.tree), "?")
         name = headers.create_name(pending.request)
         file = self._named.get((share, name))
         if file is None or headers.was_made(message):
@@ -315,38 +321,38 @@ class Walk:
             self.files.append(file)
         return file
 
-    def _closed(self, connection: Connection, pending: Pending, packet: Packet, message: Message,
-                delivery: Delivery) -> None:
+    def _closed(self, came: Came) -> None:
         """A CLOSE within the compound of its CREATE, whose FileId was told only now."""
-        opened = self._open_of(connection, pending)
+        pending, packet = came.pending, came.packet
+        opened = self._open_of(pending)
         if opened and pending.opened is None:
-            connection.prove(opened.delivery, at(packet))
+            pending.connection.prove(opened.delivery, at(packet))
             self._end_open(opened, opened.delivery.sent, packet, "CLOSE in the compound of its CREATE")
 
-    def _written(self, connection: Connection, pending: Pending, packet: Packet, message: Message,
-                 delivery: Delivery) -> None:
-        if connection.client is None or pending.opened is None:
-            if self._open_of(connection, pending) is None:
+    def _written(self, came: Came) -> None:
+        pending, packet, message = came.pending, came.packet, came.message
+        if pending.connection.client is None or pending.opened is None:
+            if self._open_of(pending) is None:
                 self._leave_out("writes by opens that the capture doesn't show")
             return
         file = pending.opened.file
         span = headers.written(pending.request)
         data = span.data[:message.number(68, 4)]
         file.is_changed = True
-        text = f"changed {{file}} {connection.client.number} {pending.number} {span.offset} {digits(data)}"
+        text = f"changed {{file}} {pending.connection.client.number} {pending.number} {span.offset} {digits(data)}"
         self._fact(at(packet), 1, text, packet, "answer to WRITE", file)
 
-    def _read(self, connection: Connection, pending: Pending, packet: Packet, message: Message,
-              delivery: Delivery) -> None:
-        opened = self._open_of(connection, pending)
+    def _read(self, came: Came) -> None:
+        pending, message = came.pending, came.message
+        opened = self._open_of(pending)
         span = headers.read(pending.request, message)
         if opened and not opened.file.is_changed and not span.offset and len(span.data) == opened.file.length <= FILE_LIMIT:
             opened.file.start = opened.file.start or span.data
 
-    def _renamed(self, connection: Connection, pending: Pending, packet: Packet, message: Message,
-                 delivery: Delivery) -> None:
+    def _renamed(self, came: Came) -> None:
         """Neither name is that of the file that it was: the next CREATE of it begins another."""
-        opened = self._open_of(connection, pending)
+        pending = came.pending
+        opened = self._open_of(pending)
         name = headers.renamed(pending.request)
         if name is None:
             return
@@ -358,8 +364,8 @@ class Walk:
             if share == opened.file.share and (known in gone or known.startswith(tuple(f"{it}\\" for it in gone))):
                 del self._named[share, known]
 
-    def _acknowledged(self, connection: Connection, pending: Pending, packet: Packet, message: Message,
-                      delivery: Delivery) -> None:
+    def _acknowledged(self, came: Came) -> None:
+        pending, packet, message = came.pending, came.packet, came.message
         seen = pending.broken
         if seen is None:
             return

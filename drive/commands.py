@@ -8,10 +8,11 @@ import signal
 import sys
 from collections.abc import Callable, Sequence
 
-from drive.faults import DriveFault, Usage
 from smblease.faults import ToolFault
 from smblease.program import replay
 from smblease.schedules import Schedule
+
+from drive.faults import DriveFault, Usage
 
 SAFE, NOT_DRIVEN, REFUSED, UNSAFE = 0, 1, 2, 3
 
@@ -23,7 +24,8 @@ def ended(parser: argparse.ArgumentParser, main: Callable[[argparse.Namespace], 
         return NOT_DRIVEN
     try:
         arguments = _parsed(parser, words)
-        logging.basicConfig(format="%(message)s", level=logging.DEBUG if getattr(arguments, "verbose", False) else logging.WARNING)
+        is_verbose = getattr(arguments, "verbose", False)
+        logging.basicConfig(format="%(message)s", level=logging.DEBUG if is_verbose else logging.WARNING)
         # A private server is ended too where the tool is.
         signal.signal(signal.SIGTERM, lambda number, frame: sys.exit(NOT_DRIVEN))
         status = main(arguments)

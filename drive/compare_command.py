@@ -5,11 +5,12 @@ import argparse
 import difflib
 from collections.abc import Sequence
 
+from smblease.schedules import Schedule
+
 from drive.arguments import runner_of, server_arguments
 from drive.commands import NOT_DRIVEN, SAFE, ended, schedule_in
 from drive.explanations import NONE, facts_of, likeness_of
 from drive.faults import DriveFault, Usage
-from smblease.schedules import Schedule
 
 EPILOG = """Without --record the schedule is driven first. The lines of the difference begin with `- ` where the profile's server
 has a fact that this one hasn't, and with `+ ` the other way round. After them comes what explains it: the departures

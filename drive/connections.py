@@ -1,19 +1,22 @@
 """SMB 2.1 connections: one for each client, over impacket's transport, NTLM and structures."""
+# pylint: disable=protected-access
+# (impacket has no other way to its socket and its count of messages)
 from __future__ import annotations
 
 import select
 import time
 from dataclasses import dataclass
 
-from impacket import ntlm, smb3structs as smb2  # type: ignore[import]
-from impacket.smb3 import SMB3  # type: ignore[import]
+from impacket import ntlm, smb3structs as smb2
+from impacket.smb3 import SMB3
 
 import smblease
-from drive.faults import DriveFault
-from drive.place import Place
 from smblease.replies import AcknowledgeDone, Closed, Created, ReadDone, Reply, WriteDone, failed
 from smblease.requests import CloseRequest, CreateRequest, ReadRequest, Request, WriteRequest
 from smblease.values import Access, Status
+
+from drive.faults import DriveFault
+from drive.place import Place
 
 NOTIFICATION_ID = 0xFFFFFFFFFFFFFFFF
 OPLOCK_LEVEL_LEASE = 0xFF
@@ -107,7 +110,8 @@ class Connection:
 
     def make_file(self, name: str, data: bytes) -> None:
         try:
-            file = self._smb.create(self._tree, name, ACCESS[Access.READ_WRITE], 0, smb2.FILE_NON_DIRECTORY_FILE, smb2.FILE_CREATE, 0)
+            access, options = ACCESS[Access.READ_WRITE], smb2.FILE_NON_DIRECTORY_FILE
+            file = self._smb.create(self._tree, name, access, 0, options, smb2.FILE_CREATE, 0)
             for offset in range(0, len(data), CREDIT_BYTES):
                 part = data[offset:offset + CREDIT_BYTES]
                 self._smb.write(self._tree, file, part, offset, len(part))

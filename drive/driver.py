@@ -5,12 +5,6 @@ import logging
 from dataclasses import replace
 
 import smblease
-from drive.connections import LIMIT, Connection
-from drive.exchange import Exchange
-from drive.faults import DriveFault, Undrivable
-from drive.peers import DrivenPeer
-from drive.records import Order, Record, applied, in_order
-from drive.servers import Server
 from smblease.lines import request_words
 from smblease.outs import Changed
 from smblease.processes import LineClients
@@ -18,6 +12,13 @@ from smblease.replies import Created
 from smblease.requests import AcknowledgeRequest, CreateRequest, Request, WriteRequest
 from smblease.schedules import Schedule
 from smblease.world import World
+
+from drive.connections import LIMIT, Connection
+from drive.exchange import Exchange
+from drive.faults import DriveFault, Undrivable
+from drive.peers import DrivenPeer
+from drive.records import Order, Record, applied, in_order
+from drive.servers import Server
 
 LOG = logging.getLogger("drive")
 RECONNECT = b"DHnC"

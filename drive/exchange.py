@@ -4,14 +4,15 @@ from __future__ import annotations
 import time
 
 import smblease
-from drive.connections import NOTIFICATION_ID, PATIENCE, FileId, Message, reply_of
-from drive.faults import DriveFault
-from drive.peers import DrivenPeer, Unanswered
-from drive.records import Arrival
 from smblease.outs import Changed, Opened
 from smblease.replies import AcknowledgeDone, Break, Closed, Created, Reply, WriteDone
 from smblease.requests import CreateRequest, ReadRequest, Request, WriteRequest
 from smblease.values import Status
+
+from drive.connections import NOTIFICATION_ID, PATIENCE, FileId, Message, reply_of
+from drive.faults import DriveFault
+from drive.peers import DrivenPeer, Unanswered
+from drive.records import Arrival
 
 QUIET_ROUNDS = 3
 BETWEEN_ROUNDS = 0.004
@@ -58,7 +59,8 @@ class Exchange:
     def _is_doing(self) -> bool:
         """Whether the request that was sent last is a read or a write without an answer."""
         answered = {(client, message.number) for client, message in self._arrived}
-        return any(sent.place == self._sent and isinstance(sent.request, (ReadRequest, WriteRequest)) and (client, number) not in answered
+        return any(sent.place == self._sent and isinstance(sent.request, (ReadRequest, WriteRequest))
+                   and (client, number) not in answered
                    for client, peer in self._peers.items() for number, sent in peer.unanswered.items())
 
     def _wait_for(self, client: int, number: int) -> None:

@@ -6,14 +6,15 @@ from contextlib import closing
 from dataclasses import dataclass
 from itertools import combinations
 
-from drive.model import Departure, Model
-from drive.records import Record
 from smblease.client import lease_key
 from smblease.processes import LineClients, client_process
 from smblease.program import replay
 from smblease.requests import Request
 from smblease.schedules import Schedule
 from smblease.world import Link, Peer, World
+
+from drive.model import Departure, Model
+from drive.records import Record
 
 NONE: frozenset[Departure] = frozenset()
 SOMETIMES = (Departure.LAST_FIRST, Departure.BY_ARRIVAL, Departure.KEPT_HOLDS, Departure.KEPT_ALONE)

@@ -7,13 +7,14 @@ import random
 from collections.abc import Callable
 from dataclasses import dataclass
 
+from smblease.faults import ToolFault
+from smblease.schedules import Event, Schedule
+
 from drive.explanations import likeness_of
 from drive.random_schedules import Chooser, blind_schedule
 from drive.records import Order
 from drive.runner import Outcome, Runner
 from drive.shrinking import shrunk
-from smblease.faults import ToolFault
-from smblease.schedules import Event, Schedule
 
 LOG = logging.getLogger("drive")
 

@@ -5,12 +5,13 @@ import uuid
 from dataclasses import dataclass, field
 from enum import Enum
 
-from drive.records import Arrival, applied
 from smblease import Acknowledgment, CreateAnswer, CreateAsk, Fault, LeaseState, Notification, Response
 from smblease.outs import Changed, Opened
 from smblease.replies import AcknowledgeDone, Break, Closed, Created, ReadDone, Reply, WriteDone, failed
 from smblease.requests import AcknowledgeRequest, CloseRequest, CreateRequest, ReadRequest, Request, WriteRequest
 from smblease.values import Status
+
+from drive.records import Arrival, applied
 
 R, W, H, NONE = LeaseState.R, LeaseState.W, LeaseState.H, LeaseState.NONE
 LIMIT = 1048576
@@ -56,7 +57,7 @@ class Lease:
     file: int
     state: LeaseState
     # the state that it is breaking to, and whether a break to none has to follow
-    to: LeaseState | None = None
+    broken_to: LeaseState | None = None
     none_next: bool = False
 
 
@@ -137,7 +138,7 @@ class Model:
     def _expire(self, key: Key) -> None:
         lease = self.tables.leases[key]
         if Departure.OPENS_STAY in self._departures:
-            lease.state, lease.to, lease.none_next = NONE, None, False
+            lease.state, lease.broken_to, lease.none_next = NONE, None, False
         else:
             for one in [it for it in self.tables.opens if it.key == key]:
                 self._close(one)
@@ -164,7 +165,7 @@ class Model:
 
     def is_breaking(self, key: Key) -> bool:
         """Whether a break of a lease waits for its acknowledgment."""
-        return key in self.tables.leases and self.tables.leases[key].to is not None
+        return key in self.tables.leases and self.tables.leases[key].broken_to is not None
 
     # what a request meets
 
@@ -199,7 +200,7 @@ class Model:
         if Departure.KEPT_ALONE in self._departures and any(
                 it.file == one.file and it.connected and it.client != one.client for it in self.tables.opens):
             return False
-        return lease.to is None or Departure.BREAKING_KEPT in self._departures
+        return lease.broken_to is None or Departure.BREAKING_KEPT in self._departures
 
     def _tried(self, held: Held) -> bool:
         """Tries a request; answers whether it was answered, and isn't to be held."""
@@ -235,7 +236,7 @@ class Model:
         for _ in range(3):
             wanted = {key: NONE for key in self._other_keys(one.file, one.key) if self.tables.leases[key].state}
             waits = self._broken(wanted, to_none=True)
-            if any(self.tables.leases[key].to for key in waits) and Departure.WRITES_GO_ON not in self._departures:
+            if any(self.tables.leases[key].broken_to for key in waits) and Departure.WRITES_GO_ON not in self._departures:
                 return False
             if waits or not wanted:
                 break
@@ -303,24 +304,25 @@ class Model:
             for one in [it for it in self.tables.opens if it.key == key and not it.connected]:
                 self._close(one, dropped=True)
             lease = self.tables.leases.get(key)
-            if lease and lease.to is None:
+            if lease and lease.broken_to is None:
                 self._send_break(key, lease, wanted[key])
-            elif lease and to_none and lease.to:
+            elif lease and to_none and lease.broken_to:
                 lease.none_next = Departure.WRITES_GO_ON in self._departures
         return [key for key in wanted if self.is_breaking(key)]
 
     def _send_break(self, key: Key, lease: Lease, state: LeaseState) -> None:
         needs = lease.state != R
         notice = Notification(key[1], lease.state, state, needs)
-        lease.to, lease.state = (state, lease.state) if needs else (None, NONE)
+        lease.broken_to, lease.state = (state, lease.state) if needs else (None, NONE)
         self._outs.append(Arrival(key[0], key[0], Break(notice.write())))
 
     def _grant(self, held: Held, request: CreateRequest, ask: CreateAsk, key: Key | None) -> None:
         lease = self._granted(held, ask, key) if key else None
         durable = ask.durable and lease is not None and H in lease.state
         self._file_ids += 1
-        self.tables.opens.append(Open(self._file_ids, held.client, held.file, key, request.access.value, request.share.value, durable))
-        contexts = CreateAnswer(ask.key, lease.state if lease else NONE, bool(lease and lease.to is not None), durable)
+        self.tables.opens.append(Open(self._file_ids, held.client, held.file, key, request.access.value, request.share.value,
+                                      durable))
+        contexts = CreateAnswer(ask.key, lease.state if lease else NONE, bool(lease and lease.broken_to is not None), durable)
         self._answer(held, Created(request.file, self._file_ids, contexts.write()), Opened(held.file, held.client))
 
     def _granted(self, held: Held, ask: CreateAsk, key: Key) -> Lease:
@@ -336,7 +338,7 @@ class Model:
             rises = Departure.RISES_WHOLE not in self._departures or offered == want
         if lease is None:
             lease = self.tables.leases[key] = Lease(held.file, offered)
-        elif lease.to is None and lease.state in want and rises:
+        elif lease.broken_to is None and lease.state in want and rises:
             lease.state = offered
         return lease
 
@@ -349,7 +351,7 @@ class Model:
             return
         one.connected = True
         lease = self.tables.leases[key]
-        contexts = CreateAnswer(key[1], lease.state, lease.to is not None)
+        contexts = CreateAnswer(key[1], lease.state, lease.broken_to is not None)
         self._answer(held, Created(request.file, one.file_id, contexts.write()))
 
     def _acknowledge(self, client: int, request: AcknowledgeRequest, place: int) -> None:
@@ -361,12 +363,12 @@ class Model:
             return
         key = (client, given.key)
         lease = self.tables.leases.get(key)
-        if lease is None or lease.to is None or given.state not in lease.to:
+        if lease is None or lease.broken_to is None or given.state not in lease.broken_to:
             refusal = Status.OBJECT_NAME_NOT_FOUND if lease is None else \
-                Status.UNSUCCESSFUL if lease.to is None else Status.REQUEST_NOT_ACCEPTED
+                Status.UNSUCCESSFUL if lease.broken_to is None else Status.REQUEST_NOT_ACCEPTED
             self._answer(held, failed(request, refusal))
             return
-        lease.state, lease.to = granted_form(given.state), None
+        lease.state, lease.broken_to = granted_form(given.state), None
         self._answer(held, AcknowledgeDone(Response(given.key, lease.state).write()))
         if lease.none_next and lease.state:
             self._send_break(key, lease, NONE)

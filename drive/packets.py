@@ -4,9 +4,9 @@ from __future__ import annotations
 import json
 import subprocess
 import tempfile
-from dataclasses import dataclass
 from collections.abc import Iterator, Sequence
-from typing import IO, Union
+from dataclasses import dataclass
+from typing import IO
 
 from drive.faults import DriveFault
 
@@ -73,7 +73,7 @@ def _fields(path: str, ports: Sequence[int]) -> list[str]:
     return [*_words(path, ports), "-T", "fields", "-E", "occurrence=f", *fields]
 
 
-def _started(words: list[str], answer: Union[IO[str], int], faults: Union[IO[str], int]) -> "subprocess.Popen[str]":
+def _started(words: list[str], answer: IO[str] | int, faults: IO[str] | int) -> subprocess.Popen[str]:
     try:
         return subprocess.Popen(words, stdout=answer, stderr=faults, text=True, errors="replace")
     except OSError as fault:
@@ -135,9 +135,9 @@ def _number(text: str) -> int:
 
 def _packet(row: list[str], messages: tuple[bytes, ...]) -> Packet | None:
     row += [""] * (len(FIELDS) - len(row))
-    number, time, stream, port, ip, ipv6, flags, acknowledged, end, lost, ack_lost, captured, length = row
+    number, time, stream, port, address, address6, flags, acknowledged, end, lost, ack_lost, captured, length = row
     if not stream:
         return None
     is_gap = bool(lost or ack_lost) or _number(captured) < _number(length)
-    return Packet(int(number), time, int(stream), f"{ip or ipv6}:{port}", bool(_number(flags) & (FIN | RESET)),
+    return Packet(int(number), time, int(stream), f"{address or address6}:{port}", bool(_number(flags) & (FIN | RESET)),
                   _number(acknowledged), _number(end), is_gap, messages)

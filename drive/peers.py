@@ -5,9 +5,10 @@ import uuid
 from dataclasses import dataclass, field
 
 import smblease
-from drive.connections import Connection, FileId
 from smblease.requests import AcknowledgeRequest, CreateRequest, Request
 from smblease.world import Peer
+
+from drive.connections import Connection, FileId
 
 
 @dataclass(frozen=True)

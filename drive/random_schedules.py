@@ -6,10 +6,11 @@ import uuid
 from collections.abc import Callable
 from dataclasses import dataclass
 
-from drive.driver import Driver
-from drive.peers import DrivenPeer
 from smblease.schedules import Event, EventKind, Schedule
 from smblease.world import Link
+
+from drive.driver import Driver
+from drive.peers import DrivenPeer
 
 FILE = b"abc"
 MOST_CLIENTS = 3

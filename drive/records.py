@@ -41,8 +41,8 @@ RANKS: dict[Order, dict[ArrivalKind, int]] = {
 
 @dataclass(frozen=True)
 class Arrival:
-    """A message that came to a client. `place` is that of its request among all, or of a break its client's number. What the message
-    shows that the server did stands directly before its `sent`."""
+    """A message that came to a client. `place` is that of its request among all, or of a break its client's number. What the
+    message shows that the server did stands directly before its `sent`."""
 
     client: int
     place: int

@@ -6,13 +6,14 @@ from collections.abc import Callable, Iterator
 from contextlib import closing, contextmanager
 from dataclasses import dataclass, field
 
+from smblease.processes import LineClients, Speaker, client_process
+from smblease.program import Verdict, judge, replay
+from smblease.schedules import Event, EventKind, Schedule
+
 from drive.driver import Driver, files_made, files_removed
 from drive.faults import Undrivable
 from drive.records import Order, Record
 from drive.servers import Server
-from smblease.processes import LineClients, Speaker, client_process
-from smblease.program import Verdict, judge, replay
-from smblease.schedules import Event, EventKind, Schedule
 
 LOG = logging.getLogger("drive")
 # What a test puts between the driver and the machines.

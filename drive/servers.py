@@ -90,6 +90,7 @@ class Server(Protocol):
 
     def end_break_timer(self, process: int | None) -> None:
         """Puts back what that took."""
+        return None
 
     def pass_durable_timer(self, file_ids: list[int]) -> None:
         """Has the timers of disconnected opens run out, or that of the first of these that is still there."""
@@ -98,10 +99,11 @@ class Server(Protocol):
         """The file as it is on disk, where that can be looked at."""
 
     def close(self) -> None:
-        ...
+        """Ends it, where it was made for the run."""
+        return None
 
 
-class NamedServer:
+class NamedServer(Server):
     """A server that somebody named. Its timers are waited for, and its files have names of their own."""
 
     stays = True
@@ -131,20 +133,14 @@ class NamedServer:
     def begin_break_timer(self, process: int | None, guid: bytes, key: bytes) -> None:
         time.sleep(self._break_time)
 
-    def end_break_timer(self, process: int | None) -> None:
-        pass
-
     def pass_durable_timer(self, file_ids: list[int]) -> None:
         raise Undrivable("the timer of a disconnected open is too long to be waited for")
 
     def content(self, file: int) -> bytes | None:
         return None
 
-    def close(self) -> None:
-        pass
 
-
-class PrivateServer:
+class PrivateServer(Server):
     """An smbd of one's own on loopback, in a folder of its own, with clocks that can be put forward."""
 
     stays = False
@@ -244,7 +240,7 @@ class PrivateServer:
         with open(f"{self._folder}/private/smbpasswd", "w", encoding="utf-8") as text:
             text.write(f"root:0:{32 * 'X'}:{password_hash(PASSWORD)}:[U          ]:LCT-00000001:\n")
 
-    def _start(self, environment: dict[str, str]) -> "subprocess.Popen[bytes]":
+    def _start(self, environment: dict[str, str]) -> subprocess.Popen[bytes]:
         with open(f"{self._folder}/output", "wb") as output:
             return subprocess.Popen([SMBD, "--foreground", "--no-process-group", "-s", f"{self._folder}/smb.conf"],
                                     stdin=subprocess.DEVNULL, stdout=output, stderr=subprocess.STDOUT,

@@ -52,11 +52,12 @@ _FIELDS: dict[str, tuple[Callable[[Any], str], Callable[[str], Any]]] = {
     **dict.fromkeys(("file", "client", "file_id", "number", "offset"), _NUMBER),
     **dict.fromkeys(("contexts", "data", "message"), _BYTES),
     "access": _one_of(_ACCESS), "share": _one_of(_SHARE), "refusal": _one_of(_REFUSAL), "outcome": _one_of(_OUTCOME),
-    "buffered": _one_of(_BUFFERED), "cached": _one_of(_CACHED), "state": (str, LeaseState.of), "status": (status_word, read_status),
+    "buffered": _one_of(_BUFFERED), "cached": _one_of(_CACHED), "state": (str, LeaseState.of),
+    "status": (status_word, read_status),
 }
 _REQUESTS: dict[str, Any] = {
-    "create": requests.CreateRequest, "read": requests.ReadRequest, "write": requests.WriteRequest, "close": requests.CloseRequest,
-    "ack": requests.AcknowledgeRequest,
+    "create": requests.CreateRequest, "read": requests.ReadRequest, "write": requests.WriteRequest,
+    "close": requests.CloseRequest, "ack": requests.AcknowledgeRequest,
 }
 _REPLIES: dict[str, Any] = {
     "created": replies.Created, "createfailed": replies.CreateFailed, "readdone": replies.ReadDone,

@@ -8,7 +8,7 @@ from collections.abc import Sequence
 from typing import IO, Protocol
 
 from smblease.faults import ToolFault
-from smblease.lines import digits, read_answer, read_note, read_out, read_reply, read_request, reply_words, request_words
+from smblease.lines import digits, read_answer, read_note, read_out, read_request, reply_words, request_words
 from smblease.outs import Out
 from smblease.replies import Reply
 from smblease.requests import Request
@@ -58,8 +58,8 @@ class LineProcess:
         self._task = task
         try:
             # pylint: disable-next=consider-using-with
-            self._process = subprocess.Popen([program, task], stdin=subprocess.PIPE, stdout=subprocess.PIPE, stderr=subprocess.PIPE,
-                                             text=True, bufsize=1)
+            self._process = subprocess.Popen([program, task], stdin=subprocess.PIPE, stdout=subprocess.PIPE,
+                                             stderr=subprocess.PIPE, text=True, bufsize=1)
         except OSError as fault:
             raise ToolFault(f"{program}: {fault.strerror}") from None
         for line in setup:
@@ -183,7 +183,8 @@ class LineClients:
 
         >>> from smblease.program import find_program
         >>> clients = LineClients(client_process(find_program(), Schedule((b"",), (uuid.UUID(int=1),), ())))
-        >>> clients.take(1, read_reply("closed 7")).answer
+        >>> from smblease import Closed
+        >>> clients.take(1, Closed(7)).answer
         Quiet()
         >>> clients.close()
         """
