@@ -1,7 +1,7 @@
 #!/usr/bin/env python3
-"""Writes a record of so many lines, as `leasecheck replay` prints such: eight clients and eight files. In each turn a client opens
-a file, is granted all and buffers a write; another opens it too, the lease is broken, the write is sent and accepted, and both lose
-what they have."""
+"""Writes a record of so many lines, as `leasecheck replay` prints such: eight clients and eight files. In each turn a client
+opens a file, is granted all and buffers a write; another opens it too, the lease is broken, the write is sent and accepted, and
+both lose what they have."""
 import sys
 
 USAGE = 'usage: bench/make_record.py COUNT FILE'

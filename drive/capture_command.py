@@ -57,7 +57,7 @@ def sets_told(record: CaptureRecord, program: str) -> list[str]:
     return lines
 
 
-def main(arguments: argparse.Namespace) -> int:
+def _judge(arguments: argparse.Namespace) -> int:
     """Prints the record and its verdict; the status."""
     if any(not 0 < port < 65536 for port in arguments.port):
         raise Usage("--port is a number from 1 to 65535")
@@ -77,6 +77,6 @@ def main(arguments: argparse.Namespace) -> int:
     return SAFE if verdict.is_safe else NOT_DRIVEN
 
 
-def run(words: Sequence[str]) -> int:
+def main(words: Sequence[str] | None = None) -> int:
     """The command; its status."""
-    return ended(parser(), main, words)
+    return ended(parser(), _judge, words)

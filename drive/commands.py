@@ -17,7 +17,7 @@ from drive.faults import DriveFault, Usage
 SAFE, NOT_DRIVEN, REFUSED, UNSAFE = 0, 1, 2, 3
 
 
-def ended(parser: argparse.ArgumentParser, main: Callable[[argparse.Namespace], int], words: Sequence[str]) -> int:
+def ended(parser: argparse.ArgumentParser, main: Callable[[argparse.Namespace], int], words: Sequence[str] | None) -> int:
     """Runs a command; what goes wrong is one line on standard error, and a status."""
     if sys.stdout is None:
         print(f"{parser.prog}: output: standard output is closed", file=sys.stderr)
@@ -46,7 +46,7 @@ def ended(parser: argparse.ArgumentParser, main: Callable[[argparse.Namespace], 
         return NOT_DRIVEN
 
 
-def _parsed(parser: argparse.ArgumentParser, words: Sequence[str]) -> argparse.Namespace:
+def _parsed(parser: argparse.ArgumentParser, words: Sequence[str] | None) -> argparse.Namespace:
     try:
         return parser.parse_args(words)
     finally:

@@ -45,7 +45,7 @@ def _facts(arguments: argparse.Namespace, schedule: Schedule) -> tuple[list[str]
         raise DriveFault(f"{arguments.record}: {fault.strerror}") from None
 
 
-def main(arguments: argparse.Namespace) -> int:
+def _compare(arguments: argparse.Namespace) -> int:
     """Prints the differences, and what explains them; the status."""
     schedule = schedule_in(arguments.schedule, arguments.leasecheck)
     facts, counts = _facts(arguments, schedule)
@@ -65,6 +65,6 @@ def main(arguments: argparse.Namespace) -> int:
     return SAFE
 
 
-def run(words: Sequence[str]) -> int:
+def main(words: Sequence[str] | None = None) -> int:
     """The command; its status."""
-    return ended(parser(), main, words)
+    return ended(parser(), _compare, words)

@@ -74,7 +74,7 @@ class Progress:
             sys.stderr.write("\n")
 
 
-def main(arguments: argparse.Namespace) -> int:
+def _explore(arguments: argparse.Namespace) -> int:
     """Explores, and prints what became of it; the status."""
     if arguments.count < 1:
         raise Usage("--count is at least 1")
@@ -106,6 +106,6 @@ def _all(explorer: Explorer, begun: int, count: int, path: str) -> tuple[int, in
     return unsafe, faults
 
 
-def run(words: Sequence[str]) -> int:
+def main(words: Sequence[str] | None = None) -> int:
     """The command; its status."""
-    return ended(parser(), main, words)
+    return ended(parser(), _explore, words)

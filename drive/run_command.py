@@ -45,7 +45,7 @@ def status_of(outcome: Outcome) -> int:
     return SAFE if outcome.verdict.is_safe else NOT_DRIVEN
 
 
-def main(arguments: argparse.Namespace) -> int:
+def _drive(arguments: argparse.Namespace) -> int:
     """Drives the schedule and prints its record; the status."""
     runner = runner_of(arguments)
     outcome = runner.run(schedule_in(arguments.schedule, arguments.leasecheck))
@@ -60,6 +60,6 @@ def main(arguments: argparse.Namespace) -> int:
     return status_of(outcome)
 
 
-def run(words: Sequence[str]) -> int:
+def main(words: Sequence[str] | None = None) -> int:
     """The command; its status."""
-    return ended(parser(), main, words)
+    return ended(parser(), _drive, words)

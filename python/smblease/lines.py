@@ -1,7 +1,7 @@
 """Requests, replies, notes, outs and answers as the words of lines (docs/FORMATS.md), and read from them.
 
-A word that names the kind comes first, and then the fields of the dataclass in their order; a note has its client between these. What
-can't be read raises ValueError.
+A word that names the kind comes first, and then the fields of the dataclass in their order; a note has its client between these.
+What can't be read raises ValueError.
 
 >>> read_request("read 7")
 ReadRequest(file_id=7)
