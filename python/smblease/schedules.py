@@ -77,8 +77,8 @@ class Schedule:
 
     @classmethod
     def read(cls, text: str) -> Schedule:
-        """The schedule of a text. `leasecheck replay` says which texts are schedules; this reads those, and refuses a line that has
-        no kind of a schedule, no client, or no bytes where they have to be.
+        """The schedule of a text. `leasecheck replay` says which texts are schedules; this reads those, and refuses a line that
+        has no kind of a schedule, no client, or no bytes where they have to be.
 
         >>> Schedule.read("file 616263\\nclient 11111111-1111-1111-1111-111111111111\\nconnect 1\\n").events[0].text
         'connect 1'

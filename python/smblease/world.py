@@ -1,7 +1,7 @@
 """Clients of a schedule, the links between them and a server, and what is on its way there (docs/FORMATS.md, "Schedules").
 
-`World` has what is the same whichever server there is. `MachineWorld` has a server machine: a smblease.Server, or one that is asked by
-lines. How the machines are called, and what becomes of the facts, is for those who use these.
+`World` has what is the same whichever server there is. `MachineWorld` has a server machine: a smblease.Server, or one that is
+asked by lines. How the machines are called, and what becomes of the facts, is for those who use these.
 """
 from __future__ import annotations
 
@@ -118,8 +118,8 @@ class ClientObjects:
         self._clients = {number: Client(guid, len(schedule.files)) for number, guid in enumerate(schedule.clients, 1)}
 
     def step(self, event: Event) -> Step:
-        """A command of the application, or that the client connects or notices that its connection is lost. ValueError is raised of an
-        event that isn't laid out as one.
+        """A command of the application, or that the client connects or notices that its connection is lost. ValueError is raised
+        of an event that isn't laid out as one.
 
         >>> ClientObjects(Schedule((b"abc",), (uuid.UUID(int=1),), ())).step(Event.read("connect 1")).answer
         Quiet()
@@ -140,8 +140,8 @@ class ClientObjects:
 
 
 _COMMANDS: dict[EventKind, Callable[[Client, tuple[str, ...]], Step]] = {
-    EventKind.OPEN: lambda client, words: client.open(int(words[0]), access_of(words[1]), share_of(words[2]), LeaseState.of(words[3]),
-                                                      durable=words[4:] == ("durable",)),
+    EventKind.OPEN: lambda client, words: client.open(int(words[0]), access_of(words[1]), share_of(words[2]),
+                                                      LeaseState.of(words[3]), durable=words[4:] == ("durable",)),
     EventKind.CLOSE: lambda client, words: client.close_file(int(words[0])),
     EventKind.READ: lambda client, words: client.read(int(words[0])),
     EventKind.FLUSH: lambda client, words: client.flush(int(words[0])),
@@ -168,8 +168,7 @@ class World(Generic[AnyPeer]):
         self._record = record
         self._doings: dict[EventKind, Callable[[Event, AnyPeer], bool]] = {
             EventKind.SERVE: self._serve, EventKind.TAKE: self._take, EventKind.CUT: self._cut, EventKind.NOTICE: self._notice,
-            EventKind.CONNECT: self._connect, EventKind.EXPIRE: self._end_timer, EventKind.SCAVENGE: self._end_timer,
-            EventKind.RAW: self._stray,
+            EventKind.CONNECT: self._connect, EventKind.RAW: self._stray,
         }
         for file, data in zip(self.files, schedule.files):
             record.fact(f"start {file} {digits(data)}")
@@ -181,6 +180,8 @@ class World(Generic[AnyPeer]):
             return False
         if event.kind in _APPLICATION:
             return int(event.words[0]) in self.files and self._step(event.client, lambda: self._clients.step(event))
+        if event.kind in (EventKind.EXPIRE, EventKind.SCAVENGE):
+            return self._end_timer(event)
         return self._doings[event.kind](event, peer)
 
     def _called(self, call: Callable[[], Given]) -> Given:
@@ -245,11 +246,9 @@ class World(Generic[AnyPeer]):
         peer.requests.append(request)
         return True
 
-    def _end_timer(self, event: Event, peer: AnyPeer) -> bool:
-        file = int(event.words[0])
-        if file not in self.files:
-            return False
-        return self._expire(event.client, file) if event.kind is EventKind.EXPIRE else self._scavenge(event.client, file)
+    def _end_timer(self, event: Event) -> bool:
+        file, ends = int(event.words[0]), self._expire if event.kind is EventKind.EXPIRE else self._scavenge
+        return file in self.files and ends(event.client, file)
 
     def _served(self, client: int, request: Request) -> None:
         """The server receives a request."""

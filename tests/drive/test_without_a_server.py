@@ -108,7 +108,7 @@ KEPT = {"smbd": (True, set(), {}), "profile": (False, {1}, {5: 1})}
 
 @pytest.mark.parametrize(("loses_kept", "kept", "kept_opens"), KEPT.values(), ids=KEPT)
 def test_kept_opens(loses_kept: bool, kept: set[int], kept_opens: dict[int, int]) -> None:
-    """What a client may have kept of a file that it opened, lost and opens anew: on smbd nothing, by the profile the first one."""
+    """What a client may have kept of a file that it opened, lost and opens again: on smbd none, by the profile the first one."""
     peer = DrivenPeer(uuid.UUID(int=1), loses_kept=loses_kept)
     peer.is_opened(1, FileId(5, 5))
     peer.is_cut()
