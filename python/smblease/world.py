@@ -93,7 +93,8 @@ Given = TypeVar("Given")
 class World(ABC, Generic[AnyPeer]):
     """One run. What a server does is for those to say that derive from this; so is how a machine is called."""
 
-    def __init__(self, schedule: Schedule, peers: dict[int, AnyPeer], clients: ClientObjects | LineClients, record: Recorder) -> None:
+    def __init__(self, schedule: Schedule, peers: dict[int, AnyPeer], clients: ClientObjects | LineClients,
+                 record: Recorder) -> None:
         self.peers = peers
         self.files = range(1, len(schedule.files) + 1)
         self._clients = clients
