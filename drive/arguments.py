@@ -2,12 +2,13 @@
 from __future__ import annotations
 
 import argparse
-from typing import Callable, Optional
+from collections.abc import Callable
+
+from smblease.program import find_program
 
 from drive.faults import Usage
 from drive.place import Place
-from drive.program import OWN
-from drive.runs import Runner
+from drive.runner import Runner
 from drive.servers import NamedServer, PrivateServer, Server
 from serve.served import DrivenServer
 
@@ -16,6 +17,7 @@ BREAK_TIME = 40.0
 
 
 def server_arguments(parser: argparse.ArgumentParser) -> None:
+    """Adds which server is driven, and how."""
     parser.add_argument("--smbd", action="store_true", help="a private smbd, started afresh for each schedule and ended")
     parser.add_argument("--served", action="store_true", help="the proved server (serve/run), started and ended likewise")
     parser.add_argument("--server", metavar="HOST:PORT", help="a server that is there, in place of a private one")
@@ -24,12 +26,13 @@ def server_arguments(parser: argparse.ArgumentParser) -> None:
     parser.add_argument("--break-time", metavar="SECONDS", type=float,
                         help="how long `expire` waits for a break timer of a server that was named (40)")
     parser.add_argument("--smbd-log", metavar="FILE", help="keep the log of the private smbd there, at level 10")
-    parser.add_argument("--leasecheck", metavar="PATH", default=OWN, help="the program leasecheck")
+    parser.add_argument("--leasecheck", metavar="PATH", default=find_program(), help="the program leasecheck")
     parser.add_argument("--skip", action="store_true", help="leave out events that can't be driven")
     parser.add_argument("--verbose", action="store_true", help="say on standard error what each event did")
 
 
 def runner_of(arguments: argparse.Namespace) -> Runner:
+    """What the command line says of runs."""
     return Runner(arguments.leasecheck, _server_maker(arguments), arguments.skip)
 
 
@@ -51,7 +54,7 @@ def _server_maker(arguments: argparse.Namespace) -> Callable[[], Server]:
     return lambda: NamedServer(place, break_time)
 
 
-def _place(server: str, share: Optional[str], user: Optional[str]) -> Place:
+def _place(server: str, share: str | None, user: str | None) -> Place:
     host, colon, port = server.rpartition(":")
     if not colon or not host or not port.isdigit() or not 0 < int(port) < 65536:
         raise Usage("--server is HOST:PORT")

@@ -4,10 +4,11 @@ Each change of a belief has a window: the positions at which it may stand. The s
 changes so far by which rule 1 isn't broken; where none is left, rule 1 is broken in every order that fits the capture."""
 from __future__ import annotations
 
+import uuid
+from collections.abc import Sequence
 from dataclasses import dataclass, field
-from typing import Dict, List, Optional, Sequence, Tuple
 
-from drive.shown import NONE, State
+from smblease.values import LeaseState
 
 MOST_WAYS = 4096
 
@@ -21,25 +22,26 @@ class Delivery:
     sent: int
     # its packet, as remarks name it
     packet: str
-    latest: Optional[int] = None
+    latest: int | None = None
     # where it is told as taken
-    taken: Optional[int] = None
+    taken: int | None = None
 
 
 @dataclass(eq=False)
 class Turn:
     """A change of a belief. Without `latest` it may be left out, or come at any time behind `earliest`."""
 
-    state: State
+    state: LeaseState
     earliest: int
     told: str
-    latest: Optional[int] = None
-    delivery: Optional[Delivery] = None
+    latest: int | None = None
+    delivery: Delivery | None = None
     # whether the client may have lost its lease here, since its acknowledgment didn't come or wasn't accepted
     is_doubt: bool = False
 
     @property
-    def last(self) -> Optional[int]:
+    def last(self) -> int | None:
+        """The last position at which it may stand, where it has to stand somewhere."""
         if self.latest is None and self.delivery:
             return self.delivery.latest
         return self.latest
@@ -50,17 +52,19 @@ class Chain:
     """The beliefs that a client had of one of its leases on a file, in their order."""
 
     client: int
-    key: str
-    turns: List[Turn] = field(default_factory=list)
+    key: uuid.UUID
+    turns: list[Turn] = field(default_factory=list)
 
     @property
-    def state(self) -> State:
+    def state(self) -> LeaseState:
         """What was said last. A doubt says nothing."""
-        return next((turn.state for turn in reversed(self.turns) if not turn.is_doubt), NONE)
+        return next((turn.state for turn in reversed(self.turns) if not turn.is_doubt), LeaseState.NONE)
 
 
 @dataclass(frozen=True)
 class Placed:
+    """A change at a position."""
+
     position: int
     chain: Chain
     turn: Turn
@@ -70,13 +74,14 @@ class Placed:
 class Way:
     """A way to place the changes so far: how many of each chain are done, and the steps that led there."""
 
-    done: Tuple[int, ...]
-    step: Optional[Placed] = None
-    before: Optional["Way"] = None
+    done: tuple[int, ...]
+    step: Placed | None = None
+    before: Way | None = None
 
-    def steps(self) -> List[Placed]:
-        found: List[Placed] = []
-        way: Optional[Way] = self
+    def steps(self) -> list[Placed]:
+        """The steps, from the first on."""
+        found: list[Placed] = []
+        way: Way | None = self
         while way is not None:
             if way.step:
                 found.append(way.step)
@@ -84,8 +89,9 @@ class Way:
         return found[::-1]
 
 
-def conflicts(one: State, other: State) -> bool:
-    return bool(("W" in one and other) or ("W" in other and one))
+def conflicts(one: LeaseState, other: LeaseState) -> bool:
+    """Whether rule 1 is broken where two clients believe these."""
+    return bool((LeaseState.W in one and other) or (LeaseState.W in other and one))
 
 
 class Search:
@@ -95,7 +101,7 @@ class Search:
         self._chains = chains
         self._turns = [_certain(chain) for chain in chains]
 
-    def placed(self) -> Optional[List[Placed]]:
+    def placed(self) -> list[Placed] | None:
         """The changes in an order; None where there are too many ways to look at."""
         ways = {way.done: way for way in [Way(tuple(0 for _ in self._chains))]}
         for position in self._positions():
@@ -106,12 +112,12 @@ class Search:
             ways = kept or self._forced(max(found.values(), key=lambda it: sum(it.done)), position)
         return max(ways.values(), key=lambda it: sum(it.done)).steps()
 
-    def _positions(self) -> List[int]:
+    def _positions(self) -> list[int]:
         turns = [turn for turns in self._turns for turn in turns]
         return sorted({turn.earliest for turn in turns} | {turn.last for turn in turns if turn.last is not None})
 
-    def _reached(self, ways: Dict[Tuple[int, ...], Way], position: int) -> Dict[Tuple[int, ...], Way]:
-        found: Dict[Tuple[int, ...], Way] = {}
+    def _reached(self, ways: dict[tuple[int, ...], Way], position: int) -> dict[tuple[int, ...], Way]:
+        found: dict[tuple[int, ...], Way] = {}
         waiting = list(ways.values())
         while waiting and len(found) <= MOST_WAYS:
             way = self._lowered(waiting.pop(), position)
@@ -128,7 +134,7 @@ class Search:
         index = 0
         while index < len(self._chains):
             turn = self._next(way, index)
-            if turn and turn.earliest <= position and turn.state <= self._state(way, index):
+            if turn and turn.earliest <= position and turn.state in self._state(way, index):
                 way = self._advanced(way, index, position)
             else:
                 index += 1
@@ -146,7 +152,7 @@ class Search:
     def _may_gain(self, way: Way, index: int, turn: Turn) -> bool:
         """Whether something may be gained by a change before the last position for it: where the change takes something
         away too, or where what follows it may come before that position."""
-        if not self._state(way, index) <= turn.state:
+        if self._state(way, index) not in turn.state:
             return True
         following = self._turns[index][way.done[index] + 1:way.done[index] + 2]
         return bool(following and turn.last is not None and following[0].earliest < turn.last)
@@ -158,7 +164,7 @@ class Search:
         turn = self._next(way, index)
         return bool(turn and turn.last is not None and turn.last <= position)
 
-    def _forced(self, way: Way, position: int) -> Dict[Tuple[int, ...], Way]:
+    def _forced(self, way: Way, position: int) -> dict[tuple[int, ...], Way]:
         """What is due, whatever rule it breaks."""
         for index in range(len(self._chains)):
             while self._is_due(way, index, position):
@@ -166,23 +172,23 @@ class Search:
         way = self._lowered(way, position)
         return {way.done: way}
 
-    def _next(self, way: Way, index: int) -> Optional[Turn]:
+    def _next(self, way: Way, index: int) -> Turn | None:
         turns = self._turns[index]
         return turns[way.done[index]] if way.done[index] < len(turns) else None
 
-    def _state(self, way: Way, index: int) -> State:
-        return self._turns[index][way.done[index] - 1].state if way.done[index] else NONE
+    def _state(self, way: Way, index: int) -> LeaseState:
+        return self._turns[index][way.done[index] - 1].state if way.done[index] else LeaseState.NONE
 
     def _advanced(self, way: Way, index: int, position: int) -> Way:
         done = (*way.done[:index], way.done[index] + 1, *way.done[index + 1:])
         return Way(done, Placed(position, self._chains[index], self._turns[index][way.done[index]]), way)
 
 
-def _certain(chain: Chain) -> List[Turn]:
+def _certain(chain: Chain) -> list[Turn]:
     """The turns without rises of which nothing shows that the client took them."""
-    turns: List[Turn] = []
+    turns: list[Turn] = []
     for turn in chain.turns:
-        held = turns[-1].state if turns else NONE
-        if turn.last is not None or turn.state <= held:
+        held = turns[-1].state if turns else LeaseState.NONE
+        if turn.last is not None or turn.state in held:
             turns.append(turn)
     return turns

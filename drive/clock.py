@@ -5,7 +5,6 @@ import mmap
 import os
 import struct
 import subprocess
-from typing import List
 
 from drive.faults import DriveFault
 
@@ -36,7 +35,7 @@ class Clocks:
 
     def __init__(self, path: str) -> None:
         self.path = path
-        self._processes: List[int] = []
+        self._processes: list[int] = []
         with open(path, "w+b") as file:
             file.truncate(PAIRS * PAIR.size)
             self._pairs = mmap.mmap(file.fileno(), PAIRS * PAIR.size)

@@ -1,33 +1,34 @@
 """SMB 2.1 connections: one for each client, over impacket's transport, NTLM and structures."""
+# pylint: disable=protected-access
+# (impacket has no other way to its socket and its count of messages)
 from __future__ import annotations
 
 import select
 import time
 from dataclasses import dataclass
-from typing import Optional, Tuple
 
-from impacket import nmb, ntlm, smb3structs as smb2  # type: ignore[import]
-from impacket.smb3 import SMB3, SessionError  # type: ignore[import]
+from impacket import ntlm, smb3structs as smb2
+from impacket.smb3 import SMB3
+
+import smblease
+from smblease.replies import AcknowledgeDone, Closed, Created, ReadDone, Reply, WriteDone, failed
+from smblease.requests import CloseRequest, CreateRequest, ReadRequest, Request, WriteRequest
+from smblease.values import Access, Status
 
 from drive.faults import DriveFault
-from drive.messages import Close, Create, Read, Reply, ReplyKind, Request, Write, created, failed
 from drive.place import Place
-from drive.schedules import digits
 
-STATUS_SUCCESS = 0
-STATUS_PENDING = 0x00000103
-STATUS_END_OF_FILE = 0xC0000011
 NOTIFICATION_ID = 0xFFFFFFFFFFFFFFFF
 OPLOCK_LEVEL_LEASE = 0xFF
 LIMIT = 1048576
 CREDIT_BYTES = 65536
 # A server may stand still for some seconds (smbd does while it retries a lock).
 PATIENCE = 25.0
-ACCESS = {"r": 0x120089, "w": 0x120116, "rw": 0x12019F}
-SHARES = {"-": 0, "r": 1, "w": 2, "rw": 3}
+ACCESS = {Access.READ: 0x120089, Access.WRITE: 0x120116, Access.READ_WRITE: 0x12019F}
+SHARE_ALL = 7
 
 
-def told(fault: Exception) -> str:
+def line_of(fault: Exception) -> str:
     """What a fault says, as far as it fits a line."""
     return (str(fault).splitlines() or [type(fault).__name__])[0][:120]
 
@@ -55,7 +56,7 @@ class _Protocol(SMB3):  # type: ignore[misc]
         super().__init__(place.host, place.host, sess_port=place.port, timeout=PATIENCE,
                          preferredDialect=smb2.SMB2_DIALECT_21)
 
-    def negotiateSession(self, preferredDialect: Optional[int] = None, negSessionResponse: object = None) -> None:
+    def negotiateSession(self, preferredDialect: int | None = None, negSessionResponse: object = None) -> None:
         self.ClientGuid = self._guid
         super().negotiateSession(preferredDialect, negSessionResponse)
 
@@ -75,28 +76,28 @@ class Connection:
             self._smb.login(place.user, place.password)
             self._tree = self._smb.connectTree(place.share)
         except Exception as fault:  # impacket raises bare ones too
-            raise DriveFault(f"no connection to {place.host}:{place.port}: {told(fault)}") from None
+            raise DriveFault(f"no connection to {place.host}:{place.port}: {line_of(fault)}") from None
         if self._smb.getDialect() != smb2.SMB2_DIALECT_21:
             raise DriveFault("the server doesn't speak dialect 2.1")
 
     def send(self, request: Request, name: str, file_id: FileId) -> int:
         """Sends a request, whose file has this name, or whose FileId is this one; answers its number."""
-        if isinstance(request, Create):
+        if isinstance(request, CreateRequest):
             return self._send(smb2.SMB2_CREATE, _create(request, name))
-        if isinstance(request, Read):
+        if isinstance(request, ReadRequest):
             return self._send(smb2.SMB2_READ, _read(file_id), LIMIT)
-        if isinstance(request, Write):
+        if isinstance(request, WriteRequest):
             return self._send(smb2.SMB2_WRITE, _write(request, file_id), len(request.data))
-        if isinstance(request, Close):
+        if isinstance(request, CloseRequest):
             close = smb2.SMB2Close()
             close["FileID"] = _wire_id(file_id)
             return self._send(smb2.SMB2_CLOSE, close)
-        return self._send(smb2.SMB2_OPLOCK_BREAK, request.body)
+        return self._send(smb2.SMB2_OPLOCK_BREAK, request.message)
 
     def echo(self) -> int:
         return self._send(smb2.SMB2_ECHO, smb2.SMB2Echo())
 
-    def receive(self, until: float) -> Optional[Message]:
+    def receive(self, until: float) -> Message | None:
         """The next message, or none where none comes until this time."""
         try:
             socket = self._smb._NetBIOSSession.get_socket()
@@ -105,25 +106,26 @@ class Connection:
             packet = smb2.SMB2Packet(self._smb._NetBIOSSession.recv_packet(PATIENCE).get_trailer())
             return Message(packet["MessageID"], packet["Status"], bytes(packet["Data"]))
         except Exception as fault:  # impacket raises bare ones too
-            raise DriveFault(f"a connection is lost: {told(fault)}") from None
+            raise DriveFault(f"a connection is lost: {line_of(fault)}") from None
 
     def make_file(self, name: str, data: bytes) -> None:
         try:
-            file = self._smb.create(self._tree, name, ACCESS["rw"], 0, smb2.FILE_NON_DIRECTORY_FILE, smb2.FILE_CREATE, 0)
+            access, options = ACCESS[Access.READ_WRITE], smb2.FILE_NON_DIRECTORY_FILE
+            file = self._smb.create(self._tree, name, access, 0, options, smb2.FILE_CREATE, 0)
             for offset in range(0, len(data), CREDIT_BYTES):
                 part = data[offset:offset + CREDIT_BYTES]
                 self._smb.write(self._tree, file, part, offset, len(part))
             self._smb.close(self._tree, file)
         except Exception as fault:  # impacket raises bare ones too
-            raise DriveFault(f"file {name} can't be made: {told(fault)}") from None
+            raise DriveFault(f"file {name} can't be made: {line_of(fault)}") from None
 
     def remove_file(self, name: str) -> None:
         options = smb2.FILE_NON_DIRECTORY_FILE | smb2.FILE_DELETE_ON_CLOSE
         try:
-            file = self._smb.create(self._tree, name, smb2.DELETE, SHARES["rw"] | 4, options, smb2.FILE_OPEN, 0)
+            file = self._smb.create(self._tree, name, smb2.DELETE, SHARE_ALL, options, smb2.FILE_OPEN, 0)
             self._smb.close(self._tree, file)
         except Exception as fault:  # impacket raises bare ones too
-            raise DriveFault(f"file {name} can't be removed: {told(fault)}") from None
+            raise DriveFault(f"file {name} can't be removed: {line_of(fault)}") from None
 
     def close(self) -> None:
         self._smb._NetBIOSSession.close()
@@ -137,7 +139,7 @@ class Connection:
         try:
             number = self._smb.sendSMB(packet)
         except Exception as fault:  # impacket raises bare ones too
-            raise DriveFault(f"a connection is lost: {told(fault)}") from None
+            raise DriveFault(f"a connection is lost: {line_of(fault)}") from None
         # A request of several credits takes as many numbers (3.2.4.1.5); impacket counts them at the answer.
         self._smb._Connection["SequenceWindow"] += packet["CreditCharge"] - 1
         return number
@@ -149,12 +151,12 @@ def _wire_id(file_id: FileId) -> smb2.SMB2_FILEID:
     return wire
 
 
-def _create(request: Create, name: str) -> smb2.SMB2Create:
+def _create(request: CreateRequest, name: str) -> smb2.SMB2Create:
     create = smb2.SMB2Create()
-    create["RequestedOplockLevel"] = OPLOCK_LEVEL_LEASE if b"RqLs" in request.contexts else 0
+    create["RequestedOplockLevel"] = OPLOCK_LEVEL_LEASE if smblease.find_context(request.contexts, b"RqLs") else 0
     create["ImpersonationLevel"] = smb2.SMB2_IL_IMPERSONATION
     create["DesiredAccess"] = ACCESS[request.access]
-    create["ShareAccess"] = SHARES[request.share]
+    create["ShareAccess"] = request.share.value
     create["CreateDisposition"] = smb2.FILE_OPEN
     create["CreateOptions"] = smb2.FILE_NON_DIRECTORY_FILE
     text = name.encode("utf-16le")
@@ -176,7 +178,7 @@ def _read(file_id: FileId) -> smb2.SMB2Read:
     return read
 
 
-def _write(request: Write, file_id: FileId) -> smb2.SMB2Write:
+def _write(request: WriteRequest, file_id: FileId) -> smb2.SMB2Write:
     write = smb2.SMB2Write()
     write["FileID"] = _wire_id(file_id)
     write["Offset"] = request.offset
@@ -185,38 +187,38 @@ def _write(request: Write, file_id: FileId) -> smb2.SMB2Write:
     return write
 
 
-def reply_of(request: Request, message: Message) -> Tuple[Reply, Optional[FileId]]:
+def reply_of(request: Request, message: Message) -> tuple[Reply, FileId | None]:
     """What a message answers to its request, and the FileId of an open that was made."""
     try:
         return _reply_of(request, message)
     except DriveFault:
         raise
     except Exception as fault:  # impacket raises bare ones too
-        raise DriveFault(f"an answer can't be read: {told(fault)}") from None
+        raise DriveFault(f"an answer can't be read: {line_of(fault)}") from None
 
 
-def _reply_of(request: Request, message: Message) -> Tuple[Reply, Optional[FileId]]:
-    if message.status != STATUS_SUCCESS:
-        if isinstance(request, Read) and message.status == STATUS_END_OF_FILE:
-            return Reply(ReplyKind.READ_DONE, f"{request.file_id} -"), None
+def _reply_of(request: Request, message: Message) -> tuple[Reply, FileId | None]:
+    if message.status != Status.SUCCESS:
+        if isinstance(request, ReadRequest) and message.status == Status.END_OF_FILE:
+            return ReadDone(request.file_id, b""), None
         return failed(request, message.status), None
-    if isinstance(request, Create):
+    if isinstance(request, CreateRequest):
         answer = smb2.SMB2Create_Response(message.data)
         file_id = FileId(answer["FileID"]["Persistent"], answer["FileID"]["Volatile"])
         start = answer["CreateContextsOffset"] - 64
         contexts = message.data[start:start + answer["CreateContextsLength"]] if answer["CreateContextsLength"] else b""
-        return created(request, file_id.persistent, contexts), file_id
-    if isinstance(request, Read):
+        return Created(request.file, file_id.persistent, contexts), file_id
+    if isinstance(request, ReadRequest):
         read = smb2.SMB2Read_Response(message.data)
         start = read["DataOffset"] - 64
-        return Reply(ReplyKind.READ_DONE, f"{request.file_id} {digits(message.data[start:start + read['DataLength']])}"), None
-    if isinstance(request, Write):
+        return ReadDone(request.file_id, message.data[start:start + read["DataLength"]]), None
+    if isinstance(request, WriteRequest):
         if smb2.SMB2Write_Response(message.data)["Count"] != len(request.data):
             raise DriveFault("the server wrote a part of what it was given")
-        return Reply(ReplyKind.WRITE_DONE, f"{request.file_id} {request.number}"), None
-    if isinstance(request, Close):
-        return Reply(ReplyKind.CLOSED, f"{request.file_id}"), None
-    return Reply(ReplyKind.ACK_DONE, message.data[:36].hex()), None
+        return WriteDone(request.file_id, request.number), None
+    if isinstance(request, CloseRequest):
+        return Closed(request.file_id), None
+    return AcknowledgeDone(message.data[:smblease.messages.RESPONSE_SIZE]), None
 
 
 def password_hash(password: str) -> str:

@@ -4,13 +4,9 @@ from __future__ import annotations
 import struct
 from dataclasses import dataclass
 from enum import IntEnum
-from typing import Optional, Tuple
 
 HEADER = 64
 UNASKED = 0xFFFFFFFFFFFFFFFF
-SUCCESS = 0
-PENDING = 0x103
-NOT_ACCEPTED = 0xC00000D0
 FROM_SERVER, ASYNC, RELATED = 1, 2, 4
 # the FileId of a request that means the one before it in its compound
 PREVIOUS = b"\xff" * 16
@@ -46,6 +42,9 @@ FILE_IDS = {Command.CLOSE: 72, Command.FLUSH: 72, Command.READ: 80, Command.WRIT
 class Unreadable(Exception):
     """A message is shorter than what has to be read of it."""
 
+    def __str__(self) -> str:
+        return "it ends before that"
+
 
 @dataclass(frozen=True)
 class Message:
@@ -69,7 +68,7 @@ class Message:
         return self.part(place, length).decode("utf-16le", errors="replace")
 
     @property
-    def command(self) -> Optional[Command]:
+    def command(self) -> Command | None:
         code, = struct.unpack_from("<H", self.data, 12)
         return Command(code) if code <= Command.OPLOCK_BREAK else None
 
@@ -102,7 +101,7 @@ class Message:
         return self.number(40, 8)
 
     @property
-    def file_id(self) -> Optional[bytes]:
+    def file_id(self) -> bytes | None:
         place = FILE_IDS.get(self.command) if self.command is not None else None
         return self.part(place, 16) if place else None
 
@@ -124,6 +123,15 @@ def create_name(message: Message) -> str:
     return message.text(message.number(108, 2), length) if length else ""
 
 
+def contexts(message: Message) -> bytes:
+    """The create contexts of a CREATE request or response (2.2.13, 2.2.14)."""
+    place, fixed = (144, 152) if message.is_from_server else (112, 120)
+    start, length = message.number(place, 4), message.number(place + 4, 4)
+    if length and start < fixed:
+        raise Unreadable
+    return message.part(start, length) if length else b""
+
+
 def is_directory(request: Message, response: Message) -> bool:
     return bool(request.number(104, 4) & 1 or response.number(120, 4) & 0x10)
 
@@ -141,7 +149,7 @@ def read(request: Message, response: Message) -> Span:
     return Span(request.number(72, 8), response.part(response.number(66, 1), response.number(68, 4)))
 
 
-def renamed(request: Message) -> Optional[str]:
+def renamed(request: Message) -> str | None:
     """The new name, where a SET_INFO asks for one (FileRenameInformation)."""
     if (request.number(66, 1), request.number(67, 1)) != (1, 10):
         return None
@@ -149,6 +157,6 @@ def renamed(request: Message) -> Optional[str]:
     return request.text(start + 20, request.number(start + 16, 4))
 
 
-def negotiated(message: Message) -> Tuple[int, bytes]:
+def negotiated(message: Message) -> tuple[int, bytes]:
     """The dialect of a response, or the ClientGuid of a request."""
     return (message.number(68, 2), b"") if message.is_from_server else (0, message.part(76, 16))

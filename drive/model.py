@@ -1,22 +1,22 @@
 """A model of the profile's server (docs/PROFILE.md), with a switch for each known way in which smbd departs from it."""
 from __future__ import annotations
 
-import struct
+import uuid
 from dataclasses import dataclass, field
 from enum import Enum
-from typing import Dict, FrozenSet, List, Optional, Set, Tuple, Union
 
-from drive.contexts import Ask, answer, read_ask
-from drive.messages import (Acknowledgment, Close, Create, Read, Reply, ReplyKind, Request, Write, created, failed)
-from drive.records import Arrival, ArrivalKind, Changed, Effect, Opened
-from drive.schedules import digits
+from smblease import Acknowledgment, CreateAnswer, CreateAsk, Fault, LeaseState, Notification, Response
+from smblease.outs import Changed, Opened
+from smblease.replies import AcknowledgeDone, Break, Closed, Created, ReadDone, Reply, WriteDone, failed
+from smblease.requests import AcknowledgeRequest, CloseRequest, CreateRequest, ReadRequest, Request, WriteRequest
+from smblease.values import Status
 
-R, H, W = 1, 2, 4
+from drive.records import Arrival, applied
+
+R, W, H, NONE = LeaseState.R, LeaseState.W, LeaseState.H, LeaseState.NONE
 LIMIT = 1048576
-ACCESSES = {"-": 0, "r": 1, "w": 2, "rw": 3}
-UNSUCCESSFUL, INVALID, DENIED, NOT_FOUND = 0xC0000001, 0xC000000D, 0xC0000022, 0xC0000034
-SHARING, NOT_ACCEPTED, FILE_CLOSED = 0xC0000043, 0xC00000D0, 0xC0000128
-Key = Tuple[int, bytes]
+READS, WRITES = 1, 2
+Key = tuple[int, uuid.UUID]
 
 
 class Departure(Enum):
@@ -45,7 +45,7 @@ class Open:
     file_id: int
     client: int
     file: int
-    key: Optional[Key]
+    key: Key | None
     access: int
     share: int
     durable: bool
@@ -55,9 +55,9 @@ class Open:
 @dataclass
 class Lease:
     file: int
-    state: int
+    state: LeaseState
     # the state that it is breaking to, and whether a break to none has to follow
-    to: Optional[int] = None
+    broken_to: LeaseState | None = None
     none_next: bool = False
 
 
@@ -71,38 +71,42 @@ class Held:
 
 @dataclass
 class Tables:
-    opens: List[Open] = field(default_factory=list)
-    leases: Dict[Key, Lease] = field(default_factory=dict)
-    given_back: Dict[Key, Lease] = field(default_factory=dict)
-    held: List[Held] = field(default_factory=list)
-    expired: Set[Key] = field(default_factory=set)
-    connected: Set[int] = field(default_factory=set)
+    opens: list[Open] = field(default_factory=list)
+    leases: dict[Key, Lease] = field(default_factory=dict)
+    given_back: dict[Key, Lease] = field(default_factory=dict)
+    held: list[Held] = field(default_factory=list)
+    expired: set[Key] = field(default_factory=set)
+    connected: set[int] = field(default_factory=set)
 
 
-def granted_form(state: int) -> int:
-    return state if state & R else 0
+def granted_form(state: LeaseState) -> LeaseState:
+    """What is granted of a state: nothing where it has no reads."""
+    return state if R in state else NONE
 
 
 class Model:
-    """Answers calls with what arrives at clients, in the order in which it is sent, each with the client's reply."""
+    """Answers calls with what arrives at clients, in the order in which it is sent."""
 
-    def __init__(self, files: Dict[int, bytes], departures: FrozenSet[Departure]) -> None:
+    def __init__(self, files: dict[int, bytes], departures: frozenset[Departure]) -> None:
         self.contents = dict(files)
         self.tables = Tables()
         self._departures = departures
         self._file_ids = 0
-        self._outs: List[Tuple[Arrival, Reply]] = []
+        self._outs: list[Arrival] = []
 
-    def taken(self) -> List[Tuple[Arrival, Reply]]:
+    def taken(self) -> list[Arrival]:
+        """What was sent since the last call."""
         outs, self._outs = self._outs, []
         return outs
 
     def join(self, client: int) -> None:
+        """A client connects."""
         self.tables.connected.add(client)
         self.tables.expired = {it for it in self.tables.expired if it[0] != client}
 
     def receive(self, client: int, request: Request, place: int) -> None:
-        if isinstance(request, Acknowledgment):
+        """Receives a request, which has this place among all."""
+        if isinstance(request, AcknowledgeRequest):
             self._acknowledge(client, request, place)
             self._passes()
             return
@@ -112,10 +116,11 @@ class Model:
             self._answer(held, failed(request, refusal))
         elif self._is_behind(held) or not self._tried(held):
             self.tables.held.append(held)
-        if isinstance(request, Close):
+        if isinstance(request, CloseRequest):
             self._passes()
 
     def cut(self, client: int) -> None:
+        """A client's connection is lost."""
         self.tables.connected.discard(client)
         self.tables.held = [it for it in self.tables.held if it.client != client]
         for one in [it for it in self.tables.opens if it.client == client and it.connected]:
@@ -124,7 +129,8 @@ class Model:
                 self._close(one)
         self._passes()
 
-    def expire(self, keys: List[Key]) -> None:
+    def expire(self, keys: list[Key]) -> None:
+        """The break timers of these leases run out."""
         for key in keys:
             self._expire(key)
         self._passes()
@@ -132,48 +138,51 @@ class Model:
     def _expire(self, key: Key) -> None:
         lease = self.tables.leases[key]
         if Departure.OPENS_STAY in self._departures:
-            lease.state, lease.to, lease.none_next = 0, None, False
+            lease.state, lease.broken_to, lease.none_next = NONE, None, False
         else:
             for one in [it for it in self.tables.opens if it.key == key]:
                 self._close(one)
             self.tables.expired.add(key)
 
-    def expired_with(self, key: Key) -> List[Key]:
+    def expired_with(self, key: Key) -> list[Key]:
         """The keys whose breaks run out when the one of this key does."""
         if Departure.TIMERS_TOGETHER not in self._departures:
             return [key]
         return sorted(it for it in self.tables.leases if it[0] == key[0] and self.is_breaking(it))
 
     def scavenge(self, client: int, file: int) -> bool:
+        """The timer of a durable open runs out; whether there is one."""
         kept = self.kept(client, file)
         if kept:
             self._close(kept)
             self._passes()
         return kept is not None
 
-    def kept(self, client: int, file: int) -> Optional[Open]:
+    def kept(self, client: int, file: int) -> Open | None:
+        """The client's oldest durable open on a file that waits for it."""
         found = [it for it in self.tables.opens if (it.client, it.file, it.connected) == (client, file, False)]
         return min(found, key=lambda it: it.file_id) if found else None
 
     def is_breaking(self, key: Key) -> bool:
-        return key in self.tables.leases and self.tables.leases[key].to is not None
+        """Whether a break of a lease waits for its acknowledgment."""
+        return key in self.tables.leases and self.tables.leases[key].broken_to is not None
 
     # what a request meets
 
-    def _file_of(self, client: int, request: Union[Create, Read, Write, Close]) -> int:
-        if isinstance(request, Create):
+    def _file_of(self, client: int, request: CreateRequest | ReadRequest | WriteRequest | CloseRequest) -> int:
+        if isinstance(request, CreateRequest):
             return request.file
         one = self._open_of(client, request.file_id)
         return one.file if one else 0
 
-    def _refused_at_once(self, held: Held) -> Optional[int]:
-        if isinstance(held.request, Create):
+    def _refused_at_once(self, held: Held) -> int | None:
+        if isinstance(held.request, CreateRequest):
             try:
-                read_ask(held.request.contexts)
-            except ValueError:
-                return INVALID
-            return None if held.file in self.contents else NOT_FOUND
-        return None if held.file else FILE_CLOSED
+                CreateAsk.read(held.request.contexts)
+            except Fault:
+                return Status.INVALID_PARAMETER
+            return None if held.file in self.contents else Status.OBJECT_NAME_NOT_FOUND
+        return None if held.file else Status.FILE_CLOSED
 
     def _is_behind(self, held: Held) -> bool:
         if Departure.NOTHING_BEHIND in self._departures:
@@ -181,69 +190,69 @@ class Model:
         return any((it.client, it.file) == (held.client, held.file) and it is not held and it.place < held.place
                    for it in self.tables.held)
 
-    def _open_of(self, client: int, file_id: int) -> Optional[Open]:
+    def _open_of(self, client: int, file_id: int) -> Open | None:
         return next((it for it in self.tables.opens if (it.file_id, it.client, it.connected) == (file_id, client, True)), None)
 
     def _is_kept(self, one: Open) -> bool:
         lease = self.tables.leases.get(one.key) if one.key else None
-        if not one.durable or lease is None or not lease.state & H:
+        if not one.durable or lease is None or H not in lease.state:
             return False
         if Departure.KEPT_ALONE in self._departures and any(
                 it.file == one.file and it.connected and it.client != one.client for it in self.tables.opens):
             return False
-        return lease.to is None or Departure.BREAKING_KEPT in self._departures
+        return lease.broken_to is None or Departure.BREAKING_KEPT in self._departures
 
     def _tried(self, held: Held) -> bool:
         """Tries a request; answers whether it was answered, and isn't to be held."""
-        if isinstance(held.request, Create):
-            return self._tried_create(held, held.request, read_ask(held.request.contexts))
-        if isinstance(held.request, Acknowledgment):
+        if isinstance(held.request, CreateRequest):
+            return self._tried_create(held, held.request, CreateAsk.read(held.request.contexts))
+        if isinstance(held.request, AcknowledgeRequest):
             return True
         one = self._open_of(held.client, held.request.file_id)
         if one is None:
-            self._answer(held, failed(held.request, FILE_CLOSED))
-        elif isinstance(held.request, Read):
+            self._answer(held, failed(held.request, Status.FILE_CLOSED))
+        elif isinstance(held.request, ReadRequest):
             self._read(held, held.request, one)
-        elif isinstance(held.request, Write):
+        elif isinstance(held.request, WriteRequest):
             return self._tried_write(held, held.request, one)
         else:
             self._close(one)
-            self._answer(held, Reply(ReplyKind.CLOSED, f"{one.file_id}"))
+            self._answer(held, Closed(one.file_id))
         return True
 
-    def _read(self, held: Held, request: Read, one: Open) -> None:
-        if not one.access & 1:
-            self._answer(held, failed(request, DENIED))
+    def _read(self, held: Held, request: ReadRequest, one: Open) -> None:
+        if one.access & READS:
+            self._answer(held, ReadDone(one.file_id, self.contents[one.file]))
         else:
-            self._answer(held, Reply(ReplyKind.READ_DONE, f"{one.file_id} {digits(self.contents[one.file])}"))
+            self._answer(held, failed(request, Status.ACCESS_DENIED))
 
-    def _tried_write(self, held: Held, request: Write, one: Open) -> bool:
-        if not one.access & 2:
-            self._answer(held, failed(request, DENIED))
+    def _tried_write(self, held: Held, request: WriteRequest, one: Open) -> bool:
+        if not one.access & WRITES:
+            self._answer(held, failed(request, Status.ACCESS_DENIED))
             return True
         if request.offset + len(request.data) > LIMIT:
-            self._answer(held, failed(request, INVALID))
+            self._answer(held, failed(request, Status.INVALID_PARAMETER))
             return True
         for _ in range(3):
-            wanted = {key: 0 for key in self._other_keys(one.file, one.key) if self.tables.leases[key].state}
+            wanted = {key: NONE for key in self._other_keys(one.file, one.key) if self.tables.leases[key].state}
             waits = self._broken(wanted, to_none=True)
-            if any(self.tables.leases[key].to for key in waits) and Departure.WRITES_GO_ON not in self._departures:
+            if any(self.tables.leases[key].broken_to for key in waits) and Departure.WRITES_GO_ON not in self._departures:
                 return False
             if waits or not wanted:
                 break
         change = Changed(one.file, held.client, request.number, request.offset, request.data)
-        self.contents[one.file] = change.applied(self.contents[one.file])
-        self._answer(held, Reply(ReplyKind.WRITE_DONE, f"{one.file_id} {request.number}"), change)
+        self.contents[one.file] = applied(change, self.contents[one.file])
+        self._answer(held, WriteDone(one.file_id, request.number), change)
         return True
 
-    def _tried_create(self, held: Held, request: Create, ask: Ask) -> bool:
+    def _tried_create(self, held: Held, request: CreateRequest, ask: CreateAsk) -> bool:
         key = (held.client, ask.key) if ask.key else None
         if ask.reconnect is not None:
             self._reconnect(held, request, key, ask.reconnect)
             return True
         lease = self.tables.leases.get(key) if key else None
         if lease and lease.file != held.file:
-            self._answer(held, failed(request, INVALID))
+            self._answer(held, failed(request, Status.INVALID_PARAMETER))
             return True
         self._drop_disconnected(held, request, key)
         if Departure.CREATES_WAIT in self._departures and any(
@@ -252,7 +261,7 @@ class Model:
         for _ in range(3):
             wanted = self._wanted(request, key)
             if wanted is None:
-                self._answer(held, failed(request, SHARING))
+                self._answer(held, failed(request, Status.SHARING_VIOLATION))
                 return True
             if not wanted:
                 break
@@ -261,105 +270,108 @@ class Model:
         self._grant(held, request, ask, key)
         return True
 
-    def _wanted(self, request: Create, key: Optional[Key]) -> Optional[Dict[Key, int]]:
+    def _wanted(self, request: CreateRequest, key: Key | None) -> dict[Key, LeaseState] | None:
         """The keys that a create wants lowered, and what is taken of each; none where it is refused."""
         conflicts = self._conflicts(request)
         others = self._other_keys(request.file, key)
         if not conflicts:
-            return {it: self.tables.leases[it].state & ~W for it in others if self.tables.leases[it].state & W}
+            return {it: self.tables.leases[it].state & ~W for it in others if W in self.tables.leases[it].state}
         conflicting = {it.key for it in conflicts}
-        wanted = {it: self.tables.leases[it].state & ~H for it in others if self.tables.leases[it].state & H
+        wanted = {it: self.tables.leases[it].state & ~H for it in others if H in self.tables.leases[it].state
                   and (it in conflicting or Departure.BREAKS_ALL in self._departures)}
         return wanted or None
 
-    def _other_keys(self, file: int, key: Optional[Key]) -> List[Key]:
+    def _other_keys(self, file: int, key: Key | None) -> list[Key]:
         return sorted({it.key for it in self.tables.opens if it.file == file and it.key and it.key != key})
 
     # what a request does
 
-    def _drop_disconnected(self, held: Held, request: Create, key: Optional[Key]) -> None:
+    def _drop_disconnected(self, held: Held, request: CreateRequest, key: Key | None) -> None:
         waits = held in self.tables.held and Departure.KEPT_HOLDS in self._departures and bool(self._conflicts(request))
         for one in [it for it in self.tables.opens if it.file == held.file and not it.connected and it.key]:
             departure = Departure.OWN_DROPPED if one.key == key else Departure.OPEN_DROPS
             if departure in self._departures and not (waits and one.key and self.is_breaking(one.key)):
                 self._close(one, dropped=True)
 
-    def _conflicts(self, request: Create) -> List[Open]:
-        access, share = ACCESSES[request.access], ACCESSES[request.share]
+    def _conflicts(self, request: CreateRequest) -> list[Open]:
+        access, share = request.access.value, request.share.value
         return [it for it in self.tables.opens
                 if it.file == request.file and (it.access & ~share or access & ~it.share)]
 
-    def _broken(self, wanted: Dict[Key, int], to_none: bool = False) -> List[Key]:
+    def _broken(self, wanted: dict[Key, LeaseState], to_none: bool = False) -> list[Key]:
         """Breaks these keys to these states; answers those that are breaking then."""
         for key in sorted(wanted):
             for one in [it for it in self.tables.opens if it.key == key and not it.connected]:
                 self._close(one, dropped=True)
             lease = self.tables.leases.get(key)
-            if lease and lease.to is None:
+            if lease and lease.broken_to is None:
                 self._send_break(key, lease, wanted[key])
-            elif lease and to_none and lease.to:
+            elif lease and to_none and lease.broken_to:
                 lease.none_next = Departure.WRITES_GO_ON in self._departures
         return [key for key in wanted if self.is_breaking(key)]
 
-    def _send_break(self, key: Key, lease: Lease, state: int) -> None:
+    def _send_break(self, key: Key, lease: Lease, state: LeaseState) -> None:
         needs = lease.state != R
-        notice = struct.pack("<HHL16sLLLLL", 44, 0, int(needs), key[1], lease.state, state, 0, 0, 0)
-        lease.to, lease.state = (state, lease.state) if needs else (None, 0)
-        reply = Reply(ReplyKind.BREAK, notice.hex())
-        self._outs.append((Arrival(key[0], ArrivalKind.BREAK, key[0], reply.text), reply))
+        notice = Notification(key[1], lease.state, state, needs)
+        lease.broken_to, lease.state = (state, lease.state) if needs else (None, NONE)
+        self._outs.append(Arrival(key[0], key[0], Break(notice.write())))
 
-    def _grant(self, held: Held, request: Create, ask: Ask, key: Optional[Key]) -> None:
+    def _grant(self, held: Held, request: CreateRequest, ask: CreateAsk, key: Key | None) -> None:
         lease = self._granted(held, ask, key) if key else None
-        durable = ask.durable and lease is not None and bool(lease.state & H)
+        durable = ask.durable and lease is not None and H in lease.state
         self._file_ids += 1
-        self.tables.opens.append(Open(self._file_ids, held.client, held.file, key, ACCESSES[request.access],
-                                      ACCESSES[request.share], durable))
-        contexts = answer(ask.key, lease.state if lease else 0, bool(lease and lease.to is not None), durable)
-        self._answer(held, created(request, self._file_ids, contexts), Opened(held.file, held.client, self._file_ids))
+        self.tables.opens.append(Open(self._file_ids, held.client, held.file, key, request.access.value, request.share.value,
+                                      durable))
+        contexts = CreateAnswer(ask.key, lease.state if lease else NONE, bool(lease and lease.broken_to is not None), durable)
+        self._answer(held, Created(request.file, self._file_ids, contexts.write()), Opened(held.file, held.client))
 
-    def _granted(self, held: Held, ask: Ask, key: Key) -> Lease:
-        want = granted_form(ask.want)
+    def _granted(self, held: Held, ask: CreateAsk, key: Key) -> Lease:
+        want = granted_form(ask.state)
         alone = all(it.key == key for it in self.tables.opens if it.file == held.file)
-        offered = 0 if key in self.tables.expired else want if alone else granted_form(want & ~W)
+        offered = NONE if key in self.tables.expired else want if alone else granted_form(want & ~W)
         back = self.tables.given_back.pop(key, None)
         lease = self.tables.leases.get(key)
         if lease is None and back is not None and Departure.GIVEN_BACK in self._departures:
             lease = self.tables.leases[key] = back
-            rises = back.state & ~offered == 0
+            rises = back.state in offered
         else:
             rises = Departure.RISES_WHOLE not in self._departures or offered == want
         if lease is None:
             lease = self.tables.leases[key] = Lease(held.file, offered)
-        elif lease.to is None and lease.state & ~want == 0 and rises:
+        elif lease.broken_to is None and lease.state in want and rises:
             lease.state = offered
         return lease
 
-    def _reconnect(self, held: Held, request: Create, key: Optional[Key], file_id: int) -> None:
+    def _reconnect(self, held: Held, request: CreateRequest, key: Key | None, file_id: int) -> None:
         one = next((it for it in self.tables.opens if (it.file_id, it.client, it.file, it.connected, it.key)
                     == (file_id, held.client, held.file, False, key)), None)
         beside = any(it.file == held.file and it is not one for it in self.tables.opens)
         if one is None or key is None or beside and Departure.REFUSED_BESIDE in self._departures:
-            self._answer(held, failed(request, NOT_FOUND))
+            self._answer(held, failed(request, Status.OBJECT_NAME_NOT_FOUND))
             return
         one.connected = True
         lease = self.tables.leases[key]
-        contexts = answer(key[1], lease.state, lease.to is not None, False)
-        self._answer(held, created(request, one.file_id, contexts))
+        contexts = CreateAnswer(key[1], lease.state, lease.broken_to is not None)
+        self._answer(held, Created(request.file, one.file_id, contexts.write()))
 
-    def _acknowledge(self, client: int, request: Acknowledgment, place: int) -> None:
+    def _acknowledge(self, client: int, request: AcknowledgeRequest, place: int) -> None:
         held = Held(client, 0, request, place)
-        key = (client, request.body[8:24])
-        state = struct.unpack_from("<L", request.body, 24)[0] & 7
+        try:
+            given = Acknowledgment.read(request.message)
+        except Fault as fault:
+            self._answer(held, failed(request, fault.status))
+            return
+        key = (client, given.key)
         lease = self.tables.leases.get(key)
-        if lease is None or lease.to is None or state & ~lease.to:
-            refusal = NOT_FOUND if lease is None else UNSUCCESSFUL if lease.to is None else NOT_ACCEPTED
+        if lease is None or lease.broken_to is None or given.state not in lease.broken_to:
+            refusal = Status.OBJECT_NAME_NOT_FOUND if lease is None else \
+                Status.UNSUCCESSFUL if lease.broken_to is None else Status.REQUEST_NOT_ACCEPTED
             self._answer(held, failed(request, refusal))
             return
-        lease.state, lease.to = granted_form(state), None
-        body = struct.pack("<HHL16sLQ", 36, 0, 0, key[1], lease.state, 0)
-        self._answer(held, Reply(ReplyKind.ACK_DONE, body.hex()))
+        lease.state, lease.broken_to = granted_form(given.state), None
+        self._answer(held, AcknowledgeDone(Response(given.key, lease.state).write()))
         if lease.none_next and lease.state:
-            self._send_break(key, lease, 0)
+            self._send_break(key, lease, NONE)
         lease.none_next = False
 
     def _close(self, one: Open, dropped: bool = False) -> None:
@@ -383,6 +395,5 @@ class Model:
                     self.tables.held.remove(held)
                     answered = True
 
-    def _answer(self, held: Held, reply: Reply, effect: Optional[Effect] = None) -> None:
-        kind = ArrivalKind.END if isinstance(held.request, (Acknowledgment, Close)) else ArrivalKind.ANSWER
-        self._outs.append((Arrival(held.client, kind, held.place, reply.text, effect), reply))
+    def _answer(self, held: Held, reply: Reply, effect: Opened | Changed | None = None) -> None:
+        self._outs.append(Arrival(held.client, held.place, reply, effect))

@@ -4,8 +4,9 @@ from __future__ import annotations
 import json
 import subprocess
 import tempfile
+from collections.abc import Iterator, Sequence
 from dataclasses import dataclass
-from typing import IO, Iterator, List, Optional, Sequence, Tuple, Union
+from typing import IO
 
 from drive.faults import DriveFault
 
@@ -31,7 +32,7 @@ class Packet:
     acknowledged: int
     end: int
     is_gap: bool
-    messages: Tuple[bytes, ...]
+    messages: tuple[bytes, ...]
 
     @property
     def told(self) -> str:
@@ -40,9 +41,9 @@ class Packet:
 
 @dataclass(frozen=True)
 class Capture:
-    packets: Tuple[Packet, ...]
+    packets: tuple[Packet, ...]
     # what tshark said of a file that it couldn't read to its end
-    fault: Optional[str]
+    fault: str | None
 
 
 def read_capture(path: str, ports: Sequence[int]) -> Capture:
@@ -62,24 +63,24 @@ def read_capture(path: str, ports: Sequence[int]) -> Capture:
     return Capture(packets, fault)
 
 
-def _words(path: str, ports: Sequence[int]) -> List[str]:
+def _words(path: str, ports: Sequence[int]) -> list[str]:
     decoded = [word for port in ports for word in ("-d", f"tcp.port=={port},nbss")]
     return ["tshark", "-n", "-r", path, "-o", "tcp.reassemble_out_of_order:TRUE", *decoded, "-Y", FILTER]
 
 
-def _fields(path: str, ports: Sequence[int]) -> List[str]:
+def _fields(path: str, ports: Sequence[int]) -> list[str]:
     fields = [word for field in FIELDS for word in ("-e", field)]
     return [*_words(path, ports), "-T", "fields", "-E", "occurrence=f", *fields]
 
 
-def _started(words: List[str], answer: Union[IO[str], int], faults: Union[IO[str], int]) -> "subprocess.Popen[str]":
+def _started(words: list[str], answer: IO[str] | int, faults: IO[str] | int) -> subprocess.Popen[str]:
     try:
         return subprocess.Popen(words, stdout=answer, stderr=faults, text=True, errors="replace")
     except OSError as fault:
         raise DriveFault(f"tshark: {fault.strerror} (tools/setup installs it)") from None
 
 
-def _fault(status: int, text: str) -> Optional[str]:
+def _fault(status: int, text: str) -> str | None:
     """What tshark says where it couldn't read a file to its end."""
     if not status:
         return None
@@ -87,13 +88,13 @@ def _fault(status: int, text: str) -> Optional[str]:
     return said[0][len("tshark: "):] if said else f"tshark ended with status {status}"
 
 
-def _messages(path: str, ports: Sequence[int]) -> Iterator[Tuple[bytes, ...]]:
+def _messages(path: str, ports: Sequence[int]) -> Iterator[tuple[bytes, ...]]:
     """The messages of each packet that the filter lets through."""
     words = [*_words(path, ports), "-T", "jsonraw", "--no-duplicate-keys", "-j", "smb2"]
     with _started(words, subprocess.PIPE, subprocess.DEVNULL) as process:
         if process.stdout is None:
             raise DriveFault("tshark has no stream")
-        lines: List[str] = []
+        lines: list[str] = []
         for line in process.stdout:
             lines.append(line)
             # Two spaces deep a packet begins and ends.
@@ -104,7 +105,7 @@ def _messages(path: str, ports: Sequence[int]) -> Iterator[Tuple[bytes, ...]]:
                 lines = []
 
 
-def _messages_of(text: str) -> Tuple[bytes, ...]:
+def _messages_of(text: str) -> tuple[bytes, ...]:
     try:
         raw = json.loads(text.rstrip().rstrip(","))["_source"]["layers"].get("smb2_raw", [])
         items = raw if raw and isinstance(raw[0], list) else [raw] if raw else []
@@ -113,9 +114,9 @@ def _messages_of(text: str) -> Tuple[bytes, ...]:
         raise DriveFault("tshark's answer can't be read") from None
 
 
-def _parted(items: List[bytes]) -> Iterator[bytes]:
+def _parted(items: list[bytes]) -> Iterator[bytes]:
     """Each message by itself: an item holds a compound to its end, and its later messages come as items again."""
-    rest: List[bytes] = []
+    rest: list[bytes] = []
     for item in items:
         if item in rest:
             continue
@@ -132,11 +133,11 @@ def _number(text: str) -> int:
     return int(text, 0) if text else 0
 
 
-def _packet(row: List[str], messages: Tuple[bytes, ...]) -> Optional[Packet]:
+def _packet(row: list[str], messages: tuple[bytes, ...]) -> Packet | None:
     row += [""] * (len(FIELDS) - len(row))
-    number, time, stream, port, ip, ipv6, flags, acknowledged, end, lost, ack_lost, captured, length = row
+    number, time, stream, port, address, address6, flags, acknowledged, end, lost, ack_lost, captured, length = row
     if not stream:
         return None
     is_gap = bool(lost or ack_lost) or _number(captured) < _number(length)
-    return Packet(int(number), time, int(stream), f"{ip or ipv6}:{port}", bool(_number(flags) & (FIN | RESET)),
+    return Packet(int(number), time, int(stream), f"{address or address6}:{port}", bool(_number(flags) & (FIN | RESET)),
                   _number(acknowledged), _number(end), is_gap, messages)

@@ -1,46 +1,21 @@
 """Records: facts in order, and what is chosen where only each connection's own order was seen."""
 from __future__ import annotations
 
+from collections.abc import Sequence
 from dataclasses import dataclass
 from enum import Enum
-from typing import Dict, List, Optional, Sequence, Tuple, Union
 
-from drive.schedules import digits
-
-
-@dataclass(frozen=True)
-class Opened:
-    """The server opened a file; its FileId has this persistent half."""
-
-    file: int
-    client: int
-    file_id: int
-
-    @property
-    def text(self) -> str:
-        return f"opened {self.file} {self.client}"
+from smblease.lines import out_words, reply_words
+from smblease.outs import Changed, Opened
+from smblease.replies import AcknowledgeDone, AcknowledgeFailed, Break, Closed, CloseFailed, Reply
 
 
-@dataclass(frozen=True)
-class Changed:
-    file: int
-    client: int
-    number: int
-    offset: int
-    data: bytes
-
-    @property
-    def text(self) -> str:
-        return f"changed {self.file} {self.client} {self.number} {self.offset} {digits(self.data)}"
-
-    def applied(self, content: bytes) -> bytes:
-        if not self.data:
-            return content
-        content = content.ljust(self.offset, b"\0")
-        return content[:self.offset] + self.data + content[self.offset + len(self.data):]
-
-
-Effect = Union[Opened, Changed]
+def applied(change: Changed, content: bytes) -> bytes:
+    """What a file holds after a change."""
+    if not change.data:
+        return content
+    content = content.ljust(change.offset, b"\0")
+    return content[:change.offset] + change.data + content[change.offset + len(change.data):]
 
 
 class ArrivalKind(Enum):
@@ -58,7 +33,7 @@ class Order(Enum):
     BREAKS_LAST = "breaks after answers"
 
 
-RANKS: Dict[Order, Dict[ArrivalKind, int]] = {
+RANKS: dict[Order, dict[ArrivalKind, int]] = {
     Order.BREAKS_FIRST: {ArrivalKind.END: 0, ArrivalKind.BREAK: 1, ArrivalKind.ANSWER: 2},
     Order.BREAKS_LAST: {ArrivalKind.END: 0, ArrivalKind.ANSWER: 1, ArrivalKind.BREAK: 2},
 }
@@ -66,26 +41,34 @@ RANKS: Dict[Order, Dict[ArrivalKind, int]] = {
 
 @dataclass(frozen=True)
 class Arrival:
-    """A message that came to a client, in the machine's words. `place` is that of its request among all, or of a break its
-    client's number. What the message shows that the server did stands directly before its `sent`."""
+    """A message that came to a client. `place` is that of its request among all, or of a break its client's number. What the
+    message shows that the server did stands directly before its `sent`."""
 
     client: int
-    kind: ArrivalKind
     place: int
-    message: str
-    effect: Optional[Effect] = None
+    reply: Reply
+    effect: Opened | Changed | None = None
 
-    def lines(self) -> List[str]:
-        effect = [self.effect.text] if self.effect else []
-        return [*effect, f"# sent {self.client} {self.message}", f"sent {self.client}"]
+    @property
+    def kind(self) -> ArrivalKind:
+        """What it is where messages of a step are put in order."""
+        if isinstance(self.reply, Break):
+            return ArrivalKind.BREAK
+        ends = (AcknowledgeDone, AcknowledgeFailed, Closed, CloseFailed)
+        return ArrivalKind.END if isinstance(self.reply, ends) else ArrivalKind.ANSWER
+
+    def lines(self) -> list[str]:
+        """Its lines of the record."""
+        effect = [out_words(self.effect)] if self.effect else []
+        return [*effect, f"# sent {self.client} {reply_words(self.reply)}", f"sent {self.client}"]
 
 
-def in_order(arrivals: Sequence[Arrival], order: Order) -> List[Arrival]:
+def in_order(arrivals: Sequence[Arrival], order: Order) -> list[Arrival]:
     """The messages of a step in this order, those of each connection as they came."""
-    queues: Dict[int, List[Arrival]] = {}
+    queues: dict[int, list[Arrival]] = {}
     for arrival in arrivals:
         queues.setdefault(arrival.client, []).append(arrival)
-    ordered: List[Arrival] = []
+    ordered: list[Arrival] = []
     while queues:
         first = min((queue[0] for queue in queues.values()),
                     key=lambda it: (RANKS[order][it.kind], it.place, it.client))
@@ -96,28 +79,31 @@ def in_order(arrivals: Sequence[Arrival], order: Order) -> List[Arrival]:
 
 
 class Record:
-    """Facts, with remarks that tell the messages: a request that was sent, what `sent` and `took` are about."""
+    """Facts, with remarks that say what is in the messages: a request that was sent, what `sent` and `took` are about."""
 
     def __init__(self) -> None:
-        self._items: List[Union[str, Tuple[Arrival, ...]]] = []
-
+        self._items: list[str | tuple[Arrival, ...]] = []
         # how many facts there are
         self.count = 0
 
     def fact(self, text: str) -> None:
+        """Adds a fact."""
         self._items.append(text)
         self.count += 1
 
     def remark(self, text: str) -> None:
+        """Adds a remark."""
         self._items.append(f"# {text}")
 
     def step(self, arrivals: Sequence[Arrival]) -> None:
+        """Adds the messages that a step brought."""
         if arrivals:
             self._items.append(tuple(arrivals))
             self.count += sum(2 if arrival.effect else 1 for arrival in arrivals)
 
-    def lines(self, order: Order = Order.BREAKS_FIRST) -> List[str]:
-        lines: List[str] = []
+    def lines(self, order: Order = Order.BREAKS_FIRST) -> list[str]:
+        """Its lines, remarks too."""
+        lines: list[str] = []
         for item in self._items:
             if isinstance(item, str):
                 lines.append(item)
@@ -126,11 +112,14 @@ class Record:
                     lines += arrival.lines()
         return lines
 
-    def facts(self, order: Order = Order.BREAKS_FIRST) -> List[str]:
+    def facts(self, order: Order = Order.BREAKS_FIRST) -> list[str]:
+        """Its facts."""
         return [it for it in self.lines(order) if not it.startswith("#")]
 
     def text(self, order: Order = Order.BREAKS_FIRST) -> str:
+        """Its facts as a text."""
         return "".join(f"{it}\n" for it in self.facts(order))
 
     def text_with_messages(self) -> str:
+        """Its lines as a text."""
         return "".join(f"{it}\n" for it in self.lines())

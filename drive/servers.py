@@ -9,7 +9,7 @@ import subprocess
 import tempfile
 import time
 import uuid
-from typing import Dict, List, Optional, Protocol, Set
+from typing import Protocol
 
 from drive.clock import Clocks, library
 from drive.connections import password_hash
@@ -79,29 +79,31 @@ class Server(Protocol):
     def is_prepared(self) -> None:
         """Waits until the connection that made the files is forgotten."""
 
-    def new_process(self) -> Optional[int]:
+    def new_process(self) -> int | None:
         """The process that serves the connection made last, where it is known."""
 
-    def wait_for_end(self, process: Optional[int]) -> None:
+    def wait_for_end(self, process: int | None) -> None:
         """Waits until what a closed connection leaves to do is done."""
 
-    def begin_break_timer(self, process: Optional[int], guid: bytes, key: bytes) -> None:
+    def begin_break_timer(self, process: int | None, guid: bytes, key: bytes) -> None:
         """Has the break timers of a connection run out, or that of one lease of a client."""
 
-    def end_break_timer(self, process: Optional[int]) -> None:
+    def end_break_timer(self, process: int | None) -> None:
         """Puts back what that took."""
+        return None
 
-    def pass_durable_timer(self, file_ids: List[int]) -> None:
+    def pass_durable_timer(self, file_ids: list[int]) -> None:
         """Has the timers of disconnected opens run out, or that of the first of these that is still there."""
 
-    def content(self, file: int) -> Optional[bytes]:
+    def content(self, file: int) -> bytes | None:
         """The file as it is on disk, where that can be looked at."""
 
     def close(self) -> None:
-        ...
+        """Ends it, where it was made for the run."""
+        return None
 
 
-class NamedServer:
+class NamedServer(Server):
     """A server that somebody named. Its timers are waited for, and its files have names of their own."""
 
     stays = True
@@ -122,35 +124,29 @@ class NamedServer:
     def is_prepared(self) -> None:
         time.sleep(SETTLED)
 
-    def new_process(self) -> Optional[int]:
+    def new_process(self) -> int | None:
         return None
 
-    def wait_for_end(self, process: Optional[int]) -> None:
+    def wait_for_end(self, process: int | None) -> None:
         time.sleep(0.5)
 
-    def begin_break_timer(self, process: Optional[int], guid: bytes, key: bytes) -> None:
+    def begin_break_timer(self, process: int | None, guid: bytes, key: bytes) -> None:
         time.sleep(self._break_time)
 
-    def end_break_timer(self, process: Optional[int]) -> None:
-        pass
-
-    def pass_durable_timer(self, file_ids: List[int]) -> None:
+    def pass_durable_timer(self, file_ids: list[int]) -> None:
         raise Undrivable("the timer of a disconnected open is too long to be waited for")
 
-    def content(self, file: int) -> Optional[bytes]:
+    def content(self, file: int) -> bytes | None:
         return None
 
-    def close(self) -> None:
-        pass
 
-
-class PrivateServer:
+class PrivateServer(Server):
     """An smbd of one's own on loopback, in a folder of its own, with clocks that can be put forward."""
 
     stays = False
     is_profiled = False
 
-    def __init__(self, log: Optional[str] = None) -> None:
+    def __init__(self, log: str | None = None) -> None:
         """`log` is a file that gets smbd's log, at level 10, when it is ended."""
         if os.geteuid() != 0 or not os.path.exists(SMBD):
             raise DriveFault("a private smbd needs root and /usr/sbin/smbd (tools/setup installs it)")
@@ -160,7 +156,7 @@ class PrivateServer:
         self._port = free_port()
         self._write_folder()
         self._clocks = Clocks(f"{self._folder}/clocks")
-        self._known: Set[int] = set()
+        self._known: set[int] = set()
         self._process = self._start(dict(os.environ, LD_PRELOAD=clock, DRIVE_CLOCK=self._clocks.path))
         try:
             self._wait_for_port()
@@ -175,7 +171,7 @@ class PrivateServer:
     def name_of(self, file: int) -> str:
         return f"file-{file}"
 
-    def new_process(self) -> Optional[int]:
+    def new_process(self) -> int | None:
         now = self._children()
         new = [it for it, name in now.items() if it not in self._known and name == "smbd"]
         self._known = set(now)
@@ -183,20 +179,20 @@ class PrivateServer:
             raise DriveFault(f"{len(new)} processes of smbd came with one connection")
         return new[0]
 
-    def wait_for_end(self, process: Optional[int]) -> None:
+    def wait_for_end(self, process: int | None) -> None:
         until = time.monotonic() + 25
         while process in self._children():
             if time.monotonic() > until:
                 raise DriveFault("smbd's process of a closed connection doesn't end")
             time.sleep(0.002)
 
-    def begin_break_timer(self, process: Optional[int], guid: bytes, key: bytes) -> None:
+    def begin_break_timer(self, process: int | None, guid: bytes, key: bytes) -> None:
         self._clocks.put_forward(process or 0, BREAK_TIME)
 
-    def end_break_timer(self, process: Optional[int]) -> None:
+    def end_break_timer(self, process: int | None) -> None:
         self._clocks.put_forward(process or 0, 0)
 
-    def pass_durable_timer(self, file_ids: List[int]) -> None:
+    def pass_durable_timer(self, file_ids: list[int]) -> None:
         keepers = [it for it, name in self._children().items() if "scavenger" in name]
         for keeper in keepers:
             self._clocks.put_forward(keeper, DURABLE_TIME)
@@ -207,7 +203,7 @@ class PrivateServer:
         for keeper in keepers:
             self._clocks.put_forward(keeper, 0)
 
-    def content(self, file: int) -> Optional[bytes]:
+    def content(self, file: int) -> bytes | None:
         try:
             # A changed access time would make smbd refuse a durable reconnect.
             opened = os.open(f"{self._folder}/{SHARE}/{self.name_of(file)}", os.O_RDONLY | os.O_NOATIME)
@@ -244,7 +240,7 @@ class PrivateServer:
         with open(f"{self._folder}/private/smbpasswd", "w", encoding="utf-8") as text:
             text.write(f"root:0:{32 * 'X'}:{password_hash(PASSWORD)}:[U          ]:LCT-00000001:\n")
 
-    def _start(self, environment: Dict[str, str]) -> "subprocess.Popen[bytes]":
+    def _start(self, environment: dict[str, str]) -> subprocess.Popen[bytes]:
         with open(f"{self._folder}/output", "wb") as output:
             return subprocess.Popen([SMBD, "--foreground", "--no-process-group", "-s", f"{self._folder}/smb.conf"],
                                     stdin=subprocess.DEVNULL, stdout=output, stderr=subprocess.STDOUT,
@@ -269,9 +265,9 @@ class PrivateServer:
             time.sleep(0.002)
         self._known = set(self._children())
 
-    def _children(self) -> Dict[int, str]:
+    def _children(self) -> dict[int, str]:
         """smbd's own processes with their names, those that have ended left out."""
-        found: Dict[int, str] = {}
+        found: dict[int, str] = {}
         for text in _words(f"/proc/{self._process.pid}/task/{self._process.pid}/children"):
             status = _words(f"/proc/{text}/stat")
             name = _line(f"/proc/{text}/comm")
@@ -288,7 +284,7 @@ def _line(path: str) -> str:
         return ""
 
 
-def _words(path: str) -> List[str]:
+def _words(path: str) -> list[str]:
     return _line(path).split()
 
 

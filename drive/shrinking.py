@@ -1,9 +1,9 @@
 """Fewest lines: events, clients and files are left out as long as a schedule stays what it was."""
 from __future__ import annotations
 
-from typing import Callable, List, Tuple
+from collections.abc import Callable
 
-from drive.schedules import Event, EventKind, Schedule
+from smblease.schedules import Event, EventKind, Schedule
 
 Stays = Callable[[Schedule], bool]
 NAMING_FILES = {EventKind.OPEN, EventKind.CLOSE, EventKind.READ, EventKind.FLUSH, EventKind.WRITE, EventKind.EXPIRE,
@@ -23,7 +23,7 @@ def shrunk(schedule: Schedule, stays: Stays) -> Schedule:
     return _without_unused(schedule.with_events(events), stays)
 
 
-def _without_parts(schedule: Schedule, events: Tuple[Event, ...], part: int, stays: Stays) -> Tuple[Event, ...]:
+def _without_parts(schedule: Schedule, events: tuple[Event, ...], part: int, stays: Stays) -> tuple[Event, ...]:
     """Tries to leave out each run of so many events, from the last on."""
     start = max(0, len(events) - part)
     while True:
@@ -41,7 +41,7 @@ def _without_unused(schedule: Schedule, stays: Stays) -> Schedule:
     files = sorted({int(event.words[0]) for event in schedule.events if event.kind in NAMING_FILES})
     if not used or not files or any(event.kind is EventKind.RAW for event in schedule.events):
         return schedule
-    events: List[Event] = []
+    events: list[Event] = []
     for event in schedule.events:
         words = event.words
         if event.kind in NAMING_FILES:

@@ -12,7 +12,7 @@ from typing import IO, List, Optional, Sequence
 
 from drive.faults import DriveFault
 from drive.place import Place
-from drive.program import TOP
+from smblease.program import TOP
 
 SHARE = "share"
 PATIENCE = 30.0

@@ -3,10 +3,10 @@ from dataclasses import dataclass
 from pathlib import Path
 from typing import List, Optional, Sequence, Tuple
 
-from growing.family import LINEAR, Family
-from growing.meters import Meter, peak_memory
-from growing.running import check_answer
-from growing.slopes import exponents
+from .family import LINEAR, Family
+from .meters import Meter, peak_memory
+from .running import check_answer
+from .slopes import exponents
 
 
 @dataclass(frozen=True)

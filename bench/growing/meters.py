@@ -7,7 +7,7 @@ import shutil
 from pathlib import Path
 from typing import List, Optional, Tuple
 
-from growing.running import Unexpected, run
+from .running import Unexpected, run
 
 TURNS = 9
 GNU_TIME = '/usr/bin/time'

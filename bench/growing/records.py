@@ -2,8 +2,8 @@
 byte, and write what is there, so that a record is as long as its facts are many."""
 from typing import List
 
-from growing.colliding import colliding_numbers
-from growing.family import Family
+from .colliding import colliding_numbers
+from .family import Family
 
 # A client is connected, took a message and may read from its cache.
 BEGUN = ['start 1 61', 'joined 1', 'sent 1', 'took 1', 'believes 1 1 R']
@@ -16,40 +16,40 @@ def text(lines: List[str]) -> str:
     return '\n'.join(lines) + '\n'
 
 
-def chosen_numbers(n: int) -> str:
+def chosen_numbers(count: int) -> str:
     """n writes, all settled, of numbers whose searches in a hash map with a fixed seed begin in one
     place: a record's author can choose such numbers."""
-    numbers = colliding_numbers(n)
+    numbers = colliding_numbers(count)
     writes = [f'wrote 1 1 {number} 0 61 through' for number in numbers]
     return text(BEGUN + writes + [f'settled 1 {number} failed' for number in numbers])
 
 
-def settled_one_by_one(n: int) -> str:
+def settled_one_by_one(count: int) -> str:
     """n writes are given, then settled one by one, with a cached read after each: what is kept of
     unanswered writes is to change by the one that was settled, and not to be made anew."""
-    lines = BEGUN + [f'wrote 1 1 {number} 0 61 buffered' for number in range(1, n + 1)]
-    for number in range(1, n + 1):
+    lines = BEGUN + [f'wrote 1 1 {number} 0 61 buffered' for number in range(1, count + 1)]
+    for number in range(1, count + 1):
         lines += [f'settled 1 {number} failed', READ]
     return text(lines)
 
 
-def changed_by_another(n: int) -> str:
+def changed_by_another(count: int) -> str:
     """n writes stay unanswered while another client changes the file n times; after each change the
     first client takes a message and reads from its cache: the change is to be put below the writes
     without writing them all again."""
-    lines = BEGUN + [f'wrote 1 1 {number} 0 61 through' for number in range(1, n + 1)]
-    for number in range(1, n + 1):
+    lines = BEGUN + [f'wrote 1 1 {number} 0 61 through' for number in range(1, count + 1)]
+    for number in range(1, count + 1):
         lines += [f'changed 1 2 {number} 0 61', 'sent 1', 'took 1', READ]
     return text(lines)
 
 
-def joined_among_many(n: int) -> str:
+def joined_among_many(count: int) -> str:
     """A client joins n times, among 255 clients that each have a belief of the last of 255 files:
     whether two clients' beliefs conflict is to be found without asking all clients of all files."""
     lines = [f'start {file} 61' for file in range(1, FILES + 1)]
     lines += [f'joined {client}' for client in range(1, CLIENTS + 1)]
     lines += [f'believes {client} {FILES} R' for client in range(1, CLIENTS + 1)]
-    return text(lines + ['joined 1'] * n)
+    return text(lines + ['joined 1'] * count)
 
 
 RECORDS = [

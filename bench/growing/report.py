@@ -1,8 +1,8 @@
 """What bench/growth prints of a family."""
 from typing import List
 
-from growing.measuring import Measured, Sample
-from growing.meters import Meter
+from .measuring import Measured, Sample
+from .meters import Meter
 
 
 def sample_line(sample: Sample, meter: Meter) -> str:

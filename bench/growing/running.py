@@ -3,7 +3,7 @@ import subprocess
 from collections import Counter as Counting
 from typing import Counter, Dict, List
 
-from growing.family import Family
+from .family import Family
 
 
 class Unexpected(Exception):

@@ -2,7 +2,7 @@
 many leases are asked for by raw requests of one client, each with a key of its own."""
 from typing import List
 
-from growing.family import Family
+from .family import Family
 
 HOLDERS = 14
 READ_HANDLES = 3
@@ -32,10 +32,10 @@ def served(client: int, request: str) -> List[str]:
     return [f'raw {client} {request}', f'serve {client}']
 
 
-def leases(n: int) -> List[str]:
+def leases(count: int) -> List[str]:
     """n opens of client 1, each with a lease of its own on reads and handles."""
     lines: List[str] = []
-    for key in range(1, n + 1):
+    for key in range(1, count + 1):
         lines += served(1, f'create 1 r rw {lease_ask(key, READ_HANDLES)}')
     return lines
 
@@ -44,39 +44,39 @@ def text(lines: List[str]) -> str:
     return '\n'.join(lines) + '\n'
 
 
-def held_creates(n: int) -> str:
+def held_creates(count: int) -> str:
     """n leases on a file, whose breaks 14 creates of other clients wait for; another client then
     sends n closes that are refused, after each of which the held creates are tried again: a try is
     to cost the same however many leases there are."""
-    lines = begun('61', HOLDERS + 2) + leases(n)
+    lines = begun('61', HOLDERS + 2) + leases(count)
     for client in range(2, HOLDERS + 2):
         lines += served(client, 'create 1 r - -')
-    for _ in range(n):
+    for _ in range(count):
         lines += served(HOLDERS + 2, 'close 18446744073709551615')
     return text(lines)
 
 
-def writes_that_break(n: int) -> str:
+def writes_that_break(count: int) -> str:
     """n leases on a file and n writes of another client. The first write breaks all leases to none;
     the others are done while these breaks wait, and are to find nothing more to break without
     asking each lease."""
-    lines = begun('61', 2) + leases(n) + served(2, 'create 1 rw rw -')
-    for number in range(1, n + 1):
-        lines += served(2, f'write {n + 1} {number} 0 61')
+    lines = begun('61', 2) + leases(count) + served(2, 'create 1 rw rw -')
+    for number in range(1, count + 1):
+        lines += served(2, f'write {count + 1} {number} 0 61')
     return text(lines)
 
 
-def buffered_then_read(n: int) -> str:
+def buffered_then_read(count: int) -> str:
     """n buffered writes to the one byte of a file, then n reads from the cache: a read is to cost
     what it gives, however many writes are unsent."""
-    lines = begun('61', 1) + CACHING + ['write 1 1 0 61'] * n + ['read 1 1'] * n
+    lines = begun('61', 1) + CACHING + ['write 1 1 0 61'] * count + ['read 1 1'] * count
     return text(lines)
 
 
-def large_cached_reads(n: int) -> str:
+def large_cached_reads(count: int) -> str:
     """n reads of a file of 4 KiB from the cache. What is printed is n times the file; the peak of
     memory is to stay near the file's size and what the schedule's events need."""
-    return text(begun('61' * FILE_BYTES, 1) + CACHING + ['read 1 1'] * n)
+    return text(begun('61' * FILE_BYTES, 1) + CACHING + ['read 1 1'] * count)
 
 
 SCHEDULES = [

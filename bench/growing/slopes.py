@@ -7,11 +7,11 @@ Point = Tuple[int, int]
 
 def slope(points: Sequence[Point]) -> float:
     """The slope of the line of least squares through the points' logarithms."""
-    xs: List[float] = [math.log(size) for size, _ in points]
-    ys: List[float] = [math.log(max(1, cost)) for _, cost in points]
-    x, y = sum(xs) / len(xs), sum(ys) / len(ys)
-    above = sum((one - x) * (other - y) for one, other in zip(xs, ys))
-    return above / sum((one - x) ** 2 for one in xs)
+    sizes: List[float] = [math.log(size) for size, _ in points]
+    costs: List[float] = [math.log(max(1, cost)) for _, cost in points]
+    x, y = sum(sizes) / len(sizes), sum(costs) / len(costs)
+    above = sum((one - x) * (other - y) for one, other in zip(sizes, costs))
+    return above / sum((one - x) ** 2 for one in sizes)
 
 
 def exponents(points: Sequence[Point]) -> Tuple[float, float]:

@@ -1,7 +1,7 @@
 """SMB 2.1 leases and durable opens by libsmblease, which is proved: messages, create contexts, and the client and the server as
 machines (docs/PYTHON.md). The decisions of a server on leases are in smblease.decisions."""
 from smblease.client import Client, lease_key
-from smblease.contexts import Context, CreateAnswer, CreateAsk, append_context, each_context, find_context
+from smblease.contexts import Context, CreateAnswer, CreateAsk, append_context, each_context, find_context, replace_data
 from smblease.faults import Fault, MachineLost
 from smblease.messages import Acknowledgment, MessageKind, Notification, Response
 from smblease.outs import Changed, Opened, Out, Sent
@@ -19,5 +19,5 @@ __all__ = [
     "CreateFailed", "CreateRequest", "Created", "Done", "Failed", "Fault", "FileBytes", "LeaseState", "MachineLost", "MessageKind",
     "Note", "Notification", "Opened", "Out", "Quiet", "ReadDone", "ReadFailed", "ReadRequest", "Refusal", "Refused", "Reply",
     "Request", "Response", "Sent", "Server", "Settled", "Settlement", "Share", "Status", "Step", "Waiting", "WriteDone",
-    "WriteFailed", "WriteRequest", "Wrote", "append_context", "each_context", "find_context", "lease_key",
+    "WriteFailed", "WriteRequest", "Wrote", "append_context", "each_context", "find_context", "lease_key", "replace_data",
 ]

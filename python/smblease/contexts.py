@@ -153,6 +153,21 @@ def find_context(text: Octets, name: Octets) -> Optional[Context]:
     return _context_of(given, found)
 
 
+def replace_data(text: Octets, name: Octets, data: Octets) -> bytes:
+    """The text, in which the data of the first context of this name begin with these bytes. It is as it was where that context
+    isn't found, or has fewer bytes.
+
+    >>> text = CreateAsk(uuid.UUID(int=1), LeaseState.R).write()
+    >>> CreateAsk.read(replace_data(text, b"RqLs", uuid.UUID(int=2).bytes)).key == uuid.UUID(int=2)
+    True
+    """
+    given, wanted, found, new = octets(text), octets(name), structs.Context(), octets(data)
+    is_found = library.smblease_find_context(given, len(given), wanted, len(wanted), ctypes.byref(found))
+    if not is_found or len(new) > found.data_length:
+        return given
+    return given[:found.data_place] + new + given[found.data_place + len(new):]
+
+
 def append_context(text: Octets, context: Context) -> bytes:
     """The text with one more context after its others, as MxAc or QFid, which a server answers too. Where the text fails a test
     of the layout, Fault is raised; where the context doesn't fit the fields of its header, ValueError: a name has 65,512 bytes at

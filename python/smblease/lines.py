@@ -1,7 +1,7 @@
 """Requests, replies, notes, outs and answers as the words of lines (docs/FORMATS.md), and read from them.
 
-A word that names the kind comes first, and then the fields of the dataclass in their order; a note has its client between these. What
-can't be read raises ValueError.
+A word that names the kind comes first, and then the fields of the dataclass in their order; a note has its client between these.
+What can't be read raises ValueError.
 
 >>> read_request("read 7")
 ReadRequest(file_id=7)
@@ -33,8 +33,8 @@ def read_digits(word: str) -> bytes:
     return b"" if word == "-" else bytes.fromhex(word)
 
 
-_ACCESS = {"r": Access.READ, "w": Access.WRITE, "rw": Access.READ_WRITE}
-_SHARE = {"-": Share.NONE, "r": Share.READ, "w": Share.WRITE, "rw": Share.READ_WRITE}
+ACCESS = {"r": Access.READ, "w": Access.WRITE, "rw": Access.READ_WRITE}
+SHARE = {"-": Share.NONE, "r": Share.READ, "w": Share.WRITE, "rw": Share.READ_WRITE}
 _REFUSAL = {it.name.replace("_", "").lower(): it for it in steps.Refusal}
 _OUTCOME = {it.name.lower(): it for it in steps.Settlement}
 _BUFFERED = {"buffered": True, "through": False}
@@ -51,12 +51,13 @@ _NUMBER, _BYTES = (str, int), (digits, read_digits)
 _FIELDS: dict[str, tuple[Callable[[Any], str], Callable[[str], Any]]] = {
     **dict.fromkeys(("file", "client", "file_id", "number", "offset"), _NUMBER),
     **dict.fromkeys(("contexts", "data", "message"), _BYTES),
-    "access": _one_of(_ACCESS), "share": _one_of(_SHARE), "refusal": _one_of(_REFUSAL), "outcome": _one_of(_OUTCOME),
-    "buffered": _one_of(_BUFFERED), "cached": _one_of(_CACHED), "state": (str, LeaseState.of), "status": (status_word, read_status),
+    "access": _one_of(ACCESS), "share": _one_of(SHARE), "refusal": _one_of(_REFUSAL), "outcome": _one_of(_OUTCOME),
+    "buffered": _one_of(_BUFFERED), "cached": _one_of(_CACHED), "state": (str, LeaseState.of),
+    "status": (status_word, read_status),
 }
 _REQUESTS: dict[str, Any] = {
-    "create": requests.CreateRequest, "read": requests.ReadRequest, "write": requests.WriteRequest, "close": requests.CloseRequest,
-    "ack": requests.AcknowledgeRequest,
+    "create": requests.CreateRequest, "read": requests.ReadRequest, "write": requests.WriteRequest,
+    "close": requests.CloseRequest, "ack": requests.AcknowledgeRequest,
 }
 _REPLIES: dict[str, Any] = {
     "created": replies.Created, "createfailed": replies.CreateFailed, "readdone": replies.ReadDone,
@@ -90,24 +91,6 @@ def _read(kinds: Mapping[str, Any], text: str) -> Any:
     except KeyError:
         pass
     raise ValueError(f"no line of the machines has {text[:200]!r}")
-
-
-def access_of(word: str) -> Access:
-    """The access that a line has as this word.
-
-    >>> access_of("rw")
-    <Access.READ_WRITE: 3>
-    """
-    return _ACCESS[word]
-
-
-def share_of(word: str) -> Share:
-    """What is shared, of which a line has this word.
-
-    >>> share_of("-")
-    <Share.NONE: 0>
-    """
-    return _SHARE[word]
 
 
 def request_words(request: requests.Request) -> str:

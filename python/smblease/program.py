@@ -41,21 +41,13 @@ class Verdict:
 
     @property
     def rule(self) -> int | None:
-        """The rule that is broken, where one is.
-
-        >>> Verdict("safe").rule is None
-        True
-        """
+        """The rule that is broken, where one is."""
         found = re.fullmatch(r"unsafe \d+ (\d)", self.text)
         return int(found.group(1)) if found else None
 
     @property
     def is_safe(self) -> bool:
-        """Whether no rule is broken, in a record that is one.
-
-        >>> Verdict("malformed 3").is_safe
-        False
-        """
+        """Whether no rule is broken, in a record that is one."""
         return self.text == "safe"
 
 

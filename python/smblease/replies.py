@@ -9,6 +9,8 @@ from __future__ import annotations
 from dataclasses import dataclass
 from typing import Union
 
+from smblease.requests import CloseRequest, CreateRequest, ReadRequest, Request, WriteRequest
+
 
 @dataclass(frozen=True)
 class Created:
@@ -142,3 +144,20 @@ class AcknowledgeFailed:
 
 Reply = Union[Created, CreateFailed, ReadDone, ReadFailed, WriteDone, WriteFailed, Closed, CloseFailed, Break, AcknowledgeDone,
               AcknowledgeFailed]
+
+
+def failed(request: Request, status: int) -> Reply:
+    """The reply that refuses a request, for this NTSTATUS.
+
+    >>> failed(ReadRequest(7), 0xC0000128) == ReadFailed(7, 0xC0000128)
+    True
+    """
+    if isinstance(request, CreateRequest):
+        return CreateFailed(request.file, status)
+    if isinstance(request, ReadRequest):
+        return ReadFailed(request.file_id, status)
+    if isinstance(request, WriteRequest):
+        return WriteFailed(request.file_id, request.number, status)
+    if isinstance(request, CloseRequest):
+        return CloseFailed(request.file_id, status)
+    return AcknowledgeFailed(status)

@@ -10,11 +10,7 @@ from smblease.lines import digits, read_digits
 
 
 class EventKind(Enum):
-    """What an event is, by its word.
-
-    >>> EventKind("serve")
-    <EventKind.SERVE: 'serve'>
-    """
+    """What an event is, by its word."""
 
     OPEN = "open"
     CLOSE = "close"
@@ -35,8 +31,8 @@ class EventKind(Enum):
 class Event:
     """An event of a client; `words` follow the client's number.
 
-    >>> Event(EventKind.READ, 1, ("2",)).text
-    'read 1 2'
+    >>> Event.read("write 1 1 0 58")
+    Event(kind=<EventKind.WRITE: 'write'>, client=1, words=('1', '0', '58'))
     """
 
     kind: EventKind
@@ -45,21 +41,11 @@ class Event:
 
     @classmethod
     def read(cls, line: str) -> Event:
-        """The event of a line.
-
-        >>> Event.read("write 1 1 0 58").words
-        ('1', '0', '58')
-        """
         kind, client, *words = line.split(" ")
         return cls(EventKind(kind), int(client), tuple(words))
 
     @property
     def text(self) -> str:
-        """Its line.
-
-        >>> Event.read("cut 2").text
-        'cut 2'
-        """
         return " ".join((self.kind.value, str(self.client), *self.words))
 
 
@@ -67,8 +53,13 @@ class Event:
 class Schedule:
     """What the files hold, the ClientGuids of the clients, and the events.
 
-    >>> Schedule((b"abc",), (), ()).text
-    'file 616263\\n'
+    >>> text = "file -\\nclient 11111111-1111-1111-1111-111111111111\\nconnect 1\\n"
+    >>> Schedule.read(text).text == text
+    True
+    >>> Schedule.read("# a remark\\nopened 1\\n")
+    Traceback (most recent call last):
+    ...
+    smblease.faults.ToolFault: fault line 2
     """
 
     files: tuple[bytes, ...]
@@ -77,16 +68,8 @@ class Schedule:
 
     @classmethod
     def read(cls, text: str) -> Schedule:
-        """The schedule of a text. `leasecheck replay` says which texts are schedules; this reads those, and refuses a line that has
-        no kind of a schedule, no client, or no bytes where they have to be.
-
-        >>> Schedule.read("file 616263\\nclient 11111111-1111-1111-1111-111111111111\\nconnect 1\\n").events[0].text
-        'connect 1'
-        >>> Schedule.read("# a remark\\nopened 1\\n")
-        Traceback (most recent call last):
-        ...
-        smblease.faults.ToolFault: fault line 2
-        """
+        """The schedule of a text. `leasecheck replay` says which texts are schedules; this reads those, and refuses a line that
+        has no kind of a schedule, no client, or no bytes where they have to be."""
         files: list[bytes] = []
         clients: list[uuid.UUID] = []
         events: list[Event] = []
@@ -107,19 +90,8 @@ class Schedule:
 
     @property
     def text(self) -> str:
-        """The lines that `read` reads.
-
-        >>> text = "file -\\nclient 11111111-1111-1111-1111-111111111111\\nconnect 1\\n"
-        >>> Schedule.read(text).text == text
-        True
-        """
         lines = [f"file {digits(it)}" for it in self.files] + [f"client {it}" for it in self.clients]
         return "".join(f"{it}\n" for it in lines + [event.text for event in self.events])
 
     def with_events(self, events: tuple[Event, ...]) -> Schedule:
-        """The same files and clients, and these events.
-
-        >>> Schedule((b"",), (), ()).with_events((Event.read("cut 1"),)).text
-        'file -\\ncut 1\\n'
-        """
         return replace(self, events=events)

@@ -1,11 +1,12 @@
 """Clients of a schedule, the links between them and a server, and what is on its way there (docs/FORMATS.md, "Schedules").
 
-`World` has what is the same whichever server there is. `MachineWorld` has a server machine: a smblease.Server, or one that is asked by
-lines. How the machines are called, and what becomes of the facts, is for those who use these.
+`World` has what is the same whichever server there is. `MachineWorld` has a server machine: a smblease.Server, or one that is
+asked by lines. How the machines are called, and what becomes of the facts, is for those who use these.
 """
 from __future__ import annotations
 
 import uuid
+from abc import ABC, abstractmethod
 from collections import deque
 from collections.abc import Callable
 from dataclasses import dataclass, field
@@ -14,21 +15,19 @@ from functools import partial
 from typing import Generic, Protocol, TypeVar
 
 from smblease.client import Client, lease_key
-from smblease.lines import access_of, digits, note_words, out_words, read_digits, read_request, reply_words, share_of
+from smblease.lines import ACCESS, SHARE, digits, note_words, out_words, read_digits, read_request, reply_words
 from smblease.outs import Out, Sent
+from smblease.processes import LineClients, LineServer
 from smblease.replies import Reply
 from smblease.requests import Request
 from smblease.schedules import Event, EventKind, Schedule
+from smblease.server import Server
 from smblease.steps import Refused, Step
 from smblease.values import LeaseState
 
 
 class Link(Enum):
-    """Whether a client is connected. CUT: the connection is lost, and the client hasn't noticed.
-
-    >>> Link("up")
-    <Link.UP: 'up'>
-    """
+    """Whether a client is connected. CUT: the connection is lost, and the client hasn't noticed."""
 
     DOWN = "down"
     UP = "up"
@@ -37,11 +36,7 @@ class Link(Enum):
 
 @dataclass
 class Peer:
-    """A client of a world: its link, and what is on its way on that.
-
-    >>> Peer(uuid.UUID(int=1)).link
-    <Link.DOWN: 'down'>
-    """
+    """A client of a world: its link, and what is on its way on that."""
 
     guid: uuid.UUID
     link: Link = Link.DOWN
@@ -49,61 +44,12 @@ class Peer:
     replies: deque[Reply] = field(default_factory=deque)
 
 
-class Clients(Protocol):
-    """The client machines of a world, by their numbers.
-
-    >>> callable(Clients.take)
-    True
-    """
-
-    def step(self, event: Event) -> Step:
-        """A command of the application, or that the client connects or notices that its connection is lost."""
-
-    def take(self, client: int, reply: Reply) -> Step:
-        """A client takes a reply."""
-
-
-class ServerMachine(Protocol):
-    """A server machine, as smblease.Server and smblease.processes.LineServer are ones.
-
-    >>> callable(ServerMachine.receive)
-    True
-    """
-
-    def join(self, client: int) -> tuple[Out, ...]:
-        """A client connects."""
-
-    def cut(self, client: int) -> tuple[Out, ...]:
-        """A client's connection is lost."""
-
-    def receive(self, client: int, request: Request) -> tuple[Out, ...]:
-        """Receives a request."""
-
-    def expire(self, client: int, key: uuid.UUID) -> tuple[Out, ...]:
-        """The timer of the break of a client's lease runs out."""
-
-    def scavenge(self, file_id: int) -> tuple[Out, ...]:
-        """The timer of a durable open runs out."""
-
-    def breaking(self, client: int, key: uuid.UUID) -> bool:
-        """Whether a break of a client's lease waits for its acknowledgment."""
-
-    def kept(self, client: int, file: int) -> int | None:
-        """The FileId of a client's oldest durable open on a file that waits for it."""
-
-
 class Recorder(Protocol):
-    """Whoever writes down what happens.
+    """Whoever writes down what happens: facts of the record, and remarks that say what is in the messages."""
 
-    >>> callable(Recorder.fact)
-    True
-    """
+    def fact(self, text: str) -> None: ...
 
-    def fact(self, text: str) -> None:
-        """A fact of the record."""
-
-    def remark(self, text: str) -> None:
-        """What a message has in it, or the like."""
+    def remark(self, text: str) -> None: ...
 
 
 class ClientObjects:
@@ -118,30 +64,20 @@ class ClientObjects:
         self._clients = {number: Client(guid, len(schedule.files)) for number, guid in enumerate(schedule.clients, 1)}
 
     def step(self, event: Event) -> Step:
-        """A command of the application, or that the client connects or notices that its connection is lost. ValueError is raised of an
-        event that isn't laid out as one.
-
-        >>> ClientObjects(Schedule((b"abc",), (uuid.UUID(int=1),), ())).step(Event.read("connect 1")).answer
-        Quiet()
-        """
+        """A command of the application, or that the client connects or notices that its connection is lost. ValueError is
+        raised of an event that isn't laid out as one."""
         try:
             return _COMMANDS[event.kind](self._clients[event.client], event.words)
         except LookupError:
             raise ValueError(f"{event.text} is no event") from None
 
     def take(self, client: int, reply: Reply) -> Step:
-        """A client takes a reply.
-
-        >>> from smblease import Closed
-        >>> ClientObjects(Schedule((), (uuid.UUID(int=1),), ())).take(1, Closed(7)).answer
-        Quiet()
-        """
         return self._clients[client].take(reply)
 
 
 _COMMANDS: dict[EventKind, Callable[[Client, tuple[str, ...]], Step]] = {
-    EventKind.OPEN: lambda client, words: client.open(int(words[0]), access_of(words[1]), share_of(words[2]), LeaseState.of(words[3]),
-                                                      durable=words[4:] == ("durable",)),
+    EventKind.OPEN: lambda client, words: client.open(int(words[0]), ACCESS[words[1]], SHARE[words[2]],
+                                                      LeaseState.of(words[3]), durable=words[4:] == ("durable",)),
     EventKind.CLOSE: lambda client, words: client.close_file(int(words[0])),
     EventKind.READ: lambda client, words: client.read(int(words[0])),
     EventKind.FLUSH: lambda client, words: client.flush(int(words[0])),
@@ -154,22 +90,18 @@ AnyPeer = TypeVar("AnyPeer", bound=Peer)
 Given = TypeVar("Given")
 
 
-class World(Generic[AnyPeer]):
-    """One run. What a server does is for those to say that derive from this; so is how a machine is called.
+class World(ABC, Generic[AnyPeer]):
+    """One run. What a server does is for those to say that derive from this; so is how a machine is called."""
 
-    >>> issubclass(MachineWorld, World)
-    True
-    """
-
-    def __init__(self, schedule: Schedule, peers: dict[int, AnyPeer], clients: Clients, record: Recorder) -> None:
+    def __init__(self, schedule: Schedule, peers: dict[int, AnyPeer], clients: ClientObjects | LineClients,
+                 record: Recorder) -> None:
         self.peers = peers
         self.files = range(1, len(schedule.files) + 1)
         self._clients = clients
         self._record = record
         self._doings: dict[EventKind, Callable[[Event, AnyPeer], bool]] = {
             EventKind.SERVE: self._serve, EventKind.TAKE: self._take, EventKind.CUT: self._cut, EventKind.NOTICE: self._notice,
-            EventKind.CONNECT: self._connect, EventKind.EXPIRE: self._end_timer, EventKind.SCAVENGE: self._end_timer,
-            EventKind.RAW: self._stray,
+            EventKind.CONNECT: self._connect, EventKind.RAW: self._stray,
         }
         for file, data in zip(self.files, schedule.files):
             record.fact(f"start {file} {digits(data)}")
@@ -181,6 +113,8 @@ class World(Generic[AnyPeer]):
             return False
         if event.kind in _APPLICATION:
             return int(event.words[0]) in self.files and self._step(event.client, lambda: self._clients.step(event))
+        if event.kind in (EventKind.EXPIRE, EventKind.SCAVENGE):
+            return self._end_timer(event)
         return self._doings[event.kind](event, peer)
 
     def _called(self, call: Callable[[], Given]) -> Given:
@@ -245,31 +179,29 @@ class World(Generic[AnyPeer]):
         peer.requests.append(request)
         return True
 
-    def _end_timer(self, event: Event, peer: AnyPeer) -> bool:
-        file = int(event.words[0])
-        if file not in self.files:
-            return False
-        return self._expire(event.client, file) if event.kind is EventKind.EXPIRE else self._scavenge(event.client, file)
+    def _end_timer(self, event: Event) -> bool:
+        file, ends = int(event.words[0]), self._expire if event.kind is EventKind.EXPIRE else self._scavenge
+        return file in self.files and ends(event.client, file)
 
+    @abstractmethod
     def _served(self, client: int, request: Request) -> None:
         """The server receives a request."""
-        raise NotImplementedError
 
+    @abstractmethod
     def _joined(self, client: int) -> None:
         """A client connects."""
-        raise NotImplementedError
 
+    @abstractmethod
     def _dropped(self, client: int) -> None:
         """A client's connection is lost."""
-        raise NotImplementedError
 
+    @abstractmethod
     def _expire(self, client: int, file: int) -> bool:
         """The timer of the break of a client's lease runs out; whether there was such a break."""
-        raise NotImplementedError
 
+    @abstractmethod
     def _scavenge(self, client: int, file: int) -> bool:
         """The timer of a client's oldest durable open on a file that waits for it runs out; whether there was one."""
-        raise NotImplementedError
 
     def _meant(self, request: Request) -> Request:
         """A raw request as this server understands it."""
@@ -299,7 +231,8 @@ class MachineWorld(World[Peer]):
     took 1
     """
 
-    def __init__(self, schedule: Schedule, clients: Clients, server: ServerMachine, record: Recorder) -> None:
+    def __init__(self, schedule: Schedule, clients: ClientObjects | LineClients, server: Server | LineServer,
+                 record: Recorder) -> None:
         peers = {number: Peer(guid) for number, guid in enumerate(schedule.clients, 1)}
         super().__init__(schedule, peers, clients, record)
         self._server = server

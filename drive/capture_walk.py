@@ -1,15 +1,21 @@
 """Goes through a capture, packet by packet, and reports what it shows."""
 from __future__ import annotations
 
+import uuid
+from collections.abc import Callable
 from dataclasses import dataclass
-from typing import Callable, Dict, List, Optional, Tuple
+
+from smblease import Acknowledgment, CreateAnswer, CreateAsk, Fault, LeaseState, Notification
+from smblease.lines import digits
+from smblease.values import Status
 
 from drive import headers
 from drive.beliefs import Chain, Delivery, Turn
-from drive.headers import NOT_ACCEPTED, PENDING, PREVIOUS, RELATED, SUCCESS, UNASKED, Command, Message, Unreadable
+from drive.capture_state import FILE_LIMIT, MOST, BreakSeen, Came, Client, Connection, File, Open, Pending
+from drive.headers import HEADER, PREVIOUS, RELATED, UNASKED, Command, Message, Unreadable
 from drive.packets import COMPRESSED, ENCRYPTED, PROTOCOL, Packet
-from drive.shown import NONE, Contexts, Shower, word_of
-from drive.sightings import FILE_LIMIT, MOST, BreakSeen, Client, Connection, File, Open, Pending
+
+NONE = LeaseState.NONE
 
 
 @dataclass(frozen=True)
@@ -20,45 +26,48 @@ class Fact:
     rank: int
     text: str
     told: str
-    file: Optional[File] = None
+    file: File | None = None
 
 
 def at(packet: Packet) -> int:
+    """The position of a packet."""
     return 2 * packet.number
 
 
 def before(packet: Packet) -> int:
+    """The position before a packet."""
     return 2 * packet.number - 1
 
 
 class Walk:
     """`at_client` says that the capture shows when clients took messages and sent theirs."""
 
-    def __init__(self, shower: Shower, at_client: bool) -> None:
-        self._shower = shower
+    def __init__(self, at_client: bool) -> None:
         self._at_client = at_client
-        self.facts: List[Fact] = []
-        self.files: List[File] = []
-        self.clients: List[Client] = []
-        self.notes: List[str] = []
-        self.left_out: Dict[str, int] = {}
-        self.connections: Dict[int, Connection] = {}
-        self.breaks: List[BreakSeen] = []
-        self._named: Dict[Tuple[str, str], File] = {}
-        self._kept: Dict[bytes, File] = {}
-        self._opens: Dict[Tuple[int, int, bytes], Open] = {}
-        self._asking: Dict[Command, Callable[[Connection, Pending], None]] = {
+        self.facts: list[Fact] = []
+        self.files: list[File] = []
+        self.clients: list[Client] = []
+        self.notes: list[str] = []
+        self.left_out: dict[str, int] = {}
+        self.connections: dict[int, Connection] = {}
+        self.breaks: list[BreakSeen] = []
+        self._named: dict[tuple[str, str], File] = {}
+        # files by the persistent halves of the FileIds that were given for them
+        self._kept: dict[bytes, File] = {}
+        self._opens: dict[tuple[int, int, bytes], Open] = {}
+        self._asking: dict[Command, Callable[[Pending], None]] = {
             Command.NEGOTIATE: self._negotiating, Command.SESSION_SETUP: self._setting_up, Command.LOGOFF: self._logging_off,
             Command.TREE_DISCONNECT: self._leaving, Command.CREATE: self._creating, Command.CLOSE: self._closing,
             Command.WRITE: self._writing, Command.OPLOCK_BREAK: self._acknowledging,
         }
-        self._answered: Dict[Command, Callable[[Connection, Pending, Packet, Message, Delivery], None]] = {
+        self._answered: dict[Command, Callable[[Came], None]] = {
             Command.NEGOTIATE: self._negotiated, Command.TREE_CONNECT: self._joined_tree, Command.CREATE: self._created,
             Command.CLOSE: self._closed, Command.WRITE: self._written, Command.READ: self._read,
             Command.SET_INFO: self._renamed, Command.OPLOCK_BREAK: self._acknowledged,
         }
 
     def goes(self, packet: Packet) -> None:
+        """Takes the next packet."""
         connection = self.connections.setdefault(packet.stream, Connection(packet.stream))
         if packet.is_gap:
             self._lost(connection, packet, "packets, or parts of them, aren't in the capture")
@@ -77,7 +86,7 @@ class Walk:
     def _note(self, packet: Packet, text: str) -> None:
         self.notes.append(f"{packet.told}: {text}")
 
-    def _fact(self, position: int, rank: int, text: str, packet: Packet, told: str, file: Optional[File] = None) -> None:
+    def _fact(self, position: int, rank: int, text: str, packet: Packet, told: str, file: File | None = None) -> None:
         self.facts.append(Fact(position, rank, text, f"{packet.told}: {told}", file))
 
     def _message(self, connection: Connection, packet: Packet, data: bytes) -> None:
@@ -105,26 +114,27 @@ class Walk:
         connection.is_begun = True
         if message.command in (None, Command.CANCEL):
             return
-        pending = Pending(message, packet, self._earliest(connection, packet))
+        pending = Pending(connection, message, packet, self._earliest(connection, packet))
         if message.flags & RELATED and connection.pending:
             pending.previous = list(connection.pending.values())[-1]
         connection.pending[message.identifier] = pending
-        opened = self._open_of(connection, pending)
+        opened = self._open_of(pending)
         if opened:
             connection.prove(opened.delivery, before(packet))
         handler = self._asking.get(message.command) if message.command is not None else None
         if handler:
-            handler(connection, pending)
+            handler(pending)
 
-    def _open_of(self, connection: Connection, pending: Pending) -> Optional[Open]:
+    def _open_of(self, pending: Pending) -> Open | None:
         file_id = pending.request.file_id
         if file_id is None:
             return None
         if file_id == PREVIOUS:
-            return pending.previous.opened or self._open_of(connection, pending.previous) if pending.previous else None
-        return self._opens.get((connection.stream, pending.request.session, file_id))
+            return pending.previous.opened or self._open_of(pending.previous) if pending.previous else None
+        return self._opens.get((pending.connection.stream, pending.request.session, file_id))
 
-    def _negotiating(self, connection: Connection, pending: Pending) -> None:
+    def _negotiating(self, pending: Pending) -> None:
+        connection = pending.connection
         guid = headers.negotiated(pending.request)[1]
         client = next((it for it in self.clients if it.guid == guid), None)
         if connection.client:
@@ -140,18 +150,18 @@ class Walk:
         if client.connections == 1:
             self._fact(at(pending.packet), 0, f"joined {client.number}", pending.packet, "NEGOTIATE")
 
-    def _setting_up(self, connection: Connection, pending: Pending) -> None:
+    def _setting_up(self, pending: Pending) -> None:
         previous = pending.request.number(80, 8)
         if previous:
             self._end_opens(lambda it: it.session == previous, pending)
 
-    def _logging_off(self, connection: Connection, pending: Pending) -> None:
+    def _logging_off(self, pending: Pending) -> None:
         session = pending.request.session
-        self._end_opens(lambda it: it.stream == connection.stream and it.session == session, pending)
+        self._end_opens(lambda it: it.stream == pending.connection.stream and it.session == session, pending)
 
-    def _leaving(self, connection: Connection, pending: Pending) -> None:
+    def _leaving(self, pending: Pending) -> None:
         session, tree = pending.request.session, pending.request.tree
-        self._end_opens(lambda it: (it.stream, it.session, it.tree) == (connection.stream, session, tree), pending)
+        self._end_opens(lambda it: (it.stream, it.session, it.tree) == (pending.connection.stream, session, tree), pending)
 
     def _end_opens(self, meant: Callable[[Open], bool], pending: Pending) -> None:
         for opened in [it for it in self._opens.values() if meant(it)]:
@@ -164,25 +174,27 @@ class Walk:
         if client is None or key is None or any(it.client is client and it.key == key for it in self._opens.values()):
             return
         for seen in self.breaks:
-            if seen.client is client and seen.told.key == key:
+            if seen.client is client and seen.notice.key == key:
                 seen.is_over, seen.is_answered = True, seen.is_answered or not is_lost
         chain = opened.file.chains.get((client.number, key))
         if chain and chain.turns:
             chain.turns.append(Turn(NONE, earliest, f"{packet.told}: {told}", before(packet)))
 
-    def _creating(self, connection: Connection, pending: Pending) -> None:
-        pending.asked = self._shower.contexts("ask", pending.request.data)
-        if pending.asked.fault:
-            self._note(pending.packet, f"the contexts of a CREATE request can't be read: {pending.asked.fault}")
+    def _creating(self, pending: Pending) -> None:
+        try:
+            pending.asked = CreateAsk.read(headers.contexts(pending.request))
+        except (Fault, Unreadable) as fault:
+            self._note(pending.packet, f"the contexts of a CREATE request can't be read: {fault}")
 
-    def _closing(self, connection: Connection, pending: Pending) -> None:
-        opened = self._open_of(connection, pending)
+    def _closing(self, pending: Pending) -> None:
+        opened = self._open_of(pending)
         if opened:
             pending.opened = opened
             self._end_open(opened, pending.earliest, pending.packet, "CLOSE")
 
-    def _writing(self, connection: Connection, pending: Pending) -> None:
-        opened = self._open_of(connection, pending)
+    def _writing(self, pending: Pending) -> None:
+        connection = pending.connection
+        opened = self._open_of(pending)
         span = headers.written(pending.request)
         if connection.client is None or opened is None:
             return
@@ -191,23 +203,25 @@ class Walk:
             return
         connection.client.writes += 1
         pending.number, pending.opened = connection.client.writes, opened
-        text = f"wrote {connection.client.number} {{file}} {pending.number} {span.offset} {span.data.hex() or '-'} through"
+        text = f"wrote {connection.client.number} {{file}} {pending.number} {span.offset} {digits(span.data)} through"
         self._fact(at(pending.packet), 0, text, pending.packet, "WRITE", opened.file)
 
-    def _acknowledging(self, connection: Connection, pending: Pending) -> None:
-        given = self._shower.acknowledgment(pending.request.data)
-        if given is None:
+    def _acknowledging(self, pending: Pending) -> None:
+        connection = pending.connection
+        try:
+            given = Acknowledgment.read(pending.request.data[HEADER:])
+        except Fault:
             self._leave_out("acknowledgments of oplocks")
             return
         seen = next((it for it in reversed(self.breaks)
-                     if it.client is connection.client and it.told.key == given.key and not it.is_over), None)
+                     if it.client is connection.client and it.notice.key == given.key and not it.is_over), None)
         if seen is None:
             self._note(pending.packet, f"an acknowledgment of {given.key}, of which no break is to be acknowledged")
             return
         seen.is_answered, seen.is_over, pending.broken = True, True, seen
-        if given.state != seen.told.left:
-            self._note(pending.packet, f"an acknowledgment of {word_of(given.state)}, where the break of {seen.packet.told} "
-                                       f"is to {word_of(seen.told.left)}")
+        if given.state != seen.notice.new:
+            self._note(pending.packet, f"an acknowledgment of {given.state}, where the break of {seen.packet.told} "
+                                       f"is to {seen.notice.new}")
         if seen.turn.delivery:
             connection.prove(seen.turn.delivery, before(pending.packet))
         seen.turn.state, seen.turn.latest = given.state, before(pending.packet)
@@ -224,74 +238,81 @@ class Walk:
             self._broken(connection, packet, message, delivery)
             return
         pending = connection.pending.get(message.identifier)
-        if pending is None or message.status == PENDING or message.command is None:
+        if pending is None or message.status == Status.PENDING or message.command is None:
             return
         handler = self._answered.get(message.command)
-        if handler and (message.status == SUCCESS or message.command is Command.OPLOCK_BREAK):
-            handler(connection, pending, packet, message, delivery)
+        if handler and (message.status == Status.SUCCESS or message.command is Command.OPLOCK_BREAK):
+            handler(Came(pending, packet, message, delivery))
         connection.pending.pop(message.identifier, None)
 
     @staticmethod
     def _name(message: Message) -> str:
         if message.identifier == UNASKED:
             return "a break"
-        status = {SUCCESS: "", PENDING: ", pending"}.get(message.status, f", status {message.status:08x}")
-        return f"answer to {message.name}{status}"
+        words: dict[int, str] = {Status.SUCCESS: "", Status.PENDING: ", pending"}
+        return f"answer to {message.name}{words.get(message.status, f', status {message.status:08x}')}"
 
-    def _negotiated(self, connection: Connection, pending: Pending, packet: Packet, message: Message,
-                    delivery: Delivery) -> None:
-        connection.dialect = headers.negotiated(message)[0]
-        if connection.dialect not in (0x202, 0x210, 0x2ff):
-            self._leave_out(f"connections of dialect {connection.dialect >> 8}.{connection.dialect >> 4 & 15}"
-                            f"{f'.{connection.dialect & 15}' if connection.dialect & 15 else ''}, whose leases aren't judged")
+    def _negotiated(self, came: Came) -> None:
+        dialect = came.pending.connection.dialect = headers.negotiated(came.message)[0]
+        if dialect not in (0x202, 0x210, 0x2ff):
+            self._leave_out(f"connections of dialect {dialect >> 8}.{dialect >> 4 & 15}"
+                            f"{f'.{dialect & 15}' if dialect & 15 else ''}, whose leases aren't judged")
 
-    def _joined_tree(self, connection: Connection, pending: Pending, packet: Packet, message: Message,
-                     delivery: Delivery) -> None:
+    def _joined_tree(self, came: Came) -> None:
+        pending, message = came.pending, came.message
         share = headers.tree_path(pending.request).rpartition("\\")[2].lower()
-        connection.trees[message.session, message.tree] = share
+        pending.connection.trees[message.session, message.tree] = share
 
-    def _created(self, connection: Connection, pending: Pending, packet: Packet, message: Message,
-                 delivery: Delivery) -> None:
+    def _created(self, came: Came) -> None:
+        pending, packet, message, delivery = came.pending, came.packet, came.message, came.delivery
         if headers.is_directory(pending.request, message):
             return
         file_id = message.part(128, 16)
-        file = self._file(connection, pending, message, file_id)
-        granted = self._shower.contexts("reply", message.data)
+        file = self._file(came, file_id)
+        granted = self._granted_by(packet, message)
+        connection = pending.connection
         opened = Open(connection.client, file, granted.key, connection.stream, message.session, pending.request.tree, file_id,
                       delivery)
         pending.opened = opened
         self._opens[connection.stream, message.session, file_id] = opened
         self._kept[file_id[:8]] = file
-        if connection.client and not pending.asked.is_reconnect:
-            self._fact(at(packet), 1, f"opened {{file}} {connection.client.number}", packet, "answer to CREATE", file)
-        if granted.fault:
-            self._note(packet, f"the contexts of a CREATE response can't be read: {granted.fault}")
-        if granted.is_second_version:
+        if pending.connection.client and pending.asked.reconnect is None:
+            self._fact(at(packet), 1, f"opened {{file}} {pending.connection.client.number}", packet, "answer to CREATE", file)
+        if granted.has_other_lease:
             self._leave_out("grants of leases of version 2, which aren't judged")
-        if connection.judged and granted.key:
-            self._granted(connection.judged, pending, packet, opened, granted)
+        if pending.connection.judged and granted.key:
+            self._granted(pending.connection.judged, came, opened, granted)
 
-    def _granted(self, client: Client, pending: Pending, packet: Packet, opened: Open, granted: Contexts) -> None:
-        file, key = opened.file, str(granted.key)
+    def _granted_by(self, packet: Packet, message: Message) -> CreateAnswer:
+        try:
+            return CreateAnswer.read(headers.contexts(message))
+        except (Fault, Unreadable) as fault:
+            self._note(packet, f"the contexts of a CREATE response can't be read: {fault}")
+            return CreateAnswer()
+
+    def _granted(self, client: Client, came: Came, opened: Open, granted: CreateAnswer) -> None:
+        pending, packet = came.pending, came.packet
+        file, key = opened.file, granted.key or uuid.UUID(int=0)
         chain = file.chains.setdefault((client.number, key), Chain(client.number, key))
         if pending.asked.key != key:
             self._note(packet, f"a lease under {key}, where {pending.asked.key or 'none'} was asked for")
-        elif not (granted.state <= pending.asked.state | chain.state or granted.is_breaking or pending.asked.is_reconnect):
-            self._note(packet, f"client {client.number} is granted {word_of(granted.state)} of {file.told}, "
-                               f"and asked for {word_of(pending.asked.state)}")
+        elif not (granted.state in pending.asked.state | chain.state or granted.breaking or pending.asked.reconnect is not None):
+            self._note(packet, f"client {client.number} is granted {granted.state} of {file.told}, "
+                               f"and asked for {pending.asked.state}")
         for seen in self.breaks:
             if seen.file is file and not seen.is_over and seen.client is not client and granted.state:
-                self._note(packet, f"client {client.number} is granted {word_of(granted.state)} of {file.told} while the break "
+                self._note(packet, f"client {client.number} is granted {granted.state} of {file.told} while the break "
                                    f"of {seen.packet.told} to client {seen.client.number} isn't acknowledged")
-        if granted.is_breaking:
+        if granted.breaking:
             return
-        told = f"{packet.told}: CREATE granted {word_of(granted.state)}"
+        told = f"{packet.told}: CREATE granted {granted.state}"
         chain.turns.append(Turn(granted.state, at(packet), told, delivery=opened.delivery))
 
-    def _file(self, connection: Connection, pending: Pending, message: Message, file_id: bytes) -> File:
-        if pending.asked.is_reconnect and file_id[:8] in self._kept:
+    def _file(self, came: Came, file_id: bytes) -> File:
+        pending, message = came.pending, came.message
+        if pending.asked.reconnect is not None and file_id[:8] in self._kept:
             return self._kept[file_id[:8]]
-        share = connection.trees.get((message.session or pending.request.session, pending.request.tree), "?")
+        share = pending.connection.trees.get((message.session or pending.request.session, pending.request.tree), "?")
         name = headers.create_name(pending.request)
         file = self._named.get((share, name))
         if file is None or headers.was_made(message):
@@ -300,38 +321,38 @@ class Walk:
             self.files.append(file)
         return file
 
-    def _closed(self, connection: Connection, pending: Pending, packet: Packet, message: Message,
-                delivery: Delivery) -> None:
+    def _closed(self, came: Came) -> None:
         """A CLOSE within the compound of its CREATE, whose FileId was told only now."""
-        opened = self._open_of(connection, pending)
+        pending, packet = came.pending, came.packet
+        opened = self._open_of(pending)
         if opened and pending.opened is None:
-            connection.prove(opened.delivery, at(packet))
+            pending.connection.prove(opened.delivery, at(packet))
             self._end_open(opened, opened.delivery.sent, packet, "CLOSE in the compound of its CREATE")
 
-    def _written(self, connection: Connection, pending: Pending, packet: Packet, message: Message,
-                 delivery: Delivery) -> None:
-        if connection.client is None or pending.opened is None:
-            if self._open_of(connection, pending) is None:
+    def _written(self, came: Came) -> None:
+        pending, packet, message = came.pending, came.packet, came.message
+        if pending.connection.client is None or pending.opened is None:
+            if self._open_of(pending) is None:
                 self._leave_out("writes by opens that the capture doesn't show")
             return
         file = pending.opened.file
         span = headers.written(pending.request)
         data = span.data[:message.number(68, 4)]
         file.is_changed = True
-        text = f"changed {{file}} {connection.client.number} {pending.number} {span.offset} {data.hex() or '-'}"
+        text = f"changed {{file}} {pending.connection.client.number} {pending.number} {span.offset} {digits(data)}"
         self._fact(at(packet), 1, text, packet, "answer to WRITE", file)
 
-    def _read(self, connection: Connection, pending: Pending, packet: Packet, message: Message,
-              delivery: Delivery) -> None:
-        opened = self._open_of(connection, pending)
+    def _read(self, came: Came) -> None:
+        pending, message = came.pending, came.message
+        opened = self._open_of(pending)
         span = headers.read(pending.request, message)
         if opened and not opened.file.is_changed and not span.offset and len(span.data) == opened.file.length <= FILE_LIMIT:
             opened.file.start = opened.file.start or span.data
 
-    def _renamed(self, connection: Connection, pending: Pending, packet: Packet, message: Message,
-                 delivery: Delivery) -> None:
+    def _renamed(self, came: Came) -> None:
         """Neither name is that of the file that it was: the next CREATE of it begins another."""
-        opened = self._open_of(connection, pending)
+        pending = came.pending
+        opened = self._open_of(pending)
         name = headers.renamed(pending.request)
         if name is None:
             return
@@ -343,40 +364,41 @@ class Walk:
             if share == opened.file.share and (known in gone or known.startswith(tuple(f"{it}\\" for it in gone))):
                 del self._named[share, known]
 
-    def _acknowledged(self, connection: Connection, pending: Pending, packet: Packet, message: Message,
-                      delivery: Delivery) -> None:
+    def _acknowledged(self, came: Came) -> None:
+        pending, packet, message = came.pending, came.packet, came.message
         seen = pending.broken
         if seen is None:
             return
-        chain = seen.file.chains[seen.client.number, seen.told.key]
-        if message.status == SUCCESS and seen.doubt in chain.turns:
+        chain = seen.file.chains[seen.client.number, seen.notice.key]
+        if message.status == Status.SUCCESS and seen.doubt in chain.turns:
             chain.turns.remove(seen.doubt)
-        elif message.status != SUCCESS:
+        elif message.status != Status.SUCCESS:
             # Where it was of too much, the break is still to be acknowledged (3.3.5.22.2).
-            seen.is_over = seen.is_answered = message.status != NOT_ACCEPTED
+            seen.is_over = seen.is_answered = message.status != Status.REQUEST_NOT_ACCEPTED
             self._note(packet, f"the acknowledgment of {pending.packet.told} is refused, status {message.status:08x}")
 
     def _broken(self, connection: Connection, packet: Packet, message: Message, delivery: Delivery) -> None:
-        told = self._shower.notification(message.data)
-        if told is None:
+        try:
+            notice = Notification.read(message.data[HEADER:])
+        except Fault:
             self._leave_out("breaks of oplocks")
             return
         client = connection.judged
-        file = next((it for it in self.files if client and (client.number, told.key) in it.chains), None)
-        if not told.left <= told.held or (told.left == told.held and told.held):
-            self._note(packet, f"a break from {word_of(told.held)} to {word_of(told.left)}, which isn't a part of it")
+        file = next((it for it in self.files if client and (client.number, notice.key) in it.chains), None)
+        if notice.new not in notice.current or (notice.new == notice.current and notice.current):
+            self._note(packet, f"a break from {notice.current} to {notice.new}, which isn't a part of it")
         if client is None or file is None:
-            self._note(packet, f"a break of {told.key}, under which the capture shows no lease of that client")
+            self._note(packet, f"a break of {notice.key}, under which the capture shows no lease of that client")
             return
-        chain = file.chains[client.number, told.key]
-        words = f"{packet.told}: break from {word_of(told.held)} to {word_of(told.left)}"
-        turn = Turn(told.left, at(packet), words, delivery=delivery)
+        chain = file.chains[client.number, notice.key]
+        words = f"{packet.told}: break from {notice.current} to {notice.new}"
+        turn = Turn(notice.new, at(packet), words, delivery=delivery)
         chain.turns.append(turn)
-        if told.needs_acknowledgment:
+        if notice.ack_required:
             doubt = Turn(NONE, at(packet), f"{words}, not known to be acknowledged, so nothing is known of the lease",
                          is_doubt=True)
             chain.turns.append(doubt)
-            self.breaks.append(BreakSeen(packet, told, client, file, turn, doubt))
+            self.breaks.append(BreakSeen(packet, notice, client, file, turn, doubt))
 
     # Ends
 

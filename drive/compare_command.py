@@ -3,17 +3,14 @@ from __future__ import annotations
 
 import argparse
 import difflib
-from dataclasses import dataclass
-from typing import Dict, FrozenSet, List, Optional, Sequence
+from collections.abc import Sequence
+
+from smblease.schedules import Schedule
 
 from drive.arguments import runner_of, server_arguments
-from drive.ending import NOT_DRIVEN, SAFE, ended
+from drive.commands import NOT_DRIVEN, SAFE, ended, schedule_in
+from drive.explanations import NONE, facts_of, likeness_of
 from drive.faults import DriveFault, Usage
-from drive.model import Departure
-from drive.modelled import NONE, explained, facts_of
-from drive.program import replayed
-from drive.running import schedule_in
-from drive.schedules import Schedule
 
 EPILOG = """Without --record the schedule is driven first. The lines of the difference begin with `- ` where the profile's server
 has a fact that this one hasn't, and with `+ ` the other way round. After them comes what explains it: the departures
@@ -24,46 +21,8 @@ Exit status: 0 the record is the profile's, or explained; 1 it isn't explained, 
 is refused."""
 
 
-@dataclass(frozen=True)
-class Likeness:
-    """What was found of a record: the departures that explain it, none at all where it is the profile's."""
-
-    departures: Optional[FrozenSet[Departure]]
-
-    @property
-    def is_open(self) -> bool:
-        return self.departures is None
-
-    @property
-    def word(self) -> str:
-        if self.departures is None:
-            return "unexplained"
-        return ",".join(sorted(it.name.lower() for it in self.departures)) or "same"
-
-
-def likeness_of(program: str, schedule: Schedule, facts: List[str], counts: Sequence[int] = ()) -> Likeness:
-    if is_replayed(facts, replayed(program, schedule.text()), counts):
-        return Likeness(NONE)
-    return Likeness(explained(program, schedule, facts))
-
-
-def is_replayed(facts: List[str], replay: List[str], counts: Sequence[int]) -> bool:
-    """Whether these are the facts of `replay`, where within a step those of each client are in order. `counts` tell how many
-    there were behind each step."""
-    steps = zip([0, *counts], [*counts, len(facts)])
-    return len(facts) == len(replay) and all(_by_client(facts[start:end]) == _by_client(replay[start:end])
-                                             for start, end in steps)
-
-
-def _by_client(facts: List[str]) -> Dict[str, List[str]]:
-    found: Dict[str, List[str]] = {}
-    for fact in facts:
-        words = fact.split(" ", 3)
-        found.setdefault(words[2 if words[0] in ("opened", "changed") else 1], []).append(fact)
-    return found
-
-
 def parser() -> argparse.ArgumentParser:
+    """What the command line is."""
     made = argparse.ArgumentParser(prog="drive/compare", description="Compares a driven record with the profile's.",
                                    epilog=EPILOG, formatter_class=argparse.RawDescriptionHelpFormatter)
     made.add_argument("schedule", metavar="SCHEDULE", help="a file with a schedule, - for standard input")
@@ -72,7 +31,7 @@ def parser() -> argparse.ArgumentParser:
     return made
 
 
-def _facts(arguments: argparse.Namespace, schedule: Schedule) -> "tuple[List[str], Sequence[int]]":
+def _facts(arguments: argparse.Namespace, schedule: Schedule) -> tuple[list[str], Sequence[int]]:
     if not arguments.record:
         outcome = runner_of(arguments).run(schedule)
         return outcome.record.facts(), outcome.counts
@@ -86,7 +45,8 @@ def _facts(arguments: argparse.Namespace, schedule: Schedule) -> "tuple[List[str
         raise DriveFault(f"{arguments.record}: {fault.strerror}") from None
 
 
-def main(arguments: argparse.Namespace) -> int:
+def _compare(arguments: argparse.Namespace) -> int:
+    """Prints the differences, and what explains them; the status."""
     schedule = schedule_in(arguments.schedule, arguments.leasecheck)
     facts, counts = _facts(arguments, schedule)
     likeness = likeness_of(arguments.leasecheck, schedule, facts, counts)
@@ -105,5 +65,6 @@ def main(arguments: argparse.Namespace) -> int:
     return SAFE
 
 
-def run(words: Sequence[str]) -> int:
-    return ended(parser(), main, words)
+def main(words: Sequence[str] | None = None) -> int:
+    """The command; its status."""
+    return ended(parser(), _compare, words)

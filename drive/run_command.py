@@ -3,15 +3,12 @@ from __future__ import annotations
 
 import argparse
 import sys
-from typing import Sequence
+from collections.abc import Sequence
 
 from drive.arguments import runner_of, server_arguments
-from drive.ending import NOT_DRIVEN, SAFE, UNSAFE, ended
-from drive.faults import DriveFault
-from drive.program import replayed
+from drive.commands import NOT_DRIVEN, SAFE, UNSAFE, ended, schedule_in, write_text
 from drive.records import Order
-from drive.runs import Outcome
-from drive.schedules import Schedule, read_schedule
+from drive.runner import Outcome
 
 EPILOG = """The record is printed, and after it the verdict as a line `# safe` or `# unsafe PLACE RULE`, so that all of it is
 still a record. With --record it goes to a file, and the verdict alone is printed. Remarks of --messages begin with
@@ -22,6 +19,7 @@ record is unsafe."""
 
 
 def parser() -> argparse.ArgumentParser:
+    """What the command line is."""
     made = argparse.ArgumentParser(prog="drive/run", description="Drives a real SMB 2.1 server through a schedule.",
                                    epilog=EPILOG, formatter_class=argparse.RawDescriptionHelpFormatter)
     made.add_argument("schedule", metavar="SCHEDULE", help="a file with a schedule (docs/FORMATS.md), - for standard input")
@@ -32,51 +30,36 @@ def parser() -> argparse.ArgumentParser:
     return made
 
 
-def schedule_in(path: str, program: str) -> Schedule:
-    """The schedule of a file, which `leasecheck replay` has to take."""
-    try:
-        if path == "-":
-            text = sys.stdin.read()
-        else:
-            with open(path, encoding="utf-8", errors="replace") as stream:
-                text = stream.read()
-    except OSError as fault:
-        raise DriveFault(f"{path}: {fault.strerror}") from None
-    replayed(program, text)
-    return read_schedule(text)
-
-
-def told(outcome: Outcome) -> str:
+def verdict_lines(outcome: Outcome) -> list[str]:
     """The lines of a verdict."""
     lines = [outcome.verdict.text]
     if outcome.orders_differ:
         lines.append(f"with {Order.BREAKS_LAST.value}: {outcome.verdicts[Order.BREAKS_LAST].text}")
-    return "".join(f"{it}\n" for it in lines)
+    return lines
 
 
 def status_of(outcome: Outcome) -> int:
+    """The status of a run."""
     if outcome.rule is not None:
         return UNSAFE
     return SAFE if outcome.verdict.is_safe else NOT_DRIVEN
 
 
-def main(arguments: argparse.Namespace) -> int:
+def _drive(arguments: argparse.Namespace) -> int:
+    """Drives the schedule and prints its record; the status."""
     runner = runner_of(arguments)
     outcome = runner.run(schedule_in(arguments.schedule, arguments.leasecheck))
     for line in outcome.skipped:
         print(f"left out: {line}", file=sys.stderr)
     record = outcome.record.text_with_messages() if arguments.messages else outcome.record.text()
     if arguments.record:
-        try:
-            with open(arguments.record, "w", encoding="utf-8") as stream:
-                stream.write(record)
-        except OSError as fault:
-            raise DriveFault(f"{arguments.record}: {fault.strerror}") from None
-        sys.stdout.write(told(outcome))
+        write_text(arguments.record, record)
+        sys.stdout.write("".join(f"{it}\n" for it in verdict_lines(outcome)))
     else:
-        sys.stdout.write(record + "".join(f"# {it}\n" for it in told(outcome).splitlines()))
+        sys.stdout.write(record + "".join(f"# {it}\n" for it in verdict_lines(outcome)))
     return status_of(outcome)
 
 
-def run(words: Sequence[str]) -> int:
-    return ended(parser(), main, words)
+def main(words: Sequence[str] | None = None) -> int:
+    """The command; its status."""
+    return ended(parser(), _drive, words)

@@ -1,14 +1,15 @@
 """What is known of clients, connections, files and opens while a capture is gone through."""
 from __future__ import annotations
 
+import uuid
 from bisect import bisect_right
 from dataclasses import dataclass, field
-from typing import Dict, List, Optional, Tuple
+
+from smblease import CreateAsk, Notification
 
 from drive.beliefs import Chain, Delivery, Turn
 from drive.headers import Message
 from drive.packets import Packet
-from drive.shown import Break, Contexts
 
 FILE_LIMIT = 1048576
 MOST = 255
@@ -20,13 +21,12 @@ class File:
 
     name: str
     share: str
-    chains: Dict[Tuple[int, str], Chain] = field(default_factory=dict)
+    chains: dict[tuple[int, uuid.UUID], Chain] = field(default_factory=dict)
     is_made_here: bool = False
     # its bytes, once it was read whole before it was changed
-    start: Optional[bytes] = None
+    start: bytes | None = None
     is_changed: bool = False
     length: int = 0
-    is_judged: bool = True
 
     @property
     def told(self) -> str:
@@ -45,9 +45,9 @@ class Client:
 
 @dataclass(eq=False)
 class Open:
-    client: Optional[Client]
+    client: Client | None
     file: File
-    key: Optional[str]
+    key: uuid.UUID | None
     stream: int
     session: int
     tree: int
@@ -59,15 +59,26 @@ class Open:
 class Pending:
     """A request that isn't answered, or not yet for good."""
 
+    connection: Connection
     request: Message
     packet: Packet
     # where it can have been sent first
     earliest: int
-    previous: Optional["Pending"] = None
-    asked: Contexts = Contexts()
-    opened: Optional[Open] = None
+    previous: Pending | None = None
+    asked: CreateAsk = CreateAsk()
+    opened: Open | None = None
     number: int = 0
-    broken: Optional["BreakSeen"] = None
+    broken: BreakSeen | None = None
+
+
+@dataclass(frozen=True)
+class Came:
+    """An answer, and the request that it is to."""
+
+    pending: Pending
+    packet: Packet
+    message: Message
+    delivery: Delivery
 
 
 @dataclass(eq=False)
@@ -75,7 +86,7 @@ class BreakSeen:
     """A break that asks for an acknowledgment."""
 
     packet: Packet
-    told: Break
+    notice: Notification
     client: Client
     file: File
     turn: Turn
@@ -88,22 +99,22 @@ class BreakSeen:
 @dataclass(eq=False)
 class Connection:
     stream: int
-    client: Optional[Client] = None
+    client: Client | None = None
     # who sends the requests, and to whom
     near: str = ""
     dialect: int = 0
     is_begun: bool = False
     is_over: bool = False
-    pending: Dict[int, Pending] = field(default_factory=dict)
-    deliveries: List[Delivery] = field(default_factory=list)
+    pending: dict[int, Pending] = field(default_factory=dict)
+    deliveries: list[Delivery] = field(default_factory=list)
     proved: int = 0
     # for each delivery the end of its bytes in the server's stream
-    ends: List[int] = field(default_factory=list)
+    ends: list[int] = field(default_factory=list)
     last: int = 0
-    trees: Dict[Tuple[int, int], str] = field(default_factory=dict)
+    trees: dict[tuple[int, int], str] = field(default_factory=dict)
 
     @property
-    def judged(self) -> Optional[Client]:
+    def judged(self) -> Client | None:
         """Its client, where what that believes is judged."""
         if self.client and self.client.is_judged and self.dialect in (0x202, 0x210) and not self.is_over:
             return self.client
@@ -114,7 +125,7 @@ class Connection:
         count = bisect_right(self.ends, packet.acknowledged)
         return self.deliveries[count - 1].sent if count else 0
 
-    def delivers(self, packet: Packet, position: int, latest: Optional[int]) -> Delivery:
+    def delivers(self, packet: Packet, position: int, latest: int | None) -> Delivery:
         delivery = Delivery(len(self.deliveries), position, packet.told, latest)
         self.deliveries.append(delivery)
         self.ends.append(max(packet.end, self.ends[-1] if self.ends else 0))

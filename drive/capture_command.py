@@ -4,13 +4,14 @@ from __future__ import annotations
 import argparse
 import os
 import sys
-from typing import List, Sequence
+from collections.abc import Sequence
 
-from drive.captured import CaptureRecord, record_of
-from drive.ending import NOT_DRIVEN, SAFE, UNSAFE, ended
+from smblease.program import Verdict, find_program, judge
+
+from drive.capture_record import CaptureRecord, record_of
+from drive.commands import NOT_DRIVEN, SAFE, UNSAFE, ended, write_text
 from drive.faults import DriveFault, Usage
 from drive.packets import read_capture
-from drive.program import OWN, Verdict, judged
 
 EPILOG = """The record is printed, and after it the verdict as a line `# safe` or `# unsafe PLACE RULE` with the packets that
 show it, so that all of it is still a record. With --record it goes to a file, and the verdict and all other findings are
@@ -21,6 +22,7 @@ Exit status: 0 the record is safe; 1 the capture can't be read, or there is no S
 
 
 def parser() -> argparse.ArgumentParser:
+    """What the command line is."""
     made = argparse.ArgumentParser(prog="drive/capture", description="Makes a record of a capture of SMB 2.1, and judges it.",
                                    epilog=EPILOG, formatter_class=argparse.RawDescriptionHelpFormatter)
     made.add_argument("capture", metavar="FILE", help="a capture that tshark reads, as pcapng")
@@ -29,11 +31,11 @@ def parser() -> argparse.ArgumentParser:
                       help="where it was made; at a server, which is presumed, it only bounds when clients took messages")
     made.add_argument("--port", metavar="PORT", type=int, action="append", default=[],
                       help="a port of a server, in addition to 445 and 139; may be given more than once")
-    made.add_argument("--leasecheck", metavar="PATH", default=OWN, help="the program leasecheck")
+    made.add_argument("--leasecheck", metavar="PATH", default=find_program(), help="the program leasecheck")
     return made
 
 
-def told(record: CaptureRecord, verdict: Verdict) -> List[str]:
+def told(record: CaptureRecord, verdict: Verdict) -> list[str]:
     """The verdict, and what is believed where it is unsafe."""
     if verdict.rule is None:
         return [verdict.text]
@@ -41,34 +43,32 @@ def told(record: CaptureRecord, verdict: Verdict) -> List[str]:
 
 
 def text_of(record: CaptureRecord) -> str:
+    """A record with its remarks."""
     return "".join(f"{it}\n" for it in record.lines())
 
 
-def sets_told(record: CaptureRecord, program: str) -> List[str]:
+def sets_told(record: CaptureRecord, program: str) -> list[str]:
     """A verdict for each set of clients that share files, where there are several. Its place is that in the set's facts."""
     parts = record.sets()
-    lines: List[str] = []
+    lines: list[str] = []
     for part in parts if len(parts) > 1 else []:
-        first, *others = told(part, judged(program, text_of(part)))
+        first, *others = told(part, judge(program, text_of(part)))
         lines += [f"{part.head[0]}: {first}", *others]
     return lines
 
 
-def main(arguments: argparse.Namespace) -> int:
+def _judge(arguments: argparse.Namespace) -> int:
+    """Prints the record and its verdict; the status."""
     if any(not 0 < port < 65536 for port in arguments.port):
         raise Usage("--port is a number from 1 to 65535")
     if not os.path.isfile(arguments.capture):
         raise DriveFault(f"{arguments.capture}: no such file")
-    record = record_of(read_capture(arguments.capture, arguments.port), arguments.leasecheck, arguments.at == "client")
+    record = record_of(read_capture(arguments.capture, arguments.port), arguments.at == "client")
     text = text_of(record)
-    verdict = judged(arguments.leasecheck, text)
+    verdict = judge(arguments.leasecheck, text)
     said = [*told(record, verdict), *sets_told(record, arguments.leasecheck)]
     if arguments.record:
-        try:
-            with open(arguments.record, "w", encoding="utf-8") as stream:
-                stream.write(text)
-        except OSError as fault:
-            raise DriveFault(f"{arguments.record}: {fault.strerror}") from None
+        write_text(arguments.record, text)
         sys.stdout.write("".join(f"{it}\n" for it in (*said, *record.head, *record.notes)))
     else:
         sys.stdout.write(text + "".join(f"# {it}\n" for it in said))
@@ -77,5 +77,6 @@ def main(arguments: argparse.Namespace) -> int:
     return SAFE if verdict.is_safe else NOT_DRIVEN
 
 
-def run(words: Sequence[str]) -> int:
-    return ended(parser(), main, words)
+def main(words: Sequence[str] | None = None) -> int:
+    """The command; its status."""
+    return ended(parser(), _judge, words)

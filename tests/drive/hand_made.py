@@ -1,6 +1,7 @@
 """Captures that are made by hand, packet by packet: TCP connections on loopback, and SMB2 messages on them."""
+from __future__ import annotations
+
 import struct
-from typing import List, Optional
 
 SERVER = 445
 PENDING = 0x103
@@ -19,12 +20,12 @@ def file_id(number: int) -> bytes:
 def message(command: int, body: bytes, identifier: int = 1, status: int = 0, answers: bool = False, related: bool = False,
             tree: int = 5) -> bytes:
     flags = (1 if answers else 0) | (RELATED if related else 0)
-    return b"\xfeSMB" + struct.pack("<HHLHHLLQLLQ", 64, 0, status, command, 1, flags,
-                                    0, identifier, 0, tree, 9) + bytes(16) + body
+    head = struct.pack("<HHLHHLLQLLQ", 64, 0, status, command, 1, flags, 0, identifier, 0, tree, 9)
+    return b"\xfeSMB" + head + bytes(16) + body
 
 
-def compound(messages: List[bytes]) -> bytes:
-    """Messages in one: each but the last is padded to a multiple of 8, and tells where the next begins."""
+def compound(messages: list[bytes]) -> bytes:
+    """Messages in one: each but the last is padded to a multiple of 8, and says where the next begins."""
     text = b""
     for one in messages[:-1]:
         padded = one + bytes(-len(one) % 8)
@@ -34,8 +35,8 @@ def compound(messages: List[bytes]) -> bytes:
 
 def lease(key: int, state: int, flags: int = 0) -> bytes:
     """The context RqLs (docs/FORMATS.md, "Canonical text")."""
-    return struct.pack("<LHHHHL", 0, 16, 4, 0, 24, 32) + b"RqLs" + bytes(4) + \
-                       bytes([key] * 16) + struct.pack("<LLQ", state, flags, 0)
+    data = bytes([key] * 16) + struct.pack("<LLQ", state, flags, 0)
+    return struct.pack("<LHHHHL", 0, 16, 4, 0, 24, 32) + b"RqLs" + bytes(4) + data
 
 
 def negotiate(guid: int) -> bytes:
@@ -125,16 +126,16 @@ class Made:
     """A capture. Packets are numbered from 1, and a hundredth of a second apart."""
 
     def __init__(self) -> None:
-        self._packets: List[bytes] = []
-        self._whole: List[int] = []
+        self._packets: list[bytes] = []
+        self._whole: list[int] = []
 
     def packet(self, source: int, target: int, sequence: int, acknowledged: int, flags: int, payload: bytes = b"",
-               kept: Optional[int] = None) -> int:
+               kept: int | None = None) -> int:
         tcp = struct.pack(">HHLLBBHHH", source, target, sequence, acknowledged, 5 << 4, flags, 65535, 0, 0) + payload
         loopback = bytes([127, 0, 0, 1])
-        ip = struct.pack(">BBHHHBBH", 0x45, 0, 20 + len(tcp), len(self._packets), 0, 64, 6, 0) + loopback * 2 + tcp
-        self._whole.append(len(ip))
-        self._packets.append(ip[:kept] if kept else ip)
+        datagram = struct.pack(">BBHHHBBH", 0x45, 0, 20 + len(tcp), len(self._packets), 0, 64, 6, 0) + loopback * 2 + tcp
+        self._whole.append(len(datagram))
+        self._packets.append(datagram[:kept] if kept else datagram)
         return len(self._packets)
 
     def data(self) -> bytes:
@@ -153,14 +154,14 @@ class Line:
             made.packet(port, SERVER, 0, 0, 2)
             made.packet(SERVER, port, 0, 1, 0x12)
 
-    def asks(self, *messages: bytes, had: Optional[int] = None) -> int:
-        """The client sends messages; `had` is what its host had of the server's bytes, all that was sent unless told."""
+    def asks(self, *messages: bytes, had: int | None = None) -> int:
+        """The client sends messages; `had` is what its host had of the server's bytes, all that was sent unless this is given."""
         return self._goes(True, messages, had)
 
     def answers(self, *messages: bytes) -> int:
         return self._goes(False, messages, None)
 
-    def ends(self, had: Optional[int] = None) -> int:
+    def ends(self, had: int | None = None) -> int:
         return self._made.packet(self._port, SERVER, self.sent[True], had or self.sent[False], FIN)
 
     def cut(self, kept: int, one: bytes) -> int:
@@ -174,7 +175,7 @@ class Line:
         """Bytes of the client that aren't in the capture."""
         self.sent[True] += length
 
-    def _goes(self, by_client: bool, messages: "tuple[bytes, ...]", had: Optional[int]) -> int:
+    def _goes(self, by_client: bool, messages: tuple[bytes, ...], had: int | None) -> int:
         payload = b"".join(struct.pack(">L", len(one)) + one for one in messages)
         source, target = (self._port, SERVER) if by_client else (SERVER, self._port)
         sequence = self.sent[by_client]
@@ -187,7 +188,7 @@ class Line:
         self.asks(tree_connect())
         self.answers(tree_connected())
 
-    def opens(self, identifier: int, number: int, key: int, state: int, asked: Optional[int] = None, name: str = "f") -> int:
+    def opens(self, identifier: int, number: int, key: int, state: int, asked: int | None = None, name: str = "f") -> int:
         """Opens a file with a lease, and reads it, so that the grant is known to be taken; the packet of the grant."""
         self.asks(create(identifier, name, lease(key, state if asked is None else asked)))
         packet = self.answers(created(identifier, number, lease(key, state)))

@@ -2,16 +2,19 @@
 from __future__ import annotations
 
 import random
+import uuid
+from collections.abc import Callable
 from dataclasses import dataclass
-from typing import Callable, Dict, List, Tuple
 
-from drive.peers import Link, Peer
-from drive.schedules import Event, EventKind, Schedule
-from drive.world import World
+from smblease.schedules import Event, EventKind, Schedule
+from smblease.world import Link
+
+from drive.driver import Driver
+from drive.peers import DrivenPeer
 
 FILE = b"abc"
 MOST_CLIENTS = 3
-BLIND_WEIGHTS: Dict[EventKind, float] = {
+BLIND_WEIGHTS: dict[EventKind, float] = {
     EventKind.OPEN: 3, EventKind.CLOSE: 1, EventKind.READ: 2, EventKind.FLUSH: 0.5, EventKind.WRITE: 2,
     EventKind.SERVE: 8, EventKind.TAKE: 8, EventKind.CUT: 0.6, EventKind.NOTICE: 1, EventKind.CONNECT: 1,
     EventKind.EXPIRE: 0.5, EventKind.SCAVENGE: 0.2,
@@ -23,18 +26,18 @@ class Temper:
     """What a schedule likes to do: how often its rarer events come, how soon each client opens files and takes what was sent
     to it, and what files are opened for."""
 
-    opens: Tuple[float, ...]
-    takes: Tuple[float, ...]
+    opens: tuple[float, ...]
+    takes: tuple[float, ...]
     closes: float
     cuts: float
     timers: float
     durable: float
-    wants: Tuple[str, ...]
-    accesses: Tuple[str, ...]
-    shares: Tuple[str, ...]
+    wants: tuple[str, ...]
+    accesses: tuple[str, ...]
+    shares: tuple[str, ...]
 
 
-def temper(chance: random.Random) -> Temper:
+def drawn_temper(chance: random.Random) -> Temper:
     return Temper(
         opens=tuple(chance.choice((0.2, 1.0, 3.0)) for _ in range(MOST_CLIENTS)),
         takes=tuple(chance.choice((0.5, 2.0, 6.0)) for _ in range(MOST_CLIENTS)),
@@ -53,14 +56,15 @@ class Chooser:
 
     def __init__(self, chance: random.Random) -> None:
         self._chance = chance
-        self._temper = temper(chance)
+        self._temper = drawn_temper(chance)
         self._written = 0
         self.clients = chance.choice((2, 2, MOST_CLIENTS))
         self.files = chance.choice((1, 1, 1, 1, 2))
         self.length = chance.randint(30, 80)
 
     def setup(self) -> Schedule:
-        guids = tuple(bytes([16 * number + number]) * 16 for number in range(1, self.clients + 1))
+        """The files and clients, without events."""
+        guids = tuple(uuid.UUID(bytes=bytes([16 * number + number]) * 16) for number in range(1, self.clients + 1))
         return Schedule(self.files * (FILE,), guids, ())
 
     def blind(self) -> Event:
@@ -72,19 +76,19 @@ class Chooser:
         kind = self._chance.choices(list(weights), list(weights.values()))[0]
         return self._event(kind, self._chance.randint(1, self.clients))
 
-    def guided(self, world: World) -> Event:
+    def guided(self, driver: Driver) -> Event:
         """An event that applies as things stand, or may."""
-        events: List[Tuple[EventKind, int]] = []
-        weights: List[float] = []
-        for client, peer in world.peers.items():
-            others = [it for number, it in world.peers.items() if number != client]
+        events: list[tuple[EventKind, int]] = []
+        weights: list[float] = []
+        for client, peer in driver.peers.items():
+            others = [it for number, it in driver.peers.items() if number != client]
             for kind, weight in self._possible(client, peer, others).items():
                 if weight:
                     events.append((kind, client))
                     weights.append(weight)
         return self._event(*self._chance.choices(events, weights)[0])
 
-    def _possible(self, client: int, peer: Peer, others: List[Peer]) -> Dict[EventKind, float]:
+    def _possible(self, client: int, peer: DrivenPeer, others: list[DrivenPeer]) -> dict[EventKind, float]:
         """What a client may do, with its weight. A server has most to decide where a client that is alone with a file loses
         its connection, and where another one opens what it left."""
         likes = self._temper
@@ -106,23 +110,23 @@ class Chooser:
         }
 
     def _event(self, kind: EventKind, client: int) -> Event:
-        words: Dict[EventKind, Callable[[], Tuple[str, ...]]] = {
+        words: dict[EventKind, Callable[[], tuple[str, ...]]] = {
             EventKind.OPEN: self._open, EventKind.WRITE: self._write, EventKind.CLOSE: self._file,
             EventKind.READ: self._file, EventKind.FLUSH: self._file, EventKind.EXPIRE: self._file,
             EventKind.SCAVENGE: self._file,
         }
         return Event(kind, client, words[kind]() if kind in words else ())
 
-    def _file(self) -> Tuple[str, ...]:
+    def _file(self) -> tuple[str, ...]:
         return (str(self._chance.randint(1, self.files)),)
 
-    def _open(self) -> Tuple[str, ...]:
+    def _open(self) -> tuple[str, ...]:
         likes = self._temper
         words = (*self._file(), self._chance.choice(likes.accesses), self._chance.choice(likes.shares),
                  self._chance.choice(likes.wants))
         return (*words, "durable") if self._chance.random() < likes.durable else words
 
-    def _write(self) -> Tuple[str, ...]:
+    def _write(self) -> tuple[str, ...]:
         """Each write has a byte of its own, so that a file shows whose write it has."""
         self._written = self._written % 200 + 1
         return (*self._file(), str(self._chance.randint(0, 3)), f"{self._written:02x}")

@@ -1,28 +1,33 @@
 """The record of a capture, with remarks that lead back to its packets."""
 from __future__ import annotations
 
+import uuid
 from dataclasses import dataclass
-from typing import Dict, List, Optional, Set, Tuple
+from functools import reduce
+from operator import or_
+
+from smblease.lines import digits
+from smblease.values import LeaseState
 
 from drive.beliefs import Placed, Search
+from drive.capture_state import MOST, Connection, File
+from drive.capture_walk import Fact, Walk
 from drive.packets import Capture
-from drive.schedules import digits
-from drive.shown import NONE, Shower, State, word_of
-from drive.sightings import MOST, Connection, File
-from drive.walking import Fact, Walk
 
-CANT = ("A capture shows no cached read, no buffered write, and not what applications were answered: so rules 2 and 3, and that half",
-        "of rule 4, aren't judged. What clients believed of their leases is judged by rule 1.")
+CANT = ("A capture shows no cached read, no buffered write, and not what applications were answered: so rules 2 and 3, and that",
+        "half of rule 4, aren't judged. What clients believed of their leases is judged by rule 1.")
 
 
 @dataclass(frozen=True)
 class CaptureRecord:
-    facts: Tuple[Fact, ...]
-    numbers: Dict[File, int]
-    head: Tuple[str, ...]
-    notes: Tuple[str, ...]
+    """Facts and files, what is said at the head, and what else was found."""
 
-    def lines(self) -> List[str]:
+    facts: tuple[Fact, ...]
+    numbers: dict[File, int]
+    head: tuple[str, ...]
+    notes: tuple[str, ...]
+
+    def lines(self) -> list[str]:
         """The record, in which the numbers of files go on where it is a part."""
         lines = [f"# {it}" for it in (*self.head, *self.notes)]
         for file, number in self.numbers.items():
@@ -32,15 +37,17 @@ class CaptureRecord:
         return lines
 
     def text(self, fact: Fact) -> str:
+        """A fact with the number of its file."""
         return fact.text.replace("{file}", str(self.numbers[fact.file])) if fact.file else fact.text
 
     def client(self, fact: Fact) -> int:
+        """The client of a fact."""
         words = fact.text.split(" ")
         return int(words[2 if words[0] in ("opened", "changed") else 1])
 
-    def sets(self) -> List["CaptureRecord"]:
+    def sets(self) -> list[CaptureRecord]:
         """The record in parts: of clients that share files, and of those files."""
-        groups: List[Tuple[Set[int], Set[File]]] = []
+        groups: list[tuple[set[int], set[File]]] = []
         for fact in self.facts:
             if fact.file is None:
                 continue
@@ -54,15 +61,15 @@ class CaptureRecord:
             groups = [*apart, (clients, files)]
         return [self._part(clients, files) for clients, files in sorted(groups, key=lambda it: min(it[0]))]
 
-    def _part(self, clients: Set[int], files: Set[File]) -> "CaptureRecord":
+    def _part(self, clients: set[int], files: set[File]) -> CaptureRecord:
         facts = tuple(it for it in self.facts if self.client(it) in clients and (it.file is None or it.file in files))
         names = ", ".join(dict.fromkeys(file.told for file in self.numbers if file in files))
         head = f"client{'s' if len(clients) > 1 else ''} {', '.join(str(it) for it in sorted(clients))} with {names}"
         return CaptureRecord(facts, {file: number for file, number in self.numbers.items() if file in files}, (head,), ())
 
-    def told_at(self, place: int) -> List[str]:
+    def told_at(self, place: int) -> list[str]:
         """What is believed at a place of the record, with the packets that show it."""
-        beliefs: Dict[Tuple[str, str], Fact] = {}
+        beliefs: dict[tuple[str, str], Fact] = {}
         facts = self.facts[:place - len(self.numbers)]
         for fact in facts:
             words = self.text(fact).split(" ")
@@ -79,8 +86,9 @@ def _bytes_told(file: File, number: int) -> str:
     return f"file {number} is {file.told}: {known}"
 
 
-def record_of(capture: Capture, program: str, at_client: bool) -> CaptureRecord:
-    walk = Walk(Shower(program), at_client)
+def record_of(capture: Capture, at_client: bool) -> CaptureRecord:
+    """The record of a capture."""
+    walk = Walk(at_client)
     for packet in capture.packets:
         walk.goes(packet)
     numbers = _numbers(walk)
@@ -94,13 +102,13 @@ def record_of(capture: Capture, program: str, at_client: bool) -> CaptureRecord:
             facts += _beliefs(file, placed)
     for connection in walk.connections.values():
         facts += _taken(connection)
-    notes += [f"{it.packet.told}: the break of {it.told.key} from {word_of(it.told.held)} to {word_of(it.told.left)} to client "
+    notes += [f"{it.packet.told}: the break of {it.notice.key} from {it.notice.current} to {it.notice.new} to client "
               f"{it.client.number} is never acknowledged" for it in walk.breaks if not it.is_answered]
     ordered = sorted(facts, key=lambda it: (it.position, it.rank))
     return CaptureRecord(tuple(ordered), numbers, tuple(_head(capture, walk, at_client)), tuple(notes))
 
 
-def _numbers(walk: Walk) -> Dict[File, int]:
+def _numbers(walk: Walk) -> dict[File, int]:
     """The files of a record: all of them, or those with leases first where there are too many."""
     files = walk.files
     if len(files) > MOST:
@@ -109,27 +117,27 @@ def _numbers(walk: Walk) -> Dict[File, int]:
     return {file: number for number, file in enumerate(files, 1)}
 
 
-def _beliefs(file: File, placed: List[Placed]) -> List[Fact]:
+def _beliefs(file: File, placed: list[Placed]) -> list[Fact]:
     """What each client believes, which may have leases under several keys."""
-    states: Dict[int, Dict[str, State]] = {}
-    facts: List[Fact] = []
+    states: dict[int, dict[uuid.UUID, LeaseState]] = {}
+    facts: list[Fact] = []
     for one in placed:
         keys = states.setdefault(one.chain.client, {})
-        held = NONE.union(*keys.values())
+        held = reduce(or_, keys.values(), LeaseState.NONE)
         keys[one.chain.key] = one.turn.state
         if one.turn.delivery and not one.turn.is_doubt:
             one.turn.delivery.taken = one.position
-        state = NONE.union(*keys.values())
+        state = reduce(or_, keys.values(), LeaseState.NONE)
         if state != held or not one.turn.is_doubt and one.turn.delivery:
-            text = f"believes {one.chain.client} {{file}} {word_of(state)}"
+            text = f"believes {one.chain.client} {{file}} {state}"
             facts.append(Fact(one.position, 5, text, one.turn.told, file))
     return facts
 
 
-def _taken(connection: Connection) -> List[Fact]:
+def _taken(connection: Connection) -> list[Fact]:
     """Messages are taken in their order: each no later than what came behind it."""
-    facts: List[Fact] = []
-    latest: Optional[int] = None
+    facts: list[Fact] = []
+    latest: int | None = None
     for delivery in reversed(connection.deliveries):
         place = delivery.taken if delivery.taken is not None else delivery.latest
         if place is not None:
@@ -140,7 +148,7 @@ def _taken(connection: Connection) -> List[Fact]:
     return facts[::-1]
 
 
-def _head(capture: Capture, walk: Walk, at_client: bool) -> List[str]:
+def _head(capture: Capture, walk: Walk, at_client: bool) -> list[str]:
     side = "at a client: it shows when clients took messages" if at_client \
         else "at a server: it only bounds when clients took messages"
     head = [*CANT, f"The capture is taken as one {side} (--at)."]

@@ -2,17 +2,17 @@
 from __future__ import annotations
 
 import logging
-import uuid
+from collections.abc import Callable, Iterator
 from contextlib import closing, contextmanager
 from dataclasses import dataclass, field
-from typing import Callable, Dict, Iterator, List, Optional
+
+from smblease.processes import LineClients, Speaker, client_process
+from smblease.program import Verdict, judge, replay
+from smblease.schedules import Event, EventKind, Schedule
 
 from drive.driver import Driver, files_made, files_removed
 from drive.faults import Undrivable
-from drive.machine import ClientProcess, Machines, Speaker
-from drive.program import Verdict, judged, replayed
 from drive.records import Order, Record
-from drive.schedules import Event, EventKind, Schedule
 from drive.servers import Server
 
 LOG = logging.getLogger("drive")
@@ -22,24 +22,29 @@ Filter = Callable[[Speaker], Speaker]
 
 @dataclass
 class Outcome:
+    """What a run has come to."""
+
     record: Record
-    verdicts: Dict[Order, Verdict] = field(default_factory=dict)
+    verdicts: dict[Order, Verdict] = field(default_factory=dict)
     # the events that did something, and what was left out
-    applied: List[Event] = field(default_factory=list)
-    skipped: List[str] = field(default_factory=list)
-    # how many facts there were behind each event
-    counts: List[int] = field(default_factory=list)
+    applied: list[Event] = field(default_factory=list)
+    skipped: list[str] = field(default_factory=list)
+    # how many facts there were after each event
+    counts: list[int] = field(default_factory=list)
 
     @property
     def verdict(self) -> Verdict:
+        """The verdict, with breaks before answers."""
         return self.verdicts[Order.BREAKS_FIRST]
 
     @property
-    def rule(self) -> Optional[int]:
+    def rule(self) -> int | None:
+        """The rule that is broken then."""
         return self.verdict.rule
 
     @property
     def orders_differ(self) -> bool:
+        """Whether the verdict depends on the order within a step."""
         return len({it.text for it in self.verdicts.values()}) > 1
 
 
@@ -50,9 +55,10 @@ class Runner:
     program: str
     server: Callable[[], Server]
     skip: bool = False
-    filtered: Optional[Filter] = None
+    filtered: Filter | None = None
 
     def run(self, schedule: Schedule) -> Outcome:
+        """Drives a whole schedule."""
         with self.driving(schedule) as driver:
             outcome = Outcome(driver.record)
             for event in schedule.events:
@@ -60,6 +66,7 @@ class Runner:
         return self.judged(outcome)
 
     def happens(self, driver: Driver, event: Event, outcome: Outcome) -> bool:
+        """Has an event happen; whether it did anything."""
         try:
             applied = driver.happens(event)
         except Undrivable as fault:
@@ -74,20 +81,21 @@ class Runner:
         return applied
 
     def judged(self, outcome: Outcome) -> Outcome:
+        """The outcome with its verdicts."""
         texts = {order: outcome.record.text(order) for order in Order}
-        verdicts = {text: judged(self.program, text) for text in set(texts.values())}
+        verdicts = {text: judge(self.program, text) for text in set(texts.values())}
         outcome.verdicts = {order: verdicts[text] for order, text in texts.items()}
         return outcome
 
     @contextmanager
     def driving(self, schedule: Schedule) -> Iterator[Driver]:
-        """A driver of a fresh run, of which nothing is left behind it."""
+        """A driver of a fresh run, of which nothing is left afterwards."""
         server = self.server()
         try:
             files_made(schedule, server)
             try:
-                with closing(self._machines(schedule)) as machines, \
-                        closing(Driver(schedule, server, machines, self._known_opens(schedule))) as driver:
+                with closing(self._clients(schedule)) as clients, \
+                        closing(Driver(schedule, server, clients, self._known_opens(schedule))) as driver:
                     yield driver
             finally:
                 if server.stays:
@@ -99,9 +107,8 @@ class Runner:
         """How many opens there are where the schedule is replayed, by which its raw lines can name them."""
         if all(event.kind is not EventKind.RAW for event in schedule.events):
             return 0
-        return sum(fact.startswith("opened ") for fact in replayed(self.program, schedule.text()))
+        return sum(fact.startswith("opened ") for fact in replay(self.program, schedule.text))
 
-    def _machines(self, schedule: Schedule) -> Machines:
-        guids = [str(uuid.UUID(bytes=it)) for it in schedule.clients]
-        speaker: Speaker = ClientProcess(self.program, len(schedule.files), guids)
-        return Machines(self.filtered(speaker) if self.filtered else speaker)
+    def _clients(self, schedule: Schedule) -> LineClients:
+        speaker: Speaker = client_process(self.program, schedule)
+        return LineClients(self.filtered(speaker) if self.filtered else speaker)

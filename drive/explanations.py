@@ -1,0 +1,158 @@
+"""Runs of a schedule on the model server, and which departures explain a record."""
+from __future__ import annotations
+
+from collections.abc import Sequence
+from contextlib import closing
+from dataclasses import dataclass
+from itertools import combinations
+
+from smblease.client import lease_key
+from smblease.processes import LineClients, client_process
+from smblease.program import replay
+from smblease.requests import Request
+from smblease.schedules import Schedule
+from smblease.world import Link, Peer, World
+
+from drive.model import Departure, Model
+from drive.records import Record
+
+NONE: frozenset[Departure] = frozenset()
+SOMETIMES = (Departure.LAST_FIRST, Departure.BY_ARRIVAL, Departure.KEPT_HOLDS, Departure.KEPT_ALONE)
+
+
+class ModelWorld(World[Peer]):
+    """A run on the model server."""
+
+    def __init__(self, schedule: Schedule, clients: LineClients, departures: frozenset[Departure]) -> None:
+        self.record = Record()
+        super().__init__(schedule, {number: Peer(guid) for number, guid in enumerate(schedule.clients, 1)}, clients, self.record)
+        self._model = Model(dict(enumerate(schedule.files, 1)), departures)
+        self._places = 0
+
+    def _served(self, client: int, request: Request) -> None:
+        self._places += 1
+        self._model.receive(client, request, self._places)
+        self._settle()
+
+    def _joined(self, client: int) -> None:
+        self._model.join(client)
+
+    def _dropped(self, client: int) -> None:
+        self._model.cut(client)
+        self._settle()
+
+    def _expire(self, client: int, file: int) -> bool:
+        keys_by_file = {it: (client, lease_key(self.peers[client].guid, it)) for it in self.files}
+        if not self._model.is_breaking(keys_by_file[file]):
+            return False
+        keys = self._model.expired_with(keys_by_file[file])
+        for expired, key in keys_by_file.items():
+            if key in keys:
+                self.record.fact(f"expired {client} {expired}")
+        self._model.expire(keys)
+        self._settle()
+        return True
+
+    def _scavenge(self, client: int, file: int) -> bool:
+        applied = self._model.scavenge(client, file)
+        self._settle()
+        return applied
+
+    def _settle(self) -> None:
+        arrivals = self._model.taken()
+        for arrival in arrivals:
+            peer = self.peers[arrival.client]
+            if peer.link is Link.UP:
+                peer.replies.append(arrival.reply)
+        self.record.step(arrivals)
+
+
+def facts_of(program: str, schedule: Schedule, departures: frozenset[Departure] = NONE) -> list[str]:
+    """The facts of a schedule on the model server, in the order of a driven record."""
+    with closing(LineClients(client_process(program, schedule))) as clients:
+        world = ModelWorld(schedule, clients, departures)
+        for event in schedule.events:
+            world.happens(event)
+        return world.record.facts()
+
+
+def alike(one: list[str], other: list[str]) -> int:
+    """How many facts are the same, from the first on."""
+    return next((place for place, (a, b) in enumerate(zip(one, other)) if a != b), min(len(one), len(other)))
+
+
+def explained(program: str, schedule: Schedule, facts: list[str]) -> frozenset[Departure] | None:
+    """The departures that give these facts, of which none can be left out; none where no set was found.
+
+    They are looked for one by one: the next is one that has the most facts from the first on come out as they should."""
+    chosen: frozenset[Departure] = NONE
+    reached = -1
+    while True:
+        if facts_of(program, schedule, chosen) == facts:
+            return _needed(program, schedule, facts, chosen)
+        tried = {it: facts_of(program, schedule, chosen | {it}) for it in Departure if it not in chosen}
+        if not tried:
+            return None
+        best = max(tried, key=lambda it: (tried[it] == facts, alike(tried[it], facts)))
+        now = alike(tried[best], facts)
+        if tried[best] != facts and now <= reached:
+            return _from_all(program, schedule, facts)
+        chosen, reached = chosen | {best}, now
+
+
+def _from_all(program: str, schedule: Schedule, facts: list[str]) -> frozenset[Departure] | None:
+    """Begins with all departures, but for some of those that smbd doesn't always show."""
+    for count in range(len(SOMETIMES) + 1):
+        for left_out in combinations(SOMETIMES, count):
+            chosen = frozenset(Departure) - frozenset(left_out)
+            if facts_of(program, schedule, chosen) == facts:
+                return _needed(program, schedule, facts, chosen)
+    return None
+
+
+def _needed(program: str, schedule: Schedule, facts: list[str], chosen: frozenset[Departure]) -> frozenset[Departure]:
+    for one in sorted(chosen, key=lambda it: it.name):
+        if facts_of(program, schedule, chosen - {one}) == facts:
+            chosen = chosen - {one}
+    return chosen
+
+
+@dataclass(frozen=True)
+class Likeness:
+    """What was found of a record: the departures that explain it, none at all where it is the profile's."""
+
+    departures: frozenset[Departure] | None
+
+    @property
+    def is_open(self) -> bool:
+        """Whether no explanation was found."""
+        return self.departures is None
+
+    @property
+    def word(self) -> str:
+        """`same`, `unexplained`, or the names of the departures."""
+        if self.departures is None:
+            return "unexplained"
+        return ",".join(sorted(it.name.lower() for it in self.departures)) or "same"
+
+
+def likeness_of(program: str, schedule: Schedule, facts: list[str], counts: Sequence[int] = ()) -> Likeness:
+    """What explains the facts of a record; `counts` say how many there were after each step."""
+    if is_replayed(facts, replay(program, schedule.text), counts):
+        return Likeness(NONE)
+    return Likeness(explained(program, schedule, facts))
+
+
+def is_replayed(facts: list[str], profile: list[str], counts: Sequence[int]) -> bool:
+    """Whether these are the profile's facts, where within a step those of each client are in order."""
+    steps = zip([0, *counts], [*counts, len(facts)])
+    return len(facts) == len(profile) and all(_by_client(facts[start:end]) == _by_client(profile[start:end])
+                                              for start, end in steps)
+
+
+def _by_client(facts: list[str]) -> dict[str, list[str]]:
+    found: dict[str, list[str]] = {}
+    for fact in facts:
+        words = fact.split(" ", 3)
+        found.setdefault(words[2 if words[0] in ("opened", "changed") else 1], []).append(fact)
+    return found

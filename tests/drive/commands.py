@@ -1,0 +1,48 @@
+"""Runs of the commands of drive/, with what has to be there for them."""
+from __future__ import annotations
+
+import subprocess
+from collections.abc import Callable, Sequence
+from pathlib import Path
+from typing import NamedTuple
+
+from smblease.faults import ToolFault
+
+from tests import needs
+from tests.paths import TOP, built_program
+
+TRIES = 3
+# smbd and who drives it; impacket and the clock of a private smbd are part of that.
+PRIVATE_SMBD = [needs.ROOT, needs.program("smbd"), needs.program("cc"), needs.package("impacket")]
+DEPARTURES = sorted(it.stem for it in (TOP / "drive" / "departures").iterdir())
+# What was found unsafe on an unmodified smbd, with the rule that is broken.
+FOUND = {"lease_outlives_its_open": 1, "write_beside_a_break_to_reads": 2, "opens_stay_when_a_break_times_out": 3}
+
+
+class Ran(NamedTuple):
+    status: int
+    out: str
+    faults: str
+
+
+def ran(command: str, words: Sequence[object], seconds: float = 60) -> Ran:
+    """drive/COMMAND with these words, and the program that was built from these sources."""
+    given = [str(TOP / "drive" / command), "--leasecheck", built_program(), *map(str, words)]
+    had = subprocess.run(given, capture_output=True, text=True, timeout=seconds, check=False)
+    return Ran(had.returncode, had.stdout, had.stderr)
+
+
+def facts_in(path: Path) -> list[str]:
+    """The facts of a record that is kept."""
+    return [it for it in path.read_text(encoding="ascii").splitlines() if it and not it.startswith("#")]
+
+
+def tried(check: Callable[[], None]) -> None:
+    """Makes a check that fails where it fails three times: smbd isn't always the same. What the first tries gave is printed."""
+    for _ in range(TRIES - 1):
+        try:
+            check()
+            return
+        except (AssertionError, ToolFault) as fault:
+            print(f"tried again: {fault}")
+    check()

@@ -1,0 +1,114 @@
+"""Schedules on a private smbd, which is started for each.
+
+- tests/schedules: where smbd does what docs/PROFILE.md says, the record is the one under tests/runs, letter by letter; where it
+  doesn't (DEPARTING), it is judged as said there.
+- drive/found: each is unsafe by its rule, in both orders of messages.
+- drive/departures: each is explained by the departure that it is named after, and no other (BESIDE names one).
+- Broken clients are found unsafe by the rule that they break; a server that is named is driven by its port; a schedule that
+  drive/explore draws is unsafe, and shrunk.
+"""
+from __future__ import annotations
+
+from pathlib import Path
+
+import pytest
+
+from smblease.schedules import Schedule
+
+from tests import needs
+from tests.drive import broken_clients
+from tests.drive.commands import DEPARTURES, FOUND, PRIVATE_SMBD, facts_in, ran, tried
+from tests.paths import SCHEDULES, TESTS, TOP, name_of
+
+pytest.importorskip("impacket", reason=f"there is no package impacket; {needs.INSTALLS}")
+# pylint: disable=wrong-import-position
+from drive.explanations import likeness_of  # noqa: E402
+from drive.exploration import Explorer  # noqa: E402
+from drive.runner import Filter, Outcome, Runner  # noqa: E402
+from drive.servers import PrivateServer  # noqa: E402
+
+pytestmark = PRIVATE_SMBD
+# Schedules in which smbd isn't the server of the profile, and the rule that the record breaks, if any.
+DEPARTING: dict[str, int | None] = {
+    "answer_of_a_create_lost": None, "break_holds_a_write": None, "break_timer": 3, "raw_requests": None,
+    "refused_requests": None, "replies_lost": None, "timer_while_asking": None, "two_files": None,
+}
+BESIDE = {"breaking_kept": ",given_back"}
+HERE = TESTS / "drive"
+BROKEN: list[tuple[Filter, Path, int]] = [
+    (broken_clients.GoesOnAfterItsAcknowledgment, TESTS / "schedules" / "break_answered", 1),
+    (broken_clients.IgnoresBreaks, HERE / "break_ignored.schedule", 2),
+    (broken_clients.KeepsItsBase, TESTS / "schedules" / "reconnect_reads_anew", 2),
+    (broken_clients.AcknowledgesFirst, TESTS / "schedules" / "break_answered", 3),
+    (broken_clients.SettlesOnSending, TESTS / "schedules" / "writes_that_cross", 4),
+]
+# Of this seed the schedule of this number is unsafe by this rule, and has at most so many events when it is shrunk.
+SEED, NUMBER, RULE, MOST = 1, 289, 3, 15
+
+
+@pytest.fixture
+def runner(program: str) -> Runner:
+    return Runner(program, PrivateServer, skip=True)
+
+
+def schedule_of(path: Path) -> Schedule:
+    return Schedule.read(path.read_text(encoding="ascii", errors="surrogateescape"))
+
+
+def expect(outcome: Outcome, rule: int | None) -> None:
+    """In both orders of messages it is unsafe by this rule, or safe where there is none."""
+    verdicts = list(outcome.verdicts.values())
+    assert [it.rule for it in verdicts] == [rule] * len(verdicts)
+    assert rule or all(it.is_safe for it in verdicts), verdicts
+
+
+@pytest.mark.parametrize("path", SCHEDULES, ids=name_of)
+def test_schedule(path: Path, runner: Runner) -> None:
+    def check() -> None:
+        outcome = runner.run(schedule_of(path))
+        if path.name not in DEPARTING:
+            assert outcome.record.facts() == facts_in(TESTS / "runs" / path.name)
+        expect(outcome, DEPARTING.get(path.name))
+    tried(check)
+
+
+@pytest.mark.parametrize("name", FOUND)
+def test_what_was_found(name: str, runner: Runner) -> None:
+    schedule = schedule_of(TOP / "drive" / "found" / f"{name}.schedule")
+    tried(lambda: expect(runner.run(schedule), FOUND[name]))
+
+
+@pytest.mark.parametrize("name", DEPARTURES)
+def test_departure(name: str, runner: Runner) -> None:
+    schedule = schedule_of(TOP / "drive" / "departures" / f"{name}.schedule")
+
+    def check() -> None:
+        facts = runner.run(schedule).record.facts()
+        assert likeness_of(runner.program, schedule, facts).word == name + BESIDE.get(name, "")
+    tried(check)
+
+
+@pytest.mark.parametrize(("client", "path", "rule"), BROKEN, ids=[getattr(it[0], "__name__") for it in BROKEN])
+def test_broken_client(client: Filter, path: Path, rule: int, program: str) -> None:
+    tried(lambda: expect(Runner(program, PrivateServer, filtered=client).run(schedule_of(path)), rule))
+
+
+def test_server_that_is_named() -> None:
+    def check() -> None:
+        server = PrivateServer()
+        try:
+            place = server.place
+            words = ["--server", f"{place.host}:{place.port}", "--share", place.share, "--user", f"{place.user}%{place.password}"]
+            had = ran("run", [*words, TESTS / "schedules" / "break_answered"])
+        finally:
+            server.close()
+        assert had == (0, (TESTS / "runs" / "break_answered").read_text(encoding="ascii"), "")
+    tried(check)
+
+
+def test_schedule_that_is_drawn_and_shrunk(program: str, tmp_path: Path) -> None:
+    def check() -> None:
+        row = Explorer(Runner(program, PrivateServer), SEED, str(tmp_path), True).explore(NUMBER)
+        assert row.verdict.endswith(f" {RULE}") and (row.left or MOST + 1) <= MOST, row
+        expect(Runner(program, PrivateServer).run(schedule_of(tmp_path / f"{NUMBER}.shrunk")), RULE)
+    tried(check)

@@ -1,0 +1,116 @@
+"""What of drive/ needs no server: orders of messages, texts of schedules, what is left of a shrunk one, the model server, and
+records that are kept."""
+from __future__ import annotations
+
+import random
+import uuid
+from pathlib import Path
+
+import pytest
+
+from smblease.outs import Changed, Opened
+from smblease.program import judge, replay
+from smblease.replies import Break, Closed, Created
+from smblease.schedules import Event, Schedule
+
+from tests import needs
+from tests.drive.commands import FOUND
+from tests.paths import SCHEDULES, TOP, name_of
+
+pytest.importorskip("impacket", reason=f"there is no package impacket; {needs.INSTALLS}")
+# pylint: disable=wrong-import-position
+from drive.connections import FileId  # noqa: E402
+from drive.explanations import facts_of  # noqa: E402
+from drive.explore_command import explored  # noqa: E402
+from drive.peers import DrivenPeer  # noqa: E402
+from drive.random_schedules import Chooser, blind_schedule  # noqa: E402
+from drive.records import Arrival, Order, Record, applied  # noqa: E402
+from drive.shrinking import shrunk  # noqa: E402
+
+NOTICE = Break(bytes(44))
+
+
+@pytest.fixture
+def step() -> Record:
+    """A step on three connections: client 1 got the answer to a close and then a break, client 2 a break, client 3 the answer to
+    a create and then a break."""
+    record = Record()
+    record.step([
+        Arrival(3, 1, Created(1, 9, b""), Opened(1, 3)), Arrival(2, 2, NOTICE), Arrival(1, 4, Closed(7)), Arrival(3, 3, NOTICE),
+        Arrival(1, 1, NOTICE),
+    ])
+    return record
+
+
+def test_breaks_before_answers(step: Record) -> None:
+    assert step.facts(Order.BREAKS_FIRST) == ["sent 1", "sent 1", "sent 2", "opened 1 3", "sent 3", "sent 3"]
+
+
+def test_breaks_after_answers(step: Record) -> None:
+    assert step.facts(Order.BREAKS_LAST) == ["sent 1", "opened 1 3", "sent 3", "sent 1", "sent 2", "sent 3"]
+
+
+def test_change_past_the_end() -> None:
+    assert applied(Changed(1, 1, 1, 4, b"Y"), b"abc") == b"abc\0Y"
+
+
+def test_change_of_nothing() -> None:
+    assert applied(Changed(1, 1, 1, 9, b""), b"abc") == b"abc"
+
+
+def test_what_is_left_of_a_schedule() -> None:
+    """A schedule stays what it was as long as events of three kinds are there."""
+    needed = [Event.read("connect 3"), Event.read("open 3 2 rw rw RWH"), Event.read("cut 3")]
+    others = [Event.read(f"read {client} 1") for client in (1, 2, 1, 2, 1, 3, 2, 1)]
+    events = (*others[:3], needed[0], *others[3:5], needed[1], *others[5:], needed[2])
+    clients = tuple(uuid.UUID(int=number) for number in (1, 2, 3))
+    kinds = {it.kind for it in needed}
+    left = shrunk(Schedule((b"a", b"b"), clients, events), lambda one: kinds <= {it.kind for it in one.events})
+    assert left.text == Schedule((b"b",), clients[2:], tuple(map(Event.read, ("connect 1", "open 1 1 rw rw RWH", "cut 1")))).text
+
+
+@pytest.mark.parametrize("path", SCHEDULES, ids=name_of)
+def test_text_of_a_schedule(path: Path, program: str) -> None:
+    text = path.read_text(encoding="ascii", errors="surrogateescape")
+    assert replay(program, Schedule.read(text).text) == replay(program, path.read_text(encoding="ascii", errors="replace"))
+
+
+@pytest.mark.parametrize("number", range(20))
+def test_random_schedule(number: int, program: str) -> None:
+    one, other = (blind_schedule(Chooser(random.Random(f"7:{number}"))) for _ in range(2))
+    assert one == other
+    assert replay(program, one.text)
+
+
+@pytest.mark.parametrize("path", SCHEDULES, ids=name_of)
+def test_model_server(path: Path, program: str) -> None:
+    """Without departures it has the facts of `leasecheck replay`, in whichever order within a step."""
+    text = path.read_text(encoding="ascii", errors="replace")
+    assert sorted(facts_of(program, Schedule.read(text))) == sorted(replay(program, text))
+
+
+@pytest.mark.parametrize("name", FOUND)
+def test_kept_record(name: str, program: str) -> None:
+    text = (TOP / "drive" / "found" / f"{name}.record").read_text(encoding="ascii")
+    assert judge(program, text).rule == FOUND[name]
+
+
+def test_table_that_was_cut_short(tmp_path: Path) -> None:
+    """`--resume` goes on after its last whole line."""
+    table = tmp_path / "table"
+    table.write_text("1 guided 3 2 safe same\n2 blind 4 2 safe same\n3 gui", encoding="ascii")
+    assert explored(str(table), True) == 2
+    assert table.read_text(encoding="ascii") == "1 guided 3 2 safe same\n2 blind 4 2 safe same\n"
+
+
+KEPT = {"smbd": (True, set(), {}), "profile": (False, {1}, {5: 1})}
+
+
+@pytest.mark.parametrize(("loses_kept", "kept", "kept_opens"), KEPT.values(), ids=KEPT)
+def test_kept_opens(loses_kept: bool, kept: set[int], kept_opens: dict[int, int]) -> None:
+    """What a client may have kept of a file that it opened, lost and opens again: on smbd none, by the profile the first one."""
+    peer = DrivenPeer(uuid.UUID(int=1), loses_kept=loses_kept)
+    peer.is_opened(1, FileId(5, 5))
+    peer.is_cut()
+    peer.is_opened(1, FileId(6, 6))
+    assert (peer.kept, peer.kept_opens) == (kept, kept_opens)
