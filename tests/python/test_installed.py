@@ -11,7 +11,8 @@ from tests import needs
 from tests.paths import EXAMPLE, TOP
 from tests.program.ran import BREAK, run
 
-pytestmark = [needs.package("setuptools"), needs.package("wheel"), needs.package("ensurepip"), pytest.mark.xdist_group("installed")]
+pytestmark = [pytest.mark.long, needs.package("setuptools"), needs.package("wheel"), needs.package("ensurepip"),
+              pytest.mark.xdist_group("installed")]
 COMMANDS = ("run", "explore", "compare", "capture", "serve", "torture")
 
 
@@ -26,7 +27,8 @@ def installed(tmp_path_factory: pytest.TempPathFactory) -> Path:
 
 
 def printed(words: list[object], folder: Path) -> str:
-    ended = subprocess.run(list(map(str, words)), cwd=folder, env={"PATH": "/usr/bin:/bin"}, capture_output=True, text=True, check=False)
+    ended = subprocess.run(list(map(str, words)), cwd=folder, env={"PATH": "/usr/bin:/bin"}, capture_output=True, text=True,
+                           check=False)
     assert ended.returncode == 0, ended.stderr
     return ended.stdout
 
@@ -39,7 +41,8 @@ def test_library(installed: Path, tmp_path: Path) -> None:
 def test_program(installed: Path, tmp_path: Path) -> None:
     program = "from smblease.program import find_program, replay; print('\\n'.join(replay(find_program(), open('schedule').read())))"
     (tmp_path / "schedule").write_bytes(EXAMPLE.read_bytes())
-    assert printed([installed / "python", "-c", program], tmp_path) == run(["replay", EXAMPLE]).out.decode().removesuffix("# safe\n")
+    assert printed([installed / "python", "-c", program], tmp_path) == run(["replay",
+                                                                            EXAMPLE]).out.decode().removesuffix("# safe\n")
 
 
 @pytest.mark.parametrize("command", COMMANDS)
