@@ -13,7 +13,6 @@ from tests.c.building import LEASECHECK, Ended, run
 KEY = bytes(range(16))
 # Small numbers in the places of headers lead to other faults than random ones.
 PLACES = (0, 8, 12, 16, 24, 40, 56, 64)
-EXAMPLES = 300
 
 
 def number(value: int, size: int) -> bytes:
@@ -83,10 +82,11 @@ def first_line_of_errors(done: Ended) -> Ended:
     return Ended(done.status, done.output, done.errors[:done.errors.find("\n") + 1])
 
 
+@pytest.mark.parametrize("count", [40, pytest.param(340, marks=pytest.mark.long)])
 @pytest.mark.parametrize("kind", MESSAGES)
-def test_damaged_texts(ack: Path, show: Path, kind: str) -> None:
-    """The texts are chosen by the name of the test, and so they are the same each time."""
-    @settings(max_examples=EXAMPLES * (2 if kind == "ask" else 1), derandomize=True, deadline=None, database=None,
+def test_damaged_texts(ack: Path, show: Path, kind: str, count: int) -> None:
+    """The texts are derived from the test alone, and so they are the same each time."""
+    @settings(max_examples=count, derandomize=True, deadline=None, database=None,
               suppress_health_check=list(HealthCheck))
     @given(damaged(MESSAGES[kind]))
     def same(text: bytes) -> None:

@@ -11,6 +11,8 @@ from tests.c.building import TOP, Ended, replayed, run, schedules
 LOST, TWICE_NO_MEMORY = 3, 4
 EXAMPLE = TOP / "examples/shared.txt"
 ALL_THAT_FOLLOW = 10 ** 9
+# Of these schedules each allocation is refused in a short run too.
+SHORT = {"shared.txt", "nothing_happens", "kept_open_broken", "cut_in_a_flush"}
 
 
 @pytest.mark.parametrize("schedule", schedules(), ids=lambda it: it.name)
@@ -27,7 +29,8 @@ def test_the_example_without_a_schedule(shared: Path, words: list[str]) -> None:
     assert run(shared, *words) == Ended(2, "", "usage: shared FILE (a schedule that can be read)\n")
 
 
-@pytest.mark.parametrize("schedule", schedules(), ids=lambda it: it.name)
+@pytest.mark.parametrize("schedule", [pytest.param(it, id=it.name, marks=[] if it.name in SHORT else [pytest.mark.long])
+                                      for it in schedules()])
 def test_each_allocation_refused(play_with_refusals: Path, tmp_path: Path, schedule: Path) -> None:
     """Each is refused alone, and with all that follow. The record is whole; or a machine is lost, which the program is told and at
     which the record ends; or there is no memory at a second try either."""
