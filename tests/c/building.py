@@ -9,7 +9,8 @@ import subprocess
 from dataclasses import dataclass
 from pathlib import Path
 
-TOP = Path(__file__).resolve().parents[2]
+from tests.paths import TOP
+
 CC = os.environ.get("CC", "cc")
 CXX = os.environ.get("CXX", "c++")
 LIBRARY = TOP / "out/c/libsmblease.a"
@@ -62,7 +63,3 @@ def replayed(schedule: Path) -> str:
     facts, _, verdict = done.output.rpartition("# safe")
     assert (done.status, verdict) == (0, "\n"), done
     return facts
-
-
-def schedules() -> list[Path]:
-    return [TOP / "examples/shared.txt", *sorted((TOP / "tests/schedules").iterdir())]

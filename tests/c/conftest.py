@@ -39,4 +39,5 @@ def play(folder: Path) -> Path:
 @pytest.fixture(scope="session")
 def play_with_refusals(tmp_path_factory: pytest.TempPathFactory, folder: Path) -> Path:
     assert folder
-    return building.program(tmp_path_factory.mktemp("refusing"), "tests/c/play.c", "tests/c/refuse_calls.c", flags=building.WRAPPED)
+    sources = ("tests/c/play.c", "tests/c/refuse_calls.c")
+    return building.program(tmp_path_factory.mktemp("refusing"), *sources, flags=building.WRAPPED)

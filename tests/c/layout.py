@@ -1,8 +1,8 @@
 """The structs that the library shares with C, read from the declarations that are proved.
 
-Each such struct is declared in a crate that is a static library, with `repr(C)`. From that declaration come the names, types and
-places of its fields, as C lays them out. The name in C is the one in the table below, or else a word of the declaration's comment:
-`struct NAME`.
+Each such struct is declared in a crate that is a static library, with `repr(C)`. From that declaration come the names, types
+and places of its fields, as C lays them out. The name in C is the one in the table below, or else a word of the declaration's
+comment: `struct NAME`.
 """
 from __future__ import annotations
 
@@ -12,7 +12,8 @@ from collections.abc import Iterator, Sequence
 from dataclasses import dataclass
 from pathlib import Path
 
-TOP = Path(__file__).resolve().parents[2]
+from tests.paths import TOP
+
 # (the library is built for processors whose pointers have 8 bytes)
 SIZES = {"u8": 1, "u16": 2, "u32": 4, "u64": 8, "usize": 8, "*mut u8": 8}
 # The structs of the machines' handles. Some are declared in both crates, and have to be the same there.
@@ -87,7 +88,8 @@ def places(fields_of_one: list[Field]) -> tuple[list[int], int]:
 
 def declared_in(headers: Sequence[Path]) -> list[str]:
     """The structs that the headers declare."""
-    return sorted(name for it in headers for name in re.findall(r"^struct (smblease_\w+) \{", it.read_text(encoding="utf-8"), re.M))
+    text = "".join(it.read_text(encoding="utf-8") for it in headers)
+    return sorted(re.findall(r"^struct (smblease_\w+) \{", text, re.M))
 
 
 def assertions(headers: Sequence[Path]) -> str:

@@ -1,4 +1,5 @@
 """Two programs in C and `leasecheck` say the same of damaged texts, on both streams and by their status."""
+# pylint: disable=no-value-for-parameter  # hypothesis passes what pylint misses
 from __future__ import annotations
 
 from pathlib import Path
@@ -57,7 +58,7 @@ MESSAGES = {"acknowledge": break_message(), "break": break_message(), "ask": con
 
 @some.composite
 def damaged(draw: Any, message: Any) -> bytes:
-    """Up to three of: a byte or a bit changed, bytes lost or added, the end cut off, a small number in the place of another one."""
+    """Up to three of: a byte or a bit changed, bytes lost or added, the end cut off, a small number put in."""
     text = bytearray(draw(message))
     for _ in range(draw(some.integers(0, 3))):
         harm, place = draw(some.integers(0, 5)), draw(some.integers(0, max(0, len(text) - 1)))
@@ -90,7 +91,7 @@ def test_damaged_texts(ack: Path, show: Path, kind: str, count: int) -> None:
               suppress_health_check=list(HealthCheck))
     @given(damaged(MESSAGES[kind]))
     def same(text: bytes) -> None:
-        words = [ack, text.hex()] if kind == "acknowledge" else [show, kind, text.hex()]
+        words: list[str | Path] = [ack, text.hex()] if kind == "acknowledge" else [show, kind, text.hex()]
         expected = ["ack", text.hex()] if kind == "acknowledge" else ["show", kind, text.hex()]
         assert first_line_of_errors(run(*words)) == first_line_of_errors(run(LEASECHECK, *expected))
     same()

@@ -5,17 +5,17 @@ from pathlib import Path
 
 import pytest
 
+from tests import needs
 from tests.c import layout
-from tests.c.building import CC, CXX, STRICT, TOP, Ended, has, run
+from tests.c.building import CC, CXX, STRICT, Ended, run
+from tests.paths import TOP
 
 HEADERS = sorted((TOP / "include").glob("*.h"))
-NO_CXX = pytest.mark.skipif(not has(CXX), reason=f"there is no C++ compiler {CXX}")
-NO_CC = pytest.mark.skipif(not has(CC), reason=f"there is no C compiler {CC}")
-STANDARDS = [*(pytest.param(CC, "c", it, id=it, marks=NO_CC) for it in ("c99", "c11", "c17", "c2x")),
-             *(pytest.param(CXX, "c++", it, id=it, marks=NO_CXX) for it in ("c++98", "c++17"))]
+STANDARDS = [*(pytest.param(CC, "c", it, id=it, marks=needs.program(CC)) for it in ("c99", "c11", "c17", "c2x")),
+             *(pytest.param(CXX, "c++", it, id=it, marks=needs.program(CXX)) for it in ("c++98", "c++17"))]
 
 
-@pytest.mark.parametrize("header", HEADERS, ids=lambda it: it.name)
+@pytest.mark.parametrize("header", [pytest.param(it, id=it.name) for it in HEADERS])
 @pytest.mark.parametrize("compiler, language, standard", STANDARDS)
 def test_a_header_alone(compiler: str, language: str, standard: str, header: Path) -> None:
     assert run(compiler, f"-std={standard}", *STRICT, "-fsyntax-only", "-x", language, header) == Ended(0, "")
@@ -33,7 +33,7 @@ def test_structs_of_the_headers_are_those_of_the_library() -> None:
     assert layout.declared_in(HEADERS) == sorted(layout.structs())
 
 
-@NO_CC
+@needs.program(CC)
 def test_structs_are_laid_out_as_the_library_has_them(tmp_path: Path) -> None:
     """The program has an assertion for each field, and doesn't compile where one fails."""
     source = tmp_path / "layout.c"

@@ -8,11 +8,10 @@ from pathlib import Path
 
 import pytest
 
-from tests.c.building import CC, TOP, Ended, has, made, run
+from tests import needs
+from tests.c.building import CC, Ended, made, run
 from tests.c.test_library import ACKNOWLEDGMENT, NOTIFICATION
-
-NO_PKG_CONFIG = pytest.mark.skipif(not has("pkg-config"), reason="there is no pkg-config")
-NO_READELF = pytest.mark.skipif(not has("readelf"), reason="there is no readelf")
+from tests.paths import TOP
 
 
 @pytest.fixture(scope="module")
@@ -32,33 +31,33 @@ def test_the_installed_program(prefix: Path) -> None:
     assert run(prefix / "bin/leasecheck", "ack", NOTIFICATION) == Ended(0, ACKNOWLEDGMENT)
 
 
-@NO_PKG_CONFIG
-@pytest.mark.skipif(not has(CC), reason=f"there is no C compiler {CC}")
+@needs.program("pkg-config")
+@needs.program(CC)
 def test_a_program_over_the_installed_library(prefix: Path, tmp_path: Path) -> None:
     flags = pkg_config(prefix, "--cflags", "--libs").output.split()
     assert run(CC, "-o", tmp_path / "ack", "examples/c/ack.c", *flags) == Ended(0, "")
     assert run(tmp_path / "ack", NOTIFICATION, variables={"LD_LIBRARY_PATH": f"{prefix}/lib"}) == Ended(0, ACKNOWLEDGMENT)
 
 
-@NO_PKG_CONFIG
+@needs.program("pkg-config")
 def test_pkg_config_knows_the_version(prefix: Path) -> None:
     header = (TOP / "include/smblease.h").read_text(encoding="utf-8")
     version = ".".join(re.findall(r"^#define SMBLEASE_VERSION_[A-Z]* (\d+)$", header, re.M))
     assert pkg_config(prefix, "--modversion") == Ended(0, f"{version}\n")
 
 
-@NO_PKG_CONFIG
+@needs.program("pkg-config")
 def test_pkg_config_knows_the_prefix(prefix: Path) -> None:
     assert pkg_config(prefix, "--cflags", "--libs").output.rstrip() == f"-I{prefix}/include -L{prefix}/lib -lsmblease"
 
 
-@NO_READELF
+@needs.program("readelf")
 def test_the_name_by_which_programs_find_the_library(prefix: Path) -> None:
     told = run("readelf", "-d", prefix / "lib/libsmblease.so").output
     assert re.findall(r"SONAME.*\[(.*)\]", told) == ["libsmblease.so.0"]
 
 
-@NO_READELF
+@needs.program("readelf")
 def test_no_other_names_are_given_out(prefix: Path) -> None:
     rows = [line.split() for line in run("readelf", "--dyn-syms", "-W", prefix / "lib/libsmblease.so").output.splitlines()]
     names = {row[7] for row in rows if len(row) >= 8 and row[0].rstrip(":").isdigit() and row[6] != "UND"}

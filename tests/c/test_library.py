@@ -5,7 +5,9 @@ from pathlib import Path
 
 import pytest
 
-from tests.c.building import CXX, STRICT, TOP, Ended, has, made, program, run
+from tests import needs
+from tests.c.building import CXX, STRICT, Ended, made, program, run
+from tests.paths import TOP
 
 KEY = "000102030405060708090a0b0c0d0e0f"
 NOTIFICATION = f"2c00000001000000{KEY}0700000003000000000000000000000000000000"
@@ -19,15 +21,15 @@ def test_make() -> None:
     assert run("out/c/leasecheck", "--help").status == 0
 
 
-# `fields` and `machine_fields` have each field of each struct, `messages` rooms, faults and odd numbers, `appended` contexts that are
-# appended one by one, `decisions` decisions on leases, and `nothing` handles that hold nothing.
+# `fields` and `machine_fields` have each field of each struct, `messages` rooms, faults and odd numbers, `appended` contexts that
+# are appended one by one, `decisions` decisions on leases, and `nothing` handles that hold nothing.
 @pytest.mark.parametrize("name", ["fields", "machine_fields", "messages", "appended", "decisions", "nothing"])
 def test_program(folder: Path, name: str) -> None:
     """Each prints what is wrong."""
     assert run(program(folder, f"tests/c/{name}.c")) == Ended(0, "")
 
 
-@pytest.mark.skipif(not has(CXX), reason=f"there is no C++ compiler {CXX}")
+@needs.program(CXX)
 def test_a_text_of_no_bytes_in_cxx(folder: Path) -> None:
     out = folder / "nothing_in_cxx"
     linked = run(CXX, "-std=c++11", *STRICT, "-Iinclude", "-o", out, "tests/c/nothing.cpp", "-Lout/c", "-lsmblease",

@@ -6,16 +6,17 @@ from pathlib import Path
 
 import pytest
 
-from tests.c.building import TOP, Ended, replayed, run, schedules
+from tests.c.building import Ended, replayed, run
+from tests.paths import EXAMPLE, SCHEDULES
 
+PLAYED = [pytest.param(it, id=it.name) for it in (EXAMPLE, *SCHEDULES)]
 LOST, TWICE_NO_MEMORY = 3, 4
-EXAMPLE = TOP / "examples/shared.txt"
 ALL_THAT_FOLLOW = 10 ** 9
 # Of these schedules each allocation is refused in a short run too.
 SHORT = {"shared.txt", "nothing_happens", "kept_open_broken", "cut_in_a_flush"}
 
 
-@pytest.mark.parametrize("schedule", schedules(), ids=lambda it: it.name)
+@pytest.mark.parametrize("schedule", PLAYED)
 def test_play(play: Path, schedule: Path) -> None:
     assert run(play, schedule) == Ended(0, replayed(schedule))
 
@@ -30,10 +31,10 @@ def test_the_example_without_a_schedule(shared: Path, words: list[str]) -> None:
 
 
 @pytest.mark.parametrize("schedule", [pytest.param(it, id=it.name, marks=[] if it.name in SHORT else [pytest.mark.long])
-                                      for it in schedules()])
+                                      for it in [EXAMPLE, *SCHEDULES]])
 def test_each_allocation_refused(play_with_refusals: Path, tmp_path: Path, schedule: Path) -> None:
-    """Each is refused alone, and with all that follow. The record is whole; or a machine is lost, which the program is told and at
-    which the record ends; or there is no memory at a second try either."""
+    """Each is refused alone, and with all that follow. The record is whole; or a machine is lost, which the program is told and
+    at which the record ends; or there is no memory at a second try either."""
     whole, note, ends = replayed(schedule), tmp_path / "calls", Counter[int]()
     assert run(play_with_refusals, schedule, variables={"REFUSED_NOTE": str(note)}) == Ended(0, whole)
     for number in range(1, int(note.read_text(encoding="ascii")) + 1):
