@@ -97,8 +97,9 @@ def server_reads() -> None:
         assert another.content(1) == b"abc"
 
 
-CASES = {it.__name__: it for it in (client_is_made, client_opens, client_writes, client_flushes, server_is_made, contexts_are_copied,
-                                    server_reads)}
+CASES = {it.__name__: it for it in (client_is_made, client_opens, client_writes, client_flushes,
+                                    server_is_made, contexts_are_copied, server_reads)}
+
 
 if __name__ == "__main__":
     CASES[sys.argv[1]]()

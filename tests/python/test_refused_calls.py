@@ -101,7 +101,8 @@ def test_a_file_of_1048576_bytes() -> None:
 CLIENT_CALLS: dict[str, tuple[Any, ...]] = {
     "connect": (), "notice": (), "open": (1, Access.READ, Share.READ, RW), "close_file": (1,), "read": (1,),
     "write": (1, 0, b"X"), "flush": (1,), "take_created": (1, 1, b""), "take_create_failed": (1, 1), "take_read_done": (1, b""),
-    "take_read_failed": (1, 1), "take_write_done": (1, 1), "take_write_failed": (1, 1, 1), "take_closed": (1,), "take_close_failed": (1, 1),
+    "take_read_failed": (1, 1), "take_write_done": (1, 1), "take_write_failed": (1, 1, 1),
+    "take_closed": (1,), "take_close_failed": (1, 1),
     "take_break": (bytes(44),), "take_acknowledge_done": (bytes(36),), "take_acknowledge_failed": (1,), "take": (Closed(1),),
     "belief": (1,), "__enter__": (),
 }
