@@ -8,7 +8,9 @@ import signal
 import sys
 from typing import Callable, Sequence
 
-from drive.faults import DriveFault, Usage
+from smblease.faults import ToolFault
+
+from drive.faults import Usage
 
 SAFE, NOT_DRIVEN, REFUSED, UNSAFE = 0, 1, 2, 3
 
@@ -29,7 +31,7 @@ def ended(parser: argparse.ArgumentParser, main: Callable[[argparse.Namespace], 
     except Usage as fault:
         print(f"{parser.prog}: {fault}", file=sys.stderr)
         return REFUSED
-    except DriveFault as fault:
+    except ToolFault as fault:
         print(f"{parser.prog}: {fault}", file=sys.stderr)
         return NOT_DRIVEN
     except OSError as fault:

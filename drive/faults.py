@@ -1,7 +1,8 @@
 """What can go wrong, each with a text for the user."""
+from smblease.faults import ToolFault
 
 
-class DriveFault(Exception):
+class DriveFault(ToolFault):
     """The schedule can't be driven, or not to its end."""
 
 
