@@ -1,4 +1,6 @@
-"""NTLM within SPNEGO, as far as a server needs it: guests, and a user whose password somebody else proves."""
+"""NTLM within SPNEGO, as far as a server needs it: guests, and a user whose password named_user checks.
+
+impacket has these messages too. They stand here so that guests are served by Python's standard library alone."""
 from __future__ import annotations
 
 import os

@@ -1,4 +1,6 @@
-"""The tokens of SPNEGO that NTLM is wrapped in (RFC 4178, 4.2; RFC 2743, 3.1), in DER."""
+"""The tokens of SPNEGO that NTLM is wrapped in (RFC 4178, 4.2; RFC 2743, 3.1), in DER.
+
+impacket has these too. They stand here so that guests are served by Python's standard library alone."""
 from __future__ import annotations
 
 from collections.abc import Iterator
