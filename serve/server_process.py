@@ -6,6 +6,7 @@ import select
 import signal
 import socket
 import subprocess
+import sys
 import tempfile
 import uuid
 from collections.abc import Sequence
@@ -23,12 +24,14 @@ PATIENCE = 30.0
 class ServerProcess:
     """Started on a free port of loopback, and ended with its verdict where it has a record."""
 
-    def __init__(self, program: str, record: str | None = None, words: list[str] | None = None,
+    def __init__(self, leasecheck: str, record: str | None = None, words: list[str] | None = None,
                  user: str = "guest", password: str = "guest", interpreter: Sequence[str] = ()) -> None:
         self._control, theirs = socket.socketpair()
         self._control.settimeout(PATIENCE)
         recording = ["--record", record] if record else []
-        command = [*interpreter, os.path.join(TOP, "serve", "run"), "--port", "0", "--share", SHARE, "--leasecheck", program,
+        stub = os.path.join(TOP, "serve", "run")
+        program = [*interpreter, stub] if os.path.exists(stub) else [sys.executable, "-m", "serve.run_command"]
+        command = [*program, "--port", "0", "--share", SHARE, "--leasecheck", program,
                    "--control", str(theirs.fileno()), *recording, *(words or [])]
         # pylint: disable=consider-using-with  # both are closed by `close`
         self._errors = tempfile.TemporaryFile("w+", encoding="utf-8", errors="replace")

@@ -17,12 +17,12 @@ from tests.paths import TOP
 BUILT = f"{TOP}/out/c/libsmblease.so"
 
 
-def loaded(**variables: str) -> tuple[int, str]:
+def loaded(packages: Path = TOP / "python", **variables: str) -> tuple[int, str]:
     """The status of a program that loads the package with these variables, and the last line that it prints."""
     kept = {name: value for name, value in os.environ.items() if name not in ("SMBLEASE_LIBRARY", "LD_LIBRARY_PATH")}
     program = "from smblease import _library; print(_library.library._name)"
     done = subprocess.run([sys.executable, "-c", program], stdout=subprocess.PIPE, stderr=subprocess.STDOUT, text=True,
-                          check=False, env={**kept, "PYTHONPATH": f"{TOP}/python", **variables})
+                          check=False, env={**kept, "PYTHONPATH": str(packages), **variables})
     return done.returncode, done.stdout.rstrip("\n").split("\n")[-1]
 
 
@@ -40,13 +40,20 @@ def test_a_library_that_is_refused(name: str, said: str) -> None:
 
 
 def test_a_library_that_the_loader_finds(tmp_path: Path) -> None:
+    """The package stands in no repository, and brings no library."""
+    shutil.copytree(TOP / "python/smblease", tmp_path / "smblease")
     shutil.copy(BUILT, tmp_path / "libsmblease.so.0")
-    assert loaded(LD_LIBRARY_PATH=str(tmp_path)) == (0, "libsmblease.so.0")
+    assert loaded(tmp_path, LD_LIBRARY_PATH=str(tmp_path)) == (0, "libsmblease.so.0")
 
 
-def test_a_library_without_a_variable() -> None:
-    status, name = loaded()
-    assert status == 0 and name in ("libsmblease.so.0", BUILT)
+def test_a_library_that_the_package_brings(tmp_path: Path) -> None:
+    shutil.copytree(TOP / "python/smblease", tmp_path / "smblease")
+    shutil.copy(BUILT, tmp_path / "smblease/libsmblease.so")
+    assert loaded(tmp_path) == (0, str(tmp_path / "smblease/libsmblease.so"))
+
+
+def test_the_library_of_the_repository() -> None:
+    assert loaded() == (0, BUILT)
 
 
 @pytest.mark.parametrize("major, minor", [(0, 2), (0, 3)])
@@ -62,5 +69,5 @@ def test_a_version_that_does_not_fit(major: int, minor: int) -> None:
 
 def check(major: int, minor: int) -> None:
     version = SimpleNamespace(major=major, minor=minor, patch=0)
-    library: Any = SimpleNamespace(_name="one", smblease_version=lambda: version)
-    _library._check_version(library)  # pylint: disable=protected-access
+    library: Any = SimpleNamespace(smblease_version=lambda: version)
+    _library._check_version("one", library)  # pylint: disable=protected-access
