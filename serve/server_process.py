@@ -31,7 +31,7 @@ class ServerProcess:
         recording = ["--record", record] if record else []
         stub = os.path.join(TOP, "serve", "run")
         program = [*interpreter, stub] if os.path.exists(stub) else [sys.executable, "-m", "serve.run_command"]
-        command = [*program, "--port", "0", "--share", SHARE, "--leasecheck", program,
+        command = [*program, "--port", "0", "--share", SHARE, "--leasecheck", leasecheck,
                    "--control", str(theirs.fileno()), *recording, *(words or [])]
         # pylint: disable=consider-using-with  # both are closed by `close`
         self._errors = tempfile.TemporaryFile("w+", encoding="utf-8", errors="replace")
