@@ -10,7 +10,7 @@ from drive.faults import Usage
 from drive.place import Place
 from drive.runner import Runner
 from drive.servers import NamedServer, PrivateServer, Server
-from serve.served import DrivenServer
+from serve.server_process import DrivenServer
 
 # Seconds that a server's own timer of a break is waited for.
 BREAK_TIME = 40.0

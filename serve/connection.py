@@ -3,17 +3,19 @@ from __future__ import annotations
 
 import logging
 import socket
-from typing import TYPE_CHECKING, Callable, Dict, List, Optional
+from collections.abc import Callable
+from typing import TYPE_CHECKING
 
-from drive.headers import ASYNC, FROM_SERVER, Command, Unreadable
-from drive.headers import UNASKED as NOTIFICATION
-from serve.asked import WITHOUT_SESSION, WITHOUT_TREE, Asked
-from serve.core import Doing, Task
-from serve.loop import WRITE
-from serve.opens import Holder
-from serve.packets import Answer, Credits, Frames, Request, Response, framed, parted, signed
+from smblease import Status
+
+from drive.headers import ASYNC, FROM_SERVER, UNASKED as NOTIFICATION, Command, Unreadable
+from serve.event_loop import WRITE
+from serve.machine import Handling, Task
+from serve.opens import MachineClient
+from serve.packets import Answer, Credits, Frames, RequestMessage, Response, framed, signed, split_compound
+from serve.request import WITHOUT_SESSION, WITHOUT_TREE, Request
 from serve.sessions import ANY_DIALECT, Session, negotiated
-from serve.statuses import Refused, Status
+from serve.status_error import StatusError
 
 if TYPE_CHECKING:
     from serve.server import Server
@@ -29,24 +31,24 @@ OLD_NEGOTIATE = 0x72
 class Pending:
     """A request that isn't answered for good."""
 
-    def __init__(self, asked: Asked, chain: "Chain") -> None:
-        self.asked = asked
+    def __init__(self, request: Request, chain: Chain) -> None:
+        self.request = request
         self.chain = chain
-        self.async_id: Optional[int] = None
+        self.async_id: int | None = None
         self.is_answered = False
-        self.task: Optional[Task] = None
+        self.task: Task | None = None
 
 
 class Chain:
     """A request and those that are related to it, which are done one after the other."""
 
-    def __init__(self, connection: "Connection", requests: List[Request]) -> None:
+    def __init__(self, connection: Connection, requests: list[RequestMessage]) -> None:
         self._connection = connection
         self._requests = requests
-        self._responses: List[Response] = []
+        self._responses: list[Response] = []
         self._session, self._tree = requests[0].session, requests[0].tree
-        self._previous: Optional[int] = None
-        self._failed: Optional[Status] = None
+        self._previous: int | None = None
+        self._failed: Status | None = None
         self._is_waiting = self._is_going = False
 
     def go_on(self) -> None:
@@ -61,11 +63,11 @@ class Chain:
         if not self._is_waiting:
             self.send()
 
-    def _asked(self, request: Request) -> Asked:
-        asked = Asked(request, self._connection, self._connection.server, self._session, self._tree, self._previous)
-        if not request.is_related:
-            asked.session_id, asked.tree_id = request.session, request.tree
-        return asked
+    def _asked(self, message: RequestMessage) -> Request:
+        request = Request(message, self._connection, self._connection.server, self._session, self._tree, self._previous)
+        if not message.is_related:
+            request.session_id, request.tree_id = message.session, message.tree
+        return request
 
     def send(self) -> None:
         if self._responses:
@@ -73,12 +75,12 @@ class Chain:
         self._responses = []
 
     def answered(self, pending: Pending, answer: Answer) -> None:
-        request = pending.asked.request
-        self._session = answer.session or pending.asked.session_id
-        self._tree = answer.tree or pending.asked.tree_id
+        message = pending.request.message
+        self._session = answer.session or pending.request.session_id
+        self._tree = answer.tree or pending.request.tree_id
         if answer.opened is not None:
             self._previous = answer.opened
-        if request.command is Command.CREATE and answer.status >> 30 == 3:
+        if message.command is Command.CREATE and answer.status >> 30 == 3:
             self._failed = answer.status
         self._responses.append(self._connection.response(pending, answer, self._session, self._tree))
         self._is_waiting = False
@@ -90,18 +92,18 @@ class Chain:
 
 
 class Connection:
-    def __init__(self, server: "Server", stream: socket.socket) -> None:
+    def __init__(self, server: Server, stream: socket.socket) -> None:
         self.server = server
-        self.guid: Optional[bytes] = None
+        self.guid: bytes | None = None
         self.is_negotiated = False
         self.is_open = True
-        self.holder: Optional[Holder] = None
-        self.sessions: Dict[int, Session] = {}
+        self.client: MachineClient | None = None
+        self.sessions: dict[int, Session] = {}
         self._stream = stream
         self._frames = Frames()
         self._credits = Credits()
         self._unsent = bytearray()
-        self._pending: Dict[int, Pending] = {}
+        self._pending: dict[int, Pending] = {}
         stream.setblocking(False)
         server.loop.watch(stream, self._ready)
 
@@ -135,24 +137,24 @@ class Connection:
         if frame[:4] == OLD_PROTOCOL:
             self._old_negotiate(frame)
         elif frame:
-            chains: List[List[Request]] = []
-            for request in parted(frame):
-                self._credit(request)
-                if request.command is Command.CANCEL:
-                    self._cancel(request)
-                elif request.is_related and chains:
-                    chains[-1].append(request)
+            chains: list[list[RequestMessage]] = []
+            for message in split_compound(frame):
+                self._credit(message)
+                if message.command is Command.CANCEL:
+                    self._cancel(message)
+                elif message.is_related and chains:
+                    chains[-1].append(message)
                 else:
-                    chains.append([request])
+                    chains.append([message])
             for chain in chains:
                 Chain(self, chain).go_on()
 
-    def _credit(self, request: Request) -> None:
+    def _credit(self, message: RequestMessage) -> None:
         """A request without its credits ends the connection (3.3.5.2.3)."""
-        is_free = request.command is Command.CANCEL
-        if request.is_from_server or not is_free and not self._credits.take(request.identifier, request.charge):
+        is_free = message.command is Command.CANCEL
+        if message.is_from_server or not is_free and not self._credits.take(message.identifier, message.charge):
             raise Unreadable
-        if not is_free and self.guid is None and request.command is not Command.NEGOTIATE:
+        if not is_free and self.guid is None and message.command is not Command.NEGOTIATE:
             raise Unreadable
 
     def _old_negotiate(self, frame: bytes) -> None:
@@ -164,42 +166,42 @@ class Connection:
         answer = negotiated(self.server, ANY_DIALECT)
         self.send(framed([Response(Command.NEGOTIATE, answer.status, 0, self._credits.grant(1), 0, 0, answer.body)]))
 
-    def begin(self, pending: Pending, failed: Optional[Status]) -> None:
-        request = pending.asked.request
-        self._pending[request.identifier] = pending
-        doing = self._refusing(failed) if failed and request.is_related else self._checked(pending.asked)
+    def begin(self, pending: Pending, failed: Status | None) -> None:
+        message = pending.request.message
+        self._pending[message.identifier] = pending
+        doing = self._refusing(failed) if failed and message.is_related else self._checked(pending.request)
         pending.task = Task(doing, lambda answer: self._answered(pending, answer))
         self.server.begun.append(pending)
-        self.server.core.start(pending.task)
-        self.server.tell_of_waits()
+        self.server.machine.start(pending.task)
+        self.server.send_interim_responses()
 
     @staticmethod
-    def _refusing(status: Status) -> Doing:
+    def _refusing(status: Status) -> Handling:
         yield from ()
-        raise Refused(status)
+        raise StatusError(status)
 
-    def _checked(self, asked: Asked) -> Doing:
-        request = asked.request
-        handler: Optional[Callable[[Asked], Doing]] = self.server.handlers.get(request.command) if request.command is not None \
+    def _checked(self, request: Request) -> Handling:
+        message = request.message
+        handler: Callable[[Request], Handling] | None = self.server.handlers.get(message.command) if message.command is not None \
             else None
         if handler is None:
-            raise Refused(Status.NOT_SUPPORTED)
+            raise StatusError(Status.NOT_SUPPORTED)
         if len(self._pending) > MOST_PENDING:
-            raise Refused(Status.INSUFFICIENT_RESOURCES)
-        if request.command not in WITHOUT_SESSION:
-            key = asked.session.key
-            if key and request.is_signed and signed(request.data, key) != request.data:
-                raise Refused(Status.ACCESS_DENIED)
-        if request.command not in WITHOUT_TREE:
-            asked.tree  # refused where there is none
-        return (yield from handler(asked))
+            raise StatusError(Status.INSUFFICIENT_RESOURCES)
+        if message.command not in WITHOUT_SESSION:
+            key = request.session.key
+            if key and message.is_signed and signed(message.data, key) != message.data:
+                raise StatusError(Status.ACCESS_DENIED)
+        if message.command not in WITHOUT_TREE:
+            request.require_tree()
+        return (yield from handler(request))
 
     def _answered(self, pending: Pending, answer: Answer) -> None:
-        request = pending.asked.request
-        self._pending.pop(request.identifier, None)
-        LOG.debug("client %s: %s %d: %s", self.holder.number if self.holder else "-", request.name, request.identifier,
+        message = pending.request.message
+        self._pending.pop(message.identifier, None)
+        LOG.debug("client %s: %s %d: %s", self.client.number if self.client else "-", message.name, message.identifier,
                   answer.status.name)
-        if pending.asked.is_cancelled:
+        if pending.request.is_cancelled:
             self.server.undo(answer)
         elif not pending.is_answered:
             pending.is_answered = True
@@ -207,33 +209,33 @@ class Connection:
                 pending.chain.answered(pending, answer)
 
     def response(self, pending: Pending, answer: Answer, session: int, tree: int) -> Response:
-        request = pending.asked.request
+        message = pending.request.message
         found = self.sessions.get(session)
-        key = answer.key or (found.key if found and request.is_signed else None)
-        granted = self._credits.grant(request.credits_asked) if pending.async_id is None else 0
-        flags = FROM_SERVER | (request.flags & 4)
-        return Response(request.number(12, 2), answer.status, request.identifier, granted, session, tree, answer.body,
-                        request.number(6, 2), flags, pending.async_id, key)
+        key = answer.key or (found.key if found and message.is_signed else None)
+        granted = self._credits.grant(message.credits_asked) if pending.async_id is None else 0
+        flags = FROM_SERVER | (message.flags & 4)
+        return Response(message.number(12, 2), answer.status, message.identifier, granted, session, tree, answer.body,
+                        message.number(6, 2), flags, pending.async_id, key)
 
-    def tell_of_wait(self, pending: Pending) -> None:
+    def send_interim_response(self, pending: Pending) -> None:
         """STATUS_PENDING, for a request that waits (3.3.4.2)."""
         if pending.is_answered or not self.is_open:
             return
         pending.chain.send()
         self.server.last_async += 1
-        request = pending.asked.request
-        interim = self.response(pending, Answer(Status.PENDING), pending.asked.session_id, pending.asked.tree_id)
+        message = pending.request.message
+        interim = self.response(pending, Answer(Status.PENDING), pending.request.session_id, pending.request.tree_id)
         pending.async_id = interim.async_id = self.server.last_async
-        interim.flags = FROM_SERVER | ASYNC | (request.flags & 4)
+        interim.flags = FROM_SERVER | ASYNC | (message.flags & 4)
         self.send(framed([interim]))
 
-    def _cancel(self, request: Request) -> None:
+    def _cancel(self, message: RequestMessage) -> None:
         """A CREATE that is held is answered; what the machine makes of it is closed."""
-        wanted = request.async_id
+        wanted = message.async_id
         found = next((it for it in self._pending.values() if it.async_id == wanted), None) if wanted is not None \
-            else self._pending.get(request.identifier)
-        if found and found.asked.request.command is Command.CREATE and not found.is_answered:
-            found.is_answered = found.asked.is_cancelled = True
+            else self._pending.get(message.identifier)
+        if found and found.request.message.command is Command.CREATE and not found.is_answered:
+            found.is_answered = found.request.is_cancelled = True
             found.chain.answered(found, Answer(Status.CANCELLED))
 
     def notify(self, body: bytes) -> None:
@@ -267,5 +269,4 @@ class Connection:
         self.is_open = False
         self.server.loop.forget(self._stream)
         self._stream.close()
-        self.server.lost(self)
-
+        self.server.connection_lost(self)

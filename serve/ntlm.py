@@ -1,14 +1,18 @@
-"""NTLM within SPNEGO, as far as a server needs it: guests, and a user whose password somebody else proves."""
+"""NTLM within SPNEGO, as far as a server needs it: guests, and a user whose password named_user checks.
+
+impacket has these messages too. They stand here so that guests are served by Python's standard library alone."""
 from __future__ import annotations
 
 import os
 import struct
-from typing import Optional, Protocol
+from typing import Protocol
+
+from smblease import Status
 
 from drive.headers import Unreadable
 from serve import spnego
-from serve.names import now
-from serve.statuses import Refused, Status
+from serve.namespace import now
+from serve.status_error import StatusError
 
 NAME = "LEASECHECK"
 SIGNATURE = b"NTLMSSP\0"
@@ -35,17 +39,17 @@ class Prover(Protocol):
     def name(self) -> str:
         ...
 
-    def key(self, negotiate: bytes, challenge: bytes, authenticate: bytes) -> Optional[bytes]:
+    def key(self, negotiate: bytes, challenge: bytes, authenticate: bytes) -> bytes | None:
         """The key of the session, by the three messages; none where they don't prove the password."""
 
 
 class Exchange:
     """The messages of one authentication. `key` is that of a session that is signed; a guest has none."""
 
-    def __init__(self, user: Optional[Prover]) -> None:
+    def __init__(self, user: Prover | None) -> None:
         self._user = user
         self._negotiate = self._challenge = b""
-        self.key: Optional[bytes] = None
+        self.key: bytes | None = None
         self.is_over = False
 
     def goes(self, token: bytes) -> bytes:
@@ -53,7 +57,7 @@ class Exchange:
         try:
             return self._goes(token)
         except Unreadable:
-            raise Refused(Status.INVALID_PARAMETER) from None
+            raise StatusError(Status.INVALID_PARAMETER) from None
 
     def _goes(self, token: bytes) -> bytes:
         is_wrapped = token[:1] != SIGNATURE[:1]
@@ -65,7 +69,7 @@ class Exchange:
             self._negotiate, self._challenge = message, challenge(message, os.urandom(8))
             return spnego.wrapped(self._challenge, spnego.INCOMPLETE, True) if is_wrapped else self._challenge
         if kind != AUTHENTICATE or not self._challenge:
-            raise Refused(Status.INVALID_PARAMETER)
+            raise StatusError(Status.INVALID_PARAMETER)
         self._authenticate(message)
         self.is_over = True
         return spnego.wrapped(b"", spnego.ACCEPTED, False) if is_wrapped else b""
@@ -76,7 +80,7 @@ class Exchange:
             return
         self.key = self._user.key(self._negotiate, self._challenge, message)
         if self.key is None:
-            raise Refused(Status.LOGON_FAILURE)
+            raise StatusError(Status.LOGON_FAILURE)
 
 
 def challenge(negotiate: bytes, nonce: bytes) -> bytes:

@@ -3,10 +3,13 @@ from __future__ import annotations
 
 import os
 from dataclasses import dataclass, field
-from typing import TYPE_CHECKING, Dict, List, Optional, Tuple
+from typing import TYPE_CHECKING
+from uuid import UUID
 
-from serve.loop import Timer
-from serve.names import Node
+from smblease import LeaseState, WriteRequest
+
+from serve.event_loop import Timer
+from serve.namespace import Node
 
 if TYPE_CHECKING:
     from serve.connection import Connection
@@ -14,11 +17,10 @@ if TYPE_CHECKING:
 
 READ_DATA, WRITE_DATA, APPEND_DATA, EXECUTE, READ_ATTRIBUTES, WRITE_ATTRIBUTES, DELETE, READ_CONTROL, SYNCHRONIZE = (
     0x1, 0x2, 0x4, 0x20, 0x80, 0x100, 0x10000, 0x20000, 0x100000)
-SHARE_DELETE = 4
+SHARE_READ, SHARE_DELETE = 1, 4
 ALL_ACCESS = 0x1F01FF
 GENERIC = {0x10000000: ALL_ACCESS, 0x02000000: ALL_ACCESS, 0x80000000: 0x120089, 0x40000000: 0x120116, 0x20000000: 0x1200A0}
 NO_LEVEL, LEVEL_II, EXCLUSIVE, BATCH, LEASE = 0, 1, 8, 9, 0xFF
-READING, HANDLES, WRITING = 1, 2, 4
 # The shell's own FileIds are far from the machine's, which begin at 1.
 OWN_FILE_IDS = 1 << 62
 
@@ -61,30 +63,30 @@ class Lock:
 
 
 @dataclass(eq=False)
-class Open:
+class Open:  # pylint: disable=too-many-instance-attributes  # it has the state of every command
     file_id: int
     node: Node
     access: int
     share: int
-    connection: Optional["Connection"]
-    session: Optional["Session"]
-    tree: Optional["Tree"]
+    connection: Connection | None
+    session: Session | None
+    tree: Tree | None
     # the machine's client; none for what the shell keeps by itself
-    holder: Optional["Holder"] = None
-    key: Optional[bytes] = None
+    client: MachineClient | None = None
+    key: UUID | None = None
     level: int = NO_LEVEL
     is_durable: bool = False
     deletes: bool = False
     position: int = 0
-    locks: List[Lock] = field(default_factory=list)
+    locks: list[Lock] = field(default_factory=list)
     # the machine's open may do more than this one
     is_lent: bool = False
     # a break of its oplock waits for the client's word
     is_breaking: bool = False
     # until when it is kept without a connection
-    timer: Optional[Timer] = None
+    timer: Timer | None = None
     # of a folder: what is listed, and how far
-    listing: Optional[List[Tuple[str, Node]]] = None
+    listing: list[tuple[str, Node]] | None = None
 
     @property
     def is_connected(self) -> bool:
@@ -95,26 +97,30 @@ class Open:
 class LeaseSeen:
     """A lease, as it was granted, broken and acknowledged."""
 
-    key: bytes
+    key: UUID
     node: Node
-    state: int
-    believed: int = 0
+    state: LeaseState
+    believed: LeaseState = LeaseState.NONE
     # the number of the message by which it is being broken
-    broken_by: Optional[int] = None
-    timer: Optional[Timer] = None
+    broken_by: int | None = None
+    timer: Timer | None = None
 
 
 @dataclass(eq=False)
-class Holder:
+class MachineClient:
     """A client of the machine: a ClientGuid, or one oplock, or the shell for a moment."""
 
     number: int
-    guid: Optional[bytes] = None
-    connection: Optional["Connection"] = None
-    open: Optional[Open] = None
-    leases: Dict[bytes, LeaseSeen] = field(default_factory=dict)
+    guid: bytes | None = None
+    connection: Connection | None = None
+    open: Open | None = None
+    leases: dict[UUID, LeaseSeen] = field(default_factory=dict)
     writes: int = 0
     sent: int = 0
     took: int = 0
     # the key of an oplock's lease
-    own_key: bytes = field(default_factory=lambda: b"oplock" + os.urandom(10))
+    own_key: UUID = field(default_factory=lambda: UUID(bytes=b"oplock" + os.urandom(10)))
+
+    def next_write(self, file_id: int, offset: int, data: bytes) -> WriteRequest:
+        self.writes += 1
+        return WriteRequest(file_id, self.writes, offset, data)

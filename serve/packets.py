@@ -5,11 +5,11 @@ import hashlib
 import hmac
 import struct
 from dataclasses import dataclass, field
-from typing import List, Optional
+
+from smblease import Status
 
 from drive.headers import ASYNC, FROM_SERVER, HEADER, RELATED, Message, Unreadable
 from drive.packets import PROTOCOL
-from serve.statuses import Status
 
 HEAD = struct.Struct("<4sHHLHHLLQQQ16s")
 ERROR_BODY = struct.pack("<HBBL", 9, 0, 0, 0) + b"\0"
@@ -19,7 +19,7 @@ LONGEST_FRAME = 1048576 + 131072
 
 
 @dataclass(frozen=True)
-class Request(Message):
+class RequestMessage(Message):
     """A request; its fields are read at their places from the header's first byte."""
 
     @property
@@ -39,7 +39,7 @@ class Request(Message):
         return bool(self.flags & SIGNED)
 
     @property
-    def async_id(self) -> Optional[int]:
+    def async_id(self) -> int | None:
         return self.number(32, 8) if self.flags & ASYNC else None
 
     def buffer(self, offset_place: int, length: int) -> bytes:
@@ -59,10 +59,10 @@ class Answer:
     status: Status
     body: bytes = ERROR_BODY
     # what the answer says of session, tree and open where the request didn't
-    session: Optional[int] = None
-    tree: Optional[int] = None
-    opened: Optional[int] = None
-    key: Optional[bytes] = None
+    session: int | None = None
+    tree: int | None = None
+    opened: int | None = None
+    key: bytes | None = None
 
 
 @dataclass
@@ -78,8 +78,8 @@ class Response:
     body: bytes
     charge: int = 0
     flags: int = FROM_SERVER
-    async_id: Optional[int] = None
-    key: Optional[bytes] = field(default=None, repr=False)
+    async_id: int | None = None
+    key: bytes | None = field(default=None, repr=False)
 
     def packed(self, following: int) -> bytes:
         flags = self.flags | (ASYNC if self.async_id is not None else 0) | (SIGNED if self.key else 0)
@@ -94,7 +94,7 @@ def signed(data: bytes, key: bytes) -> bytes:
     return data[:48] + hmac.new(key, clear, hashlib.sha256).digest()[:16] + data[64:]
 
 
-def framed(responses: List[Response]) -> bytes:
+def framed(responses: list[Response]) -> bytes:
     """A frame of one message, or of a compound whose messages begin at multiples of eight."""
     text = b""
     for place, response in enumerate(responses, 1):
@@ -106,16 +106,16 @@ def framed(responses: List[Response]) -> bytes:
     return struct.pack(">L", len(text)) + text
 
 
-def parted(frame: bytes) -> List[Request]:
+def split_compound(frame: bytes) -> list[RequestMessage]:
     """The requests of a frame."""
-    found: List[Request] = []
+    found: list[RequestMessage] = []
     while True:
-        request = Request(frame)
-        following = request.number(20, 4)
-        if frame[:4] != PROTOCOL or request.number(4, 2) != HEADER or following and (
-                following < HEADER or following % 8 or following + HEADER > len(frame)):
+        message = RequestMessage(frame)
+        following = message.number(20, 4)
+        is_placed = not following or HEADER <= following <= len(frame) - HEADER and following % 8 == 0
+        if frame[:4] != PROTOCOL or message.number(4, 2) != HEADER or not is_placed:
             raise Unreadable
-        found.append(Request(frame[:following]) if following else request)
+        found.append(RequestMessage(frame[:following]) if following else message)
         if not following:
             return found
         frame = frame[following:]
@@ -130,7 +130,7 @@ class Frames:
     def add(self, data: bytes) -> None:
         self._bytes += data
 
-    def next(self) -> Optional[bytes]:
+    def next(self) -> bytes | None:
         """The next whole frame. What can't begin one is Unreadable."""
         if len(self._bytes) < 4:
             return None
@@ -165,11 +165,10 @@ class Credits:
             self._low += 1
         return True
 
-    def grant(self, asked: int) -> int:
+    def grant(self, request: int) -> int:
         """How many more there are; at least one where none is left."""
         left = self._high - self._low - len(self._used)
-        given = min(max(asked, 1), max(0, self.MOST - (self._high - self._low)))
+        given = min(max(request, 1), max(0, self.MOST - (self._high - self._low)))
         given = max(given, 0 if left else 1)
         self._high += given
         return given
-

@@ -3,18 +3,20 @@ from __future__ import annotations
 
 import struct
 from dataclasses import dataclass, field
-from typing import TYPE_CHECKING, Dict, Optional
+from typing import TYPE_CHECKING
+
+from smblease import Status
 
 from drive.headers import HEADER, tree_path
-from serve.core import Doing
-from serve.names import now
+from serve.machine import Handling
+from serve.namespace import now
 from serve.ntlm import Exchange
 from serve.packets import Answer
 from serve.spnego import offered
-from serve.statuses import Refused, Status
+from serve.status_error import StatusError
 
 if TYPE_CHECKING:
-    from serve.asked import Asked
+    from serve.request import Request
     from serve.connection import Connection
     from serve.server import Server
 
@@ -38,14 +40,14 @@ class Tree:
 @dataclass(eq=False)
 class Session:
     identifier: int
-    connection: "Connection"
-    exchange: Optional[Exchange] = None
+    connection: Connection
+    exchange: Exchange | None = None
     is_ready: bool = False
-    key: Optional[bytes] = None
-    trees: Dict[int, Tree] = field(default_factory=dict)
+    key: bytes | None = None
+    trees: dict[int, Tree] = field(default_factory=dict)
 
 
-def negotiated(server: "Server", dialect: int) -> Answer:
+def negotiated(server: Server, dialect: int) -> Answer:
     token = offered()
     fixed = struct.pack("<HHHH16sLLLLQQHHL", 65, SIGNING_ENABLED, dialect, 0, server.guid, LEASING | LARGE_MTU, LARGEST, LARGEST,
                         LARGEST, now(), 0, HEADER + 64, len(token), 0)
@@ -53,41 +55,41 @@ def negotiated(server: "Server", dialect: int) -> Answer:
 
 
 class Sessions:
-    def __init__(self, server: "Server") -> None:
+    def __init__(self, server: Server) -> None:
         self._server = server
         self._next_tree = 1
 
-    def negotiate(self, asked: "Asked") -> Doing:
+    def negotiate(self, request: Request) -> Handling:
         yield from ()
-        request, connection = asked.request, asked.connection
-        request.expect(36)
+        message, connection = request.message, request.connection
+        message.expect(36)
         if connection.is_negotiated:
-            raise Refused(Status.INVALID_PARAMETER)
-        count = request.number(HEADER + 2, 2)
-        dialects = struct.unpack(f"<{count}H", request.part(HEADER + 36, 2 * count))
+            raise StatusError(Status.INVALID_PARAMETER)
+        count = message.number(HEADER + 2, 2)
+        dialects = struct.unpack(f"<{count}H", message.part(HEADER + 36, 2 * count))
         if DIALECT not in dialects:
-            raise Refused(Status.NOT_SUPPORTED)
-        connection.guid = request.part(HEADER + 12, 16)
+            raise StatusError(Status.NOT_SUPPORTED)
+        connection.guid = message.part(HEADER + 12, 16)
         connection.is_negotiated = True
         return negotiated(self._server, DIALECT)
 
-    def set_up(self, asked: "Asked") -> Doing:
+    def set_up(self, request: Request) -> Handling:
         """One exchange of messages of NTLM; with the last one the client joins."""
         yield from ()
-        request, connection = asked.request, asked.connection
-        request.expect(25)
-        token = request.buffer(HEADER + 12, request.number(HEADER + 14, 2))
-        if request.number(HEADER + 2, 1) & BINDING or connection.guid is None:
-            raise Refused(Status.REQUEST_NOT_ACCEPTED)
-        session = connection.sessions.get(request.session) if request.session else self._new(connection)
+        message, connection = request.message, request.connection
+        message.expect(25)
+        token = message.buffer(HEADER + 12, message.number(HEADER + 14, 2))
+        if message.number(HEADER + 2, 1) & BINDING or connection.guid is None:
+            raise StatusError(Status.REQUEST_NOT_ACCEPTED)
+        session = connection.sessions.get(message.session) if message.session else self._new(connection)
         if session is None:
-            raise Refused(Status.USER_SESSION_DELETED)
+            raise StatusError(Status.USER_SESSION_DELETED)
         exchange = session.exchange = session.exchange or Exchange(self._server.settings.user)
         try:
             reply = exchange.goes(token)
             if exchange.is_over:
-                self._established(session, exchange, request.number(HEADER + 16, 8))
-        except Refused:
+                self._established(session, exchange, message.number(HEADER + 16, 8))
+        except StatusError:
             session.exchange = None
             if not session.is_ready:
                 self._server.end_session(session)
@@ -99,9 +101,9 @@ class Sessions:
         body = struct.pack("<HHHH", 9, flags, HEADER + 8, len(reply)) + reply
         return Answer(status, body, session=session.identifier, key=session.key if exchange.is_over else None)
 
-    def _new(self, connection: "Connection") -> Session:
+    def _new(self, connection: Connection) -> Session:
         if len(connection.sessions) == MOST_SESSIONS:
-            raise Refused(Status.INSUFFICIENT_RESOURCES)
+            raise StatusError(Status.INSUFFICIENT_RESOURCES)
         self._server.last_session += 1
         session = Session(self._server.last_session, connection)
         connection.sessions[session.identifier] = session
@@ -114,39 +116,38 @@ class Sessions:
         if old and old is not session:
             self._server.end_session(old)
         if not session.is_ready:
-            self._server.joins(session.connection)
+            self._server.connect_client(session.connection)
         session.is_ready, session.key = True, exchange.key
 
-    def log_off(self, asked: "Asked") -> Doing:
-        asked.request.expect(4)
-        key = asked.session.key
-        yield from self._server.closes_all(lambda it: it.session is asked.session, not asked.is_last_session)
-        self._server.end_session(asked.session)
+    def log_off(self, request: Request) -> Handling:
+        request.message.expect(4)
+        key = request.session.key
+        yield from self._server.close_all(lambda it: it.session is request.session, not request.is_last_session)
+        self._server.end_session(request.session)
         return Answer(Status.SUCCESS, struct.pack("<HH", 4, 0), key=key)
 
-    def connect_tree(self, asked: "Asked") -> Doing:
+    def connect_tree(self, request: Request) -> Handling:
         yield from ()
-        asked.request.expect(9)
-        share = tree_path(asked.request).rpartition("\\")[2].lower()
+        request.message.expect(9)
+        share = tree_path(request.message).rpartition("\\")[2].lower()
         if share not in (self._server.settings.share.lower(), "ipc$"):
-            raise Refused(Status.BAD_NETWORK_NAME)
-        if len(asked.session.trees) == MOST_TREES:
-            raise Refused(Status.INSUFFICIENT_RESOURCES)
+            raise StatusError(Status.BAD_NETWORK_NAME)
+        if len(request.session.trees) == MOST_TREES:
+            raise StatusError(Status.INSUFFICIENT_RESOURCES)
         tree = Tree(self._next_tree, share == "ipc$")
         self._next_tree += 1
-        asked.session.trees[tree.identifier] = tree
+        request.session.trees[tree.identifier] = tree
         body = struct.pack("<HBBLLL", 16, PIPE if tree.is_pipe else DISK, 0, 0, 0, FULL_ACCESS)
         return Answer(Status.SUCCESS, body, tree=tree.identifier)
 
-    def disconnect_tree(self, asked: "Asked") -> Doing:
-        asked.request.expect(4)
-        tree = asked.tree
-        del asked.session.trees[tree.identifier]
-        yield from self._server.closes_all(lambda it: it.tree is tree, True)
+    def disconnect_tree(self, request: Request) -> Handling:
+        request.message.expect(4)
+        tree = request.tree
+        del request.session.trees[tree.identifier]
+        yield from self._server.close_all(lambda it: it.tree is tree, True)
         return Answer(Status.SUCCESS, struct.pack("<HH", 4, 0))
 
-    def echo(self, asked: "Asked") -> Doing:
+    def echo(self, request: Request) -> Handling:
         yield from ()
-        asked.request.expect(4)
+        request.message.expect(4)
         return Answer(Status.SUCCESS, struct.pack("<HH", 4, 0))
-

@@ -1,7 +1,9 @@
-"""The tokens of SPNEGO that NTLM is wrapped in (RFC 4178, 4.2; RFC 2743, 3.1), in DER."""
+"""The tokens of SPNEGO that NTLM is wrapped in (RFC 4178, 4.2; RFC 2743, 3.1), in DER.
+
+impacket has these too. They stand here so that guests are served by Python's standard library alone."""
 from __future__ import annotations
 
-from typing import Iterator, Tuple
+from collections.abc import Iterator
 
 from drive.headers import Unreadable
 
@@ -26,7 +28,7 @@ def element(tag: int, content: bytes) -> bytes:
     return bytes((tag, 0x80 | len(digits))) + digits + content
 
 
-def elements(data: bytes) -> Iterator[Tuple[int, bytes]]:
+def elements(data: bytes) -> Iterator[tuple[int, bytes]]:
     """The tags and contents of elements that follow one another. What isn't whole is Unreadable."""
     while data:
         if len(data) < 2:

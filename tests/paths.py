@@ -7,6 +7,8 @@ from pathlib import Path
 
 TOP = Path(__file__).resolve().parent.parent
 TESTS = TOP / "tests"
+# Where programs that are started find the package smblease.
+PACKAGES = str(TOP / "python")
 EXAMPLE = TOP / "examples" / "shared.txt"
 
 

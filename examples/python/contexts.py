@@ -1,16 +1,11 @@
 #!/usr/bin/env python3
 """Shows the create contexts of a CREATE request, as `leasecheck show ask` does, by libsmblease.so:
 
-    python3 contexts.py HEX
-
-The library is the one at the path in SMBLEASE_LIBRARY; else where the loader looks for it; else the one of this repository.
+    PYTHONPATH=python python3 examples/python/contexts.py HEX
 """
-import os
 import sys
 
-sys.path.insert(0, os.path.join(os.path.dirname(os.path.realpath(__file__)), "..", "..", "python"))
-
-from smblease import CreateAsk, Fault, each_context  # noqa: E402
+from smblease import CreateAsk, Fault, each_context
 
 
 def show(text: bytes) -> None:

@@ -1,20 +1,17 @@
 #!/usr/bin/env python3
 """Two client machines and a server machine share a file: plays examples/shared.txt, and prints the record of what happened.
 
-    python3 examples/python/shared.py examples/shared.txt
+    PYTHONPATH=python python3 examples/python/shared.py examples/shared.txt
 
 A program that embeds a machine sends its requests over a connection, and passes in what comes back. Here they lie in queues.
 """
-import os
 import sys
 import uuid
 from collections import deque
 from typing import Deque, Dict, List, Optional, Tuple
 
-sys.path.insert(0, os.path.join(os.path.dirname(os.path.realpath(__file__)), "..", "..", "python"))
-
-from smblease import (Access, Believes, CachedRead, Client, LeaseState, Note, Opened, Out, Reply, Request, Sent, Server,  # noqa: E402
-                      Settled, Share, Step)
+from smblease import (Access, Believes, CachedRead, Client, LeaseState, Note, Opened, Out, Reply, Request, Sent, Server, Settled,
+                      Share, Step)
 
 
 class Seat:

@@ -16,8 +16,9 @@ from smblease.values import Access, LeaseState, Share, Status
 __all__ = [
     "Access", "AcknowledgeDone", "AcknowledgeFailed", "AcknowledgeRequest", "Acknowledgment", "Answer", "Believes", "Break",
     "CachedRead", "Changed", "Client", "Closed", "CloseFailed", "CloseRequest", "Context", "CreateAnswer", "CreateAsk",
-    "CreateFailed", "CreateRequest", "Created", "Done", "Failed", "Fault", "FileBytes", "LeaseState", "MachineLost", "MessageKind",
-    "Note", "Notification", "Opened", "Out", "Quiet", "ReadDone", "ReadFailed", "ReadRequest", "Refusal", "Refused", "Reply",
-    "Request", "Response", "Sent", "Server", "Settled", "Settlement", "Share", "Status", "Step", "Waiting", "WriteDone",
-    "WriteFailed", "WriteRequest", "Wrote", "append_context", "each_context", "find_context", "lease_key", "replace_data",
+    "CreateFailed", "CreateRequest", "Created", "Done", "Failed", "Fault", "FileBytes", "LeaseState", "MachineLost",
+    "MessageKind", "Note", "Notification", "Opened", "Out", "Quiet", "ReadDone", "ReadFailed", "ReadRequest", "Refusal",
+    "Refused", "Reply", "Request", "Response", "Sent", "Server", "Settled", "Settlement", "Share", "Status", "Step", "Waiting",
+    "WriteDone", "WriteFailed", "WriteRequest", "Wrote", "append_context", "each_context", "find_context", "lease_key",
+    "replace_data",
 ]

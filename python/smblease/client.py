@@ -206,8 +206,8 @@ class Client(Handle[structs.Client]):
         >>> Client(uuid.UUID(int=1), 1).take_write_failed(7, 1, 0xC0000022).answer
         Quiet()
         """
-        return self._step(library.smblease_client_take_write_failed, number(file_id, LONG, "file_id"), number(write, LONG, "write"),
-                          number(status, WORD, "status"))
+        return self._step(library.smblease_client_take_write_failed, number(file_id, LONG, "file_id"),
+                          number(write, LONG, "write"), number(status, WORD, "status"))
 
     def take_closed(self, file_id: int) -> steps.Step:
         """The server closed an open.

@@ -47,12 +47,6 @@ class Open:
     share: Share
     key: Optional[uuid.UUID] = None
 
-    def _struct(self) -> structs.Open:
-        found = structs.Open(client=number(self.client, LONG, "client"), access=_uses(self.access), share=Share(self.share).value)
-        if self.key is not None:
-            found.has_key, found.key = 1, _key(self.key)
-        return found
-
 
 @dataclass(frozen=True)
 class Lease:
@@ -68,18 +62,6 @@ class Lease:
     state: LeaseState
     broken_to: Optional[LeaseState] = None
     expired: bool = False
-
-    def _struct(self) -> structs.Lease:
-        found = structs.Lease(client=number(self.client, LONG, "client"), key=_key(self.key), state=LeaseState(self.state).value,
-                              expired=bool(self.expired))
-        if self.broken_to is not None:
-            found.breaking, found.broken_to = 1, LeaseState(self.broken_to).value
-        return found
-
-    @classmethod
-    def _of(cls, found: structs.Lease) -> Lease:
-        broken_to = LeaseState(found.broken_to) if found.breaking else None
-        return cls(found.client, uuid.UUID(bytes=bytes(found.key)), LeaseState(found.state), broken_to, bool(found.expired))
 
 
 @dataclass(frozen=True)
@@ -97,13 +79,6 @@ class Asked:
     key: Optional[uuid.UUID] = None
     want: LeaseState = LeaseState.NONE
 
-    def _struct(self) -> structs.Request:
-        found = structs.Request(client=number(self.client, LONG, "client"), state=LeaseState(self.want).value,
-                                access=_uses(self.access), share=Share(self.share).value)
-        if self.key is not None:
-            found.has_key, found.key = 1, _key(self.key)
-        return found
-
 
 @dataclass(frozen=True)
 class Finding:
@@ -116,9 +91,38 @@ class Finding:
     status: int
     wants_breaks: bool
 
-    @classmethod
-    def _of(cls, found: Any) -> Finding:
-        return cls(int(found.status), bool(found.wants_breaks))
+
+def _open_struct(opened: Open) -> structs.Open:
+    found = structs.Open(client=number(opened.client, LONG, "client"), access=_uses(opened.access),
+                         share=Share(opened.share).value)
+    if opened.key is not None:
+        found.has_key, found.key = 1, _key(opened.key)
+    return found
+
+
+def _lease_struct(lease: Lease) -> structs.Lease:
+    found = structs.Lease(client=number(lease.client, LONG, "client"), key=_key(lease.key),
+                          state=LeaseState(lease.state).value, expired=bool(lease.expired))
+    if lease.broken_to is not None:
+        found.breaking, found.broken_to = 1, LeaseState(lease.broken_to).value
+    return found
+
+
+def _lease(found: structs.Lease) -> Lease:
+    broken_to = LeaseState(found.broken_to) if found.breaking else None
+    return Lease(found.client, uuid.UUID(bytes=bytes(found.key)), LeaseState(found.state), broken_to, bool(found.expired))
+
+
+def _asked_struct(asked: Asked) -> structs.Request:
+    found = structs.Request(client=number(asked.client, LONG, "client"), state=LeaseState(asked.want).value,
+                            access=_uses(asked.access), share=Share(asked.share).value)
+    if asked.key is not None:
+        found.has_key, found.key = 1, _key(asked.key)
+    return found
+
+
+def _finding(found: Any) -> Finding:
+    return Finding(int(found.status), bool(found.wants_breaks))
 
 
 class File:
@@ -131,15 +135,15 @@ class File:
     """
 
     def __init__(self, opens: Sequence[Open], leases: Sequence[Lease]) -> None:
-        self._opens = (structs.Open * len(opens))(*(it._struct() for it in opens))
-        self._leases = (structs.Lease * len(leases))(*(it._struct() for it in leases))
+        self._opens = (structs.Open * len(opens))(*map(_open_struct, opens))
+        self._leases = (structs.Lease * len(leases))(*map(_lease_struct, leases))
 
     def _asked(self, call: Any, asked: Asked, *more: object) -> Any:
         tables = (self._opens, len(self._opens), self._leases, len(self._leases))
-        return call(*tables, ctypes.byref(asked._struct()), *more)
+        return call(*tables, ctypes.byref(_asked_struct(asked)), *more)
 
     def _wanted(self, call: Any, asked: Asked, lease: Lease) -> Optional[LeaseState]:
-        found = self._asked(call, asked, ctypes.byref(lease._struct()))
+        found = self._asked(call, asked, ctypes.byref(_lease_struct(lease)))
         return LeaseState(found.lowered) if found.wanted else None
 
     def create_finding(self, asked: Asked) -> Finding:
@@ -149,7 +153,7 @@ class File:
         >>> conflict == Finding(0xC0000043, False)
         True
         """
-        return Finding._of(self._asked(library.smblease_create_finding, asked))
+        return _finding(self._asked(library.smblease_create_finding, asked))
 
     def create_want(self, asked: Asked, lease: Lease) -> Optional[LeaseState]:
         """The state that a create wants one of the leases lowered to, or None where it leaves it alone.
@@ -167,7 +171,7 @@ class File:
         >>> File([], []).write_finding(Asked(2, Access.READ, Share.READ)) == Finding(0xC0000022, False)
         True
         """
-        return Finding._of(self._asked(library.smblease_write_finding, asked))
+        return _finding(self._asked(library.smblease_write_finding, asked))
 
     def write_want(self, asked: Asked, lease: Lease) -> Optional[LeaseState]:
         """The state that a write wants one of the leases lowered to, or None where it leaves it alone.
@@ -186,7 +190,7 @@ class File:
         >>> File([], []).allowed(asked), File([Open(1, Access.READ, Share.READ_WRITE)], []).allowed(asked)
         (<LeaseState RWH>, <LeaseState RH>)
         """
-        return LeaseState(library.smblease_allowed(self._opens, len(self._opens), ctypes.byref(asked._struct())))
+        return LeaseState(library.smblease_allowed(self._opens, len(self._opens), ctypes.byref(_asked_struct(asked))))
 
     def lease_after_grant(self, asked: Asked) -> Optional[Lease]:
         """The lease that the key has after a grant, or None where the request has no key. The open is durable where that was
@@ -196,7 +200,7 @@ class File:
         <LeaseState RH>
         """
         found = structs.Lease()
-        return Lease._of(found) if self._asked(library.smblease_lease_after_grant, asked, ctypes.byref(found)) else None
+        return _lease(found) if self._asked(library.smblease_lease_after_grant, asked, ctypes.byref(found)) else None
 
 
 def read_finding(asked: Asked) -> Finding:
@@ -205,7 +209,7 @@ def read_finding(asked: Asked) -> Finding:
     >>> read_finding(Asked(2, Access.READ, Share.READ))
     Finding(status=0, wants_breaks=False)
     """
-    return Finding._of(library.smblease_read_finding(ctypes.byref(asked._struct())))
+    return _finding(library.smblease_read_finding(ctypes.byref(_asked_struct(asked))))
 
 
 def opens_conflict(access: Optional[Access], share: Share, other_access: Optional[Access], other_share: Share) -> bool:
@@ -226,9 +230,9 @@ def acknowledge(lease: Lease, state: LeaseState) -> Tuple[int, Lease]:
     >>> status, lease.state, lease.broken_to
     (0, <LeaseState R>, None)
     """
-    found = lease._struct()
+    found = _lease_struct(lease)
     status = library.smblease_acknowledge(ctypes.byref(found), LeaseState(state).value)
-    return int(status), Lease._of(found)
+    return int(status), _lease(found)
 
 
 def granted_form(state: LeaseState) -> LeaseState:

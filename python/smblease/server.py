@@ -194,8 +194,8 @@ class Server(Handle[structs.Server]):
         >>> str(Server([b""]).allowed(1, None, 1, LeaseState.of("RWH")))
         'RWH'
         """
-        return LeaseState(self._asked(library.smblease_server_allowed, number(client, BYTE, "client"), ctypes.byref(_maybe_key(key)),
-                                      number(file, BYTE, "file"), LeaseState(want).value))
+        return LeaseState(self._asked(library.smblease_server_allowed, number(client, BYTE, "client"),
+                                      ctypes.byref(_maybe_key(key)), number(file, BYTE, "file"), LeaseState(want).value))
 
     def connected(self, client: int) -> bool:
         """Whether a client is connected.

@@ -7,19 +7,14 @@
 """
 from __future__ import annotations
 
-import os
 import sys
 from collections.abc import Callable
 from typing import TypeVar
 
-TOP = os.path.dirname(os.path.dirname(os.path.dirname(os.path.abspath(__file__))))
-sys.path.insert(0, f"{TOP}/python")
-
-# pylint: disable=wrong-import-position
-from smblease import MachineLost, Server  # noqa: E402
-from smblease.faults import ToolFault  # noqa: E402
-from smblease.schedules import Event, Schedule  # noqa: E402
-from smblease.world import ClientObjects, MachineWorld  # noqa: E402
+from smblease import MachineLost, Server
+from smblease.faults import ToolFault
+from smblease.schedules import Event, Schedule
+from smblease.world import ClientObjects, MachineWorld
 
 Given = TypeVar("Given")
 

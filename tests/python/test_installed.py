@@ -39,10 +39,11 @@ def test_library(installed: Path, tmp_path: Path) -> None:
 
 
 def test_program(installed: Path, tmp_path: Path) -> None:
-    program = "from smblease.program import find_program, replay; print('\\n'.join(replay(find_program(), open('schedule').read())))"
+    program = ("from smblease.program import find_program, replay\n"
+               "print('\\n'.join(replay(find_program(), open('schedule').read())))")
     (tmp_path / "schedule").write_bytes(EXAMPLE.read_bytes())
-    assert printed([installed / "python", "-c", program], tmp_path) == run(["replay",
-                                                                            EXAMPLE]).out.decode().removesuffix("# safe\n")
+    record = run(["replay", EXAMPLE]).out.decode()
+    assert printed([installed / "python", "-c", program], tmp_path) == record.removesuffix("# safe\n")
 
 
 @pytest.mark.parametrize("command", COMMANDS)

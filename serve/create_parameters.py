@@ -1,0 +1,102 @@
+"""What a CREATE asks for (2.2.13), and what of it goes to the machine."""
+from __future__ import annotations
+
+from dataclasses import dataclass
+from uuid import UUID
+
+from smblease import Access, CreateAsk, CreateRequest, Fault, LeaseState, Share, Status, each_context
+
+from drive.headers import HEADER, create_name
+from serve.namespace import Node, path_of
+from serve.opens import BATCH, DELETE, EXCLUSIVE, LEASE, LEVEL_II, NO_LEVEL, SHARE_DELETE, Open, counts, reads, specific, writes
+from serve.packets import RequestMessage
+from serve.status_error import StatusError
+
+SUPERSEDE, OPEN, CREATE, OPEN_IF, OVERWRITE, OVERWRITE_IF = range(6)
+MAKING = {SUPERSEDE, CREATE, OPEN_IF, OVERWRITE_IF}
+EMPTYING = {SUPERSEDE, OVERWRITE, OVERWRITE_IF}
+DIRECTORY_FILE, NON_DIRECTORY_FILE, DELETE_ON_CLOSE = 0x1, 0x40, 0x1000
+SUPERSEDED, OPENED, CREATED, OVERWRITTEN = range(4)
+KEPT_ATTRIBUTES = 0x1 | 0x2 | 0x4 | 0x20 | 0x100 | 0x2000
+MOST_ACCESS, ON_DISK, ALLOCATION = b"MxAc", b"QFid", b"AlSi"
+RWH = LeaseState.of("RWH")
+OPLOCK_STATES = {NO_LEVEL: LeaseState.NONE, LEVEL_II: LeaseState.R, EXCLUSIVE: LeaseState.of("RW"), BATCH: RWH}
+
+
+@dataclass(frozen=True)
+class CreateParameters:
+    path: str
+    access: int
+    share: int
+    disposition: int
+    options: int
+    attributes: int
+    level: int
+    impersonation: int
+    contexts: bytes
+    ask: CreateAsk
+    # the other contexts by their names
+    others: dict[bytes, bytes]
+
+    @property
+    def key(self) -> UUID | None:
+        return self.ask.key if self.level == LEASE or self.ask.reconnect is not None else None
+
+    @property
+    def empties(self) -> bool:
+        return self.disposition in EMPTYING
+
+    @property
+    def lease_contexts(self) -> bytes:
+        """The contexts as they came, but for a lease that the level doesn't ask for."""
+        if self.level == LEASE or self.ask.key is None:
+            return self.contexts
+        return CreateAsk(durable=self.ask.durable, reconnect=self.ask.reconnect).write()
+
+    def machine_request(self, node: Node, contexts: bytes) -> CreateRequest:
+        """Access and share as the machine has them. Who empties a file writes it; who holds a lease alone reads."""
+        access = reads(self.access) + 2 * (writes(self.access) or self.empties)
+        share = Share(self.share & 3) if access else Share.READ_WRITE
+        return CreateRequest(node.number, Access(access or 1), share, contexts)
+
+
+def read_parameters(message: RequestMessage) -> CreateParameters:
+    message.expect(57)
+    length = message.number(HEADER + 52, 4)
+    text = message.part(message.number(HEADER + 48, 4), length) if length else b""
+    try:
+        ask, others = CreateAsk.read(text), {it.name: it.data for it in each_context(text)}
+    except Fault as fault:
+        raise StatusError(Status(fault.status)) from None
+    share, disposition, options = (message.number(HEADER + place, 4) for place in (32, 36, 40))
+    return CreateParameters(path_of(create_name(message)), specific(message.number(HEADER + 24, 4)), share, disposition, options,
+                            message.number(HEADER + 28, 4), message.number(HEADER + 3, 1), message.number(HEADER + 4, 4), text,
+                            ask, others)
+
+
+def check(wanted: CreateParameters) -> None:
+    """What a create that reconnects isn't asked for."""
+    if wanted.impersonation > 3 or wanted.disposition > OVERWRITE_IF or wanted.share > 7:
+        raise StatusError(Status.INVALID_PARAMETER)
+    if not wanted.access or wanted.options & DELETE_ON_CLOSE and not wanted.access & DELETE:
+        raise StatusError(Status.ACCESS_DENIED)
+
+
+def conflicts(wanted: CreateParameters, other: Open) -> bool:
+    """Whether one deletes and the other doesn't share that; what is read and written is shared by the machine's rules."""
+    if not counts(wanted.access) or not counts(other.access):
+        return False
+    return bool(wanted.access & DELETE and not other.share & SHARE_DELETE
+                or other.access & DELETE and not wanted.share & SHARE_DELETE)
+
+
+def oplock_state(level: int) -> LeaseState:
+    """The lease that an oplock of this level is."""
+    return OPLOCK_STATES.get(level, RWH)
+
+
+def level_of(wanted: int, state: LeaseState) -> int:
+    """The level of an oplock whose lease has this state."""
+    if oplock_state(wanted) is state:
+        return wanted
+    return LEVEL_II if LeaseState.R in state else NO_LEVEL

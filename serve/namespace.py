@@ -1,0 +1,149 @@
+"""Files and folders by their names, which the machine doesn't know: it knows numbers."""
+from __future__ import annotations
+
+import time
+from dataclasses import dataclass, field
+from typing import TYPE_CHECKING
+
+from smblease import Status
+
+from serve.status_error import StatusError
+
+if TYPE_CHECKING:
+    from serve.opens import Open
+
+MOST = 255
+READ_ONLY, FOLDER, ARCHIVE, NORMAL = 0x1, 0x10, 0x20, 0x80
+FORBIDDEN = set('"*/<>?|') | {chr(code) for code in range(32)}
+# Seconds from 1601 to 1970.
+EPOCH = 11644473600
+
+
+def now() -> int:
+    """The time, in tenths of a microsecond since 1601."""
+    return (time.time_ns() // 100) + EPOCH * 10000000
+
+
+@dataclass
+class Times:
+    created: int = field(default_factory=now)
+    accessed: int = field(default_factory=now)
+    written: int = field(default_factory=now)
+    changed: int = field(default_factory=now)
+
+
+@dataclass(eq=False)
+class Node:
+    """A file or a folder. `number` is the machine's of a file."""
+
+    path: str
+    number: int
+    attributes: int
+    identifier: int
+    times: Times = field(default_factory=Times)
+    length: int = 0
+    allocated: int = 0
+    is_changed: bool = False
+    is_deleting: bool = False
+    is_gone: bool = False
+    opens: list[Open] = field(default_factory=list)
+
+    @property
+    def is_folder(self) -> bool:
+        return bool(self.attributes & FOLDER)
+
+    @property
+    def name(self) -> str:
+        return self.path.rpartition("\\")[2]
+
+    @property
+    def folder(self) -> str:
+        return self.path.rpartition("\\")[0]
+
+    @property
+    def is_stream(self) -> bool:
+        return ":" in self.path
+
+    @property
+    def allocation(self) -> int:
+        return max(self.allocated, -(-self.length // 4096) * 4096)
+
+
+def path_of(name: str) -> str:
+    """A name as it comes, without the strokes around it. A stream has the name of its file and a colon before its own."""
+    path = name.strip("\\").replace("::$DATA", "")
+    parts = path.split("\\")
+    if path and any(not part or part in (".", "..") or len(part) > 255 or FORBIDDEN & set(part) for part in parts):
+        raise StatusError(Status.OBJECT_NAME_INVALID)
+    if ":" in path and (":" in "".join(parts[:-1]) or not all(parts[-1].split(":")) or parts[-1].count(":") > 1):
+        raise StatusError(Status.OBJECT_NAME_INVALID)
+    return path
+
+
+class Namespace:
+    def __init__(self) -> None:
+        self._made = 0
+        self._next = 1
+        self._free: list[int] = []
+        self._nodes: dict[str, Node] = {}
+        self.root = self.make("", True)
+
+    def find(self, path: str) -> Node | None:
+        return self._nodes.get(path.lower())
+
+    def at(self, number: int) -> Node | None:
+        return next((it for it in self._nodes.values() if it.number == number and not it.is_folder), None)
+
+    def make(self, path: str, is_folder: bool) -> Node:
+        """A file of a name made anew has another number than one of that name had before, if that was changed."""
+        if path and self.parent(path) is None:
+            raise StatusError(Status.OBJECT_PATH_NOT_FOUND)
+        number = 0 if is_folder else self.new_number()
+        self._made += 1
+        node = Node(path, number, FOLDER if is_folder else ARCHIVE, self._made)
+        self._nodes[path.lower()] = node
+        return node
+
+    def new_number(self) -> int:
+        if self._free:
+            return self._free.pop(0)
+        if self._next > MOST:
+            raise StatusError(Status.INSUFFICIENT_RESOURCES)
+        self._next += 1
+        return self._next - 1
+
+    def renumber(self, node: Node) -> None:
+        """The file is empty from here on. Nobody has it open."""
+        node.number, node.length, node.is_changed = self.new_number(), 0, False
+
+    def take_back(self, node: Node, before: tuple[int, int, bool]) -> None:
+        """The file is the one that it was before it was emptied."""
+        if node.number != before[0]:
+            self._free.append(node.number)
+            node.number, node.length, node.is_changed = before
+
+    def parent(self, path: str) -> Node | None:
+        found = self.find(path.rpartition("\\")[0])
+        return found if found and found.is_folder else None
+
+    def remove(self, node: Node) -> None:
+        """A file goes with its streams, as far as nobody has them open."""
+        for stream in [it for it in self._nodes.values() if it.path.lower().startswith(f"{node.path.lower()}:")]:
+            if not stream.opens:
+                self.remove(stream)
+        del self._nodes[node.path.lower()]
+        node.is_gone = True
+        if not node.is_folder and not node.is_changed:
+            self._free.append(node.number)
+
+    def rename(self, node: Node, path: str) -> None:
+        old = node.path
+        below = (f"{old.lower()}\\", f"{old.lower()}:")
+        for one in [it for it in self._nodes.values() if it is node or it.path.lower().startswith(below)]:
+            del self._nodes[one.path.lower()]
+            one.path = path + one.path[len(old):]
+            self._nodes[one.path.lower()] = one
+
+    def children(self, folder: Node) -> list[Node]:
+        found = [it for it in self._nodes.values() if it.path and it.folder.lower() == folder.path.lower() and not it.is_stream]
+        return sorted(found, key=lambda it: it.path.lower())

@@ -1,0 +1,99 @@
+"""QUERY_DIRECTORY (3.3.5.18)."""
+from __future__ import annotations
+
+import fnmatch
+import re
+import struct
+from typing import TYPE_CHECKING
+
+from smblease import Status
+
+from drive.headers import HEADER
+from serve.machine import Handling
+from serve.namespace import Node
+from serve.opens import Open
+from serve.packets import Answer
+from serve.read_write_lock import attributes_of
+from serve.status_error import StatusError
+
+if TYPE_CHECKING:
+    from serve.request import Request
+    from serve.server import Server
+
+DIRECTORY, FULL, BOTH, NAMES, BOTH_WITH_ID, FULL_WITH_ID = 1, 2, 3, 12, 37, 38
+RESTART, SINGLE, REOPEN = 1, 2, 16
+WILD = str.maketrans({"<": "*", ">": "?", '"': "."})
+
+
+def entry(node: Node, name: str, kind: int) -> bytes:
+    """What is told of a file, with no distance to the next one yet."""
+    text = name.encode("utf-16le", errors="replace")
+    length = struct.pack("<L", len(text))
+    times = attributes_of(node)
+    # An entry has the length before the allocation.
+    head = bytes(8) + times[:32] + times[40:48] + times[32:40] + times[48:] + length
+    if kind == NAMES:
+        return bytes(8) + length + text
+    if kind == DIRECTORY:
+        return head + text
+    head += bytes(4)
+    if kind in (BOTH, BOTH_WITH_ID):
+        head += bytes(26)
+    if kind == BOTH_WITH_ID:
+        head += bytes(2)
+    if kind == FULL_WITH_ID:
+        head += bytes(4)
+    if kind in (BOTH_WITH_ID, FULL_WITH_ID):
+        head += struct.pack("<Q", node.identifier)
+    return head + text
+
+
+class QueryDirectory:
+    def __init__(self, server: Server) -> None:
+        self._server = server
+
+    def query(self, request: Request) -> Handling:
+        yield from ()
+        message = request.message
+        message.expect(33)
+        kind, flags, most = message.number(HEADER + 2, 1), message.number(HEADER + 3, 1), message.number(HEADER + 28, 4)
+        length = message.number(HEADER + 26, 2)
+        pattern = message.text(message.number(HEADER + 24, 2), length) if length else "*"
+        opened = request.open()
+        if not opened.node.is_folder:
+            raise StatusError(Status.INVALID_PARAMETER)
+        if kind not in (DIRECTORY, FULL, BOTH, NAMES, BOTH_WITH_ID, FULL_WITH_ID):
+            raise StatusError(Status.INVALID_INFO_CLASS)
+        is_first = opened.listing is None or bool(flags & (RESTART | REOPEN))
+        if is_first or opened.listing is None:
+            opened.listing = self._found(opened, pattern)
+        if not opened.listing:
+            raise StatusError(Status.NO_SUCH_FILE if is_first else Status.NO_MORE_FILES)
+        told = self._told(opened.listing, kind, most, bool(flags & SINGLE))
+        return Answer(Status.SUCCESS, struct.pack("<HHL", 9, HEADER + 8, len(told)) + told)
+
+    def _found(self, opened: Open, pattern: str) -> list[tuple[str, Node]]:
+        folder = opened.node
+        glob = "*" if pattern == "*.*" else pattern.translate(WILD).replace("[", "[[]")
+        shape = re.compile(fnmatch.translate(glob), re.IGNORECASE)
+        dots = [(".", folder), ("..", self._server.names.parent(folder.path) or folder)] if shape.match(".") else []
+        return dots + [(it.name, it) for it in self._server.names.children(folder) if shape.match(it.name)]
+
+    @staticmethod
+    def _told(listing: list[tuple[str, Node]], kind: int, most: int, is_single: bool) -> bytes:
+        """As many entries as fit, each at a multiple of eight."""
+        told, before = b"", 0
+        while listing and not (is_single and told):
+            name, node = listing[0]
+            start = -(-len(told) // 8) * 8
+            one = entry(node, name, kind)
+            if start + len(one) > most:
+                break
+            if told:
+                told = told[:before] + struct.pack("<L", start - before) + told[before + 4:].ljust(start - before - 4, b"\0")
+                before = start
+            told += one
+            listing.pop(0)
+        if not told:
+            raise StatusError(Status.INFO_LENGTH_MISMATCH)
+        return told

@@ -1,0 +1,112 @@
+"""QUERY_INFO (3.3.5.20), as far as clients need it. IOCTL and CHANGE_NOTIFY are refused."""
+from __future__ import annotations
+
+import struct
+from collections.abc import Callable
+from typing import TYPE_CHECKING
+
+from smblease import Status
+
+from drive.headers import HEADER
+from serve.machine import Handling
+from serve.namespace import Node
+from serve.opens import Open
+from serve.packets import Answer
+from serve.read_write_lock import attributes_of
+from serve.status_error import StatusError
+
+if TYPE_CHECKING:
+    from serve.request import Request
+    from serve.server import Server
+
+FILE, FILESYSTEM, SECURITY = 1, 2, 3
+UNITS, SECTORS, SECTOR = 1 << 20, 8, 512
+LABEL = "leasecheck".encode("utf-16le")
+SYSTEM = "NTFS".encode("utf-16le")
+SERIAL = 0x1EA5E
+
+
+def basic(node: Node) -> bytes:
+    times = node.times
+    return struct.pack("<QQQQLL", times.created, times.accessed, times.written, times.changed, node.attributes or 0x80, 0)
+
+
+def standard(node: Node) -> bytes:
+    return struct.pack("<QQLBBH", node.allocation, node.length, 0 if node.is_deleting else 1, node.is_deleting, node.is_folder, 0)
+
+
+def named(text: str) -> bytes:
+    name = text.encode("utf-16le", errors="replace")
+    return struct.pack("<L", len(name)) + name
+
+
+def everything(opened: Open) -> bytes:
+    node = opened.node
+    return (basic(node) + standard(node) + struct.pack("<QLLQLL", node.identifier, 0, opened.access, opened.position, 0, 0)
+            + named("\\" + node.path))
+
+
+def stream(node: Node) -> bytes:
+    if node.is_folder:
+        return b""
+    name = "::$DATA".encode("utf-16le")
+    return struct.pack("<LLQQ", 0, len(name), node.length, node.allocation) + name
+
+
+FILE_CLASSES: dict[int, Callable[[Open], bytes]] = {
+    4: lambda it: basic(it.node), 5: lambda it: standard(it.node), 6: lambda it: struct.pack("<Q", it.node.identifier),
+    7: lambda it: bytes(4), 8: lambda it: struct.pack("<L", it.access), 14: lambda it: struct.pack("<Q", it.position),
+    16: lambda it: bytes(4), 17: lambda it: bytes(4), 18: everything, 21: lambda it: named(it.node.name),
+    22: lambda it: stream(it.node), 28: lambda it: bytes(16), 34: lambda it: attributes_of(it.node) + bytes(4),
+    35: lambda it: struct.pack("<LL", it.node.attributes or 0x80, 0), 48: lambda it: named(it.node.path),
+}
+FILESYSTEM_CLASSES: dict[int, bytes] = {
+    1: struct.pack("<QLLBB", 0, SERIAL, len(LABEL), 0, 0) + LABEL, 3: struct.pack("<QQLL", UNITS, UNITS, SECTORS, SECTOR),
+    4: struct.pack("<LL", 7, 0x20), 5: struct.pack("<LLL", 0x3, 255, len(SYSTEM)) + SYSTEM,
+    7: struct.pack("<QQQLL", UNITS, UNITS, UNITS, SECTORS, SECTOR),
+    11: struct.pack("<LLLLLLL", SECTOR, SECTOR, SECTOR, SECTOR, 0, 0, 0),
+}
+# Owner and group are everyone, and so is who may do all.
+EVERYONE = bytes.fromhex("010100000000000100000000")
+DESCRIPTOR = struct.pack("<BBHLLLL", 1, 0, 0x8004, 20, 32, 0, 44) + EVERYONE * 2 + struct.pack(
+    "<BBHHHBBHL", 2, 0, 28, 1, 0, 0, 0, 20, 0x1F01FF) + EVERYONE
+
+
+class QueryInfo:
+    def __init__(self, server: Server) -> None:
+        self._server = server
+
+    def query(self, request: Request) -> Handling:
+        yield from ()
+        message = request.message
+        message.expect(41)
+        kind, number, most = message.number(HEADER + 2, 1), message.number(HEADER + 3, 1), message.number(HEADER + 4, 4)
+        opened = request.open()
+        told = self._told(opened, kind, number)
+        if kind == SECURITY and most < len(told):
+            raise StatusError(Status.BUFFER_TOO_SMALL)
+        status = Status.BUFFER_OVERFLOW if most < len(told) else Status.SUCCESS
+        told = told[:most]
+        return Answer(status, struct.pack("<HHL", 9, HEADER + 8, len(told)) + (told or b"\0"))
+
+    @staticmethod
+    def _told(opened: Open, kind: int, number: int) -> bytes:
+        if kind == FILE and number in FILE_CLASSES:
+            return FILE_CLASSES[number](opened)
+        if kind == FILESYSTEM and number in FILESYSTEM_CLASSES:
+            return FILESYSTEM_CLASSES[number]
+        if kind == SECURITY:
+            return DESCRIPTOR
+        raise StatusError(Status.INVALID_INFO_CLASS if kind in (FILE, FILESYSTEM) else Status.NOT_SUPPORTED)
+
+    @staticmethod
+    def control(request: Request) -> Handling:
+        yield from ()
+        request.message.expect(57)
+        raise StatusError(Status.INVALID_DEVICE_REQUEST)
+
+    @staticmethod
+    def notify(request: Request) -> Handling:
+        yield from ()
+        request.message.expect(32)
+        raise StatusError(Status.NOT_SUPPORTED)

@@ -1,0 +1,157 @@
+"""CLOSE, FLUSH, READ, WRITE and LOCK (3.3.5.10 to 3.3.5.14)."""
+from __future__ import annotations
+
+import struct
+from typing import TYPE_CHECKING
+
+from smblease import CloseRequest, ReadDone, ReadRequest, Status
+
+from drive.headers import HEADER
+from serve.machine import Handling, MachineRequest, refuse_failed
+from serve.namespace import Node, now
+from serve.opens import Lock, Open, reads, writes
+from serve.packets import Answer, RequestMessage
+from serve.status_error import StatusError
+
+if TYPE_CHECKING:
+    from serve.request import Request
+    from serve.server import Server
+
+LARGEST = 1048576
+MOST_OFFSET = 0xFFFFFFFF
+WITH_ATTRIBUTES = 1
+MOST_LOCKS = 1024
+SHARED, EXCLUSIVE, UNLOCK, AT_ONCE = 1, 2, 4, 16
+
+
+def attributes_of(node: Node) -> bytes:
+    times = node.times
+    return struct.pack("<QQQQQQL", times.created, times.accessed, times.written, times.changed, node.allocation, node.length,
+                       node.attributes or 0x80)
+
+
+class ReadWriteLock:
+    def __init__(self, server: Server) -> None:
+        self._server = server
+
+    def close(self, request: Request) -> Handling:
+        request.message.expect(24)
+        opened = request.find()
+        if opened is None:
+            refuse_failed((yield MachineRequest(request.client.number, CloseRequest(request.file_id()))))
+            return Answer(Status.SUCCESS, struct.pack("<HHL52x", 60, 0, 0))
+        if opened.client:
+            self._server.leases.believes_nothing(opened)
+            refuse_failed((yield MachineRequest(opened.client.number, CloseRequest(opened.file_id))))
+        self._server.forget_open(opened)
+        self._server.forget_unkept(opened.node.opens)
+        flags = request.message.number(HEADER + 2, 2) & WITH_ATTRIBUTES
+        told = attributes_of(opened.node) if flags else bytes(52)
+        return Answer(Status.SUCCESS, struct.pack("<HHL", 60, flags, 0) + told)
+
+    def flush(self, request: Request) -> Handling:
+        yield from ()
+        request.message.expect(24)
+        request.open()
+        return Answer(Status.SUCCESS, struct.pack("<HH", 4, 0))
+
+    def read(self, request: Request) -> Handling:
+        """The machine reads the whole file, of which the client gets its part."""
+        message = request.message
+        message.expect(49)
+        length, offset, least = message.number(HEADER + 4, 4), message.number(HEADER + 8, 8), message.number(HEADER + 32, 4)
+        if length > LARGEST:
+            raise StatusError(Status.INVALID_PARAMETER)
+        opened = request.find()
+        if opened:
+            self._readable(opened, offset, length)
+        client = opened.client if opened and opened.client else request.client
+        reply = yield MachineRequest(client.number, ReadRequest(opened.file_id if opened else request.file_id()))
+        refuse_failed(reply)
+        data = reply.data[offset:offset + length] if isinstance(reply, ReadDone) else b""
+        if length and len(data) < max(1, least):
+            raise StatusError(Status.END_OF_FILE)
+        if opened:
+            opened.position = offset + len(data)
+        return Answer(Status.SUCCESS, struct.pack("<HBBLLL", 17, HEADER + 16, 0, len(data), 0, 0) + (data or b"\0"))
+
+    @staticmethod
+    def _readable(opened: Open, offset: int, length: int) -> None:
+        if opened.node.is_folder:
+            raise StatusError(Status.INVALID_DEVICE_REQUEST)
+        if opened.client is None or opened.is_lent and not reads(opened.access):
+            raise StatusError(Status.ACCESS_DENIED)
+        if any(lock.is_exclusive and lock.meets(offset, length) for lock in _locks_of_others(opened)):
+            raise StatusError(Status.FILE_LOCK_CONFLICT)
+
+    def write(self, request: Request) -> Handling:
+        message = request.message
+        message.expect(49)
+        length, offset = message.number(HEADER + 4, 4), message.number(HEADER + 8, 8)
+        data = message.buffer(HEADER + 2, length)
+        if length > LARGEST:
+            raise StatusError(Status.INVALID_PARAMETER)
+        opened = request.find()
+        if opened:
+            self._writable(opened, offset, length)
+        client = opened.client if opened and opened.client else request.client
+        if offset > MOST_OFFSET:
+            raise StatusError(Status.INVALID_PARAMETER)
+        write = client.next_write(opened.file_id if opened else request.file_id(), offset, data)
+        if opened and offset + length <= LARGEST:
+            self._server.record.wrote(client, opened.node.number, write)
+        refuse_failed((yield MachineRequest(client.number, write)))
+        if opened:
+            opened.position = offset + length
+        return Answer(Status.SUCCESS, struct.pack("<HHLLHH", 17, 0, length, 0, 0, 0) + b"\0")
+
+    @staticmethod
+    def _writable(opened: Open, offset: int, length: int) -> None:
+        if opened.node.is_folder:
+            raise StatusError(Status.INVALID_DEVICE_REQUEST)
+        if opened.client is None or opened.is_lent and not writes(opened.access):
+            raise StatusError(Status.ACCESS_DENIED)
+        if any(lock.meets(offset, length) for lock in _locks_of_others(opened)):
+            raise StatusError(Status.FILE_LOCK_CONFLICT)
+
+    def lock(self, request: Request) -> Handling:
+        """Locks are the shell's; who locks has all others cache nothing. A lock that isn't to be had is refused at once."""
+        message = request.message
+        message.expect(48)
+        opened = request.open()
+        count = message.number(HEADER + 2, 2)
+        if not count or opened.node.is_folder:
+            raise StatusError(Status.INVALID_PARAMETER)
+        wanted = [_lock(message, HEADER + 24 + 24 * place) for place in range(count)]
+        if wanted[0][1] & UNLOCK:
+            _unlock(opened, [it[0] for it in wanted])
+        else:
+            if len(opened.locks) + count > MOST_LOCKS:
+                raise StatusError(Status.INSUFFICIENT_RESOURCES)
+            yield from self._server.forced_breaks.break_all(request, opened)
+            for lock, flags in wanted:
+                if flags & ~AT_ONCE not in (SHARED, EXCLUSIVE):
+                    raise StatusError(Status.INVALID_PARAMETER)
+                if any(it.meets(lock.offset, lock.length) and (it.is_exclusive or lock.is_exclusive)
+                       for it in [*_locks_of_others(opened), *opened.locks]):
+                    raise StatusError(Status.LOCK_NOT_GRANTED)
+                opened.locks.append(lock)
+        opened.node.times.accessed = now()
+        return Answer(Status.SUCCESS, struct.pack("<HH", 4, 0))
+
+
+def _lock(message: RequestMessage, place: int) -> tuple[Lock, int]:
+    flags = message.number(place + 16, 4)
+    return Lock(message.number(place, 8), message.number(place + 8, 8), bool(flags & EXCLUSIVE)), flags
+
+
+def _unlock(opened: Open, wanted: list[Lock]) -> None:
+    for lock in wanted:
+        found = next((it for it in opened.locks if (it.offset, it.length) == (lock.offset, lock.length)), None)
+        if found is None:
+            raise StatusError(Status.RANGE_NOT_LOCKED)
+        opened.locks.remove(found)
+
+
+def _locks_of_others(opened: Open) -> list[Lock]:
+    return [lock for it in opened.node.opens if it is not opened for lock in it.locks]

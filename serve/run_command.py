@@ -1,0 +1,159 @@
+"""serve/run: the proved server on a port."""
+from __future__ import annotations
+
+import argparse
+import contextlib
+import logging
+import os
+import signal
+import sys
+from collections.abc import Sequence
+
+from smblease.lines import digits
+from smblease.processes import LineProcess
+from smblease.program import find_program, judge
+
+from drive.commands import NOT_DRIVEN, SAFE, UNSAFE, ended
+from drive.faults import DriveFault, Usage
+from serve.event_loop import Loop
+from serve.listener import Listener, listening
+from serve.namespace import FORBIDDEN, MOST, Namespace
+from serve.ntlm import Prover
+from serve.record import Record
+from serve.server import Server, Settings
+from serve.timer_control import Control
+
+LOG = logging.getLogger("serve")
+LARGEST = 1048576
+EPILOG = """It prints `port N`, and serves until it is ended by SIGINT or SIGTERM. With --record it then prints the verdict of the
+record. docs/REAL_SERVERS.md says what is the proved server's and what the shell's, and which rules a record can break.
+
+Exit status: 0 it was ended, and the record, if any, is safe; 1 it couldn't begin or go on; 2 the command line is
+refused; 3 the record is unsafe."""
+
+
+def parser() -> argparse.ArgumentParser:
+    made = argparse.ArgumentParser(prog="serve/run", description="Serves SMB 2.1 by the proved server, on a port.",
+                                   epilog=EPILOG, formatter_class=argparse.RawDescriptionHelpFormatter)
+    made.add_argument("--port", type=int, required=True, metavar="N", help="the port; 0 for a free one")
+    made.add_argument("--share", required=True, metavar="NAME", help="the name of the share")
+    made.add_argument("--address", default="127.0.0.1", metavar="A", help="where to listen (127.0.0.1)")
+    made.add_argument("--folder", metavar="DIR", help="the share begins with the files of this folder, which stay as they are")
+    made.add_argument("--record", metavar="FILE", help="write the record there, and have it judged at the end")
+    made.add_argument("--user", metavar="USER%PASSWORD",
+                      help="a user whose sessions are signed, which needs impacket; all others are guests")
+    made.add_argument("--break-timer", type=float, default=35.0, metavar="S", help="seconds that a break is waited for (35)")
+    made.add_argument("--durable-timer", type=float, default=960.0, metavar="S",
+                      help="seconds that a durable open is kept without a connection (960)")
+    made.add_argument("--apart", action="store_true",
+                      help="opens without a lease don't wait with what their client asks under its lease of the file")
+    made.add_argument("--control", type=int, metavar="FD", help="read lines there that end a timer now")
+    made.add_argument("--leasecheck", metavar="PATH", default=find_program(), help="the program leasecheck")
+    made.add_argument("--verbose", action="store_true", help="say more on standard error")
+    return made
+
+
+def prover_of(user: str | None) -> Prover | None:
+    if user is None:
+        return None
+    name, percent, password = user.partition("%")
+    if not name or not percent:
+        raise Usage("--user is USER%PASSWORD")
+    try:
+        # Guests are served without that package.
+        from serve.named_user import User  # pylint: disable=import-outside-toplevel
+    except ImportError:
+        raise DriveFault("--user needs impacket, which can't be imported (tools/setup installs it); "
+                         "guests don't need it") from None
+    return User(name, password)
+
+
+def settings_of(arguments: argparse.Namespace) -> Settings:
+    if not 0 <= arguments.port <= 65535:
+        raise Usage("--port is from 0 to 65535")
+    if not arguments.share or FORBIDDEN & set(arguments.share) or "\\" in arguments.share:
+        raise Usage("--share is a name")
+    if not 0 < arguments.break_timer < 1e9 or not 0 < arguments.durable_timer < 1e9:
+        raise Usage("timers are more than 0 seconds")
+    return Settings(arguments.share, prover_of(arguments.user), arguments.break_timer, arguments.durable_timer, arguments.apart)
+
+
+def files_in(folder: str | None) -> tuple[list[str], dict[str, bytes]]:
+    """The folders and files below a folder, by their paths in the share."""
+    folders: list[str] = []
+    files: dict[str, bytes] = {}
+    if folder is None:
+        return folders, files
+    try:
+        if not os.path.isdir(folder):
+            raise DriveFault(f"{folder}: no folder")
+        for place, below, names in os.walk(folder):
+            below.sort()
+            path = os.path.relpath(place, folder).replace("/", "\\")
+            if path != ".":
+                folders.append(path)
+            for name in sorted(names):
+                if not os.path.isfile(os.path.join(place, name)):
+                    raise DriveFault(f"{os.path.join(place, name)}: no plain file")
+                with open(os.path.join(place, name), "rb") as stream:
+                    files[f"{path}\\{name}" if path != "." else name] = stream.read(LARGEST + 1)
+    except OSError as fault:
+        raise DriveFault(f"{fault.filename}: {fault.strerror}") from None
+    return folders, files
+
+
+def named(folders: list[str], files: dict[str, bytes], record: Record) -> Namespace:
+    names = Namespace()
+    if len(files) > MOST:
+        raise DriveFault(f"at most {MOST} files; there are {len(files)}")
+    for path in [*folders, *files]:
+        is_bad = any(FORBIDDEN & set(part) for part in path.split("\\")) or not path.isprintable() or names.find(path)
+        if is_bad or len(files.get(path, b"")) > LARGEST:
+            raise DriveFault(f"{path}: a name that can't be served, or more than {LARGEST} bytes")
+        node = names.make(path, path not in files)
+        if path in files:
+            node.length, node.is_changed = len(files[path]), bool(files[path])
+            record.start(node.number, files[path], path)
+    return names
+
+
+def serve(arguments: argparse.Namespace) -> int:
+    settings = settings_of(arguments)
+    folders, files = files_in(arguments.folder)
+    with listening(arguments.address, arguments.port) as stream, contextlib.closing(Record(arguments.record)) as record:
+        names = named(folders, files, record)
+        contents = [*files.values(), *[b""] * (MOST - len(files))]
+        machine = LineProcess(arguments.leasecheck, "server", [f"file {digits(it)}" for it in contents])
+        with contextlib.closing(machine), contextlib.closing(Loop()) as loop:
+            server = Server(settings, loop, machine, record, names)
+            Listener(server, stream)
+            if arguments.control is not None:
+                Control(server, arguments.control)
+            loop.stop_at(signal.SIGTERM, signal.SIGINT)
+            machine.say("content 1")
+            print(f"port {stream.getsockname()[1]}", flush=True)
+            try:
+                loop.run()
+            except DriveFault:
+                raise
+            except Exception as fault:
+                LOG.debug("where:", exc_info=fault)
+                raise DriveFault(f"the shell broke down: {type(fault).__name__}: {fault}") from None
+    return verdict(arguments)
+
+
+def verdict(arguments: argparse.Namespace) -> int:
+    if not arguments.record:
+        return SAFE
+    with open(arguments.record, encoding="utf-8") as stream:
+        told = judge(arguments.leasecheck, stream.read())
+    print(told.text)
+    return SAFE if told.is_safe else UNSAFE if told.rule is not None else NOT_DRIVEN
+
+
+def main(words: Sequence[str] | None = None) -> int:
+    return ended(parser(), serve, sys.argv[1:] if words is None else words)
+
+
+if __name__ == "__main__":
+    sys.exit(main())

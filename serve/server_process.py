@@ -1,0 +1,146 @@
+"""A server of serve/run in a process of its own, for those that drive or test it."""
+from __future__ import annotations
+
+import os
+import select
+import signal
+import socket
+import subprocess
+import sys
+import tempfile
+import uuid
+from collections.abc import Sequence
+from typing import IO
+
+from smblease.program import TOP
+
+from drive.faults import DriveFault
+from drive.place import Place
+
+SHARE = "share"
+PATIENCE = 30.0
+
+
+class ServerProcess:
+    """Started on a free port of loopback, and ended with its verdict where it has a record."""
+
+    def __init__(self, leasecheck: str, record: str | None = None, words: list[str] | None = None,
+                 user: str = "guest", password: str = "guest", interpreter: Sequence[str] = ()) -> None:
+        self._control, theirs = socket.socketpair()
+        self._control.settimeout(PATIENCE)
+        recording = ["--record", record] if record else []
+        stub = os.path.join(TOP, "serve", "run")
+        program = [*interpreter, stub] if os.path.exists(stub) else [sys.executable, "-m", "serve.run_command"]
+        command = [*program, "--port", "0", "--share", SHARE, "--leasecheck", leasecheck,
+                   "--control", str(theirs.fileno()), *recording, *(words or [])]
+        # pylint: disable=consider-using-with  # both are closed by `close`
+        self._errors = tempfile.TemporaryFile("w+", encoding="utf-8", errors="replace")
+        try:
+            self._process = subprocess.Popen(command, stdin=subprocess.DEVNULL, stdout=subprocess.PIPE, stderr=self._errors,
+                                             text=True, pass_fds=[theirs.fileno()])
+        except OSError as fault:
+            raise DriveFault(f"{command[0]}: {fault.strerror}") from None
+        finally:
+            theirs.close()
+        self.verdict: str | None = None
+        self.complaints = ""
+        self.status: int | None = None
+        self._place = Place("127.0.0.1", self._port(), SHARE, user, password)
+
+    @property
+    def place(self) -> Place:
+        return self._place
+
+    @property
+    def process(self) -> int:
+        return self._process.pid
+
+    def tell(self, line: str) -> bool:
+        """A line of control; answers whether it did anything."""
+        try:
+            self._control.sendall(f"{line}\n".encode())
+            told = b""
+            while not told.endswith(b"\n"):
+                data = self._control.recv(64)
+                if not data:
+                    raise DriveFault("the server has ended")
+                told += data
+        except OSError as fault:
+            raise DriveFault(f"the server's control: {fault}") from None
+        if told == b"refused\n":
+            raise DriveFault(f"the server's control refused: {line}")
+        return told == b"done\n"
+
+    def wait(self) -> None:
+        """Until it has ended by itself."""
+        try:
+            self._process.wait(PATIENCE)
+        except subprocess.TimeoutExpired:
+            raise DriveFault("the server doesn't end") from None
+
+    def close(self) -> None:
+        """Ends it, where that wasn't done before; its verdict is what it printed last."""
+        if self.status is not None:
+            return
+        if self._process.poll() is None:
+            self._process.send_signal(signal.SIGTERM)
+        try:
+            told = self._process.communicate(timeout=600)[0]
+        except subprocess.TimeoutExpired:
+            self._process.kill()
+            told = self._process.communicate()[0]
+        self._control.close()
+        self.verdict = told.strip().rpartition("\n")[2] or None
+        self._errors.seek(0)
+        self.complaints, self.status = self._errors.read(), self._process.returncode
+        self._errors.close()
+
+    def _port(self) -> int:
+        stream: IO[str] | None = self._process.stdout
+        if stream is None:
+            raise DriveFault("the server has no stream")
+        ready = select.select([stream], [], [], PATIENCE)[0]
+        line = stream.readline() if ready else ""
+        if not line.startswith("port "):
+            self.close()
+            raise DriveFault(f"the server doesn't begin: {self.complaints.strip()}")
+        return int(line.split(" ")[1])
+
+
+class DrivenServer(ServerProcess):
+    """As drive/ has its servers: a fresh one for each schedule, whose timers are ended by lines of control."""
+
+    # pylint: disable=unused-argument  # these are the methods of drive.servers.Server
+    stays = False
+    is_profiled = True
+
+    def name_of(self, file: int) -> str:
+        return f"file-{file}"
+
+    def is_prepared(self) -> None:
+        """A connection that is closed is forgotten before a later request is done."""
+
+    def new_process(self) -> int | None:
+        return None
+
+    def wait_for_end(self, process: int | None) -> None:
+        """What a closed connection leaves to do is done before a later request is."""
+
+    def begin_break_timer(self, process: int | None, guid: bytes, key: bytes) -> None:
+        self.tell(f"expire {uuid.UUID(bytes=guid)} {key.hex()}")
+
+    def end_break_timer(self, process: int | None) -> None:
+        """A timer that was ended isn't put back."""
+
+    def pass_durable_timer(self, file_ids: list[int]) -> None:
+        for file_id in file_ids:
+            if self.tell(f"scavenge {file_id}"):
+                return
+
+    def content(self, file: int) -> bytes | None:
+        return None
+
+    def close(self) -> None:
+        super().close()
+        if self.complaints:
+            raise DriveFault(f"the server complained: {self.complaints.strip()}")

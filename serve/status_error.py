@@ -1,0 +1,12 @@
+"""What a request is refused with."""
+from __future__ import annotations
+
+from smblease import Status
+
+
+class StatusError(Exception):
+    """A request is answered this status."""
+
+    def __init__(self, status: Status) -> None:
+        super().__init__(status.name)
+        self.status = status

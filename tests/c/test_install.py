@@ -1,0 +1,72 @@
+"""`make install` and `make uninstall`: what is there, what other programs link, and what is left."""
+from __future__ import annotations
+
+import re
+import subprocess
+from collections.abc import Iterator
+from pathlib import Path
+
+import pytest
+
+from tests import needs
+from tests.c.building import CC, Ended, made, run
+from tests.c.test_library import ACKNOWLEDGMENT, NOTIFICATION
+from tests.paths import TOP
+
+
+@pytest.fixture(scope="module")
+def prefix(tmp_path_factory: pytest.TempPathFactory) -> Iterator[Path]:
+    assert made().status == 0, made()
+    folder = tmp_path_factory.mktemp("prefix")
+    done = run("make", "install", f"PREFIX={folder}")
+    assert done.status == 0, done
+    yield folder
+
+
+def pkg_config(prefix: Path, *words: str) -> Ended:
+    return run("pkg-config", *words, "smblease", variables={"PKG_CONFIG_PATH": f"{prefix}/lib/pkgconfig"})
+
+
+def test_the_installed_program(prefix: Path) -> None:
+    assert run(prefix / "bin/leasecheck", "ack", NOTIFICATION) == Ended(0, ACKNOWLEDGMENT)
+
+
+@needs.program("pkg-config")
+@needs.program(CC)
+def test_a_program_over_the_installed_library(prefix: Path, tmp_path: Path) -> None:
+    flags = pkg_config(prefix, "--cflags", "--libs").output.split()
+    assert run(CC, "-o", tmp_path / "ack", "examples/c/ack.c", *flags) == Ended(0, "")
+    assert run(tmp_path / "ack", NOTIFICATION, variables={"LD_LIBRARY_PATH": f"{prefix}/lib"}) == Ended(0, ACKNOWLEDGMENT)
+
+
+@needs.program("pkg-config")
+def test_pkg_config_knows_the_version(prefix: Path) -> None:
+    header = (TOP / "include/smblease.h").read_text(encoding="utf-8")
+    version = ".".join(re.findall(r"^#define SMBLEASE_VERSION_[A-Z]* (\d+)$", header, re.M))
+    assert pkg_config(prefix, "--modversion") == Ended(0, f"{version}\n")
+
+
+@needs.program("pkg-config")
+def test_pkg_config_knows_the_prefix(prefix: Path) -> None:
+    assert pkg_config(prefix, "--cflags", "--libs").output.rstrip() == f"-I{prefix}/include -L{prefix}/lib -lsmblease"
+
+
+@needs.program("readelf")
+def test_the_name_by_which_programs_find_the_library(prefix: Path) -> None:
+    told = run("readelf", "-d", prefix / "lib/libsmblease.so").output
+    assert re.findall(r"SONAME.*\[(.*)\]", told) == ["libsmblease.so.0"]
+
+
+@needs.program("readelf")
+def test_no_other_names_are_given_out(prefix: Path) -> None:
+    rows = [line.split() for line in run("readelf", "--dyn-syms", "-W", prefix / "lib/libsmblease.so").output.splitlines()]
+    names = {row[7] for row in rows if len(row) >= 8 and row[0].rstrip(":").isdigit() and row[6] != "UND"}
+    assert "smblease_version" in {name.partition("@")[0] for name in names}
+    assert not [name for name in names if not name.startswith(("smblease_", "SMBLEASE_"))]
+
+
+def test_uninstall_leaves_nothing(tmp_path: Path) -> None:
+    for target in ("install", "uninstall"):
+        assert run("make", target, f"PREFIX={tmp_path}").status == 0
+        files = subprocess.run(["find", tmp_path, "!", "-type", "d"], capture_output=True, text=True, check=True).stdout
+        assert bool(files) == (target == "install"), files

@@ -1,0 +1,105 @@
+"""What is left of an object whose machine is lost: `python3 -m tests.python.lost_machines CASE`, with a library whose allocations
+can be refused by the variables of tests/c/refuse_calls.c."""
+from __future__ import annotations
+
+import os
+import sys
+import uuid
+from collections.abc import Callable, Iterator
+from contextlib import contextmanager
+
+import pytest
+
+from smblease import Access, Client, CreateRequest, LeaseState, MachineLost, Server, Share, Wrote
+
+GUID = uuid.UUID(int=1)
+RWH = LeaseState.of("RWH")
+
+
+@contextmanager
+def refusing() -> Iterator[None]:
+    os.environ.update(REFUSED_FROM="1", REFUSED_TO=str(10 ** 9))
+    yield
+    os.environ.update(REFUSED_FROM="0", REFUSED_TO="0")
+
+
+def raises_exactly(kind: type[BaseException], call: Callable[[], object]) -> None:
+    with pytest.raises(kind) as raised:
+        call()
+    assert raised.type is kind
+
+
+def lose(machine: Client | Server, call: Callable[[], object], other: Callable[[], object]) -> None:
+    """A call loses a machine; another one shows that the object holds nothing."""
+    with refusing():
+        raises_exactly(MachineLost, call)
+    assert machine.closed
+    raises_exactly(ValueError, call)
+    raises_exactly(ValueError, other)
+    machine.close()
+
+
+def opened() -> Client:
+    client = Client(GUID, 1)
+    client.connect()
+    [request] = client.open(1, Access.READ_WRITE, Share.READ_WRITE, RWH).requests
+    assert isinstance(request, CreateRequest)
+    client.take_created(1, 7, request.contexts)
+    return client
+
+
+def client_is_made() -> None:
+    with refusing():
+        raises_exactly(MemoryError, lambda: Client(GUID, 1))
+
+
+def client_opens() -> None:
+    client = Client(GUID, 1)
+    client.connect()
+    lose(client, lambda: client.open(1, Access.READ, Share.READ, RWH), lambda: client.belief(1))
+
+
+def client_writes() -> None:
+    client = opened()
+    with refusing():
+        raises_exactly(MemoryError, lambda: client.write(1, 0, b"X"))
+    assert client.write(1, 0, b"X").notes == (Wrote(1, 1, 0, b"X", True),)
+
+
+def client_flushes() -> None:
+    client = opened()
+    client.write(1, 0, b"X")
+    lose(client, lambda: client.flush(1), client.connect)
+
+
+def server_is_made() -> None:
+    with refusing():
+        raises_exactly(MemoryError, lambda: Server([b"abc"]))
+        raises_exactly(MemoryError, lambda: Server([]))
+    with Server([b"abc"]) as another:
+        assert another.content(1) == b"abc"
+
+
+def contexts_are_copied() -> None:
+    server = Server([b"abc"])
+    server.join(1)
+    with refusing():
+        raises_exactly(MemoryError, lambda: server.receive_create(1, 1, Access.READ, Share.READ, bytes(24)))
+    assert len(server.receive_create(1, 1, Access.READ, Share.READ, b"")) == 2
+
+
+def server_reads() -> None:
+    server = Server([b"abc"])
+    server.join(1)
+    server.receive_create(1, 1, Access.READ, Share.READ, b"")
+    lose(server, lambda: server.receive_read(1, 1), lambda: server.content(1))
+    with Server([b"abc"]) as another:
+        assert another.content(1) == b"abc"
+
+
+CASES = {it.__name__: it for it in (client_is_made, client_opens, client_writes, client_flushes,
+                                    server_is_made, contexts_are_copied, server_reads)}
+
+
+if __name__ == "__main__":
+    CASES[sys.argv[1]]()

@@ -1,0 +1,166 @@
+"""Calls that are refused: wrong lengths, numbers out of range, values of another type, and objects that hold nothing."""
+from __future__ import annotations
+
+import inspect
+import pickle
+import uuid
+from collections.abc import Callable
+from typing import Any
+
+import pytest
+
+from smblease import (Access, Client, Closed, Context, CreateAnswer, CreateAsk, Fault, LeaseState, Notification, Quiet,
+                      ReadRequest, Response, Server, Share, Status, append_context, each_context)
+
+GUID = uuid.UUID(int=1)
+RW, RH = LeaseState.of("RW"), LeaseState.of("RH")
+LONG = 1 << 64
+CLIENT, SERVER = Client(GUID, 1), Server([b"abc"])
+# (mypy would refuse arguments of other types)
+client: Any = CLIENT
+server: Any = SERVER
+any_client: Any = Client
+any_server: Any = Server
+any_ask: Any = CreateAsk
+any_answer: Any = CreateAnswer
+
+
+def refused(name: str, call: Callable[[], object], kind: type[BaseException] = ValueError, word: str = "") -> Any:
+    return pytest.param(call, kind, word, id=name)
+
+
+DURABLE = CreateAsk(durable=True).write()
+CHAINED = len(DURABLE).to_bytes(4, "little") + DURABLE[4:]
+HALF = bytes((0, 0, 0, 0, 24, 0, 4)) + bytes(17) + b"DHnQ" + bytes(4)
+
+
+@pytest.mark.parametrize("call, kind, word", [
+    refused("256 files of a client", lambda: Client(GUID, 256), word="files is a number from 0 to 255, and not 256"),
+    refused("-1 files of a client", lambda: Client(GUID, -1), word="files"),
+    refused("a GUID as bytes", lambda: any_client(bytes(16), 1), TypeError, "uuid.UUID"),
+    refused("file 256", lambda: client.read(256), word="file"),
+    refused("file -1", lambda: client.close_file(-1), word="file"),
+    refused("a file that is a text", lambda: client.flush("1"), TypeError),
+    refused("an offset of 33 bits", lambda: client.write(1, 1 << 32, b"X"), word="offset"),
+    refused("an offset below 0", lambda: client.write(1, -1, b"X"), word="offset"),
+    refused("a write of a number", lambda: client.write(1, 0, 5), TypeError),
+    refused("a write of a text", lambda: client.write(1, 0, "X"), TypeError),
+    refused("an access of 4", lambda: client.open(1, 4, Share.READ, RW), word="Access"),
+    refused("a share of 4", lambda: client.open(1, Access.READ, 4, RW), word="Share"),
+    refused("a state of 8", lambda: client.open(1, Access.READ, Share.READ, 8), word="LeaseState"),
+    refused("a FileId of 65 bits", lambda: client.take_closed(LONG), word="file_id"),
+    refused("a write's number of 65 bits", lambda: client.take_write_done(1, LONG), word="write"),
+    refused("a status of 33 bits", lambda: client.take_acknowledge_failed(1 << 32), word="status"),
+    refused("a notification of 43 bytes", lambda: client.take_break(bytes(43)), word="44 bytes, and not 43"),
+    refused("a notification of 45 bytes", lambda: client.take_break(bytes(45)), word="44 bytes, and not 45"),
+    refused("a response of 35 bytes", lambda: client.take_acknowledge_done(bytes(35)), word="36 bytes, and not 35"),
+    refused("a response of 37 bytes", lambda: client.take_acknowledge_done(bytes(37)), word="36 bytes, and not 37"),
+    refused("a request in the place of a reply", lambda: client.take(ReadRequest(1)), TypeError, "a reply is needed"),
+    refused("256 files of a server", lambda: Server([b""] * 256), word="at most 255 files"),
+    refused("a file of 1048577 bytes", lambda: Server([bytes(1048577)]), word="1048576 bytes"),
+    refused("a file that is a number", lambda: any_server([5]), TypeError),
+    refused("client 256", lambda: server.join(256), word="client"),
+    refused("client -1", lambda: server.cut(-1), word="client"),
+    refused("a key as bytes", lambda: server.expire(1, bytes(16)), TypeError, "uuid.UUID"),
+    refused("a scavenged FileId of 65 bits", lambda: server.scavenge(LONG), word="file_id"),
+    refused("a received access of 0", lambda: server.receive_create(1, 1, 0, Share.READ, b""), word="Access"),
+    refused("a received share of -1", lambda: server.receive_create(1, 1, Access.READ, -1, b""), word="Share"),
+    refused("contexts that are a number", lambda: server.receive_create(1, 1, Access.READ, Share.READ, 7), TypeError),
+    refused("a received offset of 33 bits", lambda: server.receive_write(1, 1, 1, 1 << 32, b""), word="offset"),
+    refused("an acknowledgment of 37 bytes", lambda: server.receive_acknowledge(1, bytes(37)), word="36 bytes, and not 37"),
+    refused("a reply in the place of a request", lambda: server.receive(1, Closed(1)), TypeError, "a request is needed"),
+    refused("the content of file 0", lambda: server.content(0)),
+    refused("the content of file 2", lambda: server.content(2)),
+    refused("the content of file 256", lambda: server.content(256), word="file"),
+    refused("a FileId of 65 bits in contexts", lambda: CreateAsk(reconnect=LONG).write(), word="reconnect"),
+    refused("a name of 65,513 bytes", lambda: append_context(DURABLE, Context(bytes(65513), b"")), word="doesn't fit"),
+    refused("a key as bytes in contexts", lambda: any_answer(bytes(16), RH).write(), TypeError, "UUID"),
+    refused("a text that is a number", lambda: any_ask.read(16), TypeError),
+    refused("a state that is none", lambda: LeaseState.of("WR"), word="'WR' is no lease state"),
+])
+def test_refused(call: Callable[[], object], kind: type[BaseException], word: str) -> None:
+    with pytest.raises(kind) as raised:
+        call()
+    assert word in str(raised.value)
+
+
+@pytest.mark.parametrize("message", [bytearray(44), memoryview(bytes(44))], ids=["bytearray", "memoryview"])
+def test_a_notification_in_other_bytes(message: bytearray | memoryview) -> None:
+    assert CLIENT.take_break(message).answer == Quiet()
+
+
+def test_255_files_of_a_server() -> None:
+    assert Server([b""] * 254 + [b"z"]).content(255) == b"z"
+
+
+def test_a_file_of_1048576_bytes() -> None:
+    assert len(Server([bytes(1048576)]).content(1)) == 1048576
+
+
+# Arguments of each method that is refused once the object holds nothing.
+CLIENT_CALLS: dict[str, tuple[Any, ...]] = {
+    "connect": (), "notice": (), "open": (1, Access.READ, Share.READ, RW), "close_file": (1,), "read": (1,),
+    "write": (1, 0, b"X"), "flush": (1,), "take_created": (1, 1, b""), "take_create_failed": (1, 1), "take_read_done": (1, b""),
+    "take_read_failed": (1, 1), "take_write_done": (1, 1), "take_write_failed": (1, 1, 1),
+    "take_closed": (1,), "take_close_failed": (1, 1),
+    "take_break": (bytes(44),), "take_acknowledge_done": (bytes(36),), "take_acknowledge_failed": (1,), "take": (Closed(1),),
+    "belief": (1,), "__enter__": (),
+}
+SERVER_CALLS: dict[str, tuple[Any, ...]] = {
+    "join": (1,), "cut": (1,), "expire": (1, GUID), "scavenge": (1,), "receive_create": (1, 1, Access.READ, Share.READ, b""),
+    "receive_read": (1, 1), "receive_write": (1, 1, 1, 0, b"X"), "receive_close": (1, 1), "receive_acknowledge": (1, bytes(36)),
+    "receive": (1, ReadRequest(1)), "allowed": (1, None, 1, RW), "connected": (1,), "breaking": (1, GUID), "left_behind": (1,),
+    "kept": (1, 1), "content": (1,), "__enter__": (),
+}
+# (these ask nothing of the machine)
+FREE = {"close", "closed", "key"}
+
+
+def closed(kind: str) -> Any:
+    machine: Client | Server = Client(GUID, 1) if kind == "client" else Server([b"abc"])
+    with machine:
+        pass
+    return machine
+
+
+CLOSED_CALLS = [pytest.param(kind, method, arguments, id=f"{kind}-{method}") for kind, calls in (("client", CLIENT_CALLS),
+                ("server", SERVER_CALLS)) for method, arguments in calls.items()]
+
+
+@pytest.mark.parametrize("kind, method, arguments", CLOSED_CALLS)
+def test_a_call_of_a_closed_machine(kind: str, method: str, arguments: tuple[Any, ...]) -> None:
+    with pytest.raises(ValueError, match=f"the {kind} is closed"):
+        getattr(closed(kind), method)(*arguments)
+
+
+@pytest.mark.parametrize("machine, calls", [pytest.param(Client, CLIENT_CALLS, id="client"),
+                                            pytest.param(Server, SERVER_CALLS, id="server")])
+def test_each_method_of_a_closed_machine_is_tried(machine: type, calls: dict[str, tuple[Any, ...]]) -> None:
+    public = {it for it, _ in inspect.getmembers(machine) if not it.startswith("_")} - FREE
+    assert public == set(calls) - {"__enter__"}
+
+
+@pytest.mark.parametrize("kind", ["client", "server"])
+def test_a_machine_is_closed_twice(kind: str) -> None:
+    machine = closed(kind)
+    machine.close()
+    assert machine.closed
+
+
+@pytest.mark.parametrize("call, expected", [
+    (lambda: CreateAsk.read(bytes(15)), (1, "Short", 0)), (lambda: CreateAsk.read(CHAINED), (1, "Short", len(DURABLE))),
+    (lambda: Notification.read(bytes(43)), (1, "Short", 0)), (lambda: Notification.read(bytes(44)), (2, "WrongSize", 0)),
+    (lambda: Response.read(bytes([44]) + bytes(43)), (2, "WrongSize", 0)),
+    (lambda: CreateAnswer.read(bytes([8]) + bytes(31)), (3, "BadNext", 0)),
+    (lambda: CreateAsk.read(bytes(4) + bytes([15]) + bytes(19)), (4, "BadName", 0)),
+    (lambda: CreateAsk.read(bytes(4) + bytes([16]) + bytes(7) + bytes([1]) + bytes(11)), (5, "BadData", 0)),
+    (lambda: CreateAsk.read(HALF), (6, "BadLength", 0)), (lambda: CreateAsk.read(CHAINED + DURABLE), (7, "Twice", len(DURABLE))),
+    (lambda: list(each_context(CHAINED)), (1, "Short", len(DURABLE))),
+    (lambda: append_context(CHAINED, Context(b"QFid", b"")), (1, "Short", len(DURABLE))),
+])
+def test_faults_of_texts(call: Callable[[], object], expected: tuple[int, str, int]) -> None:
+    with pytest.raises(Fault) as raised:
+        call()
+    fault, (number, name, place) = raised.value, expected
+    assert (fault.number, fault.name, fault.place, fault.status) == (number, name, place, Status.INVALID_PARAMETER)
+    assert str(fault) == str(pickle.loads(pickle.dumps(fault))) == f"fault {number} {name} at {place}"

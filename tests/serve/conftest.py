@@ -1,0 +1,52 @@
+"""Servers of serve/run in processes of their own, and clients that are connected to them."""
+from __future__ import annotations
+
+from collections.abc import Callable, Iterator
+from pathlib import Path
+from typing import TYPE_CHECKING
+
+import pytest
+
+from serve.server_process import ServerProcess
+from tests import needs
+
+if TYPE_CHECKING:
+    from tests.serve.wire_client import WireClient
+
+Start = Callable[..., ServerProcess]
+Connect = Callable[..., "WireClient"]
+
+
+@pytest.fixture
+def start(program: str) -> Iterator[Start]:
+    """Starts a server with these words. None may end in another way than it should, or complain."""
+    servers: list[ServerProcess] = []
+
+    def started(*words: str, record: Path | None = None, interpreter: tuple[str, ...] = ()) -> ServerProcess:
+        servers.append(ServerProcess(program, str(record) if record else None, list(words), interpreter=interpreter))
+        return servers[-1]
+    yield started
+    for server in servers:
+        server.close()
+    assert [(it.status, it.complaints) for it in servers] == [(0, "")] * len(servers)
+
+
+@pytest.fixture
+def served(start: Start) -> ServerProcess:
+    """An empty share, for guests."""
+    return start()
+
+
+@pytest.fixture
+def connect() -> Iterator[Connect]:
+    """Connects a client to a server, under a ClientGuid of its own or under one that is named."""
+    pytest.importorskip("impacket", reason=f"there is no package impacket; {needs.INSTALLS}")
+    from tests.serve.wire_client import WireClient  # pylint: disable=import-outside-toplevel
+    clients: list[WireClient] = []
+
+    def connected(server: ServerProcess, guid: bytes | None = None) -> WireClient:
+        clients.append(WireClient(server.place, guid))
+        return clients[-1]
+    yield connected
+    for client in clients:
+        client.close()

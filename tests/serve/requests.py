@@ -1,0 +1,113 @@
+"""Requests as bytes: a header, and the bodies of whole requests that a test damages or sends as they are."""
+from __future__ import annotations
+
+import struct
+import uuid
+from typing import Tuple
+
+from smblease import Acknowledgment, Context, CreateAsk, LeaseState, append_context
+
+from drive.headers import Command
+
+HEAD = struct.Struct("<4sHHLHHLLQLLQ16s")
+EVERY_FILE_ID = 0xFFFFFFFFFFFFFFFF
+KEY, OTHER_KEY = uuid.UUID(bytes=b"k" * 16), uuid.UUID(bytes=b"l" * 16)
+NEW_NAME = "other.dat"
+Body = Tuple[Command, bytes]
+
+
+def header(command: int, number: int, session: int, tree: int, following: int = 0, flags: int = 0) -> bytes:
+    return HEAD.pack(b"\xfeSMB", 64, 1, 0, command, 31, flags, following, number, 0, tree, session, bytes(16))
+
+
+def frame(data: bytes) -> bytes:
+    return struct.pack(">L", len(data)) + data
+
+
+def wire(file_id: int) -> bytes:
+    return struct.pack("<QQ", file_id, file_id)
+
+
+def create(name: str, access: int = 0x12019F, share: int = 7, disposition: int = 3, options: int = 0, level: int = 0,
+           contexts: bytes = b"") -> Body:
+    text = name.encode("utf-16le")
+    padded = text + bytes(-len(text) % 8)
+    fixed = struct.pack("<HBBLQQLLLLLHHLL", 57, 0, level, 2, 0, 0, access, 0, share, disposition, options, 120, len(text),
+                        120 + len(padded) if contexts else 0, len(contexts))
+    return Command.CREATE, fixed + (padded + contexts or b"\0")
+
+
+def leased(name: str, key: uuid.UUID, letters: str, durable: bool = False, disposition: int = 3) -> Body:
+    """A CREATE that asks for a lease, for its most access and its identifier."""
+    contexts = CreateAsk(key, LeaseState.of(letters), durable).write()
+    for added in (Context(b"MxAc", bytes(8)), Context(b"QFid", b"")):
+        contexts = append_context(contexts, added)
+    return create(name, level=0xFF, contexts=contexts, disposition=disposition)
+
+
+def write(file_id: int, offset: int = 3, data: bytes = b"bytes") -> Body:
+    return Command.WRITE, struct.pack("<HHLQ16sLLHHL", 49, 112, len(data), offset, wire(file_id), 0, 0, 0, 0, 0) + data
+
+
+def read(file_id: int, length: int = 100) -> Body:
+    return Command.READ, struct.pack("<HBBLQ16sLLLHH", 49, 80, 0, length, 0, wire(file_id), 0, 0, 0, 0, 0) + b"\0"
+
+
+def close(file_id: int) -> Body:
+    return Command.CLOSE, struct.pack("<HHL16s", 24, 1, 0, wire(file_id))
+
+
+def lock(file_id: int, flags: int = 2 | 16) -> Body:
+    return Command.LOCK, struct.pack("<HHL16sQQLL", 48, 1, 0, wire(file_id), 0, 1, flags, 0)
+
+
+def set_info(file_id: int, kind: int, data: bytes) -> Body:
+    return Command.SET_INFO, struct.pack("<HBBLHHL16s", 33, 1, kind, len(data), 96, 0, 0, wire(file_id)) + data
+
+
+def rename(file_id: int, name: str, replaces: bool = True) -> Body:
+    text = name.encode("utf-16le")
+    return set_info(file_id, 10, struct.pack("<QQL", replaces, 0, len(text)) + text)
+
+
+def query_directory(file_id: int, pattern: str = "*") -> Body:
+    text = pattern.encode("utf-16le")
+    return Command.QUERY_DIRECTORY, struct.pack("<HBBL16sHHL", 33, 37, 0, 0, wire(file_id), 96, len(text), 4096) + text
+
+
+def acknowledgment(key: uuid.UUID, letters: str) -> Body:
+    return Command.OPLOCK_BREAK, Acknowledgment(key, LeaseState.of(letters)).write()
+
+
+def acknowledge_oplock(file_id: int, level: int = 1) -> Body:
+    return Command.OPLOCK_BREAK, struct.pack("<HBBL16s", 24, level, 0, 0, wire(file_id))
+
+
+def on_open(file_id: int) -> list[Body]:
+    """A request of each kind for an open file."""
+    of_file = wire(file_id)
+    return [
+        write(file_id), read(file_id), (Command.FLUSH, struct.pack("<HHL16s", 24, 0, 0, of_file)), lock(file_id),
+        (Command.QUERY_INFO, struct.pack("<HBBLHHLLL16s", 41, 1, 18, 4096, 0, 0, 0, 0, 0, of_file) + b"\0"),
+        set_info(file_id, 20, struct.pack("<Q", 100)), rename(file_id, NEW_NAME),
+        set_info(file_id, 4, struct.pack("<QQQQLL", 1, 2, 3, 4, 0x20, 0)), query_directory(file_id),
+        (Command.IOCTL, struct.pack("<HHL16sLLLLLLLL", 57, 0, 0x00140204, of_file, 120, 4, 0, 0, 0, 100, 1, 0) + b"abcd"),
+        (Command.CHANGE_NOTIFY, struct.pack("<HHL16sLL", 32, 0, 4096, of_file, 1, 0)), acknowledge_oplock(file_id),
+        close(file_id),
+    ]
+
+
+ECHO: Body = (Command.ECHO, struct.pack("<HH", 4, 0))
+PLAIN: list[Body] = [
+    ECHO, (Command.NEGOTIATE, struct.pack("<HHHHL16sQHH", 36, 2, 1, 0, 0, b"g" * 16, 0, 0x0202, 0x0210)),
+    (Command.SESSION_SETUP, struct.pack("<HBBLLHHQ", 25, 0, 1, 0, 0, 88, 12, 0) + b"NTLMSSP\0\1\0\0\0"),
+    (Command.TREE_CONNECT, struct.pack("<HHHH", 9, 0, 72, 22) + "\\\\a\\share".encode("utf-16le") + bytes(6)),
+    (Command.CANCEL, struct.pack("<HH", 4, 0)), acknowledgment(KEY, "RH"), acknowledgment(OTHER_KEY, "none"),
+]
+CREATES: list[Body] = [
+    create("folder", options=1), create("", access=0x81, disposition=1, options=1), create("plain.dat"),
+    create("plain.dat", level=9, contexts=CreateAsk(durable=True).write()),
+    create("gone.dat", access=0x13019F, options=0x1000), create("plain.dat", access=0x80, disposition=1),
+    create("plain.dat:stream", disposition=5), leased("leased.dat", KEY, "RWH", True), leased("plain.dat", OTHER_KEY, "RH"),
+    create("leased.dat", contexts=CreateAsk(reconnect=0).write()),
+]

@@ -1,0 +1,128 @@
+"""How serve/run is refused, how it ends, and what its record says then."""
+from __future__ import annotations
+
+import os
+import signal
+import socket
+import subprocess
+import sys
+from pathlib import Path
+
+import pytest
+from smblease import Status
+
+from drive.faults import DriveFault
+from serve.server_process import ServerProcess
+from tests import needs
+from tests.paths import TOP
+from tests.serve.conftest import Connect, Start
+from tests.serve.requests import KEY, OTHER_KEY, create, leased, read, write
+
+RUN = TOP / "serve/run"
+PLACE = ["--port", "0", "--share", "s"]
+# Python with the standard library alone: no folder of packages is looked into.
+BARE = (sys.executable, "-I", "-S")
+NO_IMPACKET = "serve/run: --user needs impacket, which can't be imported (tools/setup installs it); guests don't need it\n"
+FORGETFUL = """#!/bin/sh
+while read -r word rest; do
+    case $word in
+    file) ;;
+    content) echo answer bytes - ;;
+    *) echo fault memory >&2; exit 1 ;;
+    esac
+done
+"""
+
+
+def run(program: str, *words: str, interpreter: tuple[str, ...] = ()) -> "subprocess.CompletedProcess[str]":
+    return subprocess.run([*interpreter, RUN, "--leasecheck", program, *words], stdin=subprocess.DEVNULL, capture_output=True,
+                          text=True, timeout=60, check=False)
+
+
+def executable(path: Path, text: str) -> str:
+    path.write_text(text, encoding="utf-8")
+    path.chmod(0o755)
+    return str(path)
+
+
+@pytest.mark.parametrize("words, status, beginning", [
+    pytest.param([], 2, "usage: ", id="nothing"),
+    pytest.param(["--port", "0", "--share", "a\\b"], 2, "serve/run: --share", id="--share"),
+    pytest.param(["--port", "70000", "--share", "s"], 2, "serve/run: --port", id="--port"),
+    pytest.param([*PLACE, "--user", "u"], 2, "serve/run: --user", id="--user"),
+    pytest.param([*PLACE, "--address", "nowhere"], 2, "serve/run: --address", id="--address"),
+    pytest.param([*PLACE, "--break-timer", "0"], 2, "serve/run: timers", id="--break-timer"),
+    pytest.param([*PLACE, "--control", "77"], 2, "serve/run: --control", id="--control"),
+    pytest.param([*PLACE, "--folder", "/nowhere"], 1, "serve/run: /nowhere", id="--folder"),
+    pytest.param([*PLACE, "--record", "/nowhere/record"], 1, "serve/run: /nowhere/record", id="--record"),
+    pytest.param([*PLACE, "--leasecheck", "/nowhere/program"], 1, "serve/run: /nowhere/program", id="--leasecheck"),
+])
+def test_refused(program: str, words: list[str], status: int, beginning: str) -> None:
+    done = run(program, *words)
+    assert (done.returncode, done.stdout, done.stderr[:len(beginning)]) == (status, "", beginning)
+    assert words == [] or done.stderr.count("\n") == 1
+
+
+def test_a_port_that_is_taken(program: str) -> None:
+    with socket.socket() as one:
+        one.bind(("127.0.0.1", 0))
+        one.listen()
+        port = str(one.getsockname()[1])
+        done = run(program, "--port", port, "--share", "s")
+    beginning = f"serve/run: 127.0.0.1, port {port}"
+    assert (done.returncode, done.stdout, done.stderr[:len(beginning)]) == (1, "", beginning)
+
+
+def test_a_user_without_impacket(program: str) -> None:
+    """There is none, and a line says so."""
+    assert subprocess.run([*BARE, "-c", "import impacket"], capture_output=True, check=False).returncode == 1
+    done = run(program, *PLACE, "--user", "u%p", interpreter=BARE)
+    assert (done.returncode, done.stdout, done.stderr) == (1, "", NO_IMPACKET)
+
+
+@needs.package("impacket")
+def test_want_of_memory(tmp_path: Path, connect: Connect) -> None:
+    """A machine that has no memory ends the server, with a line that says so, and nothing is answered in its place."""
+    server = ServerProcess(executable(tmp_path / "machine", FORGETFUL))
+    with pytest.raises(DriveFault):
+        connect(server)
+    server.wait()
+    server.close()
+    assert (server.status, server.complaints.count("\n"), "fault memory" in server.complaints) == (1, 1, True)
+
+
+def test_a_signal_ends_it(start: Start, connect: Connect, tmp_path: Path) -> None:
+    """The record, fact by fact, and its verdict."""
+    server = start(record=tmp_path / "record")
+    one = connect(server)
+    one.ask(write(one.open(create("file")), 0, b"x"))
+    os.kill(server.process, signal.SIGINT)
+    server.close()
+    facts = [it for it in (tmp_path / "record").read_text(encoding="utf-8").splitlines() if not it.startswith("#")]
+    assert facts == ["joined 1", "start 1 -", "opened 1 1", "sent 1", "wrote 1 1 1 0 78 through", "changed 1 1 1 0 78", "sent 1"]
+    assert server.verdict == "safe"
+
+
+def test_a_machine_that_is_wrong(program: str, connect: Connect, tmp_path: Path) -> None:
+    """Two clients that are both granted what one may have: the record breaks the first rule."""
+    wrong = executable(tmp_path / "wrong", f"""#!/bin/sh
+PYTHONPATH={TOP}:{TOP}/python exec {sys.executable} -m tests.serve.two_machines {program} "$@"
+""")
+    server = ServerProcess(wrong, str(tmp_path / "record"))
+    for key in (KEY, OTHER_KEY):
+        connect(server).open(leased("file", key, "RWH"))
+    server.close()
+    words = (server.verdict or "").split(" ")
+    assert (words[0], words[-1], server.status) == ("unsafe", "1", 3)
+
+
+def test_a_folder_is_served(start: Start, connect: Connect, tmp_path: Path) -> None:
+    """Its files are there, and stay as they are."""
+    (tmp_path / "below").mkdir()
+    (tmp_path / "below/file").write_bytes(b"given")
+    one = connect(start("--folder", str(tmp_path)))
+    file_id = one.open(create("below\\file", disposition=1))
+    assert one.ask(read(file_id)).data[80:] == b"given"
+    assert one.status(write(file_id)) == Status.SUCCESS
+    assert one.ask(read(file_id)).data[80:] == b"givbytes"
+    assert (tmp_path / "below/file").read_bytes() == b"given"

@@ -1,0 +1,112 @@
+"""Names, deletion, overwrites, locks and oplocks, which are the shell's."""
+from __future__ import annotations
+
+import pytest
+from smblease import Status
+
+from drive.headers import Command, Message
+from serve.create_parameters import CREATE, DELETE_ON_CLOSE, OPEN, OVERWRITE, OVERWRITE_IF
+from serve.server_process import ServerProcess
+from tests.serve.conftest import Connect
+from tests.serve.requests import KEY, acknowledge_oplock, acknowledgment, close, create, leased, lock, read, set_info, write
+
+DELETING = 0x13019F
+UNLOCK = 4
+LEVEL_II, BATCH = 1, 9
+
+
+def end_of_file(message: Message) -> int:
+    """As a create's answer has it."""
+    return message.number(112, 8)
+
+
+def test_an_overwrite_of_an_open_file_is_refused(served: ServerProcess, connect: Connect) -> None:
+    one = connect(served)
+    first = one.open(create("file"))
+    one.ask(write(first))
+    assert one.status(create("file", disposition=OVERWRITE)) == Status.NOT_SUPPORTED
+
+
+def test_an_overwrite_that_is_refused_leaves_the_file(served: ServerProcess, connect: Connect) -> None:
+    """The key of the create has a lease on another file."""
+    one = connect(served)
+    first = one.open(create("file"))
+    one.ask(write(first))
+    one.ask(close(first))
+    one.open(leased("other", KEY, "RWH"))
+    assert one.status(leased("file", KEY, "RWH", disposition=OVERWRITE_IF)) == Status.INVALID_PARAMETER
+    assert end_of_file(one.ask(create("file", disposition=OPEN))) == 8
+
+
+def test_an_overwrite_begins_a_file_anew(served: ServerProcess, connect: Connect) -> None:
+    one = connect(served)
+    first = one.open(create("file"))
+    one.ask(write(first))
+    one.ask(close(first))
+    anew = one.ask(create("file", disposition=OVERWRITE))
+    assert (anew.status, end_of_file(anew)) == (Status.SUCCESS, 0)
+
+
+def test_deletion(served: ServerProcess, connect: Connect) -> None:
+    """A file goes with its last open; until then it is there for those that have it, and for nobody else."""
+    one, other = connect(served), connect(served)
+    first, second = one.open(create("file", access=DELETING)), other.open(create("file", access=DELETING))
+    assert one.status(set_info(first, 13, b"\1")) == Status.SUCCESS
+    assert other.status(create("file")) == Status.DELETE_PENDING
+    assert one.status(close(first)) == Status.SUCCESS
+    assert other.status(read(second)) == Status.END_OF_FILE
+    assert other.status(create("file")) == Status.DELETE_PENDING
+    assert other.status(close(second)) == Status.SUCCESS
+    assert other.status(create("file", disposition=OPEN)) == Status.OBJECT_NAME_NOT_FOUND
+    assert other.status(create("file", disposition=CREATE)) == Status.SUCCESS
+    assert one.status(create("file", disposition=CREATE)) == Status.OBJECT_NAME_COLLISION
+
+
+def test_who_deletes_waits_for_the_handles_of_others(served: ServerProcess, connect: Connect) -> None:
+    one, other = connect(served), connect(served)
+    one.open(leased("file", KEY, "RH"))
+    number = other.send(create("file", access=DELETING, disposition=OPEN, options=DELETE_ON_CLOSE))
+    waits, notice = other.receive(), one.receive()
+    assert (waits.identifier, waits.status) == (number, Status.PENDING)
+    assert (notice.number(88, 4), notice.number(92, 4)) == (3, 1), "of RH to R"
+    one.ask(acknowledgment(KEY, "R"))
+    assert other.answer_to(number).status == Status.SUCCESS
+
+
+def test_locks(served: ServerProcess, connect: Connect) -> None:
+    """A lock keeps others from its bytes, until it is given up."""
+    one, other = connect(served), connect(served)
+    first, second = one.open(create("file")), other.open(create("file"))
+    assert one.status(lock(first)) == Status.SUCCESS
+    assert other.status(lock(second)) == Status.LOCK_NOT_GRANTED
+    assert other.status(write(second, 0, b"x")) == Status.FILE_LOCK_CONFLICT
+    assert other.status(write(second, 3, b"x")) == Status.SUCCESS
+    assert one.status(lock(first, UNLOCK)) == Status.SUCCESS
+    assert other.status(write(second, 0, b"x")) == Status.SUCCESS
+
+
+def test_oplocks(served: ServerProcess, connect: Connect) -> None:
+    """A batch oplock breaks to level II beside a second open, whose create waits for that, and to none at a write."""
+    one, other = connect(served), connect(served)
+    made = one.ask(create("file", level=BATCH))
+    assert made.number(66, 1) == BATCH
+    number = other.send(create("file", level=LEVEL_II))
+    waits, notice = other.receive(), one.receive()
+    assert (waits.status, notice.command, notice.number(66, 1)) == (Status.PENDING, Command.OPLOCK_BREAK, LEVEL_II)
+    answer = one.ask(acknowledge_oplock(made.number(128, 8)))
+    assert (answer.status, answer.number(66, 1)) == (Status.SUCCESS, LEVEL_II)
+    done = other.answer_to(number)
+    assert (done.status, done.number(66, 1)) == (Status.SUCCESS, LEVEL_II)
+    other.ask(write(done.number(128, 8)))
+    assert one.receive().number(66, 1) == 0
+
+
+@pytest.mark.parametrize("access, expected", [
+    pytest.param(0x120089, Status.SUCCESS, id="reading"), pytest.param(0x120116, Status.SHARING_VIOLATION, id="writing"),
+    pytest.param(0x10000, Status.SHARING_VIOLATION, id="deleting"), pytest.param(0x80, Status.SUCCESS, id="attributes"),
+])
+def test_sharing(served: ServerProcess, connect: Connect, access: int, expected: Status) -> None:
+    """Reading and writing is shared by the machine's rules, deletion by the shell's. The first open shares reading alone."""
+    one, other = connect(served), connect(served)
+    one.open(create("file", access=0x120089, share=1))
+    assert other.status(create("file", access=access, share=7)) == expected

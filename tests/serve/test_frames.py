@@ -1,0 +1,103 @@
+"""Frames, numbers of requests, compounds and contexts."""
+from __future__ import annotations
+
+import socket
+import struct
+
+import pytest
+from smblease import CreateAnswer, LeaseState, Status, each_context
+
+from drive.headers import RELATED, Command, Unreadable
+from serve.packets import Credits, Frames, split_compound
+from serve.server_process import ServerProcess
+from tests.serve.conftest import Connect
+from tests.serve.requests import ECHO, EVERY_FILE_ID, KEY, Body, close, create, frame, header, leased, read, write
+
+ECHO_HEADER = header(Command.ECHO, 0, 0, 0)
+IN_ONE_FRAME = 1000
+
+
+def test_numbers_of_requests() -> None:
+    """Each once, none that wasn't given, and one at least where none is left (3.3.5.2.3)."""
+    numbers = Credits()
+    assert numbers.take(0, 1)
+    assert not numbers.take(0, 1) and not numbers.take(1, 1)
+    assert numbers.grant(3) == 3
+    assert numbers.take(2, 2) and numbers.take(1, 1)
+    assert not numbers.take(3, 1) and not numbers.take(4, 1)
+    assert (numbers.grant(0), numbers.grant(0)) == (1, 1)
+
+
+def test_frames_in_pieces() -> None:
+    frames = Frames()
+    frames.add(b"\0\0\0\3abc\0\0")
+    assert (frames.next(), frames.next()) == (b"abc", None)
+    frames.add(b"\0\1d")
+    assert (frames.next(), frames.next()) == (b"d", None)
+
+
+@pytest.mark.parametrize("data", [
+    pytest.param(ECHO_HEADER[:63], id="a_short_header"), pytest.param(b"\xfdSMB" + ECHO_HEADER[4:], id="another_protocol"),
+    pytest.param(header(Command.ECHO, 0, 0, 0, 1) + bytes(8), id="a_distance_of_1"),
+    pytest.param(header(Command.ECHO, 0, 0, 0, 72) + bytes(8), id="a_distance_past_the_end"),
+])
+def test_unreadable(data: bytes) -> None:
+    with pytest.raises(Unreadable):
+        split_compound(data)
+
+
+def compound(number: int, session: int, tree: int, bodies: list[Body]) -> bytes:
+    """A frame of these requests, each related to the one before it."""
+    data = b""
+    for place, (command, body) in enumerate(bodies):
+        body += bytes(-len(body) % 8)
+        following = 64 + len(body) if place < len(bodies) - 1 else 0
+        data += header(command, number + place, session, tree, following, RELATED if place else 0) + body
+    return frame(data)
+
+
+def test_a_compound(served: ServerProcess, connect: Connect) -> None:
+    """CREATE, WRITE, READ and CLOSE in one frame, each by the FileId of the first (3.3.5.2.7.2)."""
+    from tests.serve.wire_client import parts_of  # pylint: disable=import-outside-toplevel
+    one = connect(served)
+    bodies = [create("file"), write(EVERY_FILE_ID), read(EVERY_FILE_ID), close(EVERY_FILE_ID), close(EVERY_FILE_ID)]
+    one.stream.sendall(compound(one.number, one.session, one.tree, bodies))
+    answers = parts_of(one.receive())
+    assert [it.command for it in answers] == [command for command, _ in bodies]
+    assert [it.status for it in answers] == [Status.SUCCESS] * 4 + [Status.FILE_CLOSED]
+    assert answers[2].part(80, 8) == b"\0\0\0bytes"
+
+
+def test_a_long_compound(served: ServerProcess, connect: Connect) -> None:
+    """A thousand related requests in one frame, each answered."""
+    from tests.serve.wire_client import parts_of  # pylint: disable=import-outside-toplevel
+    one = connect(served)
+    first = bytearray(header(Command.ECHO, one.number, one.session, one.tree))
+    first[14:16] = (4096).to_bytes(2, "little")
+    one.stream.sendall(frame(bytes(first) + ECHO[1]))
+    one.receive()
+    one.stream.sendall(compound(one.number + 1, one.session, one.tree, [ECHO] * IN_ONE_FRAME))
+    assert [it.status for it in parts_of(one.receive())] == [Status.SUCCESS] * IN_ONE_FRAME
+
+
+def test_contexts_of_a_reply(served: ServerProcess, connect: Connect) -> None:
+    """The machine's contexts, and those that the shell adds."""
+    from tests.serve.wire_client import contexts_of  # pylint: disable=import-outside-toplevel
+    text = contexts_of(connect(served).ask(leased("file", KEY, "RWH", True)))
+    assert CreateAnswer.read(text) == CreateAnswer(KEY, LeaseState.of("RWH"), durable=True)
+    added = {it.name: it.data for it in each_context(text)}
+    assert added[b"MxAc"] == struct.pack("<LL", 0, 0x1F01FF)
+    assert len(added[b"QFid"]) == 32
+
+
+@pytest.mark.parametrize("dialects, answered", [
+    pytest.param(b"\x02NT LM 0.12\0\x02SMB 2.002\0\x02SMB 2.???\0", 0x02FF, id="with_SMB_2.???"),
+    pytest.param(b"\x02NT LM 0.12\0", None, id="alone"),
+])
+def test_a_negotiate_of_smb_1(served: ServerProcess, dialects: bytes, answered: int | None) -> None:
+    """The dialect that it is answered (3.3.5.3.1), or else the connection is closed."""
+    with socket.create_connection((served.place.host, served.place.port)) as one:
+        one.settimeout(20)
+        one.sendall(frame(b"\xffSMB\x72" + bytes(27) + b"\0" + struct.pack("<H", len(dialects)) + dialects))
+        data = one.recv(4096)
+    assert (int.from_bytes(data[72:74], "little") if data else None) == answered

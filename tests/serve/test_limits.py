@@ -1,0 +1,73 @@
+"""Limits, and what is answered past them."""
+from __future__ import annotations
+
+import struct
+import uuid
+
+import pytest
+from smblease import Status
+
+from drive.faults import DriveFault
+from drive.headers import Command
+from serve.create_parameters import DELETE_ON_CLOSE
+from serve.server_process import ServerProcess
+from tests.serve.conftest import Connect
+from tests.serve.requests import close, create, frame, header, read, set_info, write
+
+LARGEST_FILE = 1048576
+END_OF_FILE = 20
+
+
+def test_names(served: ServerProcess, connect: Connect) -> None:
+    """255 names, and no 256th; a name that is deleted with nothing written makes room."""
+    one = connect(served)
+    first = one.open(create("name-0", access=0x13019F, options=DELETE_ON_CLOSE))
+    assert [one.status(create(f"name-{number}")) for number in range(1, 255)] == [Status.SUCCESS] * 254
+    assert one.status(create("name-255")) == Status.INSUFFICIENT_RESOURCES
+    assert one.status(close(first)) == Status.SUCCESS
+    assert one.status(create("name-255")) == Status.SUCCESS
+
+
+def test_bytes_of_a_file(served: ServerProcess, connect: Connect) -> None:
+    one = connect(served)
+    file_id = one.open(create("file"))
+    one.ask(write(file_id, 0, b"x"))
+    assert one.status(write(file_id, LARGEST_FILE - 1, b"y")) == Status.SUCCESS
+    assert one.status(write(file_id, LARGEST_FILE, b"z")) == Status.INVALID_PARAMETER
+    assert one.status(write(file_id, 1 << 40, b"z")) == Status.INVALID_PARAMETER
+    command, body = read(file_id, LARGEST_FILE)
+    charge = LARGEST_FILE // 65536
+    first = bytearray(header(command, one.number, one.session, one.tree))
+    first[6:8] = charge.to_bytes(2, "little")
+    one.stream.sendall(frame(bytes(first) + body))
+    whole = one.answer_to(one.number).data[80:]
+    assert (len(whole), whole[:2], whole[-2:]) == (LARGEST_FILE, b"x\0", b"\0y")
+
+
+@pytest.mark.parametrize("size, expected", [
+    pytest.param(10, Status.SUCCESS, id="up"), pytest.param(8, Status.SUCCESS, id="the_same"),
+    pytest.param(7, Status.NOT_SUPPORTED, id="down"), pytest.param(1 << 21, Status.INVALID_PARAMETER, id="past_the_limit"),
+])
+def test_the_end_of_a_file(served: ServerProcess, connect: Connect, size: int, expected: Status) -> None:
+    one = connect(served)
+    file_id = one.open(create("file"))
+    one.ask(write(file_id))
+    assert one.status(set_info(file_id, END_OF_FILE, struct.pack("<Q", size))) == expected
+
+
+def test_a_second_connection_of_a_client(served: ServerProcess, connect: Connect) -> None:
+    """It is refused, and one is taken again once the first is lost."""
+    first = connect(served, b"2" * 16)
+    with pytest.raises(DriveFault, match="REQUEST_NOT_ACCEPTED"):
+        connect(served, b"2" * 16)
+    first.close()
+    assert connect(served, b"2" * 16).status((Command.ECHO, struct.pack("<HH", 4, 0))) == Status.SUCCESS
+
+
+def test_clients(served: ServerProcess, connect: Connect) -> None:
+    """255 clients, and no 256th while each of them is there."""
+    there = [connect(served, uuid.UUID(int=number + 1).bytes) for number in range(255)]
+    with pytest.raises(DriveFault, match="INSUFFICIENT_RESOURCES|INSUFF_SERVER_RESOURCES"):
+        connect(served, b"3" * 16)
+    there.pop().close()
+    connect(served, b"4" * 16)

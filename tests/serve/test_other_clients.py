@@ -1,0 +1,88 @@
+"""What smbclient and smbtorture do, which need nothing of impacket; the server has it, or the standard library alone."""
+from __future__ import annotations
+
+import random
+import subprocess
+from collections.abc import Sequence
+from pathlib import Path
+
+import pytest
+
+from serve.server_process import ServerProcess
+from serve.torture_command import Kind, run_test
+from tests import needs
+from tests.serve.conftest import Start
+from tests.serve.test_command_line import BARE
+
+TORTURED = ["smb2.lease.request", "smb2.lease.upgrade", "smb2.lease.upgrade2", "smb2.lease.statopen3", "smb2.lease.rename_wait",
+            "smb2.lease.duplicate_open", "smb2.durable-open.reopen1a-lease", "smb2.durable-open.delete_on_close1",
+            "smb2.durable-open.lock-lease", "smb2.durable-open.oplock"]
+APART = "smb2.lease.breaking1"
+USER = "somebody%secret"
+
+
+def smbclient(server: ServerProcess, commands: str, user: str = "guest%", words: Sequence[str] = ()) -> "subprocess.Popen[str]":
+    place = server.place
+    command = ["smbclient", f"//{place.host}/{place.share}", "-p", str(place.port), "-U", user, "-m", "SMB2_10", *words]
+    return subprocess.Popen([*command, "-c", commands], stdin=subprocess.DEVNULL, stdout=subprocess.PIPE,
+                            stderr=subprocess.STDOUT, text=True)
+
+
+def ended(client: "subprocess.Popen[str]") -> tuple[int, str]:
+    output, _ = client.communicate(timeout=90)
+    return client.returncode, output
+
+
+@needs.program("smbtorture")
+@pytest.mark.parametrize("name, words, interpreter", [
+    *(pytest.param(it, [], (), id=it) for it in TORTURED), pytest.param(APART, ["--apart"], (), id=f"{APART}-apart"),
+    pytest.param(TORTURED[0], [], BARE, id=f"{TORTURED[0]}-standard_library_alone"),
+])
+def test_smbtorture(program: str, name: str, words: list[str], interpreter: tuple[str, ...]) -> None:
+    row = run_test(name, lambda _: ServerProcess(program, words=words, interpreter=interpreter), 60.0)
+    assert row.kind is Kind.PASSED, row.text
+
+
+@needs.program("smbclient")
+@pytest.mark.parametrize("user, words, interpreter", [
+    pytest.param("guest%", [], (), id="a_guest"), pytest.param("guest%", [], BARE, id="a_guest-standard_library_alone"),
+    pytest.param(USER, ["--user", USER], (), id="a_user", marks=needs.package("impacket")),
+])
+def test_smbclient(start: Start, tmp_path: Path, user: str, words: list[str], interpreter: tuple[str, ...]) -> None:
+    """A file goes there and comes back, is listed and deleted."""
+    server = start(*words, record=tmp_path / "record", interpreter=interpreter)
+    data = random.Random(1).randbytes(300000)
+    given, got = tmp_path / "given", tmp_path / "got"
+    given.write_bytes(data)
+    status, output = ended(smbclient(server, f"put {given} a.dat; put {given} a.dat; get a.dat {got}; mkdir d; ls; "
+                                             "rename a.dat d\\b.dat; cd d; ls; del b.dat; ls", user))
+    assert status == 0, output
+    assert got.read_bytes() == data
+    assert [name for name in ("a.dat ", "  d  ", "b.dat ") if name not in output] == [], output
+    assert output.rpartition("b.dat")[2].count("  .") == 2, "the folder holds nothing in the end"
+    server.close()
+    assert server.verdict == "safe"
+
+
+@needs.program("smbclient")
+def test_two_of_smbclient(served: ServerProcess, tmp_path: Path) -> None:
+    """Two at a time, each with files of its own."""
+    turns = range(10)
+    for name in "ab":
+        (tmp_path / name).write_bytes(name.encode() * 200000)
+    clients = [smbclient(served, "".join(f"put {tmp_path}/{name} {name}{it}; get {name}{it} {tmp_path}/{name}{it}; "
+                                         for it in turns) + "ls") for name in "ab"]
+    assert [ended(it)[0] for it in clients] == [0, 0]
+    assert all((tmp_path / f"{name}{it}").read_bytes() == name.encode() * 200000 for name in "ab" for it in turns)
+
+
+@needs.program("smbclient")
+@needs.package("impacket")
+@pytest.mark.parametrize("user, failures, status", [
+    pytest.param("somebody%wrong", 1, 1, id="wrong"), pytest.param(USER, 0, 0, id="right"),
+    pytest.param("guest%", 0, 0, id="guest"),
+])
+def test_a_password(start: Start, user: str, failures: int, status: int) -> None:
+    """A named user is refused with a wrong one, and a guest is served as before."""
+    ends, output = ended(smbclient(start("--user", USER), "ls", user))
+    assert (output.count("NT_STATUS_LOGON_FAILURE"), ends) == (failures, status), output

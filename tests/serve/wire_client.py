@@ -1,0 +1,100 @@
+"""A client that sends requests as bytes, one by one, on a session that impacket sets up."""
+from __future__ import annotations
+
+import select
+import socket
+import struct
+import uuid
+
+from smblease import Status
+
+from drive.connections import Connection
+from drive.headers import UNASKED, Message
+from drive.place import Place
+from tests.serve.requests import Body, frame, header
+
+SECONDS = 20.0
+
+
+class Closed(Exception):
+    """The server closed the connection."""
+
+
+class WireClient:
+    # pylint: disable=protected-access  # impacket tells of its socket, session and numbers in no other way
+    def __init__(self, place: Place, guid: bytes | None = None) -> None:
+        self.guid = guid or uuid.uuid4().bytes
+        self._connection = Connection(place, self.guid)
+        smb = self._connection._smb
+        self.stream: socket.socket = smb._NetBIOSSession.get_socket()
+        self.session = int(smb._Session["SessionID"])
+        self.tree = int(self._connection._tree)
+        self.number = int(smb._Connection["SequenceWindow"])
+        self.breaks: list[Message] = []
+
+    def close(self) -> None:
+        self._connection.close()
+
+    def send(self, body: Body) -> int:
+        command, text = body
+        self.stream.sendall(frame(header(command, self.number, self.session, self.tree) + text))
+        self.number += 1
+        return self.number - 1
+
+    def receive(self, seconds: float = SECONDS) -> Message:
+        """The next message, or the messages of a compound, as they come."""
+        self.stream.settimeout(seconds)
+        length, = struct.unpack(">L", self._take(4))
+        return Message(self._take(length))
+
+    def answer_to(self, number: int) -> Message:
+        """The last answer to a request; breaks that come before it are kept."""
+        while True:
+            message = self.receive()
+            if message.identifier == UNASKED:
+                self.breaks.append(message)
+            elif message.identifier == number and message.status != Status.PENDING:
+                return message
+
+    def ask(self, body: Body) -> Message:
+        return self.answer_to(self.send(body))
+
+    def status(self, body: Body) -> int:
+        return self.ask(body).status
+
+    def open(self, body: Body) -> int:
+        """The FileId of a CREATE that succeeds."""
+        message = self.ask(body)
+        assert message.status == Status.SUCCESS, hex(message.status)
+        return file_id(message)
+
+    def has_more(self, seconds: float) -> bool:
+        return bool(select.select([self.stream], [], [], seconds)[0])
+
+    def _take(self, length: int) -> bytes:
+        data = b""
+        while len(data) < length:
+            part = self.stream.recv(length - len(data))
+            if not part:
+                raise Closed
+            data += part
+        return data
+
+
+def file_id(message: Message) -> int:
+    return message.number(128, 8)
+
+
+def contexts_of(message: Message) -> bytes:
+    place, length = message.number(144, 4), message.number(148, 4)
+    return message.part(place, length) if length else b""
+
+
+def parts_of(message: Message) -> list[Message]:
+    """The messages of a compound."""
+    found, data = [], message.data
+    while data:
+        following = int.from_bytes(data[20:24], "little")
+        found.append(Message(data[:following] if following else data))
+        data = data[following:] if following else b""
+    return found
