@@ -67,7 +67,7 @@ def test_shared_plays_the_example(program: str) -> None:
 
 @pytest.mark.parametrize("words, beginning", [
     pytest.param([], "usage: ", id="no_file"), pytest.param(["/nowhere"], "shared.py: ", id="a_file_that_is_not_there"),
-    pytest.param([RUNS[0]], "shared.py: line 1 ", id="a_record"),
+    pytest.param([RUNS[0]], "shared.py: fault line 1", id="a_record"),
 ])
 def test_shared_is_refused(words: list[str | Path], beginning: str) -> None:
     status, said = run(EXAMPLES / "shared.py", *words)
