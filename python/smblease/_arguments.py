@@ -2,7 +2,7 @@
 import ctypes
 import operator
 import uuid
-from typing import Type, TypeVar, Union
+from typing import Any, Tuple, Type, TypeVar, Union
 
 Octets = Union[bytes, bytearray, memoryview]
 Struct = TypeVar("Struct", bound=ctypes.Structure)
@@ -26,6 +26,30 @@ def key_octets(value: uuid.UUID) -> bytes:
     if not isinstance(value, uuid.UUID):
         raise TypeError(f"a uuid.UUID is needed, and not {value!r}")
     return value.bytes
+
+
+def counted(value: Octets) -> Tuple[bytes, int]:
+    """Bytes, and how many they are."""
+    given = octets(value)
+    return given, len(given)
+
+
+# Fields of requests and replies.
+
+def file_of(it: Any) -> int:
+    return number(it.file, BYTE, "file")
+
+
+def file_id_of(it: Any) -> int:
+    return number(it.file_id, LONG, "file_id")
+
+
+def write_of(it: Any) -> int:
+    return number(it.number, LONG, "write")
+
+
+def status_of(it: Any) -> int:
+    return number(it.status, WORD, "status")
 
 
 def struct_of(kind: Type[Struct], value: Octets, name: str) -> Struct:

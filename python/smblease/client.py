@@ -7,11 +7,12 @@ from __future__ import annotations
 import ctypes
 import uuid
 from functools import partial
-from typing import Any, Callable, Dict, Type
+from typing import Any, Callable, Dict, Tuple, Type
 
 from smblease import _structs as structs
 from smblease import replies, requests, steps
-from smblease._arguments import BYTE, LONG, WORD, Octets, key_octets, number, octets, struct_of
+from smblease._arguments import (BYTE, WORD, Octets, counted, file_id_of, file_of, key_octets, number, status_of, struct_of,
+                                 write_of)
 from smblease._handles import Handle, with_bytes
 from smblease._library import library
 from smblease.values import Access, LeaseState, Share
@@ -138,9 +139,8 @@ class Client(Handle[structs.Client]):
         >>> Client(uuid.UUID(int=1), 1).write(1, 0, b"X").answer
         Refused(refusal=<Refusal.NOT_OPEN: 1>)
         """
-        given = octets(data)
-        return self._step(library.smblease_client_write, number(file, BYTE, "file"),
-                          number(offset, WORD, "offset"), given, len(given))
+        return self._step(library.smblease_client_write, number(file, BYTE, "file"), number(offset, WORD, "offset"),
+                          *counted(data))
 
     def flush(self, file: int) -> steps.Step:
         """The application has the buffered writes of a file sent.
@@ -150,120 +150,23 @@ class Client(Handle[structs.Client]):
         """
         return self._step(library.smblease_client_flush, number(file, BYTE, "file"))
 
-    def take_created(self, file: int, file_id: int, contexts: Octets) -> steps.Step:
-        """The server opened a file. What fits no open is passed over, here and below.
+    def take(self, reply: replies.Reply) -> steps.Step:
+        """A reply of the server comes. One that fits no open is passed over.
 
         >>> client = Client(uuid.UUID(int=1), 1)
         >>> connected = client.connect()
         >>> [asked] = client.open(1, Access.READ, Share.READ, LeaseState.R).requests
-        >>> client.take_created(1, 7, asked.contexts).notes
+        >>> client.take(replies.Created(1, 7, asked.contexts)).notes
         (Believes(file=1, state=<LeaseState R>),)
-        """
-        given = octets(contexts)
-        return self._step(library.smblease_client_take_created, number(file, BYTE, "file"), number(file_id, LONG, "file_id"),
-                          given, len(given))
-
-    def take_create_failed(self, file: int, status: int) -> steps.Step:
-        """The server didn't open a file.
-
-        >>> client = Client(uuid.UUID(int=1), 1)
-        >>> connected = client.connect()
-        >>> opened = client.open(1, Access.READ, Share.READ, LeaseState.R)
-        >>> client.take_create_failed(1, 0xC0000043).answer == steps.Failed(0xC0000043)
-        True
-        """
-        return self._step(library.smblease_client_take_create_failed, number(file, BYTE, "file"), number(status, WORD, "status"))
-
-    def take_read_done(self, file_id: int, data: Octets) -> steps.Step:
-        """The server read the file of an open.
-
-        >>> Client(uuid.UUID(int=1), 1).take_read_done(7, b"abc").answer
-        Quiet()
-        """
-        given = octets(data)
-        return self._step(library.smblease_client_take_read_done, number(file_id, LONG, "file_id"), given, len(given))
-
-    def take_read_failed(self, file_id: int, status: int) -> steps.Step:
-        """The server didn't read the file of an open.
-
-        >>> Client(uuid.UUID(int=1), 1).take_read_failed(7, 0xC0000128).answer
-        Quiet()
-        """
-        return self._step(library.smblease_client_take_read_failed, number(
-            file_id, LONG, "file_id"), number(status, WORD, "status"))
-
-    def take_write_done(self, file_id: int, write: int) -> steps.Step:
-        """The server did the write of this number.
-
-        >>> Client(uuid.UUID(int=1), 1).take_write_done(7, 1).answer
-        Quiet()
-        """
-        return self._step(library.smblease_client_take_write_done, number(file_id, LONG, "file_id"), number(write, LONG, "write"))
-
-    def take_write_failed(self, file_id: int, write: int, status: int) -> steps.Step:
-        """The server didn't do the write of this number.
-
-        >>> Client(uuid.UUID(int=1), 1).take_write_failed(7, 1, 0xC0000022).answer
-        Quiet()
-        """
-        return self._step(library.smblease_client_take_write_failed, number(file_id, LONG, "file_id"),
-                          number(write, LONG, "write"), number(status, WORD, "status"))
-
-    def take_closed(self, file_id: int) -> steps.Step:
-        """The server closed an open.
-
-        >>> Client(uuid.UUID(int=1), 1).take_closed(7).answer
-        Quiet()
-        """
-        return self._step(library.smblease_client_take_closed, number(file_id, LONG, "file_id"))
-
-    def take_close_failed(self, file_id: int, status: int) -> steps.Step:
-        """The server didn't close an open.
-
-        >>> Client(uuid.UUID(int=1), 1).take_close_failed(7, 0xC0000128).answer
-        Quiet()
-        """
-        return self._step(library.smblease_client_take_close_failed, number(
-            file_id, LONG, "file_id"), number(status, WORD, "status"))
-
-    def take_break(self, message: Octets) -> steps.Step:
-        """The server breaks a lease: the 44 bytes of a notification.
-
-        >>> Client(uuid.UUID(int=1), 1).take_break(bytes(43))
+        >>> client.take(replies.Break(bytes(43)))
         Traceback (most recent call last):
         ...
         ValueError: a lease break notification has 44 bytes, and not 43
         """
-        given = struct_of(structs.BreakMessage, message, "a lease break notification")
-        return self._step(library.smblease_client_take_break, ctypes.byref(given))
-
-    def take_acknowledge_done(self, message: Octets) -> steps.Step:
-        """The server accepted an acknowledgment: the 36 bytes of its response.
-
-        >>> Client(uuid.UUID(int=1), 1).take_acknowledge_done(bytes(36)).answer
-        Quiet()
-        """
-        given = struct_of(structs.AckMessage, message, "a lease break response")
-        return self._step(library.smblease_client_take_ack_done, ctypes.byref(given))
-
-    def take_acknowledge_failed(self, status: int) -> steps.Step:
-        """The server refused an acknowledgment.
-
-        >>> Client(uuid.UUID(int=1), 1).take_acknowledge_failed(0xC0000001).answer
-        Quiet()
-        """
-        return self._step(library.smblease_client_take_ack_failed, number(status, WORD, "status"))
-
-    def take(self, reply: replies.Reply) -> steps.Step:
-        """Takes a reply by the method of its kind.
-
-        >>> Client(uuid.UUID(int=1), 1).take(replies.Closed(7)).answer
-        Quiet()
-        """
-        taking = _TAKING.get(type(reply))
-        if taking is None:
+        if type(reply) not in _TAKING:
             raise TypeError(f"a reply is needed, and not {reply!r}")
-        return taking(self, reply)
+        call, arguments = _TAKING[type(reply)]
+        return self._step(call, *arguments(reply))
 
     def belief(self, file: int) -> LeaseState:
         """What the client believes of the lease of a file; NONE where it isn't open.
@@ -284,16 +187,19 @@ class Client(Handle[structs.Client]):
         return lease_key(self.guid, file)
 
 
-_TAKING: Dict[Type[Any], Callable[[Client, Any], steps.Step]] = {
-    replies.Created: lambda client, it: client.take_created(it.file, it.file_id, it.contexts),
-    replies.CreateFailed: lambda client, it: client.take_create_failed(it.file, it.status),
-    replies.ReadDone: lambda client, it: client.take_read_done(it.file_id, it.data),
-    replies.ReadFailed: lambda client, it: client.take_read_failed(it.file_id, it.status),
-    replies.WriteDone: lambda client, it: client.take_write_done(it.file_id, it.number),
-    replies.WriteFailed: lambda client, it: client.take_write_failed(it.file_id, it.number, it.status),
-    replies.Closed: lambda client, it: client.take_closed(it.file_id),
-    replies.CloseFailed: lambda client, it: client.take_close_failed(it.file_id, it.status),
-    replies.Break: lambda client, it: client.take_break(it.message),
-    replies.AcknowledgeDone: lambda client, it: client.take_acknowledge_done(it.message),
-    replies.AcknowledgeFailed: lambda client, it: client.take_acknowledge_failed(it.status),
+# The call for a reply of each kind, and its arguments.
+_TAKING: Dict[Type[Any], Tuple[Callable[..., int], Callable[[Any], Tuple[object, ...]]]] = {
+    replies.Created: (library.smblease_client_take_created, lambda it: (file_of(it), file_id_of(it), *counted(it.contexts))),
+    replies.CreateFailed: (library.smblease_client_take_create_failed, lambda it: (file_of(it), status_of(it))),
+    replies.ReadDone: (library.smblease_client_take_read_done, lambda it: (file_id_of(it), *counted(it.data))),
+    replies.ReadFailed: (library.smblease_client_take_read_failed, lambda it: (file_id_of(it), status_of(it))),
+    replies.WriteDone: (library.smblease_client_take_write_done, lambda it: (file_id_of(it), write_of(it))),
+    replies.WriteFailed: (library.smblease_client_take_write_failed, lambda it: (file_id_of(it), write_of(it), status_of(it))),
+    replies.Closed: (library.smblease_client_take_closed, lambda it: (file_id_of(it),)),
+    replies.CloseFailed: (library.smblease_client_take_close_failed, lambda it: (file_id_of(it), status_of(it))),
+    replies.Break: (library.smblease_client_take_break,
+                    lambda it: (ctypes.byref(struct_of(structs.BreakMessage, it.message, "a lease break notification")),)),
+    replies.AcknowledgeDone: (library.smblease_client_take_ack_done,
+                              lambda it: (ctypes.byref(struct_of(structs.AckMessage, it.message, "a lease break response")),)),
+    replies.AcknowledgeFailed: (library.smblease_client_take_ack_failed, lambda it: (status_of(it),)),
 }

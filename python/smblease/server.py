@@ -10,7 +10,8 @@ from typing import Any, Callable, Dict, Iterable, Optional, Tuple, Type
 
 from smblease import _structs as structs
 from smblease import outs, replies, requests
-from smblease._arguments import BYTE, LONG, WORD, Octets, key_octets, number, octets, struct_of
+from smblease._arguments import (BYTE, LONG, WORD, Octets, counted, file_id_of, file_of, key_octets, number, octets, struct_of,
+                                 write_of)
 from smblease._handles import Handle, Outcome, check
 from smblease._library import library
 from smblease.values import Access, LeaseState, Share
@@ -117,76 +118,22 @@ class Server(Handle[structs.Server]):
         """
         return self._outs(library.smblease_server_scavenge, number(file_id, LONG, "file_id"))
 
-    def receive_create(self, client: int, file: int, access: Access, share: Share, contexts: Octets) -> Outs:
-        """A client asks to open a file. Of a client that isn't connected nothing is received, here and below.
+    def receive(self, client: int, request: requests.Request) -> Outs:
+        """A request of a client comes. Of a client that isn't connected nothing is received.
 
         >>> server = Server([b"abc"])
         >>> server.join(1)
         ()
-        >>> server.receive_create(1, 1, Access.READ, Share.READ, b"")
+        >>> server.receive(1, requests.CreateRequest(1, Access.WRITE, Share.READ, b""))
         (Opened(file=1, client=1), Sent(client=1, reply=Created(file=1, file_id=1, contexts=b'')))
-        """
-        given = octets(contexts)
-        return self._outs(library.smblease_server_receive_create, number(client, BYTE, "client"), number(file, BYTE, "file"),
-                          Access(access).value, Share(share).value, given, len(given))
-
-    def receive_read(self, client: int, file_id: int) -> Outs:
-        """A client asks to read the file of an open.
-
-        >>> server = Server([b"abc"])
-        >>> outs = server.join(1), server.receive_create(1, 1, Access.READ, Share.READ, b"")
-        >>> server.receive_read(1, 1)
-        (Sent(client=1, reply=ReadDone(file_id=1, data=b'abc')),)
-        """
-        return self._outs(library.smblease_server_receive_read, number(client, BYTE, "client"), number(file_id, LONG, "file_id"))
-
-    def receive_write(self, client: int, file_id: int, write: int, offset: int, data: Octets) -> Outs:
-        """A client asks to write these bytes from `offset` on; `write` is the client's number of the write.
-
-        >>> server = Server([b"abc"])
-        >>> outs = server.join(1), server.receive_create(1, 1, Access.WRITE, Share.READ, b"")
-        >>> changed, sent = server.receive_write(1, 1, 1, 0, b"X")
+        >>> changed, sent = server.receive(1, requests.WriteRequest(1, 1, 0, b"X"))
         >>> changed, server.content(1)
         (Changed(file=1, client=1, number=1, offset=0, data=b'X'), b'Xbc')
         """
-        given = octets(data)
-        return self._outs(library.smblease_server_receive_write, number(client, BYTE, "client"), number(file_id, LONG, "file_id"),
-                          number(write, LONG, "write"), number(offset, WORD, "offset"), given, len(given))
-
-    def receive_close(self, client: int, file_id: int) -> Outs:
-        """A client asks to close an open.
-
-        >>> server = Server([b"abc"])
-        >>> outs = server.join(1), server.receive_create(1, 1, Access.READ, Share.READ, b"")
-        >>> server.receive_close(1, 1)
-        (Sent(client=1, reply=Closed(file_id=1)),)
-        """
-        return self._outs(library.smblease_server_receive_close, number(client, BYTE, "client"), number(file_id, LONG, "file_id"))
-
-    def receive_acknowledge(self, client: int, message: Octets) -> Outs:
-        """A client acknowledges a break of its lease: the 36 bytes of the message.
-
-        >>> Server([]).receive_acknowledge(1, bytes(35))
-        Traceback (most recent call last):
-        ...
-        ValueError: a lease break acknowledgment has 36 bytes, and not 35
-        """
-        given = struct_of(structs.AckMessage, message, "a lease break acknowledgment")
-        return self._outs(library.smblease_server_receive_ack, number(client, BYTE, "client"), ctypes.byref(given))
-
-    def receive(self, client: int, request: requests.Request) -> Outs:
-        """Receives a request by the method of its kind.
-
-        >>> server = Server([])
-        >>> outs = server.join(1)
-        >>> [sent] = server.receive(1, requests.ReadRequest(7))
-        >>> sent.reply == replies.ReadFailed(7, 0xC0000128)
-        True
-        """
-        receiving = _RECEIVING.get(type(request))
-        if receiving is None:
+        if type(request) not in _RECEIVING:
             raise TypeError(f"a request is needed, and not {request!r}")
-        return receiving(self, client, request)
+        call, arguments = _RECEIVING[type(request)]
+        return self._outs(call, number(client, BYTE, "client"), *arguments(request))
 
     def allowed(self, client: int, key: Optional[uuid.UUID], file: int, want: LeaseState) -> LeaseState:
         """What may be granted to a client of the state that it wants.
@@ -248,10 +195,17 @@ class Server(Handle[structs.Server]):
         return room.raw
 
 
-_RECEIVING: Dict[Type[Any], Callable[[Server, int, Any], Outs]] = {
-    requests.CreateRequest: lambda server, client, it: server.receive_create(client, it.file, it.access, it.share, it.contexts),
-    requests.ReadRequest: lambda server, client, it: server.receive_read(client, it.file_id),
-    requests.WriteRequest: lambda server, client, it: server.receive_write(client, it.file_id, it.number, it.offset, it.data),
-    requests.CloseRequest: lambda server, client, it: server.receive_close(client, it.file_id),
-    requests.AcknowledgeRequest: lambda server, client, it: server.receive_acknowledge(client, it.message),
+# The call for a request of each kind, and its arguments.
+_RECEIVING: Dict[Type[Any], Tuple[Callable[..., int], Callable[[Any], Tuple[object, ...]]]] = {
+    requests.CreateRequest: (
+        library.smblease_server_receive_create,
+        lambda it: (file_of(it), Access(it.access).value, Share(it.share).value, *counted(it.contexts))),
+    requests.ReadRequest: (library.smblease_server_receive_read, lambda it: (file_id_of(it),)),
+    requests.WriteRequest: (
+        library.smblease_server_receive_write,
+        lambda it: (file_id_of(it), write_of(it), number(it.offset, WORD, "offset"), *counted(it.data))),
+    requests.CloseRequest: (library.smblease_server_receive_close, lambda it: (file_id_of(it),)),
+    requests.AcknowledgeRequest: (
+        library.smblease_server_receive_ack,
+        lambda it: (ctypes.byref(struct_of(structs.AckMessage, it.message, "a lease break acknowledgment")),)),
 }

@@ -10,7 +10,7 @@ from contextlib import contextmanager
 
 import pytest
 
-from smblease import Access, Client, CreateRequest, LeaseState, MachineLost, Server, Share, Wrote
+from smblease import Access, Client, Created, CreateRequest, LeaseState, MachineLost, ReadRequest, Server, Share, Wrote
 
 GUID = uuid.UUID(int=1)
 RWH = LeaseState.of("RWH")
@@ -44,7 +44,7 @@ def opened() -> Client:
     client.connect()
     [request] = client.open(1, Access.READ_WRITE, Share.READ_WRITE, RWH).requests
     assert isinstance(request, CreateRequest)
-    client.take_created(1, 7, request.contexts)
+    client.take(Created(1, 7, request.contexts))
     return client
 
 
@@ -84,15 +84,15 @@ def contexts_are_copied() -> None:
     server = Server([b"abc"])
     server.join(1)
     with refusing():
-        raises_exactly(MemoryError, lambda: server.receive_create(1, 1, Access.READ, Share.READ, bytes(24)))
-    assert len(server.receive_create(1, 1, Access.READ, Share.READ, b"")) == 2
+        raises_exactly(MemoryError, lambda: server.receive(1, CreateRequest(1, Access.READ, Share.READ, bytes(24))))
+    assert len(server.receive(1, CreateRequest(1, Access.READ, Share.READ, b""))) == 2
 
 
 def server_reads() -> None:
     server = Server([b"abc"])
     server.join(1)
-    server.receive_create(1, 1, Access.READ, Share.READ, b"")
-    lose(server, lambda: server.receive_read(1, 1), lambda: server.content(1))
+    server.receive(1, CreateRequest(1, Access.READ, Share.READ, b""))
+    lose(server, lambda: server.receive(1, ReadRequest(1)), lambda: server.content(1))
     with Server([b"abc"]) as another:
         assert another.content(1) == b"abc"
 

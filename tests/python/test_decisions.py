@@ -6,7 +6,7 @@ import uuid
 
 import pytest
 
-from smblease import Access, CreateAsk, LeaseState, Server, Share, Status, decisions
+from smblease import Access, CreateAsk, CreateRequest, LeaseState, Server, Share, Status, decisions
 from smblease.decisions import Asked, File, Finding, Lease, Open
 
 STATES = [LeaseState(bits) for bits in range(8)]
@@ -56,7 +56,7 @@ def test_what_may_be_granted_is_as_the_server_has_it(other: int, want: LeaseStat
     with Server([b"abc"]) as server:
         server.join(1)
         server.join(2)
-        server.receive_create(other, 1, RW, BOTH, CreateAsk(KEYS[other - 1], LeaseState.R).write())
+        server.receive(other, CreateRequest(1, RW, BOTH, CreateAsk(KEYS[other - 1], LeaseState.R).write()))
         file = File([Open(other, RW, BOTH, KEYS[other - 1])], [Lease(other, KEYS[other - 1], LeaseState.R)])
         assert file.allowed(Asked(1, RW, BOTH, KEYS[0], want)) == server.allowed(1, KEYS[0], 1, want)
 

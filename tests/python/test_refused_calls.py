@@ -9,8 +9,9 @@ from typing import Any
 
 import pytest
 
-from smblease import (Access, Client, Closed, Context, CreateAnswer, CreateAsk, Fault, LeaseState, Notification, Quiet,
-                      ReadRequest, Response, Server, Share, Status, append_context, each_context)
+from smblease import (Access, AcknowledgeDone, AcknowledgeFailed, AcknowledgeRequest, Break, Client, Closed, Context,
+                      CreateAnswer, CreateAsk, CreateRequest, Fault, LeaseState, Notification, Quiet, ReadRequest, Response,
+                      Server, Share, Status, WriteDone, WriteRequest, append_context, each_context)
 
 GUID = uuid.UUID(int=1)
 RW, RH = LeaseState.of("RW"), LeaseState.of("RH")
@@ -23,6 +24,7 @@ any_client: Any = Client
 any_server: Any = Server
 any_ask: Any = CreateAsk
 any_answer: Any = CreateAnswer
+create: Any = CreateRequest
 
 
 def refused(name: str, call: Callable[[], object], kind: type[BaseException] = ValueError, word: str = "") -> Any:
@@ -48,13 +50,13 @@ HALF = bytes((0, 0, 0, 0, 24, 0, 4)) + bytes(17) + b"DHnQ" + bytes(4)
     refused("an access of 4", lambda: client.open(1, 4, Share.READ, RW), word="Access"),
     refused("a share of 4", lambda: client.open(1, Access.READ, 4, RW), word="Share"),
     refused("a state of 8", lambda: client.open(1, Access.READ, Share.READ, 8), word="LeaseState"),
-    refused("a FileId of 65 bits", lambda: client.take_closed(LONG), word="file_id"),
-    refused("a write's number of 65 bits", lambda: client.take_write_done(1, LONG), word="write"),
-    refused("a status of 33 bits", lambda: client.take_acknowledge_failed(1 << 32), word="status"),
-    refused("a notification of 43 bytes", lambda: client.take_break(bytes(43)), word="44 bytes, and not 43"),
-    refused("a notification of 45 bytes", lambda: client.take_break(bytes(45)), word="44 bytes, and not 45"),
-    refused("a response of 35 bytes", lambda: client.take_acknowledge_done(bytes(35)), word="36 bytes, and not 35"),
-    refused("a response of 37 bytes", lambda: client.take_acknowledge_done(bytes(37)), word="36 bytes, and not 37"),
+    refused("a FileId of 65 bits", lambda: client.take(Closed(LONG)), word="file_id"),
+    refused("a write's number of 65 bits", lambda: client.take(WriteDone(1, LONG)), word="write"),
+    refused("a status of 33 bits", lambda: client.take(AcknowledgeFailed(1 << 32)), word="status"),
+    refused("a notification of 43 bytes", lambda: client.take(Break(bytes(43))), word="44 bytes, and not 43"),
+    refused("a notification of 45 bytes", lambda: client.take(Break(bytes(45))), word="44 bytes, and not 45"),
+    refused("a response of 35 bytes", lambda: client.take(AcknowledgeDone(bytes(35))), word="36 bytes, and not 35"),
+    refused("a response of 37 bytes", lambda: client.take(AcknowledgeDone(bytes(37))), word="36 bytes, and not 37"),
     refused("a request in the place of a reply", lambda: client.take(ReadRequest(1)), TypeError, "a reply is needed"),
     refused("256 files of a server", lambda: Server([b""] * 256), word="at most 255 files"),
     refused("a file of 1048577 bytes", lambda: Server([bytes(1048577)]), word="1048576 bytes"),
@@ -63,11 +65,12 @@ HALF = bytes((0, 0, 0, 0, 24, 0, 4)) + bytes(17) + b"DHnQ" + bytes(4)
     refused("client -1", lambda: server.cut(-1), word="client"),
     refused("a key as bytes", lambda: server.expire(1, bytes(16)), TypeError, "uuid.UUID"),
     refused("a scavenged FileId of 65 bits", lambda: server.scavenge(LONG), word="file_id"),
-    refused("a received access of 0", lambda: server.receive_create(1, 1, 0, Share.READ, b""), word="Access"),
-    refused("a received share of -1", lambda: server.receive_create(1, 1, Access.READ, -1, b""), word="Share"),
-    refused("contexts that are a number", lambda: server.receive_create(1, 1, Access.READ, Share.READ, 7), TypeError),
-    refused("a received offset of 33 bits", lambda: server.receive_write(1, 1, 1, 1 << 32, b""), word="offset"),
-    refused("an acknowledgment of 37 bytes", lambda: server.receive_acknowledge(1, bytes(37)), word="36 bytes, and not 37"),
+    refused("a received access of 0", lambda: server.receive(1, create(1, 0, Share.READ, b"")), word="Access"),
+    refused("a received share of -1", lambda: server.receive(1, create(1, Access.READ, -1, b"")), word="Share"),
+    refused("contexts that are a number", lambda: server.receive(1, create(1, Access.READ, Share.READ, 7)), TypeError),
+    refused("a received offset of 33 bits", lambda: server.receive(1, WriteRequest(1, 1, 1 << 32, b"")), word="offset"),
+    refused("an acknowledgment of 37 bytes", lambda: server.receive(1, AcknowledgeRequest(bytes(37))),
+            word="36 bytes, and not 37"),
     refused("a reply in the place of a request", lambda: server.receive(1, Closed(1)), TypeError, "a request is needed"),
     refused("the content of file 0", lambda: server.content(0)),
     refused("the content of file 2", lambda: server.content(2)),
@@ -86,7 +89,7 @@ def test_refused(call: Callable[[], object], kind: type[BaseException], word: st
 
 @pytest.mark.parametrize("message", [bytearray(44), memoryview(bytes(44))], ids=["bytearray", "memoryview"])
 def test_a_notification_in_other_bytes(message: bytearray | memoryview) -> None:
-    assert CLIENT.take_break(message).answer == Quiet()
+    assert CLIENT.take(Break(message)).answer == Quiet()
 
 
 def test_255_files_of_a_server() -> None:
@@ -100,16 +103,11 @@ def test_a_file_of_1048576_bytes() -> None:
 # Arguments of each method that is refused once the object holds nothing.
 CLIENT_CALLS: dict[str, tuple[Any, ...]] = {
     "connect": (), "notice": (), "open": (1, Access.READ, Share.READ, RW), "close_file": (1,), "read": (1,),
-    "write": (1, 0, b"X"), "flush": (1,), "take_created": (1, 1, b""), "take_create_failed": (1, 1), "take_read_done": (1, b""),
-    "take_read_failed": (1, 1), "take_write_done": (1, 1), "take_write_failed": (1, 1, 1),
-    "take_closed": (1,), "take_close_failed": (1, 1),
-    "take_break": (bytes(44),), "take_acknowledge_done": (bytes(36),), "take_acknowledge_failed": (1,), "take": (Closed(1),),
-    "belief": (1,), "__enter__": (),
+    "write": (1, 0, b"X"), "flush": (1,), "take": (Closed(1),), "belief": (1,), "__enter__": (),
 }
 SERVER_CALLS: dict[str, tuple[Any, ...]] = {
-    "join": (1,), "cut": (1,), "expire": (1, GUID), "scavenge": (1,), "receive_create": (1, 1, Access.READ, Share.READ, b""),
-    "receive_read": (1, 1), "receive_write": (1, 1, 1, 0, b"X"), "receive_close": (1, 1), "receive_acknowledge": (1, bytes(36)),
-    "receive": (1, ReadRequest(1)), "allowed": (1, None, 1, RW), "connected": (1,), "breaking": (1, GUID), "left_behind": (1,),
+    "join": (1,), "cut": (1,), "expire": (1, GUID), "scavenge": (1,), "receive": (1, ReadRequest(1)), "allowed": (1, None, 1, RW),
+    "connected": (1,), "breaking": (1, GUID), "left_behind": (1,),
     "kept": (1, 1), "content": (1,), "__enter__": (),
 }
 # (these ask nothing of the machine)
