@@ -1,5 +1,5 @@
 // Replays a schedule by hand in plain Rust, for bench/replay: the world, and of clients and lines what the schedules of
-// make_schedule.py need, with the server of plain_server.rs and the judge of plain_judge.rs. Ends with 1 on any other line.
+// make_lines.py need, with the server of plain_server.rs and the judge of plain_judge.rs. Ends with 1 on any other line.
 use std::env;
 use std::fmt::Write;
 use std::fs;
