@@ -49,7 +49,8 @@ def _opened() -> tuple[str, ctypes.CDLL]:
             return place, ctypes.CDLL(place)
         except OSError as error:
             said.append(str(error))
-    raise ImportError(f"libsmblease can't be loaded: {'; '.join(said)}")
+    how = f"`make install` and `pip install` bring it; {VARIABLE} names another"
+    raise ImportError(f"libsmblease can't be loaded: {'; '.join(said)} ({how})")
 
 
 def _check_version(place: str, library: ctypes.CDLL) -> None:

@@ -35,12 +35,12 @@ class LeaseState(enum.Flag):
         >>> LeaseState.of("HR")
         Traceback (most recent call last):
         ...
-        ValueError: 'HR' is no lease state
+        ValueError: 'HR' is no lease state: none, or letters in the order R, W, H
         """
         for bits in range(8):
             if str(cls(bits)) == text:
                 return cls(bits)
-        raise ValueError(f"{text!r} is no lease state")
+        raise ValueError(f"{text!r} is no lease state: none, or letters in the order R, W, H")
 
     def __str__(self) -> str:
         letters = "".join(letter for bit, letter in ((1, "R"), (4, "W"), (2, "H")) if self.value & bit)
