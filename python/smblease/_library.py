@@ -1,10 +1,10 @@
-"""Finds libsmblease, and declares its functions."""
+"""Finds libsmblease, declares its functions, and gives its writers a room."""
 from __future__ import annotations
 
 import ctypes
 import os
 import subprocess
-from typing import Iterator
+from typing import Any, Iterator
 
 from smblease import _functions
 
@@ -71,3 +71,10 @@ def _declared(place: str, library: ctypes.CDLL) -> ctypes.CDLL:
 
 
 library = _declared(*_opened())
+
+
+def written(write: Any, message: ctypes.Structure, most: int) -> bytes:
+    """What a writer of the library writes of a struct; it takes `most` bytes at most."""
+    room = ctypes.create_string_buffer(most)
+    length = write(ctypes.byref(message), room, most)
+    return room.raw[:length]

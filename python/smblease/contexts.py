@@ -8,8 +8,7 @@ from typing import Iterator, Optional
 
 from smblease import _structs as structs
 from smblease._arguments import LONG, Octets, key_octets, number, octets
-from smblease._library import library
-from smblease._writing import written
+from smblease._library import library, written
 from smblease.faults import raise_fault
 from smblease.values import LeaseState
 

@@ -12,8 +12,7 @@ from typing import Optional
 
 from smblease import _structs as structs
 from smblease._arguments import Octets, key_octets, octets
-from smblease._library import library
-from smblease._writing import written
+from smblease._library import library, written
 from smblease.faults import raise_fault
 from smblease.values import LeaseState
 
