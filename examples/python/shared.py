@@ -3,8 +3,8 @@
 
     PYTHONPATH=python python3 examples/python/shared.py examples/shared.txt
 
-`MachineWorld` keeps what is on its way between the machines. A program that embeds one machine sends its requests over a connection,
-and passes in what comes back (docs/PYTHON.md, "Two clients share a file").
+`MachineWorld` keeps what is on its way between the machines. A program that embeds one machine sends its requests over a
+connection, and passes in what comes back (docs/PYTHON.md, "Two clients share a file").
 """
 import sys
 
