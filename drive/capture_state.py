@@ -43,6 +43,16 @@ class Client:
     is_judged: bool = True
 
 
+@dataclass
+class LeaseSeen:
+    """The lease that was granted last under a ClientGuid and key. Its last open is being closed where `is_closing` says so, and its
+    holder believes nothing from there on."""
+
+    file: File
+    chain: Chain
+    is_closing: bool = False
+
+
 @dataclass(eq=False)
 class Open:
     client: Client | None

@@ -11,7 +11,7 @@ from smblease.values import Status
 
 from drive import headers
 from drive.beliefs import Chain, Delivery, Turn
-from drive.capture_state import FILE_LIMIT, MOST, BreakSeen, Came, Client, Connection, File, Open, Pending
+from drive.capture_state import FILE_LIMIT, MOST, BreakSeen, Came, Client, Connection, File, LeaseSeen, Open, Pending
 from drive.headers import HEADER, PREVIOUS, RELATED, UNASKED, Command, Message, Unreadable
 from drive.packets import COMPRESSED, ENCRYPTED, PROTOCOL, Packet
 
@@ -55,6 +55,7 @@ class Walk:
         # files by the persistent halves of the FileIds that were given for them
         self._kept: dict[bytes, File] = {}
         self._opens: dict[tuple[int, int, bytes], Open] = {}
+        self._leases: dict[tuple[int, uuid.UUID], LeaseSeen] = {}
         self._asking: dict[Command, Callable[[Pending], None]] = {
             Command.NEGOTIATE: self._negotiating, Command.SESSION_SETUP: self._setting_up, Command.LOGOFF: self._logging_off,
             Command.TREE_DISCONNECT: self._leaving, Command.CREATE: self._creating, Command.CLOSE: self._closing,
@@ -171,14 +172,21 @@ class Walk:
         """The client gives up an open, and with the last one under a key what it believed."""
         self._opens.pop((opened.stream, opened.session, opened.file_id), None)
         client, key = opened.client, opened.key
-        if client is None or key is None or any(it.client is client and it.key == key for it in self._opens.values()):
+        if client is None or key is None or self._has_open(opened):
             return
         for seen in self.breaks:
-            if seen.client is client and seen.notice.key == key:
+            if seen.client is client and seen.notice.key == key and seen.file is opened.file:
                 seen.is_over, seen.is_answered = True, seen.is_answered or not is_lost
+        lease = self._leases.get((client.number, key))
+        if lease and lease.file is opened.file:
+            lease.is_closing = True
         chain = opened.file.chains.get((client.number, key))
         if chain and chain.turns:
             chain.turns.append(Turn(NONE, earliest, f"{packet.told}: {told}", before(packet)))
+
+    def _has_open(self, closed: Open) -> bool:
+        """Whether an open is left under the key of one that was closed."""
+        return any((it.client, it.file, it.key) == (closed.client, closed.file, closed.key) for it in self._opens.values())
 
     def _creating(self, pending: Pending) -> None:
         try:
@@ -303,6 +311,7 @@ class Walk:
             if seen.file is file and not seen.is_over and seen.client is not client and granted.state:
                 self._note(packet, f"client {client.number} is granted {granted.state} of {file.told} while the break "
                                    f"of {seen.packet.told} to client {seen.client.number} isn't acknowledged")
+        self._leases[client.number, key] = LeaseSeen(file, chain)
         if granted.breaking:
             return
         told = f"{packet.told}: CREATE granted {granted.state}"
@@ -322,12 +331,17 @@ class Walk:
         return file
 
     def _closed(self, came: Came) -> None:
-        """A CLOSE within the compound of its CREATE, whose FileId was told only now."""
+        """The lease of the last open is gone. Of a CLOSE in the compound of its CREATE the FileId wasn't known before."""
         pending, packet = came.pending, came.packet
         opened = self._open_of(pending)
         if opened and pending.opened is None:
             pending.connection.prove(opened.delivery, at(packet))
             self._end_open(opened, opened.delivery.sent, packet, "CLOSE in the compound of its CREATE")
+        closed = opened or pending.opened
+        if closed and closed.client and closed.key:
+            lease = self._leases.get((closed.client.number, closed.key))
+            if lease and lease.is_closing and lease.file is closed.file:
+                del self._leases[closed.client.number, closed.key]
 
     def _written(self, came: Came) -> None:
         pending, packet, message = came.pending, came.packet, came.message
@@ -384,21 +398,19 @@ class Walk:
             self._leave_out("breaks of oplocks")
             return
         client = connection.judged
-        file = next((it for it in self.files if client and (client.number, notice.key) in it.chains), None)
+        lease = self._leases.get((client.number, notice.key)) if client else None
         if notice.new not in notice.current or (notice.new == notice.current and notice.current):
             self._note(packet, f"a break from {notice.current} to {notice.new}, which isn't a part of it")
-        if client is None or file is None:
+        if client is None or lease is None:
             self._note(packet, f"a break of {notice.key}, under which the capture shows no lease of that client")
             return
-        chain = file.chains[client.number, notice.key]
         words = f"{packet.told}: break from {notice.current} to {notice.new}"
         turn = Turn(notice.new, at(packet), words, delivery=delivery)
-        chain.turns.append(turn)
+        doubt = Turn(NONE, at(packet), f"{words}, not known to be acknowledged, so nothing is known of the lease", is_doubt=True)
+        if not lease.is_closing:
+            lease.chain.turns += [turn, doubt] if notice.ack_required else [turn]
         if notice.ack_required:
-            doubt = Turn(NONE, at(packet), f"{words}, not known to be acknowledged, so nothing is known of the lease",
-                         is_doubt=True)
-            chain.turns.append(doubt)
-            self.breaks.append(BreakSeen(packet, notice, client, file, turn, doubt))
+            self.breaks.append(BreakSeen(packet, notice, client, lease.file, turn, doubt, lease.is_closing))
 
     # Ends
 
