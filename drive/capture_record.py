@@ -10,6 +10,7 @@ from smblease.lines import digits
 from smblease.values import LeaseState
 
 from drive.beliefs import Placed, Search
+from drive.capture_servers import servers_of
 from drive.capture_state import MOST, Connection, File
 from drive.capture_walk import Fact, Walk
 from drive.packets import Capture
@@ -88,7 +89,7 @@ def _bytes_told(file: File, number: int) -> str:
 
 def record_of(capture: Capture, at_client: bool) -> CaptureRecord:
     """The record of a capture."""
-    walk = Walk(at_client)
+    walk = Walk(at_client, servers_of(capture.packets))
     for packet in capture.packets:
         walk.goes(packet)
     numbers = _numbers(walk)

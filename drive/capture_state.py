@@ -8,6 +8,7 @@ from dataclasses import dataclass, field
 from smblease import CreateAsk, Notification
 
 from drive.beliefs import Chain, Delivery, Turn
+from drive.capture_servers import Server
 from drive.headers import Message
 from drive.packets import Packet
 
@@ -19,8 +20,9 @@ MOST = 255
 class File:
     """A file under a name. Where a CREATE makes a file of a name that is known, that is another file."""
 
-    name: str
+    server: Server
     share: str
+    name: str
     chains: dict[tuple[int, uuid.UUID], Chain] = field(default_factory=dict)
     is_made_here: bool = False
     # its bytes, once it was read whole before it was changed
@@ -30,7 +32,7 @@ class File:
 
     @property
     def told(self) -> str:
-        text = f"{self.share}\\{self.name}"
+        text = f"{self.server.prefix}{self.share}\\{self.name}"
         return "".join(it if it.isprintable() else "?" for it in text)
 
 
@@ -58,7 +60,7 @@ class Open:
     client: Client | None
     file: File
     key: uuid.UUID | None
-    stream: int
+    connection: Connection
     session: int
     tree: int
     file_id: bytes
@@ -109,6 +111,7 @@ class BreakSeen:
 @dataclass(eq=False)
 class Connection:
     stream: int
+    server: Server
     client: Client | None = None
     # who sends the requests, and to whom
     near: str = ""

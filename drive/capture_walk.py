@@ -11,6 +11,7 @@ from smblease.values import Status
 
 from drive import headers
 from drive.beliefs import Chain, Delivery, Turn
+from drive.capture_servers import Server
 from drive.capture_state import FILE_LIMIT, MOST, BreakSeen, Came, Client, Connection, File, LeaseSeen, Open, Pending
 from drive.headers import HEADER, PREVIOUS, RELATED, UNASKED, Command, Message, Unreadable
 from drive.packets import COMPRESSED, ENCRYPTED, PROTOCOL, Packet
@@ -40,9 +41,10 @@ def before(packet: Packet) -> int:
 
 
 class Walk:
-    """`at_client` says that the capture shows when clients took messages and sent theirs."""
+    """`at_client` says that the capture shows when clients took messages and sent theirs; `servers` are those of connections."""
 
-    def __init__(self, at_client: bool) -> None:
+    def __init__(self, at_client: bool, servers: dict[int, Server]) -> None:
+        self._servers = servers
         self._at_client = at_client
         self.facts: list[Fact] = []
         self.files: list[File] = []
@@ -51,11 +53,11 @@ class Walk:
         self.left_out: dict[str, int] = {}
         self.connections: dict[int, Connection] = {}
         self.breaks: list[BreakSeen] = []
-        self._named: dict[tuple[str, str], File] = {}
+        self._named: dict[tuple[Server, str, str], File] = {}
         # files by the persistent halves of the FileIds that were given for them
-        self._kept: dict[bytes, File] = {}
+        self._kept: dict[tuple[Server, bytes], File] = {}
         self._opens: dict[tuple[int, int, bytes], Open] = {}
-        self._leases: dict[tuple[int, uuid.UUID], LeaseSeen] = {}
+        self._leases: dict[tuple[Server, int, uuid.UUID], LeaseSeen] = {}
         self._asking: dict[Command, Callable[[Pending], None]] = {
             Command.NEGOTIATE: self._negotiating, Command.SESSION_SETUP: self._setting_up, Command.LOGOFF: self._logging_off,
             Command.TREE_DISCONNECT: self._leaving, Command.CREATE: self._creating, Command.CLOSE: self._closing,
@@ -69,7 +71,7 @@ class Walk:
 
     def goes(self, packet: Packet) -> None:
         """Takes the next packet."""
-        connection = self.connections.setdefault(packet.stream, Connection(packet.stream))
+        connection = self.connections.setdefault(packet.stream, Connection(packet.stream, self._servers[packet.stream]))
         if packet.is_gap:
             self._lost(connection, packet, "packets, or parts of them, aren't in the capture")
         for data in packet.messages:
@@ -154,15 +156,16 @@ class Walk:
     def _setting_up(self, pending: Pending) -> None:
         previous = pending.request.number(80, 8)
         if previous:
-            self._end_opens(lambda it: it.session == previous, pending)
+            server = pending.connection.server
+            self._end_opens(lambda it: it.connection.server is server and it.session == previous, pending)
 
     def _logging_off(self, pending: Pending) -> None:
         session = pending.request.session
-        self._end_opens(lambda it: it.stream == pending.connection.stream and it.session == session, pending)
+        self._end_opens(lambda it: it.connection is pending.connection and it.session == session, pending)
 
     def _leaving(self, pending: Pending) -> None:
         session, tree = pending.request.session, pending.request.tree
-        self._end_opens(lambda it: (it.stream, it.session, it.tree) == (pending.connection.stream, session, tree), pending)
+        self._end_opens(lambda it: it.connection is pending.connection and (it.session, it.tree) == (session, tree), pending)
 
     def _end_opens(self, meant: Callable[[Open], bool], pending: Pending) -> None:
         for opened in [it for it in self._opens.values() if meant(it)]:
@@ -170,14 +173,14 @@ class Walk:
 
     def _end_open(self, opened: Open, earliest: int, packet: Packet, told: str, is_lost: bool = False) -> None:
         """The client gives up an open, and with the last one under a key what it believed."""
-        self._opens.pop((opened.stream, opened.session, opened.file_id), None)
+        self._opens.pop((opened.connection.stream, opened.session, opened.file_id), None)
         client, key = opened.client, opened.key
         if client is None or key is None or self._has_open(opened):
             return
         for seen in self.breaks:
             if seen.client is client and seen.notice.key == key and seen.file is opened.file:
                 seen.is_over, seen.is_answered = True, seen.is_answered or not is_lost
-        lease = self._leases.get((client.number, key))
+        lease = self._leases.get((opened.connection.server, client.number, key))
         if lease and lease.file is opened.file:
             lease.is_closing = True
         chain = opened.file.chains.get((client.number, key))
@@ -222,7 +225,8 @@ class Walk:
             self._leave_out("acknowledgments of oplocks")
             return
         seen = next((it for it in reversed(self.breaks)
-                     if it.client is connection.client and it.notice.key == given.key and not it.is_over), None)
+                     if it.client is connection.client and it.file.server is connection.server and it.notice.key == given.key
+                     and not it.is_over), None)
         if seen is None:
             self._note(pending.packet, f"an acknowledgment of {given.key}, of which no break is to be acknowledged")
             return
@@ -279,11 +283,10 @@ class Walk:
         file = self._file(came, file_id)
         granted = self._granted_by(packet, message)
         connection = pending.connection
-        opened = Open(connection.client, file, granted.key, connection.stream, message.session, pending.request.tree, file_id,
-                      delivery)
+        opened = Open(connection.client, file, granted.key, connection, message.session, pending.request.tree, file_id, delivery)
         pending.opened = opened
         self._opens[connection.stream, message.session, file_id] = opened
-        self._kept[file_id[:8]] = file
+        self._kept[connection.server, file_id[:8]] = file
         if pending.connection.client and pending.asked.reconnect is None:
             self._fact(at(packet), 1, f"opened {{file}} {pending.connection.client.number}", packet, "answer to CREATE", file)
         if granted.has_other_lease:
@@ -311,7 +314,7 @@ class Walk:
             if seen.file is file and not seen.is_over and seen.client is not client and granted.state:
                 self._note(packet, f"client {client.number} is granted {granted.state} of {file.told} while the break "
                                    f"of {seen.packet.told} to client {seen.client.number} isn't acknowledged")
-        self._leases[client.number, key] = LeaseSeen(file, chain)
+        self._leases[file.server, client.number, key] = LeaseSeen(file, chain)
         if granted.breaking:
             return
         told = f"{packet.told}: CREATE granted {granted.state}"
@@ -319,14 +322,15 @@ class Walk:
 
     def _file(self, came: Came, file_id: bytes) -> File:
         pending, message = came.pending, came.message
-        if pending.asked.reconnect is not None and file_id[:8] in self._kept:
-            return self._kept[file_id[:8]]
+        server = pending.connection.server
+        if pending.asked.reconnect is not None and (server, file_id[:8]) in self._kept:
+            return self._kept[server, file_id[:8]]
         share = pending.connection.trees.get((message.session or pending.request.session, pending.request.tree), "?")
         name = headers.create_name(pending.request)
-        file = self._named.get((share, name))
+        file = self._named.get((server, share, name))
         if file is None or headers.was_made(message):
-            file = File(name, share, is_made_here=headers.was_made(message), length=message.number(112, 8))
-            self._named[share, name] = file
+            file = File(server, share, name, is_made_here=headers.was_made(message), length=message.number(112, 8))
+            self._named[server, share, name] = file
             self.files.append(file)
         return file
 
@@ -339,9 +343,10 @@ class Walk:
             self._end_open(opened, opened.delivery.sent, packet, "CLOSE in the compound of its CREATE")
         closed = opened or pending.opened
         if closed and closed.client and closed.key:
-            lease = self._leases.get((closed.client.number, closed.key))
+            place = (closed.file.server, closed.client.number, closed.key)
+            lease = self._leases.get(place)
             if lease and lease.is_closing and lease.file is closed.file:
-                del self._leases[closed.client.number, closed.key]
+                del self._leases[place]
 
     def _written(self, came: Came) -> None:
         pending, packet, message = came.pending, came.packet, came.message
@@ -374,9 +379,9 @@ class Walk:
             self._named.clear()
             return
         gone = (opened.file.name, name.lstrip("\\"))
-        for share, known in list(self._named):
-            if share == opened.file.share and (known in gone or known.startswith(tuple(f"{it}\\" for it in gone))):
-                del self._named[share, known]
+        for server, share, known in list(self._named):
+            if (server, share) == (opened.file.server, opened.file.share) and (known in gone or known.startswith(tuple(f"{it}\\" for it in gone))):
+                del self._named[server, share, known]
 
     def _acknowledged(self, came: Came) -> None:
         pending, packet, message = came.pending, came.packet, came.message
@@ -398,7 +403,7 @@ class Walk:
             self._leave_out("breaks of oplocks")
             return
         client = connection.judged
-        lease = self._leases.get((client.number, notice.key)) if client else None
+        lease = self._leases.get((connection.server, client.number, notice.key)) if client else None
         if notice.new not in notice.current or (notice.new == notice.current and notice.current):
             self._note(packet, f"a break from {notice.current} to {notice.new}, which isn't a part of it")
         if client is None or lease is None:
@@ -431,7 +436,7 @@ class Walk:
         if client is None or connection.is_over:
             return
         earliest = self._earliest(connection, packet) if packet.sender == connection.near else before(packet)
-        for opened in [it for it in self._opens.values() if it.stream == connection.stream]:
+        for opened in [it for it in self._opens.values() if it.connection is connection]:
             self._end_open(opened, earliest, packet, "the connection ends", True)
         connection.is_over = True
         client.connections -= 1

@@ -43,8 +43,22 @@ def negotiate(guid: int) -> bytes:
     return message(0, struct.pack("<HHHHL", 36, 1, 1, 0, 0) + bytes([guid] * 16) + bytes(8) + struct.pack("<H", 0x210), 0)
 
 
-def negotiated(dialect: int = 0x210) -> bytes:
-    return message(0, struct.pack("<HHH", 65, 1, dialect) + bytes(58), 0, answers=True)
+def negotiated(dialect: int = 0x210, server: int = 0) -> bytes:
+    return message(0, struct.pack("<HHHH", 65, 1, dialect, 0) + bytes([server] * 16) + bytes(40), 0, answers=True)
+
+
+def session_setup(session: int, binds: bool = False) -> bytes:
+    body = struct.pack("<HBBLLHHQ", 25, int(binds), 1, 0, 0, 88, 0, 0)
+    return of_session(message(1, body, 1), session)
+
+
+def session_set_up(session: int) -> bytes:
+    return of_session(message(1, struct.pack("<HHHH", 9, 0, 72, 0), 1, answers=True), session)
+
+
+def of_session(one: bytes, session: int) -> bytes:
+    """A message with this SessionId."""
+    return one[:40] + struct.pack("<Q", session) + one[48:]
 
 
 def tree_connect() -> bytes:
@@ -129,11 +143,12 @@ class Made:
         self._packets: list[bytes] = []
         self._whole: list[int] = []
 
-    def packet(self, source: int, target: int, sequence: int, acknowledged: int, flags: int, payload: bytes = b"",
-               kept: int | None = None) -> int:
-        tcp = struct.pack(">HHLLBBHHH", source, target, sequence, acknowledged, 5 << 4, flags, 65535, 0, 0) + payload
-        loopback = bytes([127, 0, 0, 1])
-        datagram = struct.pack(">BBHHHBBH", 0x45, 0, 20 + len(tcp), len(self._packets), 0, 64, 6, 0) + loopback * 2 + tcp
+    def packet(self, ports: tuple[int, int], sequence: int, acknowledged: int, flags: int, payload: bytes = b"",
+               kept: int | None = None, host: int = 1) -> int:
+        """A packet between two ports; the one of `SERVER` is at the address 127.0.0.`host`."""
+        tcp = struct.pack(">HHLLBBHHH", *ports, sequence, acknowledged, 5 << 4, flags, 65535, 0, 0) + payload
+        addresses = [bytes([127, 0, 0, host if port == SERVER else 1]) for port in ports]
+        datagram = struct.pack(">BBHHHBBH", 0x45, 0, 20 + len(tcp), len(self._packets), 0, 64, 6, 0) + b"".join(addresses) + tcp
         self._whole.append(len(datagram))
         self._packets.append(datagram[:kept] if kept else datagram)
         return len(self._packets)
@@ -148,11 +163,11 @@ class Made:
 class Line:
     """A TCP connection of a client, by its port; both ends have sent what is in `sent`."""
 
-    def __init__(self, made: Made, port: int, begins: bool = True) -> None:
-        self._made, self._port, self.sent = made, port, {True: 1, False: 1}
+    def __init__(self, made: Made, port: int, begins: bool = True, host: int = 1) -> None:
+        self._made, self._port, self._host, self.sent = made, port, host, {True: 1, False: 1}
         if begins:
-            made.packet(port, SERVER, 0, 0, 2)
-            made.packet(SERVER, port, 0, 1, 0x12)
+            made.packet((port, SERVER), 0, 0, 2, host=host)
+            made.packet((SERVER, port), 0, 1, 0x12, host=host)
 
     def asks(self, *messages: bytes, had: int | None = None) -> int:
         """The client sends messages; `had` is what its host had of the server's bytes, all that was sent unless this is given."""
@@ -162,14 +177,14 @@ class Line:
         return self._goes(False, messages, None)
 
     def ends(self, had: int | None = None) -> int:
-        return self._made.packet(self._port, SERVER, self.sent[True], had or self.sent[False], FIN)
+        return self._made.packet((self._port, SERVER), self.sent[True], had or self.sent[False], FIN, host=self._host)
 
     def cut(self, kept: int, one: bytes) -> int:
         """A message of the client of which the capture has so many bytes of the packet only."""
         payload = struct.pack(">L", len(one)) + one
         sequence = self.sent[True]
         self.sent[True] += len(payload)
-        return self._made.packet(self._port, SERVER, sequence, self.sent[False], PUSH, payload, kept)
+        return self._made.packet((self._port, SERVER), sequence, self.sent[False], PUSH, payload, kept, self._host)
 
     def misses(self, length: int) -> None:
         """Bytes of the client that aren't in the capture."""
@@ -180,7 +195,7 @@ class Line:
         source, target = (self._port, SERVER) if by_client else (SERVER, self._port)
         sequence = self.sent[by_client]
         self.sent[by_client] += len(payload)
-        return self._made.packet(source, target, sequence, had or self.sent[not by_client], PUSH, payload)
+        return self._made.packet((source, target), sequence, had or self.sent[not by_client], PUSH, payload, host=self._host)
 
     def begins(self, guid: int, dialect: int = 0x210) -> None:
         self.asks(negotiate(guid))

@@ -75,7 +75,8 @@ def closes_that_cross(made: Made, had_grant: bool) -> Expected:
 def close_in_a_compound(made: Made) -> Expected:
     line, other = Line(made, 50001), Line(made, 50002)
     line.begins(1)
-    line.asks(hand_made.compound([hand_made.create(3, "f", hand_made.lease(0xA1, R | W | H)), hand_made.close(4, hand_made.PREVIOUS, related=True)]))
+    create = hand_made.create(3, "f", hand_made.lease(0xA1, R | W | H))
+    line.asks(hand_made.compound([create, hand_made.close(4, hand_made.PREVIOUS, related=True)]))
     line.answers(hand_made.compound([hand_made.created(3, 11, hand_made.lease(0xA1, R | W | H)), hand_made.closed(4)]))
     other.begins(2)
     other.opens(3, 22, 0xB2, R | W | H)
@@ -157,8 +158,32 @@ def writes(made: Made) -> Expected:
                                  "1 writes past the limit"))
 
 
+def two_servers(made: Made) -> Expected:
+    """A server is a ServerGuid at an address: files of one name on two of these are two files."""
+    line, other = Line(made, 50001), Line(made, 50002, host=2)
+    line.begins(1)
+    line.opens(3, 11, 0xA1, R | W | H)
+    other.begins(2)
+    other.opens(3, 22, 0xB2, R | W | H)
+    line.asks(hand_made.read(5, 11))
+    return SAFE
+
+
+def server_at_two_addresses(made: Made) -> Expected:
+    """A lease that is seen at two addresses shows that they are one server's."""
+    line, again, other = Line(made, 50001), Line(made, 50002, host=2), Line(made, 50003, host=2)
+    line.begins(1)
+    line.opens(3, 11, 0xA1, R | W | H)
+    again.begins(1)
+    again.opens(3, 12, 0xA1, R | W | H)
+    other.begins(2)
+    other.opens(3, 22, 0xB2, R | W | H)
+    line.asks(hand_made.read(5, 11))
+    return Expected(1, 1)
+
+
 def key_used_again(made: Made, kind: str) -> Expected:
-    """A lease under a key that another file had before, or the same name before it was made anew: the break is of the later one."""
+    """A lease under a key that another file had before, or its name had before it was made anew: the break is of the later."""
     line, other = Line(made, 50001), Line(made, 50002)
     line.begins(1)
     line.opens(3, 11, 0xA1, R | W | H, name="f")
@@ -203,6 +228,7 @@ SCENARIOS: dict[str, Callable[[Made], Expected]] = {
     "a close that doesn't cross": partial(closes_that_cross, had_grant=True), "a close in a compound": close_in_a_compound,
     "a client with two connections": two_connections, "two connections, one client": one_client_of_two,
     **{f"a key that {kind} had before": partial(key_used_again, kind=kind) for kind in ("another file", "the name")},
+    "two servers": two_servers, "a server at two addresses": server_at_two_addresses,
     "a break after the last close": break_after_the_last_close, "also reported": also_reported, "writes": writes,
     **{f"two clients, {kind}": partial(of_two_clients, kind=kind)
        for kind in ("whole", "before", "dialect", "gap", "cut", "encrypted", "rename", "made again")},

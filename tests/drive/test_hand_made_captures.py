@@ -9,10 +9,11 @@ import pytest
 from smblease.program import judge
 
 from drive.capture_record import CaptureRecord, record_of
+from drive.capture_servers import servers_of
 from drive.packets import read_capture
 from tests import needs
 from tests.drive.commands import ran
-from tests.drive.hand_made import H, Line, Made, R, W, read
+from tests.drive.hand_made import H, Line, Made, R, W, negotiate, negotiated, read, session_set_up, session_setup
 from tests.drive.scenarios import SCENARIOS
 from tests.paths import TOP
 
@@ -38,18 +39,33 @@ def has_its_time(remark: str) -> bool:
     return found is not None and round(float(found.group(2)) * 100) == int(found.group(1)) - 1
 
 
-@pytest.mark.parametrize("side", ["client", "server"])
 @pytest.mark.parametrize("name", SCENARIOS)
-def test_scenario(name: str, side: str, program: str, tmp_path: Path) -> None:
+def test_scenario(name: str, program: str, tmp_path: Path) -> None:
     made = Made()
     expected = SCENARIOS[name](made)
-    rule = expected.at_client if side == "client" else expected.at_server
-    record = record_of(read_capture(str(file_of(made, tmp_path)), []), side == "client")
-    text = text_of(record)
-    verdict = judge(program, text)
-    assert (verdict.rule, verdict.is_safe) == (rule, rule is None), text
-    assert [it for it in expected.said if it not in text] == [], text
-    assert [fact.told for fact in record.facts if not has_its_time(fact.told)] == []
+    capture = read_capture(str(file_of(made, tmp_path)), [])
+    for side, rule in (("client", expected.at_client), ("server", expected.at_server)):
+        record = record_of(capture, side == "client")
+        text = text_of(record)
+        verdict = judge(program, text)
+        assert (verdict.rule, verdict.is_safe) == (rule, rule is None), f"--at {side}\n{text}"
+        assert [it for it in expected.said if it not in text] == [], f"--at {side}\n{text}"
+        assert [fact.told for fact in record.facts if not has_its_time(fact.told)] == []
+
+
+def test_session_that_is_bound(tmp_path: Path) -> None:
+    """It shows that two addresses are one server's; a SessionId that two servers gave shows nothing."""
+    made = Made()
+    connections = ((1, 1, 7, False), (2, 1, 7, True), (3, 2, 9, False), (4, 3, 9, False))
+    for number, (host, guid, session, binds) in enumerate(connections):
+        line = Line(made, 50000 + number, host=host)
+        line.asks(negotiate(guid))
+        line.answers(negotiated(0x300))
+        line.asks(session_setup(session, binds))
+        line.answers(session_set_up(session))
+    servers = servers_of(read_capture(str(file_of(made, tmp_path)), []).packets)
+    assert servers[0] is servers[1]
+    assert len({servers[stream] for stream in (0, 2, 3)}) == 3
 
 
 def test_several_sets_of_clients(tmp_path: Path) -> None:
