@@ -1,8 +1,8 @@
 """Which server each connection of a capture is to.
 
-A server is a ServerGuid at an address and port: smbd makes its ServerGuid of its name, so that the GUID alone isn't enough. Two such
-are one server only where a session is bound at both (SMB2_SESSION_FLAG_BINDING, 2.2.5), or where a lease, by its ClientGuid and key,
-is seen at both. Equal SessionIds show nothing."""
+A server is a ServerGuid at an address and port: smbd makes its ServerGuid of its name, so that the GUID alone isn't enough. Two
+such are one server only where a session is bound at both (SMB2_SESSION_FLAG_BINDING, 2.2.5), or where a lease, by its ClientGuid
+and key, is seen at both. Equal SessionIds show nothing."""
 from __future__ import annotations
 
 import uuid
@@ -17,7 +17,7 @@ from drive.packets import PROTOCOL, Packet
 
 @dataclass(eq=False)
 class Server:
-    """A server, by its address and port where it was seen first. `prefix` stands before its shares where there are several servers."""
+    """A server, by its address and port where it was seen first. `prefix` stands before its shares where there are several."""
 
     name: str
     prefix: str = ""

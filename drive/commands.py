@@ -14,7 +14,7 @@ from smblease.schedules import Schedule
 
 from drive.faults import DriveFault, Usage
 
-SAFE, NOT_DRIVEN, REFUSED, UNSAFE = 0, 1, 2, 3
+SAFE, NOT_DRIVEN, REFUSED, UNSAFE, NOTHING_JUDGED = range(5)
 
 
 def ended(parser: argparse.ArgumentParser, main: Callable[[argparse.Namespace], int], words: Sequence[str] | None) -> int:

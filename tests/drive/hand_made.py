@@ -61,8 +61,11 @@ def of_session(one: bytes, session: int) -> bytes:
     return one[:40] + struct.pack("<Q", session) + one[48:]
 
 
-def tree_connect() -> bytes:
-    path = "\\\\127.0.0.1\\share".encode("utf-16le")
+def tree_path(share: str) -> str:
+    return f"\\\\127.0.0.1\\{share}"
+
+
+def tree_connect(path: bytes = tree_path("share").encode("utf-16le")) -> bytes:
     return message(3, struct.pack("<HHHH", 9, 0, 72, len(path)) + path, 2, tree=0)
 
 
@@ -70,8 +73,8 @@ def tree_connected() -> bytes:
     return message(3, struct.pack("<HBBLLL", 16, 1, 0, 0, 0, 0), 2, answers=True)
 
 
-def create(identifier: int, name: str, contexts: bytes = b"") -> bytes:
-    text = name.encode("utf-16le")
+def create(identifier: int, name: str | bytes, contexts: bytes = b"") -> bytes:
+    text = name.encode("utf-16le") if isinstance(name, str) else name
     place = 120 + len(text) + -len(text) % 8
     fixed = struct.pack("<HBBLQQLLLLLHHLL", 57, 0, 255 if contexts else 0, 2, 0, 0, 3, 0, 7, 1, 0x40, 120, len(text),
                         place if contexts else 0, len(contexts))
@@ -153,10 +156,11 @@ class Made:
         self._packets.append(datagram[:kept] if kept else datagram)
         return len(self._packets)
 
-    def data(self) -> bytes:
+    def data(self, snaplen: int | None = None) -> bytes:
+        """The file; of each packet so many bytes are kept."""
         text = struct.pack("<LHHlLLL", 0xA1B2C3D4, 2, 4, 0, 0, 262144, 101)
         for number, (packet, whole) in enumerate(zip(self._packets, self._whole), 1):
-            text += struct.pack("<LLLL", 1000, number * 10000, len(packet), whole) + packet
+            text += struct.pack("<LLLL", 1000, number * 10000, len(packet[:snaplen]), whole) + packet[:snaplen]
         return text
 
 

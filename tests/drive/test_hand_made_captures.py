@@ -13,7 +13,8 @@ from drive.capture_servers import servers_of
 from drive.packets import read_capture
 from tests import needs
 from tests.drive.commands import ran
-from tests.drive.hand_made import H, Line, Made, R, W, negotiate, negotiated, read, session_set_up, session_setup
+from tests.drive.hand_made import (H, Line, Made, R, W, create, created, lease, negotiate, negotiated, notification, read,
+                                   session_set_up, session_setup, tree_connect, tree_connected, tree_path)
 from tests.drive.scenarios import SCENARIOS
 from tests.paths import TOP
 
@@ -68,6 +69,94 @@ def test_session_that_is_bound(tmp_path: Path) -> None:
     assert len({servers[stream] for stream in (0, 2, 3)}) == 3
 
 
+def conflicting(dialect: int = 0x210, is_encrypted: bool = False) -> Made:
+    """Two clients are granted RWH of one file, and one is sent a break."""
+    made = Made()
+    for number in (1, 2):
+        line = Line(made, 50000 + number)
+        line.begins(number, dialect)
+        if is_encrypted:
+            line.asks(b"\xfdSMB" + bytes(80))
+            line.answers(b"\xfdSMB" + bytes(80))
+        else:
+            line.opens(3, number, number, R | W | H)
+            line.answers(notification(number, R | W | H, R))
+    return made
+
+
+NOTHING = {
+    "encrypted": (conflicting(0x300, True).data(), "not judged: 2 (encrypted or compressed)"),
+    "dialect 3.1.1": (conflicting(0x311).data(), "not judged: 2 (dialect 3.1.1)"),
+    "packets of 128 bytes": (conflicting().data(128), "not judged: 2 (packets, or parts of them, aren't in the capture)"),
+}
+
+
+@pytest.mark.parametrize(("data", "why"), NOTHING.values(), ids=NOTHING)
+def test_nothing_judged(data: bytes, why: str, tmp_path: Path) -> None:
+    """It isn't safe; the second line says why, and nothing is reported of what was left out."""
+    path = tmp_path / "one.pcap"
+    path.write_bytes(data)
+    had = ran("capture", [path, "--record", tmp_path / "record"])
+    first, second, *others = had.out.splitlines()
+    assert (had.status, first, second) == (4, "nothing judged", f"judged: 0 of 2 connections; {why}")
+    assert not [it for it in others if "break" in it or "lease of that client" in it], others
+    assert ran("capture", [path]).out.splitlines()[-2:] == ["# nothing judged", f"# {second}"]
+
+
+def test_connections_that_are_judged(tmp_path: Path) -> None:
+    """What was left out beside connections that are judged is counted in the second line."""
+    made = Made()
+    for number, dialect in ((1, 0x210), (2, 0x302)):
+        line = Line(made, 50000 + number)
+        line.begins(number, dialect)
+        line.opens(3, number, number, R | W | H)
+    third = Line(made, 50003)
+    third.begins(3)
+    third.opens(3, 3, 3, R, name="g")
+    third.misses(100)
+    third.asks(read(5, 3))
+    had = ran("capture", [file_of(made, tmp_path), "--record", tmp_path / "record"])
+    first, second = had.out.splitlines()[:2]
+    assert (had.status, first) == (0, "safe")
+    assert second == "judged: 2 of 3 connections, 1 of them in part (packets, or parts of them, aren't in the capture); " \
+                     "not judged: 1 (dialect 3.0.2)"
+
+
+def test_texts_with_every_byte(program: str, tmp_path: Path) -> None:
+    """Names of files and shares, and create contexts, of which no byte breaks the record."""
+    made = Made()
+    line = Line(made, 50001)
+    line.asks(negotiate(1))
+    line.answers(negotiated())
+    for number in range(256):
+        low, high = bytes([number, 0x20]), bytes([0x20, number])
+        line.asks(tree_connect(tree_path("share").encode("utf-16le") + low + high))
+        line.answers(tree_connected())
+        contexts = lease(number, R)[:12] + bytes([number]) * 12 + lease(number, R)[24:]
+        line.asks(create(2 * number + 3, low + high + bytes([number]) * 2, contexts))
+        line.answers(created(2 * number + 3, number, contexts))
+        line.asks(read(2 * number + 4, number))
+    record = record_of(read_capture(str(file_of(made, tmp_path)), []), True)
+    text = text_of(record)
+    assert "can't be read: fault" in text
+    assert judge(program, text).is_safe
+    shapes = [it for it in text.splitlines() if not re.fullmatch(r"# [ -\U0010ffff]*|[a-z]+ [0-9a-zRWH -]+", it)]
+    assert shapes == []
+    assert text.count("\n") == len(text.splitlines()) == sum(1 for it in record.lines())
+
+
+def test_contexts_that_cant_be_read(tmp_path: Path) -> None:
+    """The remark on them is one line, and the record is judged."""
+    made = Made()
+    line = Line(made, 50001)
+    line.begins(1)
+    line.opens(3, 11, 1, R | W | H)
+    bad = line.asks(create(5, "g", bytes([8]) + lease(2, R)[1:]))
+    had = ran("capture", [file_of(made, tmp_path)])
+    assert (had.status, had.faults) == (0, "")
+    assert f"# packet {bad} at 0.{bad - 1:02}0000 s: the contexts of a CREATE request can't be read: fault 3 BadNext at 0\n" in had.out
+
+
 def test_several_sets_of_clients(tmp_path: Path) -> None:
     made = Made()
     lines = [Line(made, 50000 + number) for number in range(4)]
@@ -104,9 +193,10 @@ def test_refused(words: list[str], content: bytes | None, status: int, beginning
     assert "Traceback" not in had.faults
 
 
-@pytest.mark.parametrize("length", [5001, 12345, len(KEPT) - 7])
-def test_capture_that_was_cut(length: int, tmp_path: Path) -> None:
+@pytest.mark.parametrize(("length", "status"), [(5001, 4), (12345, 4), (len(KEPT) - 7, 3)])
+def test_capture_that_was_cut(length: int, status: int, tmp_path: Path) -> None:
+    """The first two are cut before anybody has a lease."""
     path = tmp_path / "one.pcapng"
     path.write_bytes(KEPT[:length])
     had = ran("capture", [path])
-    assert had.status in (0, 3) and "is read up to packet" in had.out and not had.faults, had
+    assert had.status == status and "is read up to packet" in had.out and not had.faults, had
