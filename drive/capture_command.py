@@ -8,7 +8,7 @@ from collections.abc import Sequence
 
 from smblease.program import Verdict, find_program, judge
 
-from drive.capture_record import CaptureRecord, record_of
+from drive.capture_record import CaptureRecord, record_of, remark
 from drive.commands import NOTHING_JUDGED, NOT_DRIVEN, SAFE, UNSAFE, ended, write_text
 from drive.faults import DriveFault, Usage
 from drive.packets import read_capture
@@ -73,9 +73,9 @@ def _judge(arguments: argparse.Namespace) -> int:
     said = [word, record.judged, *beliefs_at(record, verdict), *verdicts_of_sets(record, arguments.leasecheck)]
     if arguments.record:
         write_text(arguments.record, text)
-        sys.stdout.write("".join(f"{it}\n" for it in (*said, *record.head, *record.notes)))
+        sys.stdout.write("".join(f"{remark(it)[2:]}\n" for it in (*said, *record.head, *record.notes)))
     else:
-        sys.stdout.write(text + "".join(f"# {it}\n" for it in said))
+        sys.stdout.write(text + "".join(f"{remark(it)}\n" for it in said))
     if verdict.rule is not None:
         return UNSAFE
     return {"safe": SAFE, "nothing judged": NOTHING_JUDGED}.get(word, NOT_DRIVEN)

@@ -22,6 +22,11 @@ CANT = ("A capture shows no cached read, no buffered write, and not what applica
 BELIEVES = "believes "
 
 
+def remark(text: str) -> str:
+    """A line of a record that is no fact, of any text."""
+    return "# " + "".join(it if it.isprintable() else "?" for it in text)
+
+
 @dataclass(frozen=True)
 class CaptureRecord:
     """Facts and files, what is said at the head, and what else was found."""
@@ -35,11 +40,11 @@ class CaptureRecord:
 
     def lines(self) -> list[str]:
         """The record, in which the numbers of files go on where it is a part."""
-        lines = [f"# {it}" for it in (*self.head, *filter(None, [self.judged]), *self.notes)]
+        lines = [remark(it) for it in (*self.head, *filter(None, [self.judged]), *self.notes)]
         for file, number in self.numbers.items():
-            lines += [f"start {number} {digits(file.start or b'')}", f"# {_bytes_told(file, number)}"]
+            lines += [f"start {number} {digits(file.start or b'')}", remark(_bytes_told(file, number))]
         for fact in self.facts:
-            lines += [self.text(fact), f"# {fact.told}"]
+            lines += [self.text(fact), remark(fact.told)]
         return lines
 
     def text(self, fact: Fact) -> str:

@@ -32,8 +32,7 @@ class File:
 
     @property
     def told(self) -> str:
-        text = f"{self.server.prefix}{self.share}\\{self.name}"
-        return "".join(it if it.isprintable() else "?" for it in text)
+        return f"{self.server.prefix}{self.share}\\{self.name}"
 
 
 @dataclass(eq=False)
