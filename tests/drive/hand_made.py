@@ -9,7 +9,8 @@ REFUSED = 0xC0000001
 RELATED = 4
 PREVIOUS = b"\xff" * 16
 R, H, W = 1, 2, 4
-ACK = 0x10
+# the most bytes of a packet's payload
+LONGEST = 60000
 PUSH, FIN = 0x18, 0x11
 
 
@@ -148,9 +149,9 @@ class Made:
 
     def packet(self, ports: tuple[int, int], sequence: int, acknowledged: int, flags: int, payload: bytes = b"",
                kept: int | None = None, host: int = 1) -> int:
-        """A packet between two ports; the one of `SERVER` is at the address 127.0.0.`host`."""
+        """A packet between two ports; that of the server, below those of clients, is at the address 127.0.0.`host`."""
         tcp = struct.pack(">HHLLBBHHH", *ports, sequence, acknowledged, 5 << 4, flags, 65535, 0, 0) + payload
-        addresses = [bytes([127, 0, 0, host if port == SERVER else 1]) for port in ports]
+        addresses = [bytes([127, 0, 0, host if port == min(ports) else 1]) for port in ports]
         datagram = struct.pack(">BBHHHBBH", 0x45, 0, 20 + len(tcp), len(self._packets), 0, 64, 6, 0) + b"".join(addresses) + tcp
         self._whole.append(len(datagram))
         self._packets.append(datagram[:kept] if kept else datagram)
@@ -167,11 +168,12 @@ class Made:
 class Line:
     """A TCP connection of a client, by its port; both ends have sent what is in `sent`."""
 
-    def __init__(self, made: Made, port: int, begins: bool = True, host: int = 1) -> None:
-        self._made, self._port, self._host, self.sent = made, port, host, {True: 1, False: 1}
+    def __init__(self, made: Made, port: int, begins: bool = True, host: int = 1, server: int = SERVER) -> None:
+        self._made, self._port, self._server, self._host = made, port, server, host
+        self.sent = {True: 1, False: 1}
         if begins:
-            made.packet((port, SERVER), 0, 0, 2, host=host)
-            made.packet((SERVER, port), 0, 1, 0x12, host=host)
+            made.packet((port, server), 0, 0, 2, host=host)
+            made.packet((server, port), 0, 1, 0x12, host=host)
 
     def asks(self, *messages: bytes, had: int | None = None) -> int:
         """The client sends messages; `had` is what its host had of the server's bytes, all that was sent unless this is given."""
@@ -181,14 +183,14 @@ class Line:
         return self._goes(False, messages, None)
 
     def ends(self, had: int | None = None) -> int:
-        return self._made.packet((self._port, SERVER), self.sent[True], had or self.sent[False], FIN, host=self._host)
+        return self._made.packet((self._port, self._server), self.sent[True], had or self.sent[False], FIN, host=self._host)
 
     def cut(self, kept: int, one: bytes) -> int:
         """A message of the client of which the capture has so many bytes of the packet only."""
         payload = struct.pack(">L", len(one)) + one
         sequence = self.sent[True]
         self.sent[True] += len(payload)
-        return self._made.packet((self._port, SERVER), sequence, self.sent[False], PUSH, payload, kept, self._host)
+        return self._made.packet((self._port, self._server), sequence, self.sent[False], PUSH, payload, kept, self._host)
 
     def misses(self, length: int) -> None:
         """Bytes of the client that aren't in the capture."""
@@ -196,10 +198,13 @@ class Line:
 
     def _goes(self, by_client: bool, messages: tuple[bytes, ...], had: int | None) -> int:
         payload = b"".join(struct.pack(">L", len(one)) + one for one in messages)
-        source, target = (self._port, SERVER) if by_client else (SERVER, self._port)
-        sequence = self.sent[by_client]
-        self.sent[by_client] += len(payload)
-        return self._made.packet((source, target), sequence, had or self.sent[not by_client], PUSH, payload, host=self._host)
+        ports = (self._port, self._server) if by_client else (self._server, self._port)
+        packet = 0
+        for start in range(0, len(payload), LONGEST):
+            part = payload[start:start + LONGEST]
+            packet = self._made.packet(ports, self.sent[by_client], had or self.sent[not by_client], PUSH, part, host=self._host)
+            self.sent[by_client] += len(part)
+        return packet
 
     def begins(self, guid: int, dialect: int = 0x210) -> None:
         self.asks(negotiate(guid))

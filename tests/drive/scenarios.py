@@ -182,6 +182,26 @@ def server_at_two_addresses(made: Made) -> Expected:
     return Expected(1, 1)
 
 
+def acknowledged_elsewhere(made: Made) -> Expected:
+    """An acknowledgment over another connection of the client shows that the break was taken, and nothing of what that other connection
+    brought: its grant isn't known to be taken."""
+    line, again, other = Line(made, 50001), Line(made, 50002), Line(made, 50003)
+    line.begins(1)
+    line.opens(3, 11, 0xA1, R | W | H)
+    again.begins(1)
+    other.begins(2)
+    line.answers(hand_made.notification(0xA1, R | W | H, R | H))
+    for number in range(12):
+        again.answers(hand_made.message(13, bytes(4), 100 + number, answers=True))
+    again.asks(hand_made.create(5, "g", hand_made.lease(0xA2, R | W | H)))
+    again.answers(hand_made.created(5, 31, hand_made.lease(0xA2, R | W | H)))
+    again.asks(hand_made.acknowledgment(6, 0xA1, R | H), had=1)
+    again.answers(hand_made.acknowledged(6, 0xA1, R | H))
+    again.ends(had=1)
+    other.opens(3, 22, 0xB2, R | W | H, name="g")
+    return SAFE
+
+
 def key_used_again(made: Made, kind: str) -> Expected:
     """A lease under a key that another file had before, or its name had before it was made anew: the break is of the later."""
     line, other = Line(made, 50001), Line(made, 50002)
@@ -228,7 +248,7 @@ SCENARIOS: dict[str, Callable[[Made], Expected]] = {
     "a close that doesn't cross": partial(closes_that_cross, had_grant=True), "a close in a compound": close_in_a_compound,
     "a client with two connections": two_connections, "two connections, one client": one_client_of_two,
     **{f"a key that {kind} had before": partial(key_used_again, kind=kind) for kind in ("another file", "the name")},
-    "two servers": two_servers, "a server at two addresses": server_at_two_addresses,
+    "a break that is acknowledged elsewhere": acknowledged_elsewhere, "two servers": two_servers, "a server at two addresses": server_at_two_addresses,
     "a break after the last close": break_after_the_last_close, "also reported": also_reported, "writes": writes,
     **{f"two clients, {kind}": partial(of_two_clients, kind=kind)
        for kind in ("whole", "before", "dialect", "gap", "cut", "encrypted", "rename", "made again")},

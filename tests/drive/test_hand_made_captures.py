@@ -15,7 +15,8 @@ from drive.packets import read_capture
 from tests import needs
 from tests.drive.commands import ran
 from tests.drive.hand_made import (H, Line, Made, R, W, create, created, lease, negotiate, negotiated, notification, read,
-                                   session_set_up, session_setup, tree_connect, tree_connected, tree_path)
+                                   read_done, session_set_up, session_setup, tree_connect, tree_connected, tree_path, write,
+                                   write_done)
 from tests.drive.scenarios import SCENARIOS
 from tests.paths import TOP
 
@@ -169,6 +170,27 @@ def test_name_of_a_file_that_was_cut(tmp_path: Path) -> None:
         had = ran("capture", [os.fsdecode(path)])
         assert (had.status, had.faults) == (3, ""), had
         assert not [it for it in had.out.splitlines() if it.startswith("opened 9")]
+
+
+@pytest.mark.parametrize("length", [1, 1 << 17])
+@pytest.mark.parametrize("words", [[], ["--port", "4450"]], ids=["unnamed", "named"])
+def test_server_on_another_port(words: list[str], length: int, tmp_path: Path) -> None:
+    """It is read as one on port 445 is, whether its port is named or not, also where a message has 128 KiB and more."""
+    records = []
+    for port in (445, 4450):
+        made = Made()
+        line = Line(made, 50001, server=port)
+        line.begins(1)
+        line.opens(3, 11, 1, R | W | H)
+        line.asks(write(5, 11, 0, bytes(length)))
+        line.answers(write_done(5, length))
+        line.asks(read(6, 11))
+        line.answers(read_done(6, bytes(length)))
+        had = ran("capture", [file_of(made, tmp_path), *words])
+        assert (had.status, had.faults) == (0, "")
+        records.append(had.out)
+    assert records[0] == records[1]
+    assert f"changed 1 1 1 0 {'00' * length}\n" in records[0]
 
 
 def test_several_sets_of_clients(tmp_path: Path) -> None:
