@@ -94,8 +94,9 @@ class Came:
 
 @dataclass(eq=False)
 class BreakSeen:
-    """A break that asks for an acknowledgment."""
+    """A break that asks for an acknowledgment, which may come over another connection than the break."""
 
+    connection: Connection
     packet: Packet
     notice: Notification
     client: Client

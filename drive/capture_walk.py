@@ -214,7 +214,7 @@ class Walk:
             self.found.note(connection, pending.packet, f"an acknowledgment of {given.state}, where the break of "
                                                         f"{seen.packet.told} is to {seen.notice.new}")
         if seen.turn.delivery:
-            connection.deliveries.prove(seen.turn.delivery, before(pending.packet))
+            seen.connection.deliveries.prove(seen.turn.delivery, before(pending.packet))
         seen.turn.state, seen.turn.latest = given.state, before(pending.packet)
         seen.turn.told += f"; acknowledged by {pending.packet.told}"
 
@@ -401,7 +401,7 @@ class Walk:
         if not lease.is_closing:
             lease.chain.turns += [turn, doubt] if notice.ack_required else [turn]
         if notice.ack_required:
-            self.breaks.append(BreakSeen(packet, notice, client, lease.file, turn, doubt, lease.is_closing))
+            self.breaks.append(BreakSeen(connection, packet, notice, client, lease.file, turn, doubt, lease.is_closing))
 
     # Ends
 

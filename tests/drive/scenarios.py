@@ -183,23 +183,21 @@ def server_at_two_addresses(made: Made) -> Expected:
 
 
 def acknowledged_elsewhere(made: Made) -> Expected:
-    """An acknowledgment over another connection of the client shows that the break was taken, and nothing of what that other connection
-    brought: its grant isn't known to be taken."""
+    """An acknowledgment over another connection of the client shows that the break was taken where it came, and nothing of what that
+    other connection brought: at a server its grant isn't known to be taken."""
     line, again, other = Line(made, 50001), Line(made, 50002), Line(made, 50003)
     line.begins(1)
     line.opens(3, 11, 0xA1, R | W | H)
     again.begins(1)
     other.begins(2)
+    for number in range(5):
+        line.answers(hand_made.message(13, bytes(4), 100 + number, answers=True))
     line.answers(hand_made.notification(0xA1, R | W | H, R | H))
-    for number in range(12):
-        again.answers(hand_made.message(13, bytes(4), 100 + number, answers=True))
     again.asks(hand_made.create(5, "g", hand_made.lease(0xA2, R | W | H)))
     again.answers(hand_made.created(5, 31, hand_made.lease(0xA2, R | W | H)))
-    again.asks(hand_made.acknowledgment(6, 0xA1, R | H), had=1)
-    again.answers(hand_made.acknowledged(6, 0xA1, R | H))
-    again.ends(had=1)
+    again.asks(hand_made.acknowledgment(6, 0xA1, R | H))
     other.opens(3, 22, 0xB2, R | W | H, name="g")
-    return SAFE
+    return Expected(1, None)
 
 
 def key_used_again(made: Made, kind: str) -> Expected:
