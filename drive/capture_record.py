@@ -20,6 +20,7 @@ CANT = ("A capture shows no cached read, no buffered write, and not what applica
 
 
 BELIEVES = "believes "
+TOO_MANY = "too many orders fit the capture"
 
 
 def remark(text: str) -> str:
@@ -110,10 +111,12 @@ def record_of(capture: Capture, at_client: bool) -> CaptureRecord:
     numbers = _numbers(walk)
     facts = [fact for fact in walk.found.facts if fact.file is None or fact.file in numbers]
     notes = list(walk.found.notes)
+    unjudged = 0
     for file in numbers:
         placed = Search(list(file.chains.values())).placed()
         if placed is None:
-            notes.append(f"{file.told} isn't judged: too many orders fit the capture")
+            unjudged += 1
+            notes.append(f"{file.told} isn't judged: {TOO_MANY}")
         else:
             facts += _beliefs(file, placed)
     for connection in walk.connections.values():
@@ -122,20 +125,22 @@ def record_of(capture: Capture, at_client: bool) -> CaptureRecord:
               f"{it.client.number} is never acknowledged" for it in walk.breaks if not it.is_answered]
     ordered = sorted(facts, key=lambda it: (it.position, it.rank))
     return CaptureRecord(tuple(ordered), numbers, tuple(_head(capture, walk, at_client)), tuple(notes),
-                         _judged(list(walk.connections.values()), any(it.text.startswith(BELIEVES) for it in facts)))
+                         _judged(list(walk.connections.values()), unjudged, any(it.text.startswith(BELIEVES) for it in facts)))
 
 
-def _judged(connections: list[Connection], has_beliefs: bool) -> str:
-    """How many connections were judged, and why others weren't, or in part."""
+def _judged(connections: list[Connection], files: int, has_beliefs: bool) -> str:
+    """How many connections were judged, and why others weren't, or in part; `files` is how many files weren't."""
     seen = [it for it in connections if it.has_messages]
     parts = [it.why_not for it in seen if it.was_judged and it.why_not]
     others = [it.why_not for it in seen if not it.was_judged]
     text = f"judged: {len(seen) - len(others)} of {len(seen)} connections"
     if parts:
         text += f", {len(parts)} of them in part ({', '.join(dict.fromkeys(parts))})"
-    if others:
-        text += f"; not judged: {', '.join(f'{others.count(it)} ({it})' for it in dict.fromkeys(others))}"
-    return text if has_beliefs or len(others) == len(seen) else f"{text}; nobody is known to have taken a lease"
+    left_out = [f"{others.count(it)} ({it})" for it in dict.fromkeys(others)]
+    left_out += [f"{files} file{'s' if files > 1 else ''} ({TOO_MANY})"] if files else []
+    if left_out:
+        return f"{text}; not judged: {', '.join(left_out)}"
+    return text if has_beliefs else f"{text}; nobody is known to have taken a lease"
 
 
 def _numbers(walk: Walk) -> dict[File, int]:

@@ -268,8 +268,8 @@ class Walk:
         pending.opened = opened
         self._opens[connection.stream, message.session, file_id] = opened
         self._kept[connection.server, file_id[:8]] = file
-        if pending.connection.client and pending.asked.reconnect is None:
-            self.found.fact(at(packet), 1, f"opened {{file}} {pending.connection.client.number}", packet, "answer to CREATE", file)
+        if connection.client and pending.asked.reconnect is None:
+            self.found.fact(at(packet), 1, f"opened {{file}} {connection.client.number}", packet, "answer to CREATE", file)
         if granted.has_other_lease:
             self.found.leave_out("grants of leases of version 2, which aren't judged")
         if pending.connection.judged and granted.key:

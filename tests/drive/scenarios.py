@@ -183,8 +183,8 @@ def server_at_two_addresses(made: Made) -> Expected:
 
 
 def acknowledged_elsewhere(made: Made) -> Expected:
-    """An acknowledgment over another connection of the client shows that the break was taken where it came, and nothing of what that
-    other connection brought: at a server its grant isn't known to be taken."""
+    """An acknowledgment over another connection of the client shows that the break was taken where it came, and nothing of what
+    that other connection brought: at a server its grant isn't known to be taken."""
     line, again, other = Line(made, 50001), Line(made, 50002), Line(made, 50003)
     line.begins(1)
     line.opens(3, 11, 0xA1, R | W | H)
@@ -246,7 +246,8 @@ SCENARIOS: dict[str, Callable[[Made], Expected]] = {
     "a close that doesn't cross": partial(closes_that_cross, had_grant=True), "a close in a compound": close_in_a_compound,
     "a client with two connections": two_connections, "two connections, one client": one_client_of_two,
     **{f"a key that {kind} had before": partial(key_used_again, kind=kind) for kind in ("another file", "the name")},
-    "a break that is acknowledged elsewhere": acknowledged_elsewhere, "two servers": two_servers, "a server at two addresses": server_at_two_addresses,
+    "a break that is acknowledged elsewhere": acknowledged_elsewhere, "two servers": two_servers,
+    "a server at two addresses": server_at_two_addresses,
     "a break after the last close": break_after_the_last_close, "also reported": also_reported, "writes": writes,
     **{f"two clients, {kind}": partial(of_two_clients, kind=kind)
        for kind in ("whole", "before", "dialect", "gap", "cut", "encrypted", "rename", "made again")},

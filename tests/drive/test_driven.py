@@ -13,6 +13,7 @@ from pathlib import Path
 
 import pytest
 
+from smblease.program import replay
 from smblease.schedules import Schedule
 
 from tests import needs
@@ -91,6 +92,41 @@ def test_departure(name: str, runner: Runner) -> None:
 @pytest.mark.parametrize(("client", "path", "rule"), BROKEN, ids=[getattr(it[0], "__name__") for it in BROKEN])
 def test_broken_client(client: Filter, path: Path, rule: int, program: str) -> None:
     tried(lambda: expect(Runner(program, PrivateServer, filtered=client).run(schedule_of(path)), rule))
+
+
+# The bytes of these ClientGuids, which begin the lease keys too, are the names of contexts.
+NAMES = """file 616263
+client 44486e43-5271-4c73-4448-6e4344486e51
+client 52714c73-4448-6e43-5271-4c7344486e51
+connect 1
+connect 2
+open 1 1 rw rw RWH durable
+serve 1
+take 1
+open 2 1 r rw RH
+serve 2
+take 1
+serve 1
+take 1
+take 2
+raw 2 create 1 r rw 0000000010000400000018002000000052714c730000000044486e4344486e4344486e430100000001000000000000000000000000000000
+serve 2
+take 2
+raw 1 write 1 1 0 58
+serve 1
+take 1
+"""
+
+
+def test_keys_with_the_names_of_contexts(program: str, runner: Runner) -> None:
+    """Which contexts a CREATE has is read, and not found by looking for a word."""
+    schedule = Schedule.read(NAMES)
+
+    def check() -> None:
+        facts = runner.run(schedule).record.facts()
+        assert [it for it in facts if it.startswith("opened")] == ["opened 1 1", "opened 1 2", "opened 1 2"]
+        assert sorted(facts) == sorted(replay(program, schedule.text))
+    tried(check)
 
 
 def test_server_that_is_named() -> None:

@@ -14,7 +14,8 @@ from drive.capture_servers import servers_of
 from drive.packets import read_capture
 from tests import needs
 from tests.drive.commands import ran
-from tests.drive.hand_made import (H, Line, Made, R, W, create, created, lease, negotiate, negotiated, notification, read,
+from tests.drive.hand_made import (H, Line, Made, R, W, acknowledged, acknowledgment, close, closed, create, created, file_id,
+                                   lease, negotiate, negotiated, notification, read,
                                    read_done, session_set_up, session_setup, tree_connect, tree_connected, tree_path, write,
                                    write_done)
 from tests.drive.scenarios import SCENARIOS
@@ -122,6 +123,36 @@ def test_connections_that_are_judged(tmp_path: Path) -> None:
     assert (had.status, first) == (0, "safe")
     assert second == "judged: 2 of 3 connections, 1 of them in part (packets, or parts of them, aren't in the capture); " \
                      "not judged: 1 (dialect 3.0.2)"
+
+
+@pytest.mark.parametrize("others", [0, 1])
+def test_too_many_orders(others: int, tmp_path: Path) -> None:
+    """Two clients hold RWH of a file, and then thirteen readers of it are broken at once: it isn't judged, and that is said."""
+    made = Made()
+    lines = [Line(made, 50000 + number) for number in range(15 + others)]
+    for number, line in enumerate(lines, 1):
+        line.begins(number)
+    for number, line in enumerate(lines[:2], 1):
+        line.opens(3, number, number, R | W | H)
+    for number, line in enumerate(lines[:2], 1):
+        line.asks(close(6, file_id(number)))
+        line.answers(closed(6))
+    readers = list(enumerate(lines[2:15], 3))
+    for number, line in readers:
+        line.asks(create(3, "f", lease(number, R | H)))
+        line.answers(created(3, number, lease(number, R | H)))
+    for number, line in readers:
+        line.answers(notification(number, R | H, 0))
+    for number, line in readers:
+        line.asks(acknowledgment(5, number, 0))
+        line.answers(acknowledged(5, number, 0))
+    for line in lines[15:]:
+        line.opens(3, 99, 99, R | W | H, name="g")
+    had = ran("capture", [file_of(made, tmp_path), "--record", tmp_path / "record"])
+    first, second = had.out.splitlines()[:2]
+    assert (had.status, first) == ((0, "safe") if others else (4, "nothing judged"))
+    assert second == f"judged: {15 + others} of {15 + others} connections; not judged: 1 file (too many orders fit the capture)"
+    assert "share\\f isn't judged: too many orders fit the capture" in had.out
 
 
 def test_texts_with_every_byte(program: str, tmp_path: Path) -> None:
