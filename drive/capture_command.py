@@ -31,8 +31,7 @@ def parser() -> argparse.ArgumentParser:
     made.add_argument("--at", choices=("client", "server"), default="server",
                       help="where it was made; at a server, which is presumed, it only bounds when clients took messages")
     made.add_argument("--port", metavar="PORT", type=int, action="append", default=[],
-                      help="a port of a server on which SMB2 isn't found without that, as where a capture begins within a message; may be "
-                           "given more than once")
+                      help="a port on which SMB2 isn't found without that; may be given more than once")
     made.add_argument("--leasecheck", metavar="PATH", default=find_program(), help="the program leasecheck")
     return made
 

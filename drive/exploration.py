@@ -27,6 +27,7 @@ class Row:
     manner: str
     events: int
     applied: int
+    leases: str
     verdict: str
     likeness: str
     left: int | None = None
@@ -35,7 +36,8 @@ class Row:
     def text(self) -> str:
         """Its line of the table."""
         tail = f" shrunk {self.left}" if self.left is not None else ""
-        return f"{self.number} {self.manner} {self.events} {self.applied} {self.verdict} {self.likeness}{tail}\n"
+        head = f"{self.number} {self.manner} {self.events} {self.applied} {self.leases}"
+        return f"{head} {self.verdict} {self.likeness}{tail}\n"
 
 
 class Explorer:
@@ -55,7 +57,7 @@ class Explorer:
         try:
             schedule, outcome = self._guided(chooser) if guided else self._blind(chooser)
         except ToolFault as fault:
-            return Row(number, manner, 0, 0, f"fault {fault}", "-")
+            return Row(number, manner, 0, 0, "-", f"fault {fault}", "-")
         likeness = likeness_of(self._runner.program, schedule, outcome.record.facts(), outcome.counts)
         left = None
         if likeness.is_open or not outcome.verdict.is_safe:
@@ -63,7 +65,7 @@ class Explorer:
             self._write(f"{number}.record", outcome.record.text())
         if rule_of(outcome) and self._shrinks:
             left = self._shrunk(number, schedule.with_events(tuple(outcome.applied)), rule_of(outcome))
-        return Row(number, manner, len(schedule.events), len(outcome.applied), verdict_words(outcome), likeness.word, left)
+        return Row(number, manner, len(schedule.events), len(outcome.applied), outcome.leases.word, verdict_words(outcome), likeness.word, left)
 
     def _blind(self, chooser: Chooser) -> tuple[Schedule, Outcome]:
         schedule = blind_schedule(chooser)

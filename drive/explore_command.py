@@ -13,7 +13,9 @@ from drive.exploration import Explorer
 from drive.faults import DriveFault, Usage
 
 EPILOG = """FOLDER/table gets a line for each schedule: its number; `blind` (its events were chosen beforehand) or `guided`
-(each by what the run had come to); its events, and how many of them did something; the verdict; `same` where the
+(each by what the run had come to); its events, and how many of them did something; what became of leases: `granted`,
+`none` where creates asked for some and none was granted, `refused` where a create was refused for its lease key,
+`unasked`; the verdict; `same` where the
 record is the profile's, else the known departures that explain it, or `unexplained` (docs/REAL_SERVERS.md); and for an
 unsafe one `shrunk N`, the events that are left. A schedule that is unsafe or unexplained is kept next to the table by its
 number, with its record and what is left of it. It counts as unsafe, and is shrunk, where it breaks one rule in both orders
