@@ -11,13 +11,15 @@ from drive.arguments import runner_of, server_arguments
 from drive.commands import NOT_DRIVEN, SAFE, UNSAFE, ended
 from drive.exploration import Explorer
 from drive.faults import DriveFault, Usage
+from drive.model import Departure
 
-EPILOG = """FOLDER/table gets a line for each schedule: its number; `blind` (its events were chosen beforehand) or `guided`
-(each by what the run had come to); its events, and how many of them did something; what became of leases: `granted`,
+EPILOG = """FOLDER/table gets a line for each schedule: its number; `blind` (its events were chosen beforehand), `guided` (each by
+what the run had come to) or `aimed` (guided towards a write during a break to reads); its events, and how many of them did something; what became of leases: `granted`,
 `none` where creates asked for some and none was granted, `refused` where a create was refused for its lease key,
 `unasked`; the verdict; `same` where the
 record is the profile's, else the known departures that explain it, or `unexplained` (docs/REAL_SERVERS.md); and for an
-unsafe one `shrunk N`, the events that are left. A schedule that is unsafe or unexplained is kept next to the table by its
+unsafe one `shrunk N`, the events that are left, or `allowed`: it is safe on a model server without the departures of
+--allow, and doesn't count. A schedule that is unsafe or unexplained is kept next to the table by its
 number, with its record and what is left of it. It counts as unsafe, and is shrunk, where it breaks one rule in both orders
 of messages; where the rules differ the table says `unsure` and both verdicts.
 One seed gives one table, as far as the server does the same again.
@@ -34,6 +36,8 @@ def parser() -> argparse.ArgumentParser:
     made.add_argument("--count", type=int, required=True, metavar="N", help="how many")
     made.add_argument("--folder", metavar="FOLDER", help="where the table and what is unsafe go (explored-S)")
     made.add_argument("--resume", action="store_true", help="go on after the last line of the table")
+    made.add_argument("--allow", metavar="DEPARTURE", nargs="+", default=[], choices=[it.name.lower() for it in Departure],
+                      help="what is unsafe by these known departures alone doesn't count (docs/REAL_SERVERS.md)")
     made.add_argument("--no-shrink", action="store_true", help="keep what is unsafe as it is")
     server_arguments(made)
     return made
@@ -85,7 +89,8 @@ def _explore(arguments: argparse.Namespace) -> int:
     try:
         os.makedirs(folder, exist_ok=True)
         begun = explored(f"{folder}/table", arguments.resume)
-        explorer = Explorer(runner, arguments.seed, folder, not arguments.no_shrink)
+        allowed = frozenset(Departure[it.upper()] for it in arguments.allow)
+        explorer = Explorer(runner, arguments.seed, folder, not arguments.no_shrink, allowed)
         unsafe, faults = _all(explorer, begun, arguments.count, f"{folder}/table")
     except OSError as fault:
         raise DriveFault(f"{folder}: {fault.strerror}") from None
@@ -99,7 +104,7 @@ def _all(explorer: Explorer, begun: int, count: int, path: str) -> tuple[int, in
     with open(path, "a", encoding="utf-8") as table:
         for number in range(begun + 1, count + 1):
             row = explorer.explore(number)
-            unsafe += row.verdict.startswith("unsafe")
+            unsafe += row.is_unsafe
             faults += row.verdict.startswith("fault")
             table.write(row.text)
             table.flush()

@@ -1,5 +1,5 @@
-"""ClientGuids and lease keys as they go over the wire. A named server may still have leases and durable opens of earlier runs, and
-refuses a key that it knows of another file; so each run has its own ones there, and its record those of the schedule."""
+"""ClientGuids and lease keys as they go over the wire. A named server may still have leases and durable opens of earlier runs,
+and refuses a key that it knows of another file; so each run has its own ones there, and its record those of the schedule."""
 from __future__ import annotations
 
 import os

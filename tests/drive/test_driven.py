@@ -28,6 +28,7 @@ pytest.importorskip("impacket", reason=f"there is no package impacket; {needs.IN
 from drive import servers  # noqa: E402
 from drive.explanations import likeness_of  # noqa: E402
 from drive.exploration import Explorer  # noqa: E402
+from drive.model import Departure  # noqa: E402
 from drive.run_command import verdict_lines  # noqa: E402
 from drive.runner import Filter, Outcome, Runner  # noqa: E402
 from drive.servers import PrivateServer  # noqa: E402
@@ -133,6 +134,18 @@ def test_keys_with_the_names_of_contexts(program: str, runner: Runner) -> None:
     tried(check)
 
 
+def test_schedule_that_is_unsafe_by_what_is_allowed(program: str, tmp_path: Path) -> None:
+    """Without that departure the model server is safe, so the schedule doesn't count."""
+    def check() -> None:
+        runner = Runner(program, PrivateServer)
+        row = Explorer(runner, SEED, str(tmp_path), True, frozenset({Departure.OPENS_STAY})).explore(NUMBER)
+        assert (row.is_allowed, row.is_unsafe, row.left) == (True, False, None), row
+        assert row.text.endswith(" allowed\n")
+        row = Explorer(runner, SEED, str(tmp_path), False, frozenset({Departure.GIVEN_BACK})).explore(NUMBER)
+        assert (row.is_allowed, row.is_unsafe) == (False, True), row
+    tried(check)
+
+
 @contextmanager
 def named_server() -> Iterator[list[str]]:
     """The words that name a server, which another process has started."""
@@ -183,7 +196,8 @@ def test_run_without_a_lease(program: str, tmp_path: Path, monkeypatch: pytest.M
     row = Explorer(Runner(program, PrivateServer), SEED, str(tmp_path), False).explore(NUMBER)
     assert row.text.split(" ")[4] == "none", row
     schedule = schedule_of(TESTS / "schedules" / "break_answered")
-    assert verdict_lines(Runner(program, PrivateServer).run(schedule)) == ["safe", "no lease was granted: 2 creates asked for one"]
+    lines = verdict_lines(Runner(program, PrivateServer).run(schedule))
+    assert lines == ["safe", "no lease was granted: 2 creates asked for one"]
 
 
 REFUSED_KEY = """file 616263
