@@ -5,13 +5,13 @@ import logging
 import os
 import random
 from collections.abc import Callable
-from dataclasses import dataclass
 
 from smblease.faults import ToolFault
 from smblease.program import judge
 from smblease.schedules import Event, Schedule
 
 from drive.explanations import NONE, Likeness, facts_of, likeness_of
+from drive.explored import Row
 from drive.model import Departure
 from drive.random_schedules import Chooser, blind_schedule
 from drive.records import Order
@@ -21,33 +21,6 @@ from drive.shrinking import shrunk
 LOG = logging.getLogger("drive")
 # Of so many schedules one aims at a write during a break to reads.
 AIMS_EACH = 8
-
-
-@dataclass(frozen=True)
-class Row:
-    """What became of a schedule."""
-
-    number: int
-    manner: str
-    events: int
-    applied: int
-    leases: str
-    verdict: str
-    likeness: str
-    left: int | None = None
-    is_allowed: bool = False
-
-    @property
-    def is_unsafe(self) -> bool:
-        """Whether it counts as unsafe."""
-        return self.verdict.startswith("unsafe") and not self.is_allowed
-
-    @property
-    def text(self) -> str:
-        """Its line of the table."""
-        tail = " allowed" if self.is_allowed else f" shrunk {self.left}" if self.left is not None else ""
-        head = f"{self.number} {self.manner} {self.events} {self.applied} {self.leases}"
-        return f"{head} {self.verdict} {self.likeness}{tail}\n"
 
 
 class Explorer:

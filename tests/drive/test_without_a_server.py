@@ -21,7 +21,7 @@ from impacket.smb3 import SessionError  # noqa: E402
 from drive import connections  # noqa: E402
 from drive.connections import FileId  # noqa: E402
 from drive.explanations import facts_of  # noqa: E402
-from drive.explore_command import explored  # noqa: E402
+from drive.explored import rows_in  # noqa: E402
 from drive.faults import DriveFault  # noqa: E402
 from drive.peers import DrivenPeer  # noqa: E402
 from drive.place import Place  # noqa: E402
@@ -152,9 +152,11 @@ def test_kept_record(name: str, program: str) -> None:
 def test_table_that_was_cut_short(tmp_path: Path) -> None:
     """`--resume` goes on after its last whole line."""
     table = tmp_path / "table"
-    table.write_text("1 guided 3 2 safe same\n2 blind 4 2 safe same\n3 gui", encoding="ascii")
-    assert explored(str(table), True) == 2
-    assert table.read_text(encoding="ascii") == "1 guided 3 2 safe same\n2 blind 4 2 safe same\n"
+    whole = "1 guided 3 2 granted safe same\n2 blind 4 2 none unsafe 12 3 opens_stay,given_back shrunk 11\n"
+    table.write_text(f"{whole}3 gui", encoding="ascii")
+    rows = rows_in(str(table), True)
+    assert [(it.number, it.verdict, it.left) for it in rows] == [(1, "safe", None), (2, "unsafe 12 3", 11)]
+    assert table.read_text(encoding="ascii") == whole == "".join(it.text for it in rows)
 
 
 KEPT = {"smbd": (True, set(), {}), "profile": (False, {1}, {5: 1})}
