@@ -8,17 +8,18 @@ from collections.abc import Sequence
 
 from smblease.program import Verdict, find_program, judge
 
-from drive.capture_record import CaptureRecord, record_of
-from drive.commands import NOT_DRIVEN, SAFE, UNSAFE, ended, write_text
+from drive.capture_record import CaptureRecord, record_of, remark
+from drive.commands import NOTHING_JUDGED, NOT_DRIVEN, SAFE, UNSAFE, ended, write_text
 from drive.faults import DriveFault, Usage
 from drive.packets import read_capture
 
-EPILOG = """The record is printed, and after it the verdict as a line `# safe` or `# unsafe PLACE RULE` with the packets that
-show it, so that all of it is still a record. With --record it goes to a file, and the verdict and all other findings are
-printed. After each fact of a record a remark names the packet that shows it.
+EPILOG = """The record is printed, and after it the verdict as a line `# safe`, `# unsafe PLACE RULE` or `# nothing judged`, a
+line that says how many connections were judged and why others weren't, and of an unsafe one the packets that show it, so that
+all of it is still a record. With --record it goes to a file, and the verdict and all other findings are printed. After
+each fact of a record a remark names the packet that shows it.
 
-Exit status: 0 the record is safe; 1 the capture can't be read, or there is no SMB2 in it; 2 the command line is refused;
-3 the record is unsafe: rule 1 is broken in every order that fits the capture."""
+Exit status: 0 some order that fits the capture is safe; 1 the capture can't be read, or there is no SMB2 in it; 2 the
+command line is refused; 3 it is unsafe: rule 1 is broken in every order that fits the capture; 4 nothing was judged."""
 
 
 def parser() -> argparse.ArgumentParser:
@@ -30,16 +31,18 @@ def parser() -> argparse.ArgumentParser:
     made.add_argument("--at", choices=("client", "server"), default="server",
                       help="where it was made; at a server, which is presumed, it only bounds when clients took messages")
     made.add_argument("--port", metavar="PORT", type=int, action="append", default=[],
-                      help="a port of a server, in addition to 445 and 139; may be given more than once")
+                      help="a port on which SMB2 isn't found without that; may be given more than once")
     made.add_argument("--leasecheck", metavar="PATH", default=find_program(), help="the program leasecheck")
     return made
 
 
-def told(record: CaptureRecord, verdict: Verdict) -> list[str]:
-    """The verdict, and what is believed where it is unsafe."""
-    if verdict.rule is None:
-        return [verdict.text]
-    return [verdict.text, *record.told_at(int(verdict.text.split(" ")[1]))]
+def verdict_word(record: CaptureRecord, verdict: Verdict) -> str:
+    return "nothing judged" if verdict.is_safe and record.judges_nothing else verdict.text
+
+
+def beliefs_at(record: CaptureRecord, verdict: Verdict) -> list[str]:
+    """What is believed where the record is unsafe."""
+    return [] if verdict.rule is None else record.told_at(int(verdict.text.split(" ")[1]))
 
 
 def text_of(record: CaptureRecord) -> str:
@@ -47,13 +50,13 @@ def text_of(record: CaptureRecord) -> str:
     return "".join(f"{it}\n" for it in record.lines())
 
 
-def sets_told(record: CaptureRecord, program: str) -> list[str]:
+def verdicts_of_sets(record: CaptureRecord, program: str) -> list[str]:
     """A verdict for each set of clients that share files, where there are several. Its place is that in the set's facts."""
     parts = record.sets()
     lines: list[str] = []
     for part in parts if len(parts) > 1 else []:
-        first, *others = told(part, judge(program, text_of(part)))
-        lines += [f"{part.head[0]}: {first}", *others]
+        verdict = judge(program, text_of(part))
+        lines += [f"{part.head[0]}: {verdict_word(part, verdict)}", *beliefs_at(part, verdict)]
     return lines
 
 
@@ -66,15 +69,16 @@ def _judge(arguments: argparse.Namespace) -> int:
     record = record_of(read_capture(arguments.capture, arguments.port), arguments.at == "client")
     text = text_of(record)
     verdict = judge(arguments.leasecheck, text)
-    said = [*told(record, verdict), *sets_told(record, arguments.leasecheck)]
+    word = verdict_word(record, verdict)
+    said = [word, record.judged, *beliefs_at(record, verdict), *verdicts_of_sets(record, arguments.leasecheck)]
     if arguments.record:
         write_text(arguments.record, text)
-        sys.stdout.write("".join(f"{it}\n" for it in (*said, *record.head, *record.notes)))
+        sys.stdout.write("".join(f"{remark(it)[2:]}\n" for it in (*said, *record.head, *record.notes)))
     else:
-        sys.stdout.write(text + "".join(f"# {it}\n" for it in said))
+        sys.stdout.write(text + "".join(f"{remark(it)}\n" for it in said))
     if verdict.rule is not None:
         return UNSAFE
-    return SAFE if verdict.is_safe else NOT_DRIVEN
+    return {"safe": SAFE, "nothing judged": NOTHING_JUDGED}.get(word, NOT_DRIVEN)
 
 
 def main(words: Sequence[str] | None = None) -> int:

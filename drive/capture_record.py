@@ -10,12 +10,22 @@ from smblease.lines import digits
 from smblease.values import LeaseState
 
 from drive.beliefs import Placed, Search
-from drive.capture_state import MOST, Connection, File
-from drive.capture_walk import Fact, Walk
+from drive.capture_servers import servers_of
+from drive.capture_state import MOST, Connection, Fact, File
+from drive.capture_walk import Walk
 from drive.packets import Capture
 
 CANT = ("A capture shows no cached read, no buffered write, and not what applications were answered: so rules 2 and 3, and that",
         "half of rule 4, aren't judged. What clients believed of their leases is judged by rule 1.")
+
+
+BELIEVES = "believes "
+TOO_MANY = "too many orders fit the capture"
+
+
+def remark(text: str) -> str:
+    """A line of a record that is no fact, of any text."""
+    return "# " + "".join(it if it.isprintable() else "?" for it in text)
 
 
 @dataclass(frozen=True)
@@ -26,14 +36,16 @@ class CaptureRecord:
     numbers: dict[File, int]
     head: tuple[str, ...]
     notes: tuple[str, ...]
+    # how many of how many connections were judged, and why not the others
+    judged: str = ""
 
     def lines(self) -> list[str]:
         """The record, in which the numbers of files go on where it is a part."""
-        lines = [f"# {it}" for it in (*self.head, *self.notes)]
+        lines = [remark(it) for it in (*self.head, *filter(None, [self.judged]), *self.notes)]
         for file, number in self.numbers.items():
-            lines += [f"start {number} {digits(file.start or b'')}", f"# {_bytes_told(file, number)}"]
+            lines += [f"start {number} {digits(file.start or b'')}", remark(_bytes_told(file, number))]
         for fact in self.facts:
-            lines += [self.text(fact), f"# {fact.told}"]
+            lines += [self.text(fact), remark(fact.told)]
         return lines
 
     def text(self, fact: Fact) -> str:
@@ -67,6 +79,11 @@ class CaptureRecord:
         head = f"client{'s' if len(clients) > 1 else ''} {', '.join(str(it) for it in sorted(clients))} with {names}"
         return CaptureRecord(facts, {file: number for file, number in self.numbers.items() if file in files}, (head,), ())
 
+    @property
+    def judges_nothing(self) -> bool:
+        """Whether it has no belief that a rule could be broken by."""
+        return not any(fact.text.startswith(BELIEVES) for fact in self.facts)
+
     def told_at(self, place: int) -> list[str]:
         """What is believed at a place of the record, with the packets that show it."""
         beliefs: dict[tuple[str, str], Fact] = {}
@@ -88,16 +105,18 @@ def _bytes_told(file: File, number: int) -> str:
 
 def record_of(capture: Capture, at_client: bool) -> CaptureRecord:
     """The record of a capture."""
-    walk = Walk(at_client)
+    walk = Walk(at_client, servers_of(capture.packets))
     for packet in capture.packets:
         walk.goes(packet)
     numbers = _numbers(walk)
-    facts = [fact for fact in walk.facts if fact.file is None or fact.file in numbers]
-    notes = list(walk.notes)
+    facts = [fact for fact in walk.found.facts if fact.file is None or fact.file in numbers]
+    notes = list(walk.found.notes)
+    unjudged = 0
     for file in numbers:
         placed = Search(list(file.chains.values())).placed()
         if placed is None:
-            notes.append(f"{file.told} isn't judged: too many orders fit the capture")
+            unjudged += 1
+            notes.append(f"{file.told} isn't judged: {TOO_MANY}")
         else:
             facts += _beliefs(file, placed)
     for connection in walk.connections.values():
@@ -105,7 +124,23 @@ def record_of(capture: Capture, at_client: bool) -> CaptureRecord:
     notes += [f"{it.packet.told}: the break of {it.notice.key} from {it.notice.current} to {it.notice.new} to client "
               f"{it.client.number} is never acknowledged" for it in walk.breaks if not it.is_answered]
     ordered = sorted(facts, key=lambda it: (it.position, it.rank))
-    return CaptureRecord(tuple(ordered), numbers, tuple(_head(capture, walk, at_client)), tuple(notes))
+    return CaptureRecord(tuple(ordered), numbers, tuple(_head(capture, walk, at_client)), tuple(notes),
+                         _judged(list(walk.connections.values()), unjudged, any(it.text.startswith(BELIEVES) for it in facts)))
+
+
+def _judged(connections: list[Connection], files: int, has_beliefs: bool) -> str:
+    """How many connections were judged, and why others weren't, or in part; `files` is how many files weren't."""
+    seen = [it for it in connections if it.has_messages]
+    parts = [it.why_not for it in seen if it.was_judged and it.why_not]
+    others = [it.why_not for it in seen if not it.was_judged]
+    text = f"judged: {len(seen) - len(others)} of {len(seen)} connections"
+    if parts:
+        text += f", {len(parts)} of them in part ({', '.join(dict.fromkeys(parts))})"
+    left_out = [f"{others.count(it)} ({it})" for it in dict.fromkeys(others)]
+    left_out += [f"{files} file{'s' if files > 1 else ''} ({TOO_MANY})"] if files else []
+    if left_out:
+        return f"{text}; not judged: {', '.join(left_out)}"
+    return text if has_beliefs else f"{text}; nobody is known to have taken a lease"
 
 
 def _numbers(walk: Walk) -> dict[File, int]:
@@ -113,7 +148,7 @@ def _numbers(walk: Walk) -> dict[File, int]:
     files = walk.files
     if len(files) > MOST:
         files = sorted(files, key=lambda it: not it.chains)[:MOST]
-        walk.left_out["files beyond the 255 that a record can name"] = len(walk.files) - MOST
+        walk.found.left_out["files beyond the 255 that a record can name"] = len(walk.files) - MOST
     return {file: number for number, file in enumerate(files, 1)}
 
 
@@ -135,10 +170,10 @@ def _beliefs(file: File, placed: list[Placed]) -> list[Fact]:
 
 
 def _taken(connection: Connection) -> list[Fact]:
-    """Messages are taken in their order: each no later than what came behind it."""
+    """Messages are taken in their order: each no later than what came after it."""
     facts: list[Fact] = []
     latest: int | None = None
-    for delivery in reversed(connection.deliveries):
+    for delivery in reversed(connection.deliveries.all):
         place = delivery.taken if delivery.taken is not None else delivery.latest
         if place is not None:
             latest = place if latest is None else min(place, latest)
@@ -154,6 +189,6 @@ def _head(capture: Capture, walk: Walk, at_client: bool) -> list[str]:
     head = [*CANT, f"The capture is taken as one {side} (--at)."]
     if capture.fault:
         head.append(f"The capture is read up to packet {capture.packets[-1].number} only: {capture.fault}")
-    head += [f"Left out: {count} {what}" for what, count in walk.left_out.items()]
+    head += [f"Left out: {count} {what}" for what, count in walk.found.left_out.items()]
     head += [f"Client {it.number} has the ClientGuid {it.guid.hex()}" for it in walk.clients]
     return head

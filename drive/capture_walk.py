@@ -3,7 +3,6 @@ from __future__ import annotations
 
 import uuid
 from collections.abc import Callable
-from dataclasses import dataclass
 
 from smblease import Acknowledgment, CreateAnswer, CreateAsk, Fault, LeaseState, Notification
 from smblease.lines import digits
@@ -11,22 +10,12 @@ from smblease.values import Status
 
 from drive import headers
 from drive.beliefs import Chain, Delivery, Turn
-from drive.capture_state import FILE_LIMIT, MOST, BreakSeen, Came, Client, Connection, File, Open, Pending
+from drive.capture_servers import Server
+from drive.capture_state import FILE_LIMIT, MOST, BreakSeen, Came, Client, Connection, File, Findings, LeaseSeen, Open, Pending
 from drive.headers import HEADER, PREVIOUS, RELATED, UNASKED, Command, Message, Unreadable
 from drive.packets import COMPRESSED, ENCRYPTED, PROTOCOL, Packet
 
 NONE = LeaseState.NONE
-
-
-@dataclass(frozen=True)
-class Fact:
-    """A fact at a position. `text` has `{file}` where the number of its file stands."""
-
-    position: int
-    rank: int
-    text: str
-    told: str
-    file: File | None = None
 
 
 def at(packet: Packet) -> int:
@@ -40,21 +29,21 @@ def before(packet: Packet) -> int:
 
 
 class Walk:
-    """`at_client` says that the capture shows when clients took messages and sent theirs."""
+    """`at_client` says that the capture shows when clients took messages and sent theirs; `servers` are those of connections."""
 
-    def __init__(self, at_client: bool) -> None:
+    def __init__(self, at_client: bool, servers: dict[int, Server]) -> None:
+        self._servers = servers
         self._at_client = at_client
-        self.facts: list[Fact] = []
+        self.found = Findings()
         self.files: list[File] = []
         self.clients: list[Client] = []
-        self.notes: list[str] = []
-        self.left_out: dict[str, int] = {}
         self.connections: dict[int, Connection] = {}
         self.breaks: list[BreakSeen] = []
-        self._named: dict[tuple[str, str], File] = {}
+        self._named: dict[tuple[Server, str, str], File] = {}
         # files by the persistent halves of the FileIds that were given for them
-        self._kept: dict[bytes, File] = {}
+        self._kept: dict[tuple[Server, bytes], File] = {}
         self._opens: dict[tuple[int, int, bytes], Open] = {}
+        self._leases: dict[tuple[Server, int, uuid.UUID], LeaseSeen] = {}
         self._asking: dict[Command, Callable[[Pending], None]] = {
             Command.NEGOTIATE: self._negotiating, Command.SESSION_SETUP: self._setting_up, Command.LOGOFF: self._logging_off,
             Command.TREE_DISCONNECT: self._leaving, Command.CREATE: self._creating, Command.CLOSE: self._closing,
@@ -68,10 +57,11 @@ class Walk:
 
     def goes(self, packet: Packet) -> None:
         """Takes the next packet."""
-        connection = self.connections.setdefault(packet.stream, Connection(packet.stream))
+        connection = self.connections.setdefault(packet.stream, Connection(packet.stream, self._servers[packet.stream]))
         if packet.is_gap:
             self._lost(connection, packet, "packets, or parts of them, aren't in the capture")
         for data in packet.messages:
+            connection.has_messages = True
             try:
                 self._message(connection, packet, data)
             except Unreadable:
@@ -80,19 +70,10 @@ class Walk:
         if packet.ends:
             self._ended(connection, packet)
 
-    def _leave_out(self, what: str) -> None:
-        self.left_out[what] = self.left_out.get(what, 0) + 1
-
-    def _note(self, packet: Packet, text: str) -> None:
-        self.notes.append(f"{packet.told}: {text}")
-
-    def _fact(self, position: int, rank: int, text: str, packet: Packet, told: str, file: File | None = None) -> None:
-        self.facts.append(Fact(position, rank, text, f"{packet.told}: {told}", file))
-
     def _message(self, connection: Connection, packet: Packet, data: bytes) -> None:
         if data[:4] in (ENCRYPTED, COMPRESSED):
-            self._leave_out("messages that are encrypted or compressed")
-            self._lost(connection, packet, "a message is encrypted or compressed")
+            self.found.leave_out("messages that are encrypted or compressed")
+            self._lost(connection, packet, "encrypted or compressed")
             return
         if data[:4] != PROTOCOL:
             return
@@ -103,14 +84,14 @@ class Walk:
             self._request(connection, packet, message)
 
     def _earliest(self, connection: Connection, packet: Packet) -> int:
-        return before(packet) if self._at_client else connection.had(packet)
+        return before(packet) if self._at_client else connection.deliveries.had(packet)
 
     # Requests
 
     def _request(self, connection: Connection, packet: Packet, message: Message) -> None:
         connection.near = connection.near or packet.sender
         if not connection.is_begun and message.command is not Command.NEGOTIATE:
-            self._leave_out("connections that began before the capture")
+            connection.leave_out("began before the capture")
         connection.is_begun = True
         if message.command in (None, Command.CANCEL):
             return
@@ -120,7 +101,7 @@ class Walk:
         connection.pending[message.identifier] = pending
         opened = self._open_of(pending)
         if opened:
-            connection.prove(opened.delivery, before(packet))
+            connection.deliveries.prove(opened.delivery, before(packet))
         handler = self._asking.get(message.command) if message.command is not None else None
         if handler:
             handler(pending)
@@ -141,27 +122,28 @@ class Walk:
             return
         if client is None:
             if len(self.clients) == MOST:
-                self._leave_out("clients beyond the 255 that a record can name")
+                connection.leave_out("a client beyond the 255 that a record can name")
                 return
             client = Client(len(self.clients) + 1, guid)
             self.clients.append(client)
         connection.client = client
         client.connections += 1
         if client.connections == 1:
-            self._fact(at(pending.packet), 0, f"joined {client.number}", pending.packet, "NEGOTIATE")
+            self.found.fact(at(pending.packet), 0, f"joined {client.number}", pending.packet, "NEGOTIATE")
 
     def _setting_up(self, pending: Pending) -> None:
         previous = pending.request.number(80, 8)
         if previous:
-            self._end_opens(lambda it: it.session == previous, pending)
+            server = pending.connection.server
+            self._end_opens(lambda it: it.connection.server is server and it.session == previous, pending)
 
     def _logging_off(self, pending: Pending) -> None:
         session = pending.request.session
-        self._end_opens(lambda it: it.stream == pending.connection.stream and it.session == session, pending)
+        self._end_opens(lambda it: it.connection is pending.connection and it.session == session, pending)
 
     def _leaving(self, pending: Pending) -> None:
         session, tree = pending.request.session, pending.request.tree
-        self._end_opens(lambda it: (it.stream, it.session, it.tree) == (pending.connection.stream, session, tree), pending)
+        self._end_opens(lambda it: it.connection is pending.connection and (it.session, it.tree) == (session, tree), pending)
 
     def _end_opens(self, meant: Callable[[Open], bool], pending: Pending) -> None:
         for opened in [it for it in self._opens.values() if meant(it)]:
@@ -169,22 +151,29 @@ class Walk:
 
     def _end_open(self, opened: Open, earliest: int, packet: Packet, told: str, is_lost: bool = False) -> None:
         """The client gives up an open, and with the last one under a key what it believed."""
-        self._opens.pop((opened.stream, opened.session, opened.file_id), None)
+        self._opens.pop((opened.connection.stream, opened.session, opened.file_id), None)
         client, key = opened.client, opened.key
-        if client is None or key is None or any(it.client is client and it.key == key for it in self._opens.values()):
+        if client is None or key is None or self._has_open(opened):
             return
         for seen in self.breaks:
-            if seen.client is client and seen.notice.key == key:
+            if seen.client is client and seen.notice.key == key and seen.file is opened.file:
                 seen.is_over, seen.is_answered = True, seen.is_answered or not is_lost
+        lease = self._leases.get((opened.connection.server, client.number, key))
+        if lease and lease.file is opened.file:
+            lease.is_closing = True
         chain = opened.file.chains.get((client.number, key))
         if chain and chain.turns:
             chain.turns.append(Turn(NONE, earliest, f"{packet.told}: {told}", before(packet)))
+
+    def _has_open(self, closed: Open) -> bool:
+        """Whether an open is left under the key of one that was closed."""
+        return any((it.client, it.file, it.key) == (closed.client, closed.file, closed.key) for it in self._opens.values())
 
     def _creating(self, pending: Pending) -> None:
         try:
             pending.asked = CreateAsk.read(headers.contexts(pending.request))
         except (Fault, Unreadable) as fault:
-            self._note(pending.packet, f"the contexts of a CREATE request can't be read: {fault}")
+            self.found.note(pending.connection, pending.packet, f"the contexts of a CREATE request can't be read: {fault}")
 
     def _closing(self, pending: Pending) -> None:
         opened = self._open_of(pending)
@@ -199,41 +188,43 @@ class Walk:
         if connection.client is None or opened is None:
             return
         if span.offset + len(span.data) > FILE_LIMIT:
-            self._leave_out("writes past the limit of a file")
+            self.found.leave_out("writes past the limit of a file")
             return
         connection.client.writes += 1
         pending.number, pending.opened = connection.client.writes, opened
         text = f"wrote {connection.client.number} {{file}} {pending.number} {span.offset} {digits(span.data)} through"
-        self._fact(at(pending.packet), 0, text, pending.packet, "WRITE", opened.file)
+        self.found.fact(at(pending.packet), 0, text, pending.packet, "WRITE", opened.file)
 
     def _acknowledging(self, pending: Pending) -> None:
         connection = pending.connection
         try:
             given = Acknowledgment.read(pending.request.data[HEADER:])
         except Fault:
-            self._leave_out("acknowledgments of oplocks")
+            self.found.leave_out("acknowledgments of oplocks")
             return
         seen = next((it for it in reversed(self.breaks)
-                     if it.client is connection.client and it.notice.key == given.key and not it.is_over), None)
+                     if it.client is connection.client and it.file.server is connection.server and it.notice.key == given.key
+                     and not it.is_over), None)
         if seen is None:
-            self._note(pending.packet, f"an acknowledgment of {given.key}, of which no break is to be acknowledged")
+            self.found.note(connection, pending.packet,
+                            f"an acknowledgment of {given.key}, of which no break is to be acknowledged")
             return
         seen.is_answered, seen.is_over, pending.broken = True, True, seen
         if given.state != seen.notice.new:
-            self._note(pending.packet, f"an acknowledgment of {given.state}, where the break of {seen.packet.told} "
-                                       f"is to {seen.notice.new}")
+            self.found.note(connection, pending.packet, f"an acknowledgment of {given.state}, where the break of "
+                                                        f"{seen.packet.told} is to {seen.notice.new}")
         if seen.turn.delivery:
-            connection.prove(seen.turn.delivery, before(pending.packet))
+            seen.connection.deliveries.prove(seen.turn.delivery, before(pending.packet))
         seen.turn.state, seen.turn.latest = given.state, before(pending.packet)
         seen.turn.told += f"; acknowledged by {pending.packet.told}"
 
     # Messages of the server
 
     def _answer(self, connection: Connection, packet: Packet, message: Message) -> None:
-        delivery = connection.delivers(packet, at(packet), at(packet) if self._at_client else None)
+        delivery = connection.deliveries.delivers(packet, at(packet), at(packet) if self._at_client else None)
         asked = message.identifier == UNASKED
         if connection.client:
-            self._fact(at(packet), 2, f"sent {connection.client.number}", packet, self._name(message))
+            self.found.fact(at(packet), 2, f"sent {connection.client.number}", packet, self._name(message))
         if asked:
             self._broken(connection, packet, message, delivery)
             return
@@ -254,9 +245,10 @@ class Walk:
 
     def _negotiated(self, came: Came) -> None:
         dialect = came.pending.connection.dialect = headers.negotiated(came.message)[0]
+        came.pending.connection.was_judged = came.pending.connection.judged is not None
         if dialect not in (0x202, 0x210, 0x2ff):
-            self._leave_out(f"connections of dialect {dialect >> 8}.{dialect >> 4 & 15}"
-                            f"{f'.{dialect & 15}' if dialect & 15 else ''}, whose leases aren't judged")
+            third = f".{dialect & 15}" if dialect & 15 else ""
+            came.pending.connection.leave_out(f"dialect {dialect >> 8}.{dialect >> 4 & 15}{third}")
 
     def _joined_tree(self, came: Came) -> None:
         pending, message = came.pending, came.message
@@ -269,25 +261,25 @@ class Walk:
             return
         file_id = message.part(128, 16)
         file = self._file(came, file_id)
-        granted = self._granted_by(packet, message)
+        granted = self._granted_by(pending.connection, packet, message)
         connection = pending.connection
-        opened = Open(connection.client, file, granted.key, connection.stream, message.session, pending.request.tree, file_id,
+        opened = Open(connection.client, file, granted.key, connection, message.session, pending.request.tree, file_id,
                       delivery)
         pending.opened = opened
         self._opens[connection.stream, message.session, file_id] = opened
-        self._kept[file_id[:8]] = file
-        if pending.connection.client and pending.asked.reconnect is None:
-            self._fact(at(packet), 1, f"opened {{file}} {pending.connection.client.number}", packet, "answer to CREATE", file)
+        self._kept[connection.server, file_id[:8]] = file
+        if connection.client and pending.asked.reconnect is None:
+            self.found.fact(at(packet), 1, f"opened {{file}} {connection.client.number}", packet, "answer to CREATE", file)
         if granted.has_other_lease:
-            self._leave_out("grants of leases of version 2, which aren't judged")
+            self.found.leave_out("grants of leases of version 2, which aren't judged")
         if pending.connection.judged and granted.key:
             self._granted(pending.connection.judged, came, opened, granted)
 
-    def _granted_by(self, packet: Packet, message: Message) -> CreateAnswer:
+    def _granted_by(self, connection: Connection, packet: Packet, message: Message) -> CreateAnswer:
         try:
             return CreateAnswer.read(headers.contexts(message))
         except (Fault, Unreadable) as fault:
-            self._note(packet, f"the contexts of a CREATE response can't be read: {fault}")
+            self.found.note(connection, packet, f"the contexts of a CREATE response can't be read: {fault}")
             return CreateAnswer()
 
     def _granted(self, client: Client, came: Came, opened: Open, granted: CreateAnswer) -> None:
@@ -295,14 +287,16 @@ class Walk:
         file, key = opened.file, granted.key or uuid.UUID(int=0)
         chain = file.chains.setdefault((client.number, key), Chain(client.number, key))
         if pending.asked.key != key:
-            self._note(packet, f"a lease under {key}, where {pending.asked.key or 'none'} was asked for")
+            self.found.note(pending.connection, packet, f"a lease under {key}, where {pending.asked.key or 'none'} was asked for")
         elif not (granted.state in pending.asked.state | chain.state or granted.breaking or pending.asked.reconnect is not None):
-            self._note(packet, f"client {client.number} is granted {granted.state} of {file.told}, "
-                               f"and asked for {pending.asked.state}")
+            self.found.note(pending.connection, packet, f"client {client.number} is granted {granted.state} of {file.told}, "
+                                                        f"and asked for {pending.asked.state}")
         for seen in self.breaks:
             if seen.file is file and not seen.is_over and seen.client is not client and granted.state:
-                self._note(packet, f"client {client.number} is granted {granted.state} of {file.told} while the break "
-                                   f"of {seen.packet.told} to client {seen.client.number} isn't acknowledged")
+                self.found.note(pending.connection, packet,
+                                f"client {client.number} is granted {granted.state} of {file.told} while the break of "
+                                f"{seen.packet.told} to client {seen.client.number} isn't acknowledged")
+        self._leases[file.server, client.number, key] = LeaseSeen(file, chain)
         if granted.breaking:
             return
         told = f"{packet.told}: CREATE granted {granted.state}"
@@ -310,37 +304,44 @@ class Walk:
 
     def _file(self, came: Came, file_id: bytes) -> File:
         pending, message = came.pending, came.message
-        if pending.asked.reconnect is not None and file_id[:8] in self._kept:
-            return self._kept[file_id[:8]]
+        server = pending.connection.server
+        if pending.asked.reconnect is not None and (server, file_id[:8]) in self._kept:
+            return self._kept[server, file_id[:8]]
         share = pending.connection.trees.get((message.session or pending.request.session, pending.request.tree), "?")
         name = headers.create_name(pending.request)
-        file = self._named.get((share, name))
+        file = self._named.get((server, share, name))
         if file is None or headers.was_made(message):
-            file = File(name, share, is_made_here=headers.was_made(message), length=message.number(112, 8))
-            self._named[share, name] = file
+            file = File(server, share, name, is_made_here=headers.was_made(message), length=message.number(112, 8))
+            self._named[server, share, name] = file
             self.files.append(file)
         return file
 
     def _closed(self, came: Came) -> None:
-        """A CLOSE within the compound of its CREATE, whose FileId was told only now."""
+        """The lease of the last open is gone. Of a CLOSE in the compound of its CREATE the FileId wasn't known before."""
         pending, packet = came.pending, came.packet
         opened = self._open_of(pending)
         if opened and pending.opened is None:
-            pending.connection.prove(opened.delivery, at(packet))
+            pending.connection.deliveries.prove(opened.delivery, at(packet))
             self._end_open(opened, opened.delivery.sent, packet, "CLOSE in the compound of its CREATE")
+        closed = opened or pending.opened
+        if closed and closed.client and closed.key:
+            place = (closed.file.server, closed.client.number, closed.key)
+            lease = self._leases.get(place)
+            if lease and lease.is_closing and lease.file is closed.file:
+                del self._leases[place]
 
     def _written(self, came: Came) -> None:
         pending, packet, message = came.pending, came.packet, came.message
         if pending.connection.client is None or pending.opened is None:
             if self._open_of(pending) is None:
-                self._leave_out("writes by opens that the capture doesn't show")
+                self.found.leave_out("writes by opens that the capture doesn't show")
             return
         file = pending.opened.file
         span = headers.written(pending.request)
         data = span.data[:message.number(68, 4)]
         file.is_changed = True
         text = f"changed {{file}} {pending.connection.client.number} {pending.number} {span.offset} {digits(data)}"
-        self._fact(at(packet), 1, text, packet, "answer to WRITE", file)
+        self.found.fact(at(packet), 1, text, packet, "answer to WRITE", file)
 
     def _read(self, came: Came) -> None:
         pending, message = came.pending, came.message
@@ -360,9 +361,10 @@ class Walk:
             self._named.clear()
             return
         gone = (opened.file.name, name.lstrip("\\"))
-        for share, known in list(self._named):
-            if share == opened.file.share and (known in gone or known.startswith(tuple(f"{it}\\" for it in gone))):
-                del self._named[share, known]
+        for server, share, known in list(self._named):
+            is_gone = known in gone or known.startswith(tuple(f"{it}\\" for it in gone))
+            if is_gone and (server, share) == (opened.file.server, opened.file.share):
+                del self._named[server, share, known]
 
     def _acknowledged(self, came: Came) -> None:
         pending, packet, message = came.pending, came.packet, came.message
@@ -375,40 +377,47 @@ class Walk:
         elif message.status != Status.SUCCESS:
             # Where it was of too much, the break is still to be acknowledged (3.3.5.22.2).
             seen.is_over = seen.is_answered = message.status != Status.REQUEST_NOT_ACCEPTED
-            self._note(packet, f"the acknowledgment of {pending.packet.told} is refused, status {message.status:08x}")
+            self.found.note(pending.connection, packet,
+                            f"the acknowledgment of {pending.packet.told} is refused, status {message.status:08x}")
 
     def _broken(self, connection: Connection, packet: Packet, message: Message, delivery: Delivery) -> None:
+        client = connection.judged
+        if client is None:
+            return
         try:
             notice = Notification.read(message.data[HEADER:])
         except Fault:
-            self._leave_out("breaks of oplocks")
+            self.found.leave_out("breaks of oplocks")
             return
-        client = connection.judged
-        file = next((it for it in self.files if client and (client.number, notice.key) in it.chains), None)
+        lease = self._leases.get((connection.server, client.number, notice.key))
         if notice.new not in notice.current or (notice.new == notice.current and notice.current):
-            self._note(packet, f"a break from {notice.current} to {notice.new}, which isn't a part of it")
-        if client is None or file is None:
-            self._note(packet, f"a break of {notice.key}, under which the capture shows no lease of that client")
+            self.found.note(connection, packet, f"a break from {notice.current} to {notice.new}, which isn't a part of it")
+        if lease is None:
+            self.found.note(connection, packet, f"a break of {notice.key}, under which the capture shows no lease of that client")
             return
-        chain = file.chains[client.number, notice.key]
         words = f"{packet.told}: break from {notice.current} to {notice.new}"
         turn = Turn(notice.new, at(packet), words, delivery=delivery)
-        chain.turns.append(turn)
+        doubt = Turn(NONE, at(packet), f"{words}, not known to be acknowledged, so nothing is known of the lease", is_doubt=True)
+        if not lease.is_closing:
+            lease.chain.turns += [turn, doubt] if notice.ack_required else [turn]
         if notice.ack_required:
-            doubt = Turn(NONE, at(packet), f"{words}, not known to be acknowledged, so nothing is known of the lease",
-                         is_doubt=True)
-            chain.turns.append(doubt)
-            self.breaks.append(BreakSeen(packet, notice, client, file, turn, doubt))
+            self.breaks.append(BreakSeen(connection, packet, notice, client, lease.file, turn, doubt, lease.is_closing))
 
     # Ends
 
     def _lost(self, connection: Connection, packet: Packet, told: str) -> None:
-        """What the client did may be missing from here on, so nothing more is said of its beliefs."""
+        """What the client did may be missing from here on, so nothing more is said of its beliefs, on any connection."""
         client = connection.client
+        connection.leave_out(told)
         if client is None or not client.is_judged or connection.is_over:
             return
+        self.found.note(connection, packet, f"{told}: client {client.number} isn't judged from here on")
         client.is_judged = False
-        self._note(packet, f"{told}: client {client.number} isn't judged from here on")
+        for other in self.connections.values():
+            if other.client is client and not other.is_over:
+                other.leave_out(told)
+        for seen in self.breaks:
+            seen.is_answered = seen.is_answered or seen.client is client
         for file in self.files:
             for (number, _), chain in file.chains.items():
                 if number == client.number and chain.turns:
@@ -419,9 +428,9 @@ class Walk:
         if client is None or connection.is_over:
             return
         earliest = self._earliest(connection, packet) if packet.sender == connection.near else before(packet)
-        for opened in [it for it in self._opens.values() if it.stream == connection.stream]:
+        for opened in [it for it in self._opens.values() if it.connection is connection]:
             self._end_open(opened, earliest, packet, "the connection ends", True)
         connection.is_over = True
         client.connections -= 1
         if not client.connections:
-            self._fact(at(packet), 3, f"dropped {client.number}", packet, "the connection ends")
+            self.found.fact(at(packet), 3, f"dropped {client.number}", packet, "the connection ends")

@@ -14,7 +14,7 @@ from smblease.schedules import Schedule
 
 from drive.faults import DriveFault, Usage
 
-SAFE, NOT_DRIVEN, REFUSED, UNSAFE = 0, 1, 2, 3
+SAFE, NOT_DRIVEN, REFUSED, UNSAFE, NOTHING_JUDGED = range(5)
 
 
 def ended(parser: argparse.ArgumentParser, main: Callable[[argparse.Namespace], int], words: Sequence[str] | None) -> int:
@@ -70,8 +70,13 @@ def schedule_in(path: str, program: str) -> Schedule:
 
 def write_text(path: str, text: str) -> None:
     """Writes a file."""
+    write_bytes(path, text.encode())
+
+
+def write_bytes(path: str, data: bytes) -> None:
+    """Writes a file."""
     try:
-        with open(path, "w", encoding="utf-8") as stream:
-            stream.write(text)
+        with open(path, "wb") as stream:
+            stream.write(data)
     except OSError as fault:
         raise DriveFault(f"{path}: {fault.strerror}") from None

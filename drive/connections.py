@@ -8,7 +8,7 @@ import time
 from dataclasses import dataclass
 
 from impacket import ntlm, smb3structs as smb2
-from impacket.smb3 import SMB3
+from impacket.smb3 import SMB3, SessionError
 
 import smblease
 from smblease.replies import AcknowledgeDone, Closed, Created, ReadDone, Reply, WriteDone, failed
@@ -24,6 +24,8 @@ LIMIT = 1048576
 CREDIT_BYTES = 65536
 # A server may stand still for some seconds (smbd does while it retries a lock).
 PATIENCE = 25.0
+SESSION_TRIES = 5
+BETWEEN_TRIES = 0.1
 ACCESS = {Access.READ: 0x120089, Access.WRITE: 0x120116, Access.READ_WRITE: 0x12019F}
 SHARE_ALL = 7
 
@@ -48,7 +50,7 @@ class Message:
     data: bytes
 
 
-class _Protocol(SMB3):  # type: ignore[misc]
+class Protocol(SMB3):  # type: ignore[misc]
     """impacket's client, with the given ClientGuid, and no capabilities, as dialect 2.1 asks (2.2.3)."""
 
     def __init__(self, place: Place, guid: bytes) -> None:
@@ -72,8 +74,7 @@ class Connection:
     def __init__(self, place: Place, guid: bytes) -> None:
         self._place = place
         try:
-            self._smb = _Protocol(place, guid)
-            self._smb.login(place.user, place.password)
+            self._smb = _with_session(place, guid)
             self._tree = self._smb.connectTree(place.share)
         except Exception as fault:  # impacket raises bare ones too
             raise DriveFault(f"no connection to {place.host}:{place.port}: {line_of(fault)}") from None
@@ -143,6 +144,21 @@ class Connection:
         # A request of several credits takes as many numbers (3.2.4.1.5); impacket counts them at the answer.
         self._smb._Connection["SequenceWindow"] += packet["CreditCharge"] - 1
         return number
+
+
+def _with_session(place: Place, guid: bytes) -> Protocol:
+    """A connection with a session. One that the server has no memory for is tried again: smbd says so now and then."""
+    for left in range(SESSION_TRIES - 1, -1, -1):
+        smb = Protocol(place, guid)
+        try:
+            smb.login(place.user, place.password)
+            break
+        except SessionError as fault:
+            if fault.get_error_code() != Status.NO_MEMORY or not left:
+                raise
+            smb.close_session()
+            time.sleep(BETWEEN_TRIES)
+    return smb
 
 
 def _wire_id(file_id: FileId) -> smb2.SMB2_FILEID:

@@ -2,6 +2,7 @@
 from __future__ import annotations
 
 import logging
+import uuid
 from dataclasses import replace
 
 import smblease
@@ -14,11 +15,12 @@ from smblease.schedules import Schedule
 from smblease.world import World
 
 from drive.connections import LIMIT, Connection
-from drive.exchange import Exchange
+from drive.exchange import Exchange, LeaseCount
 from drive.faults import DriveFault, Undrivable
 from drive.peers import DrivenPeer
 from drive.records import Order, Record, applied, in_order
 from drive.servers import Server
+from drive.wire_names import WireNames
 
 LOG = logging.getLogger("drive")
 RECONNECT = b"DHnC"
@@ -37,7 +39,14 @@ class Driver(World[DrivenPeer]):
         # the persistent halves of the FileIds that the server gave, in the order of opening
         self._opened: list[int] = []
         self._server = server
-        self._exchange = Exchange(peers)
+        self._names = WireNames()
+        self._exchange = Exchange(peers, self._names)
+        self.record.remark(f"on the wire ClientGuids and lease keys are those here, exclusive or {self._names.mask.hex()}")
+
+    @property
+    def leases(self) -> LeaseCount:
+        """How many leases were asked for and granted so far."""
+        return self._exchange.leases
 
     def close(self) -> None:
         """Closes the connections."""
@@ -53,7 +62,7 @@ class Driver(World[DrivenPeer]):
 
     def _joined(self, client: int) -> None:
         peer = self.peers[client]
-        peer.connection = Connection(self._server.place, peer.guid.bytes)
+        peer.connection = Connection(self._server.place, self._names.of(peer.guid.bytes))
         peer.process = self._server.new_process()
 
     def _dropped(self, client: int) -> None:
@@ -72,7 +81,8 @@ class Driver(World[DrivenPeer]):
         for breaking in [file] if self._server.is_profiled else sorted(peer.breaking):
             self.record.fact(f"expired {client} {breaking}")
             peer.breaking.discard(breaking)
-        self._server.begin_break_timer(peer.process, peer.guid.bytes, peer.key_of(file).bytes)
+        guid, key = peer.guid.bytes, peer.key_of(file).bytes
+        self._server.begin_break_timer(peer.process, self._names.of(guid), self._names.of(key))
         self._settle()
         self._server.end_break_timer(peer.process)
         return True
@@ -126,7 +136,7 @@ class Driver(World[DrivenPeer]):
 
 def files_made(schedule: Schedule, server: Server) -> None:
     """Makes the files over SMB: smbd refuses durable reconnects to a file that was made on its disk."""
-    connection = Connection(server.place, bytes(16))
+    connection = Connection(server.place, uuid.uuid4().bytes)
     for file, data in enumerate(schedule.files, 1):
         connection.make_file(server.name_of(file), data)
     connection.close()
@@ -136,7 +146,7 @@ def files_made(schedule: Schedule, server: Server) -> None:
 def files_removed(schedule: Schedule, server: Server) -> None:
     """Removes them again. What can't be removed is reported, and left."""
     try:
-        connection = Connection(server.place, bytes(16))
+        connection = Connection(server.place, uuid.uuid4().bytes)
         for file in range(1, len(schedule.files) + 1):
             connection.remove_file(server.name_of(file))
         connection.close()

@@ -2,10 +2,11 @@
 from __future__ import annotations
 
 import time
+from dataclasses import dataclass
 
 import smblease
 from smblease.outs import Changed, Opened
-from smblease.replies import AcknowledgeDone, Break, Closed, Created, Reply, WriteDone
+from smblease.replies import AcknowledgeDone, Break, Closed, Created, CreateFailed, Reply, WriteDone
 from smblease.requests import CreateRequest, ReadRequest, Request, WriteRequest
 from smblease.values import Status
 
@@ -13,6 +14,7 @@ from drive.connections import NOTIFICATION_ID, PATIENCE, FileId, Message, reply_
 from drive.faults import DriveFault
 from drive.peers import DrivenPeer, Unanswered
 from drive.records import Arrival
+from drive.wire_names import WireNames
 
 QUIET_ROUNDS = 3
 BETWEEN_ROUNDS = 0.004
@@ -23,8 +25,10 @@ DOING = 1.0
 class Exchange:
     """The connections of a run's clients, one request at a time."""
 
-    def __init__(self, peers: dict[int, DrivenPeer]) -> None:
+    def __init__(self, peers: dict[int, DrivenPeer], names: WireNames) -> None:
+        self.leases = LeaseCount()
         self._peers = peers
+        self._names = names
         self._arrived: list[tuple[int, Message]] = []
         self._sent = 0
 
@@ -34,7 +38,7 @@ class Exchange:
         if not peer.connection:
             raise DriveFault(f"client {client} has no connection")
         self._sent += 1
-        number = peer.connection.send(request, name, peer.file_id_for(request))
+        number = peer.connection.send(self._names.of_request(request), name, peer.file_id_for(request))
         peer.unanswered[number] = Unanswered(request, self._sent)
         self._wait_for(client, number)
 
@@ -78,19 +82,59 @@ class Exchange:
     def _arrival(self, client: int, message: Message) -> Arrival:
         peer = self._peers[client]
         if message.number == NOTIFICATION_ID:
-            notice = Break(_noted_break(client, peer, message.data))
+            notice = _noted_break(client, peer, self._names.of_reply(Break(message.data)))
             peer.replies.append(notice)
             return Arrival(client, client, notice)
         sent = peer.unanswered.pop(message.number, None)
         if sent is None:
             raise DriveFault(f"an answer to no request came to client {client}")
         reply, file_id = reply_of(sent.request, message)
+        reply = self._names.of_reply(reply)
+        self.leases = self.leases.after(sent.request, reply)
         peer.replies.append(reply)
         return Arrival(client, sent.place, reply, _effect(client, peer, sent.request, reply, file_id))
 
 
-def _noted_break(client: int, peer: DrivenPeer, data: bytes) -> bytes:
-    """The bytes of a notification, which its peer is told of."""
+@dataclass(frozen=True)
+class LeaseCount:
+    """How many creates asked for a lease, were granted one, and were refused for its key."""
+
+    asked: int = 0
+    granted: int = 0
+    refused: int = 0
+
+    def after(self, request: Request, reply: Reply) -> LeaseCount:
+        """The count with one more answer."""
+        if not isinstance(request, CreateRequest):
+            return self
+        try:
+            ask = smblease.CreateAsk.read(request.contexts)
+            is_granted = isinstance(reply, Created) and bool(smblease.CreateAnswer.read(reply.contexts).state)
+        except smblease.Fault:
+            return self
+        is_refused = bool(ask.key) and isinstance(reply, CreateFailed) and reply.status == Status.INVALID_PARAMETER
+        return LeaseCount(self.asked + bool(ask.key and ask.state), self.granted + is_granted, self.refused + is_refused)
+
+    @property
+    def word(self) -> str:
+        """A column of a table: creates were `refused` for a key, leases `granted`, there were `none`, or all was `unasked`."""
+        return "refused" if self.refused else "granted" if self.granted else "none" if self.asked else "unasked"
+
+    @property
+    def remarks(self) -> list[str]:
+        """What a verdict says little by."""
+        remarks = []
+        if self.asked and not self.granted:
+            remarks.append(f"no lease was granted: {self.asked} creates asked for one")
+        if self.refused:
+            creates = "1 create was" if self.refused == 1 else f"{self.refused} creates were"
+            remarks.append(f"{creates} refused for its lease key (STATUS_INVALID_PARAMETER)")
+        return remarks
+
+
+def _noted_break(client: int, peer: DrivenPeer, came: Reply) -> Break:
+    """A notification, which its peer is told of."""
+    data = came.message if isinstance(came, Break) else b""
     try:
         notice = smblease.Notification.read(data)
     except smblease.Fault:
@@ -98,7 +142,7 @@ def _noted_break(client: int, peer: DrivenPeer, data: bytes) -> bytes:
     file = peer.file_of(notice.key)
     if notice.ack_required and file is not None:
         peer.breaking.add(file)
-    return data[:smblease.messages.NOTIFICATION_SIZE]
+    return Break(data[:smblease.messages.NOTIFICATION_SIZE])
 
 
 def _effect(client: int, peer: DrivenPeer, request: Request, reply: Reply, file_id: FileId | None) -> Opened | Changed | None:

@@ -5,43 +5,30 @@ import logging
 import os
 import random
 from collections.abc import Callable
-from dataclasses import dataclass
 
 from smblease.faults import ToolFault
+from smblease.program import judge
 from smblease.schedules import Event, Schedule
 
-from drive.explanations import likeness_of
+from drive.explanations import NONE, Likeness, facts_of, likeness_of
+from drive.explored import Row
+from drive.model import Departure
 from drive.random_schedules import Chooser, blind_schedule
 from drive.records import Order
 from drive.runner import Outcome, Runner
 from drive.shrinking import shrunk
 
 LOG = logging.getLogger("drive")
-
-
-@dataclass(frozen=True)
-class Row:
-    """What became of a schedule."""
-
-    number: int
-    manner: str
-    events: int
-    applied: int
-    verdict: str
-    likeness: str
-    left: int | None = None
-
-    @property
-    def text(self) -> str:
-        """Its line of the table."""
-        tail = f" shrunk {self.left}" if self.left is not None else ""
-        return f"{self.number} {self.manner} {self.events} {self.applied} {self.verdict} {self.likeness}{tail}\n"
+# Of so many schedules one aims at a write during a break to reads.
+AIMS_EACH = 8
 
 
 class Explorer:
     """Draws schedules by a seed and their numbers, and drives them."""
 
-    def __init__(self, runner: Runner, seed: int, folder: str, shrinks: bool) -> None:
+    def __init__(self, runner: Runner, seed: int, folder: str, shrinks: bool, allowed: frozenset[Departure] = NONE) -> None:
+        """What is unsafe by departures of `allowed` doesn't count, and isn't shrunk."""
+        self._allowed = allowed
         self._runner = runner
         self._seed = seed
         self._folder = folder
@@ -49,21 +36,32 @@ class Explorer:
 
     def explore(self, number: int) -> Row:
         """Drives the schedule of a number, which draws by itself, and keeps it where it is unsafe."""
-        chooser = Chooser(random.Random(f"{self._seed}:{number}"))
+        aims = number % AIMS_EACH == 5
+        chooser = Chooser(random.Random(f"{self._seed}:{number}"), aims)
         guided = number % 4 != 0
-        manner = "guided" if guided else "blind"
+        manner = "aimed" if aims else "guided" if guided else "blind"
         try:
             schedule, outcome = self._guided(chooser) if guided else self._blind(chooser)
         except ToolFault as fault:
-            return Row(number, manner, 0, 0, f"fault {fault}", "-")
+            return Row(number, manner, 0, 0, "-", f"fault {fault}", "-")
         likeness = likeness_of(self._runner.program, schedule, outcome.record.facts(), outcome.counts)
         left = None
         if likeness.is_open or not outcome.verdict.is_safe:
             self._write(f"{number}.schedule", schedule.text)
             self._write(f"{number}.record", outcome.record.text())
-        if rule_of(outcome) and self._shrinks:
+        is_allowed = rule_of(outcome) is not None and self._is_allowed(schedule, likeness)
+        if rule_of(outcome) and self._shrinks and not is_allowed:
             left = self._shrunk(number, schedule.with_events(tuple(outcome.applied)), rule_of(outcome))
-        return Row(number, manner, len(schedule.events), len(outcome.applied), verdict_words(outcome), likeness.word, left)
+        return Row(number, manner, len(schedule.events), len(outcome.applied), outcome.leases.word, verdict_words(outcome),
+                   likeness.word, left, is_allowed)
+
+    def _is_allowed(self, schedule: Schedule, likeness: Likeness) -> bool:
+        """Whether the model server is safe with the departures of an unsafe record but for the allowed ones."""
+        others = (likeness.departures or NONE) - self._allowed
+        if others == (likeness.departures or NONE):
+            return False
+        facts = facts_of(self._runner.program, schedule, others)
+        return judge(self._runner.program, "".join(f"{it}\n" for it in facts)).is_safe
 
     def _blind(self, chooser: Chooser) -> tuple[Schedule, Outcome]:
         schedule = blind_schedule(chooser)

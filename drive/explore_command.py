@@ -3,25 +3,35 @@ from __future__ import annotations
 
 import argparse
 import os
+import re
 import sys
 import time
 from collections.abc import Sequence
+from dataclasses import dataclass
 
 from drive.arguments import runner_of, server_arguments
-from drive.commands import NOT_DRIVEN, SAFE, UNSAFE, ended
+from drive.commands import NOT_DRIVEN, SAFE, UNSAFE, ended, write_bytes
 from drive.exploration import Explorer
+from drive.explored import Row, junit, rows_in
 from drive.faults import DriveFault, Usage
+from drive.model import Departure
 
-EPILOG = """FOLDER/table gets a line for each schedule: its number; `blind` (its events were chosen beforehand) or `guided`
-(each by what the run had come to); its events, and how many of them did something; the verdict; `same` where the
+EPILOG = """FOLDER/table gets a line for each schedule: its number; `blind` (its events were chosen beforehand), `guided` (each by
+what the run had come to) or `aimed` (guided towards a write during a break to reads); its events, and how many of them did something; what became of leases: `granted`,
+`none` where creates asked for some and none was granted, `refused` where a create was refused for its lease key,
+`unasked`; the verdict; `same` where the
 record is the profile's, else the known departures that explain it, or `unexplained` (docs/REAL_SERVERS.md); and for an
-unsafe one `shrunk N`, the events that are left. A schedule that is unsafe or unexplained is kept next to the table by its
+unsafe one `shrunk N`, the events that are left, or `allowed`: it is safe on a model server without the departures of
+--allow, and doesn't count. A schedule that is unsafe or unexplained is kept next to the table by its
 number, with its record and what is left of it. It counts as unsafe, and is shrunk, where it breaks one rule in both orders
 of messages; where the rules differ the table says `unsure` and both verdicts.
 One seed gives one table, as far as the server does the same again.
 
-Exit status: 0 all records are safe; 1 a schedule couldn't be driven; 2 the command line is refused; 3 a record is
-unsafe."""
+With --shard 2/8 only the schedules 2, 10, 18 and so on are driven; the tables of all eight have together what one of
+the whole has, and each has a folder of its own. --junit FILE has a test for each schedule of the table.
+
+Exit status, by all of the table: 0 all records are safe, or unsafe by what is allowed; 1 a schedule couldn't be driven;
+2 the command line is refused; 3 a record is unsafe."""
 
 
 def parser() -> argparse.ArgumentParser:
@@ -32,40 +42,55 @@ def parser() -> argparse.ArgumentParser:
     made.add_argument("--count", type=int, required=True, metavar="N", help="how many")
     made.add_argument("--folder", metavar="FOLDER", help="where the table and what is unsafe go (explored-S)")
     made.add_argument("--resume", action="store_true", help="go on after the last line of the table")
+    made.add_argument("--allow", metavar="DEPARTURE", nargs="+", default=[], choices=[it.name.lower() for it in Departure],
+                      help="what is unsafe by these known departures alone doesn't count (docs/REAL_SERVERS.md)")
+    made.add_argument("--shard", metavar="I/N", help="of the schedules only each N-th, from the I-th on")
+    made.add_argument("--junit", metavar="FILE", help="write there what became of them, for a build server")
     made.add_argument("--no-shrink", action="store_true", help="keep what is unsafe as it is")
     server_arguments(made)
     return made
 
 
-def explored(path: str, resume: bool) -> int:
-    """How many schedules the table has already. A line that was cut short is taken away."""
-    if not os.path.exists(path):
-        return 0
-    if not resume:
-        raise Usage(f"{path} is there already: --resume goes on with it, --folder names another one")
-    with open(path, "r+", encoding="utf-8") as table:
-        text = table.read()
-        whole = text[:text.rfind("\n") + 1]
-        table.seek(0)
-        table.truncate()
-        table.write(whole)
-    return whole.count("\n")
+@dataclass(frozen=True)
+class Shard:
+    """Every so many-th schedule, from this one on."""
+
+    number: int = 1
+    count: int = 1
+
+    @classmethod
+    def read(cls, text: str) -> Shard:
+        """The shard that is written as I/N."""
+        found = re.fullmatch(r"(\d+)/(\d+)", text, re.ASCII)
+        number, count = map(int, found.groups()) if found else (0, 0)
+        if not 1 <= number <= count:
+            raise Usage("--shard is I/N, where I is from 1 to N")
+        return cls(number, count)
+
+    def numbers(self, last: int) -> range:
+        """The numbers of its schedules."""
+        return range(self.number, last + 1, self.count)
+
+    @property
+    def name(self) -> str:
+        """What is added to the name of its folder."""
+        return f"-{self.number}-of-{self.count}" if self.count > 1 else ""
 
 
 class Progress:
     """A line on standard error that is written over, where that is a terminal."""
 
-    def __init__(self, count: int, begun: int) -> None:
+    def __init__(self, count: int) -> None:
         self._count = count
-        self._begun = begun
         self._start = time.monotonic()
         self._shows = sys.stderr.isatty()
 
-    def show(self, number: int, unsafe: int, faults: int) -> None:
+    def show(self, rows: Sequence[Row]) -> None:
         """Writes it."""
         if self._shows:
-            each = (time.monotonic() - self._start) / max(1, number - self._begun)
-            sys.stderr.write(f"\r{number} of {self._count}, {unsafe} unsafe, {faults} not driven, {each:.1f} s each\x1b[K")
+            each = (time.monotonic() - self._start) / len(rows)
+            unsafe, faults = sum(it.is_unsafe for it in rows), sum(it.is_fault for it in rows)
+            sys.stderr.write(f"\r{len(rows)} of {self._count}, {unsafe} unsafe, {faults} not driven, {each:.1f} s each\x1b[K")
             sys.stderr.flush()
 
     def end(self) -> None:
@@ -78,32 +103,39 @@ def _explore(arguments: argparse.Namespace) -> int:
     """Explores, and prints what became of it; the status."""
     if arguments.count < 1:
         raise Usage("--count is at least 1")
+    shard = Shard.read(arguments.shard) if arguments.shard is not None else Shard()
     runner = runner_of(arguments)
-    folder = arguments.folder or f"explored-{arguments.seed}"
+    folder = arguments.folder or f"explored-{arguments.seed}{shard.name}"
     try:
         os.makedirs(folder, exist_ok=True)
-        begun = explored(f"{folder}/table", arguments.resume)
-        explorer = Explorer(runner, arguments.seed, folder, not arguments.no_shrink)
-        unsafe, faults = _all(explorer, begun, arguments.count, f"{folder}/table")
+        before = rows_in(f"{folder}/table", arguments.resume)
+        allowed = frozenset(Departure[it.upper()] for it in arguments.allow)
+        explorer = Explorer(runner, arguments.seed, folder, not arguments.no_shrink, allowed)
+        left = sorted(set(shard.numbers(arguments.count)) - {row.number for row in before})
+        rows = _all(explorer, left, f"{folder}/table")
     except OSError as fault:
         raise DriveFault(f"{folder}: {fault.strerror}") from None
-    print(f"{max(0, arguments.count - begun)} driven, {unsafe} unsafe, {faults} not driven to the end; {folder}/table has them")
+    every = [*before, *rows]
+    if arguments.junit:
+        write_bytes(arguments.junit, junit(every, arguments.seed))
+    driven = f"{len(rows)} driven" + (f" after {len(before)}" if before else "")
+    unsafe, faults = sum(it.is_unsafe for it in every), sum(it.is_fault for it in every)
+    allowed_ones = f" {sum(it.is_allowed for it in every)} allowed," if arguments.allow else ""
+    print(f"{driven}, {unsafe} unsafe,{allowed_ones} {faults} not driven to the end; {folder}/table has them")
     return UNSAFE if unsafe else NOT_DRIVEN if faults else SAFE
 
 
-def _all(explorer: Explorer, begun: int, count: int, path: str) -> tuple[int, int]:
-    progress = Progress(count, begun)
-    unsafe = faults = 0
+def _all(explorer: Explorer, numbers: Sequence[int], path: str) -> list[Row]:
+    progress = Progress(len(numbers))
+    rows: list[Row] = []
     with open(path, "a", encoding="utf-8") as table:
-        for number in range(begun + 1, count + 1):
-            row = explorer.explore(number)
-            unsafe += row.verdict.startswith("unsafe")
-            faults += row.verdict.startswith("fault")
-            table.write(row.text)
+        for number in numbers:
+            rows.append(explorer.explore(number))
+            table.write(rows[-1].text)
             table.flush()
-            progress.show(number, unsafe, faults)
+            progress.show(rows)
     progress.end()
-    return unsafe, faults
+    return rows
 
 
 def main(words: Sequence[str] | None = None) -> int:

@@ -157,6 +157,16 @@ def renamed(request: Message) -> str | None:
     return request.text(start + 20, request.number(start + 16, 4))
 
 
+def server_guid(message: Message) -> bytes:
+    """The ServerGuid of a NEGOTIATE response."""
+    return message.part(72, 16)
+
+
+def binds(message: Message) -> bool:
+    """Whether a SESSION_SETUP request binds its connection to a session (SMB2_SESSION_FLAG_BINDING)."""
+    return bool(message.number(66, 1) & 1)
+
+
 def negotiated(message: Message) -> tuple[int, bytes]:
     """The dialect of a response, or the ClientGuid of a request."""
     return (message.number(68, 2), b"") if message.is_from_server else (0, message.part(76, 16))

@@ -2,6 +2,7 @@
 from __future__ import annotations
 
 import json
+import os
 import subprocess
 import tempfile
 from collections.abc import Iterator, Sequence
@@ -14,6 +15,8 @@ LOST = "tcp.analysis.lost_segment || tcp.analysis.ack_lost_segment || (tcp && fr
 FILTER = f"smb2 || tcp.flags.fin == 1 || tcp.flags.reset == 1 || {LOST}"
 FIELDS = ("frame.number", "frame.time_relative", "tcp.stream", "tcp.srcport", "ip.src", "ipv6.src", "tcp.flags", "tcp.ack",
           "tcp.nxtseq", "tcp.analysis.lost_segment", "tcp.analysis.ack_lost_segment", "frame.cap_len", "frame.len")
+# what reads SMB2 on ports that tshark doesn't know
+ANY_PORT = os.path.join(os.path.dirname(os.path.abspath(__file__)), "smb2_tcp.lua")
 PROTOCOL = bytes.fromhex("fe534d42")
 ENCRYPTED = bytes.fromhex("fd534d42")
 COMPRESSED = bytes.fromhex("fc534d42")
@@ -59,13 +62,14 @@ def read_capture(path: str, ports: Sequence[int]) -> Capture:
         found = [_packet(line.rstrip("\n").split("\t"), one) for line, one in zip(rows, messages)]
     packets = tuple(packet for packet in found if packet)
     if not any(packet.messages for packet in packets):
-        raise DriveFault(f"{path}: {fault or 'no SMB2 is in it (--port names ports other than 445 and 139)'}")
+        raise DriveFault(f"{path}: {fault or 'no SMB2 is in it'}")
     return Capture(packets, fault)
 
 
 def _words(path: str, ports: Sequence[int]) -> list[str]:
-    decoded = [word for port in ports for word in ("-d", f"tcp.port=={port},nbss")]
-    return ["tshark", "-n", "-r", path, "-o", "tcp.reassemble_out_of_order:TRUE", *decoded, "-Y", FILTER]
+    decoded = [word for port in ports for word in ("-d", f"tcp.port=={port},smb2_tcp")]
+    options = ["-X", f"lua_script:{ANY_PORT}", "-o", "tcp.reassemble_out_of_order:TRUE"]
+    return ["tshark", "-n", "-r", path, *options, *decoded, "-Y", FILTER]
 
 
 def _fields(path: str, ports: Sequence[int]) -> list[str]:

@@ -51,16 +51,29 @@ def drawn_temper(chance: random.Random) -> Temper:
     )
 
 
+def aimed_temper(chance: random.Random) -> Temper:
+    """It aims at a write while the lease of another client breaks to reads: that client lets breaks wait, opens refuse to share,
+    and nothing ends what the clients have but closes."""
+    return Temper(
+        opens=tuple(chance.choice((1.0, 3.0)) for _ in range(MOST_CLIENTS)),
+        takes=tuple(chance.choice((0.5, 1.0, 2.0)) for _ in range(MOST_CLIENTS)),
+        closes=chance.choice((0.3, 1.0)), cuts=0.0, timers=0.0, durable=0.0,
+        wants=chance.choice((("RH", "none"), ("RH", "R", "none"), ("RWH", "RH", "none"))),
+        accesses=("rw", "r"), shares=("rw", "rw", "-"),
+    )
+
+
 class Chooser:
     """Chooses the setup of a schedule, and its events one by one."""
 
-    def __init__(self, chance: random.Random) -> None:
+    def __init__(self, chance: random.Random, aims: bool = False) -> None:
         self._chance = chance
-        self._temper = drawn_temper(chance)
+        self._temper = aimed_temper(chance) if aims else drawn_temper(chance)
+        self._ends = not aims
         self._written = 0
-        self.clients = chance.choice((2, 2, MOST_CLIENTS))
-        self.files = chance.choice((1, 1, 1, 1, 2))
-        self.length = chance.randint(30, 80)
+        self.clients = MOST_CLIENTS if aims else chance.choice((2, 2, MOST_CLIENTS))
+        self.files = 1 if aims else chance.choice((1, 1, 1, 1, 2))
+        self.length = 80 if aims else chance.randint(30, 80)
 
     def setup(self) -> Schedule:
         """The files and clients, without events."""
@@ -71,6 +84,7 @@ class Chooser:
         """An event of any client, whether it applies or not."""
         weights = dict(BLIND_WEIGHTS)
         weights[EventKind.CUT] *= self._temper.cuts
+        weights[EventKind.NOTICE] *= self._ends
         for kind in (EventKind.EXPIRE, EventKind.SCAVENGE):
             weights[kind] *= self._temper.timers
         kind = self._chance.choices(list(weights), list(weights.values()))[0]

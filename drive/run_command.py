@@ -35,7 +35,7 @@ def verdict_lines(outcome: Outcome) -> list[str]:
     lines = [outcome.verdict.text]
     if outcome.orders_differ:
         lines.append(f"with {Order.BREAKS_LAST.value}: {outcome.verdicts[Order.BREAKS_LAST].text}")
-    return lines
+    return [*lines, *outcome.leases.remarks]
 
 
 def status_of(outcome: Outcome) -> int:

@@ -11,6 +11,7 @@ from smblease.program import Verdict, judge, replay
 from smblease.schedules import Event, EventKind, Schedule
 
 from drive.driver import Driver, files_made, files_removed
+from drive.exchange import LeaseCount
 from drive.faults import Undrivable
 from drive.records import Order, Record
 from drive.servers import Server
@@ -25,6 +26,7 @@ class Outcome:
     """What a run has come to."""
 
     record: Record
+    leases: LeaseCount = LeaseCount()
     verdicts: dict[Order, Verdict] = field(default_factory=dict)
     # the events that did something, and what was left out
     applied: list[Event] = field(default_factory=list)
@@ -75,6 +77,7 @@ class Runner:
             outcome.skipped.append(f"{event.text}: {fault}")
             return False
         outcome.counts.append(driver.record.count)
+        outcome.leases = driver.leases
         if applied:
             outcome.applied.append(event)
         LOG.debug("%s: %s", event.text, "done" if applied else "nothing")

@@ -61,6 +61,7 @@ CONFIGURATION = """[global]
 BREAK_TIME = 36
 DURABLE_TIME = 961
 SETTLED = 0.05
+PROCESS_PATIENCE = 2.0
 
 
 class Server(Protocol):
@@ -172,8 +173,14 @@ class PrivateServer(Server):
         return f"file-{file}"
 
     def new_process(self) -> int | None:
-        now = self._children()
-        new = [it for it, name in now.items() if it not in self._known and name == "smbd"]
+        until = time.monotonic() + PROCESS_PATIENCE
+        while True:
+            now = self._children()
+            new = [it for it, name in now.items() if it not in self._known and name == "smbd"]
+            # (where a session was tried again, the process of the former connection is about to end)
+            if len(new) == 1 or time.monotonic() > until:
+                break
+            time.sleep(0.01)
         self._known = set(now)
         if len(new) != 1:
             raise DriveFault(f"{len(new)} processes of smbd came with one connection")

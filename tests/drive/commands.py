@@ -16,7 +16,8 @@ TRIES = 3
 PRIVATE_SMBD = [needs.ROOT, needs.program("smbd"), needs.program("cc"), needs.package("impacket")]
 DEPARTURES = sorted(it.stem for it in (TOP / "drive" / "departures").iterdir())
 # What was found unsafe on an unmodified smbd, with the rule that is broken.
-FOUND = {"lease_outlives_its_open": 1, "write_beside_a_break_to_reads": 2, "opens_stay_when_a_break_times_out": 3}
+FOUND = {"lease_outlives_its_open": 1, "write_beside_a_break_to_reads": 2, "opens_stay_when_a_break_times_out": 3,
+         "late_write_after_given_back": 3}
 
 
 class Ran(NamedTuple):

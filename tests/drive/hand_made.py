@@ -9,7 +9,8 @@ REFUSED = 0xC0000001
 RELATED = 4
 PREVIOUS = b"\xff" * 16
 R, H, W = 1, 2, 4
-ACK = 0x10
+# the most bytes of a packet's payload
+LONGEST = 60000
 PUSH, FIN = 0x18, 0x11
 
 
@@ -43,12 +44,29 @@ def negotiate(guid: int) -> bytes:
     return message(0, struct.pack("<HHHHL", 36, 1, 1, 0, 0) + bytes([guid] * 16) + bytes(8) + struct.pack("<H", 0x210), 0)
 
 
-def negotiated(dialect: int = 0x210) -> bytes:
-    return message(0, struct.pack("<HHH", 65, 1, dialect) + bytes(58), 0, answers=True)
+def negotiated(dialect: int = 0x210, server: int = 0) -> bytes:
+    return message(0, struct.pack("<HHHH", 65, 1, dialect, 0) + bytes([server] * 16) + bytes(40), 0, answers=True)
 
 
-def tree_connect() -> bytes:
-    path = "\\\\127.0.0.1\\share".encode("utf-16le")
+def session_setup(session: int, binds: bool = False) -> bytes:
+    body = struct.pack("<HBBLLHHQ", 25, int(binds), 1, 0, 0, 88, 0, 0)
+    return of_session(message(1, body, 1), session)
+
+
+def session_set_up(session: int) -> bytes:
+    return of_session(message(1, struct.pack("<HHHH", 9, 0, 72, 0), 1, answers=True), session)
+
+
+def of_session(one: bytes, session: int) -> bytes:
+    """A message with this SessionId."""
+    return one[:40] + struct.pack("<Q", session) + one[48:]
+
+
+def tree_path(share: str) -> str:
+    return f"\\\\127.0.0.1\\{share}"
+
+
+def tree_connect(path: bytes = tree_path("share").encode("utf-16le")) -> bytes:
     return message(3, struct.pack("<HHHH", 9, 0, 72, len(path)) + path, 2, tree=0)
 
 
@@ -56,8 +74,8 @@ def tree_connected() -> bytes:
     return message(3, struct.pack("<HBBLLL", 16, 1, 0, 0, 0, 0), 2, answers=True)
 
 
-def create(identifier: int, name: str, contexts: bytes = b"") -> bytes:
-    text = name.encode("utf-16le")
+def create(identifier: int, name: str | bytes, contexts: bytes = b"") -> bytes:
+    text = name.encode("utf-16le") if isinstance(name, str) else name
     place = 120 + len(text) + -len(text) % 8
     fixed = struct.pack("<HBBLQQLLLLLHHLL", 57, 0, 255 if contexts else 0, 2, 0, 0, 3, 0, 7, 1, 0x40, 120, len(text),
                         place if contexts else 0, len(contexts))
@@ -129,30 +147,33 @@ class Made:
         self._packets: list[bytes] = []
         self._whole: list[int] = []
 
-    def packet(self, source: int, target: int, sequence: int, acknowledged: int, flags: int, payload: bytes = b"",
-               kept: int | None = None) -> int:
-        tcp = struct.pack(">HHLLBBHHH", source, target, sequence, acknowledged, 5 << 4, flags, 65535, 0, 0) + payload
-        loopback = bytes([127, 0, 0, 1])
-        datagram = struct.pack(">BBHHHBBH", 0x45, 0, 20 + len(tcp), len(self._packets), 0, 64, 6, 0) + loopback * 2 + tcp
+    def packet(self, ports: tuple[int, int], sequence: int, acknowledged: int, flags: int, payload: bytes = b"",
+               kept: int | None = None, host: int = 1) -> int:
+        """A packet between two ports; that of the server, below those of clients, is at the address 127.0.0.`host`."""
+        tcp = struct.pack(">HHLLBBHHH", *ports, sequence, acknowledged, 5 << 4, flags, 65535, 0, 0) + payload
+        addresses = [bytes([127, 0, 0, host if port == min(ports) else 1]) for port in ports]
+        datagram = struct.pack(">BBHHHBBH", 0x45, 0, 20 + len(tcp), len(self._packets), 0, 64, 6, 0) + b"".join(addresses) + tcp
         self._whole.append(len(datagram))
         self._packets.append(datagram[:kept] if kept else datagram)
         return len(self._packets)
 
-    def data(self) -> bytes:
+    def data(self, snaplen: int | None = None) -> bytes:
+        """The file; of each packet so many bytes are kept."""
         text = struct.pack("<LHHlLLL", 0xA1B2C3D4, 2, 4, 0, 0, 262144, 101)
         for number, (packet, whole) in enumerate(zip(self._packets, self._whole), 1):
-            text += struct.pack("<LLLL", 1000, number * 10000, len(packet), whole) + packet
+            text += struct.pack("<LLLL", 1000, number * 10000, len(packet[:snaplen]), whole) + packet[:snaplen]
         return text
 
 
 class Line:
     """A TCP connection of a client, by its port; both ends have sent what is in `sent`."""
 
-    def __init__(self, made: Made, port: int, begins: bool = True) -> None:
-        self._made, self._port, self.sent = made, port, {True: 1, False: 1}
+    def __init__(self, made: Made, port: int, begins: bool = True, host: int = 1, server: int = SERVER) -> None:
+        self._made, self._port, self._server, self._host = made, port, server, host
+        self.sent = {True: 1, False: 1}
         if begins:
-            made.packet(port, SERVER, 0, 0, 2)
-            made.packet(SERVER, port, 0, 1, 0x12)
+            made.packet((port, server), 0, 0, 2, host=host)
+            made.packet((server, port), 0, 1, 0x12, host=host)
 
     def asks(self, *messages: bytes, had: int | None = None) -> int:
         """The client sends messages; `had` is what its host had of the server's bytes, all that was sent unless this is given."""
@@ -162,14 +183,14 @@ class Line:
         return self._goes(False, messages, None)
 
     def ends(self, had: int | None = None) -> int:
-        return self._made.packet(self._port, SERVER, self.sent[True], had or self.sent[False], FIN)
+        return self._made.packet((self._port, self._server), self.sent[True], had or self.sent[False], FIN, host=self._host)
 
     def cut(self, kept: int, one: bytes) -> int:
         """A message of the client of which the capture has so many bytes of the packet only."""
         payload = struct.pack(">L", len(one)) + one
         sequence = self.sent[True]
         self.sent[True] += len(payload)
-        return self._made.packet(self._port, SERVER, sequence, self.sent[False], PUSH, payload, kept)
+        return self._made.packet((self._port, self._server), sequence, self.sent[False], PUSH, payload, kept, self._host)
 
     def misses(self, length: int) -> None:
         """Bytes of the client that aren't in the capture."""
@@ -177,10 +198,13 @@ class Line:
 
     def _goes(self, by_client: bool, messages: tuple[bytes, ...], had: int | None) -> int:
         payload = b"".join(struct.pack(">L", len(one)) + one for one in messages)
-        source, target = (self._port, SERVER) if by_client else (SERVER, self._port)
-        sequence = self.sent[by_client]
-        self.sent[by_client] += len(payload)
-        return self._made.packet(source, target, sequence, had or self.sent[not by_client], PUSH, payload)
+        ports = (self._port, self._server) if by_client else (self._server, self._port)
+        packet = 0
+        for start in range(0, len(payload), LONGEST):
+            part = payload[start:start + LONGEST]
+            packet = self._made.packet(ports, self.sent[by_client], had or self.sent[not by_client], PUSH, part, host=self._host)
+            self.sent[by_client] += len(part)
+        return packet
 
     def begins(self, guid: int, dialect: int = 0x210) -> None:
         self.asks(negotiate(guid))

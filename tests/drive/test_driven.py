@@ -9,10 +9,13 @@
 """
 from __future__ import annotations
 
+from collections.abc import Iterator
+from contextlib import contextmanager
 from pathlib import Path
 
 import pytest
 
+from smblease.program import replay
 from smblease.schedules import Schedule
 
 from tests import needs
@@ -22,8 +25,11 @@ from tests.paths import SCHEDULES, TESTS, TOP, name_of
 
 pytest.importorskip("impacket", reason=f"there is no package impacket; {needs.INSTALLS}")
 # pylint: disable=wrong-import-position
+from drive import servers  # noqa: E402
 from drive.explanations import likeness_of  # noqa: E402
 from drive.exploration import Explorer  # noqa: E402
+from drive.model import Departure  # noqa: E402
+from drive.run_command import verdict_lines  # noqa: E402
 from drive.runner import Filter, Outcome, Runner  # noqa: E402
 from drive.servers import PrivateServer  # noqa: E402
 
@@ -93,17 +99,125 @@ def test_broken_client(client: Filter, path: Path, rule: int, program: str) -> N
     tried(lambda: expect(Runner(program, PrivateServer, filtered=client).run(schedule_of(path)), rule))
 
 
+# The bytes of these ClientGuids, which begin the lease keys too, are the names of contexts.
+NAMES = """file 616263
+client 44486e43-5271-4c73-4448-6e4344486e51
+client 52714c73-4448-6e43-5271-4c7344486e51
+connect 1
+connect 2
+open 1 1 rw rw RWH durable
+serve 1
+take 1
+open 2 1 r rw RH
+serve 2
+take 1
+serve 1
+take 1
+take 2
+raw 2 create 1 r rw 0000000010000400000018002000000052714c730000000044486e4344486e4344486e430100000001000000000000000000000000000000
+serve 2
+take 2
+raw 1 write 1 1 0 58
+serve 1
+take 1
+"""
+
+
+def test_keys_with_the_names_of_contexts(program: str, runner: Runner) -> None:
+    """Which contexts a CREATE has is read, and not found by looking for a word."""
+    schedule = Schedule.read(NAMES)
+
+    def check() -> None:
+        facts = runner.run(schedule).record.facts()
+        assert [it for it in facts if it.startswith("opened")] == ["opened 1 1", "opened 1 2", "opened 1 2"]
+        assert sorted(facts) == sorted(replay(program, schedule.text))
+    tried(check)
+
+
+def test_schedule_that_is_unsafe_by_what_is_allowed(program: str, tmp_path: Path) -> None:
+    """Without that departure the model server is safe, so the schedule doesn't count."""
+    def check() -> None:
+        runner = Runner(program, PrivateServer)
+        row = Explorer(runner, SEED, str(tmp_path), True, frozenset({Departure.OPENS_STAY})).explore(NUMBER)
+        assert (row.is_allowed, row.is_unsafe, row.left) == (True, False, None), row
+        assert row.text.endswith(" allowed\n")
+        row = Explorer(runner, SEED, str(tmp_path), False, frozenset({Departure.GIVEN_BACK})).explore(NUMBER)
+        assert (row.is_allowed, row.is_unsafe) == (False, True), row
+    tried(check)
+
+
+@contextmanager
+def named_server() -> Iterator[list[str]]:
+    """The words that name a server, which another process has started."""
+    server = PrivateServer()
+    try:
+        place = server.place
+        user = f"{place.user}%{place.password}"
+        yield ["--server", f"{place.host}:{place.port}", "--share", place.share, "--user", user]
+    finally:
+        server.close()
+
+
 def test_server_that_is_named() -> None:
     def check() -> None:
-        server = PrivateServer()
-        try:
-            place = server.place
-            words = ["--server", f"{place.host}:{place.port}", "--share", place.share, "--user", f"{place.user}%{place.password}"]
+        with named_server() as words:
             had = ran("run", [*words, TESTS / "schedules" / "break_answered"])
-        finally:
-            server.close()
         assert had == (0, (TESTS / "runs" / "break_answered").read_text(encoding="ascii"), "")
     tried(check)
+
+
+LEAVES = """file 616263
+client 11111111-1111-1111-1111-111111111111
+client 22222222-2222-2222-2222-222222222222
+connect 1
+open 1 1 rw rw RWH durable
+serve 1
+take 1
+cut 1
+"""
+
+
+def test_run_after_one_that_left_an_open(tmp_path: Path) -> None:
+    """ClientGuids and lease keys on the wire are of each run alone: what one leaves refuses no lease of the next."""
+    first = tmp_path / "leaves"
+    first.write_text(LEAVES, encoding="ascii")
+
+    def check() -> None:
+        with named_server() as words:
+            assert ran("run", [*words, first]).status == 0
+            had = ran("run", [*words, TESTS / "schedules" / "break_answered"])
+        assert had == (0, (TESTS / "runs" / "break_answered").read_text(encoding="ascii"), "")
+    tried(check)
+
+
+def test_run_without_a_lease(program: str, tmp_path: Path, monkeypatch: pytest.MonkeyPatch) -> None:
+    """A server that grants no lease shows nothing, and that is said."""
+    monkeypatch.setattr(servers, "CONFIGURATION", servers.CONFIGURATION.replace("smb2 leases = yes", "smb2 leases = no"))
+    row = Explorer(Runner(program, PrivateServer), SEED, str(tmp_path), False).explore(NUMBER)
+    assert row.text.split(" ")[4] == "none", row
+    schedule = schedule_of(TESTS / "schedules" / "break_answered")
+    lines = verdict_lines(Runner(program, PrivateServer).run(schedule))
+    assert lines == ["safe", "no lease was granted: 2 creates asked for one"]
+
+
+REFUSED_KEY = """file 616263
+file 646566
+client 11111111-1111-1111-1111-111111111111
+connect 1
+open 1 1 rw rw RWH
+serve 1
+take 1
+raw 1 create 2 rw rw 0000000010000400000018002000000052714c73000000001111111111111111111111110100000007000000000000000000000000000000
+serve 1
+take 1
+"""
+
+
+def test_create_that_is_refused_for_its_key(runner: Runner) -> None:
+    """It asks for the second file under the key of the first."""
+    outcome = runner.run(Schedule.read(REFUSED_KEY))
+    assert outcome.leases.word == "refused"
+    assert verdict_lines(outcome) == ["safe", "1 create was refused for its lease key (STATUS_INVALID_PARAMETER)"]
 
 
 def test_schedule_that_is_drawn_and_shrunk(program: str, tmp_path: Path) -> None:

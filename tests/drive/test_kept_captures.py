@@ -11,7 +11,8 @@ from tests.paths import TOP
 
 pytestmark = needs.program("tshark")
 # the statuses
-KEPT = {"two_clients_share_a_file": 0, "lease_outlives_its_open": 3}
+KEPT = {"two_clients_share_a_file": 0, "lease_outlives_its_open": 3, "key_of_another_file_before": 0,
+        "two_servers_of_one_name": 0, "contexts_that_cant_be_read": 0}
 SIDES = pytest.mark.parametrize("side", ["client", "server"])
 GRANTS = "smb2.cmd == 5 && smb2.flags.response == 1 && smb2.nt_status == 0 && smb2.lease.lease_state"
 

@@ -11,21 +11,25 @@ import pytest
 from smblease.outs import Changed, Opened
 from smblease.program import judge, replay
 from smblease.replies import Break, Closed, Created
-from smblease.schedules import Event, Schedule
+from smblease.schedules import Event, EventKind, Schedule
+from smblease.values import Status
 
-from tests import needs
-from tests.drive.commands import FOUND
-from tests.paths import SCHEDULES, TOP, name_of
-
-pytest.importorskip("impacket", reason=f"there is no package impacket; {needs.INSTALLS}")
+pytest.importorskip("impacket", reason="there is no package impacket; tools/setup installs it")
 # pylint: disable=wrong-import-position
+from impacket.smb3 import SessionError  # noqa: E402
+
+from drive import connections  # noqa: E402
 from drive.connections import FileId  # noqa: E402
 from drive.explanations import facts_of  # noqa: E402
-from drive.explore_command import explored  # noqa: E402
+from drive.explored import rows_in  # noqa: E402
+from drive.faults import DriveFault  # noqa: E402
 from drive.peers import DrivenPeer  # noqa: E402
+from drive.place import Place  # noqa: E402
 from drive.random_schedules import Chooser, blind_schedule  # noqa: E402
 from drive.records import Arrival, Order, Record, applied  # noqa: E402
 from drive.shrinking import shrunk  # noqa: E402
+from tests.drive.commands import FOUND  # noqa: E402
+from tests.paths import SCHEDULES, TOP, name_of  # noqa: E402
 
 NOTICE = Break(bytes(44))
 
@@ -82,6 +86,56 @@ def test_random_schedule(number: int, program: str) -> None:
     assert replay(program, one.text)
 
 
+class Forgetful:
+    """A protocol whose server has no memory for the first sessions."""
+
+    refusals = 0
+    tries = 0
+
+    def __init__(self, place: Place, guid: bytes) -> None:
+        self.given = (place, guid)
+
+    def login(self, *_: str) -> None:
+        Forgetful.tries += 1
+        if Forgetful.tries <= Forgetful.refusals:
+            raise SessionError(Status.NO_MEMORY)
+
+    def connectTree(self, _: str) -> int:  # pylint: disable=invalid-name
+        return 1
+
+    def getDialect(self) -> int:  # pylint: disable=invalid-name
+        return 0x210
+
+    def close_session(self) -> None:
+        """Closes nothing."""
+
+
+@pytest.mark.parametrize(("refusals", "tries"), [(0, 1), (2, 3)])
+def test_session_that_had_no_memory(refusals: int, tries: int, monkeypatch: pytest.MonkeyPatch) -> None:
+    """STATUS_NO_MEMORY at a session set-up, which smbd answers now and then, is tried again."""
+    monkeypatch.setattr(connections, "Protocol", Forgetful)
+    Forgetful.refusals, Forgetful.tries = refusals, 0
+    connections.Connection(Place("127.0.0.1", 445, "share", "user", "password"), bytes(16))
+    assert Forgetful.tries == tries
+
+
+def test_session_that_never_has_memory(monkeypatch: pytest.MonkeyPatch) -> None:
+    monkeypatch.setattr(connections, "Protocol", Forgetful)
+    Forgetful.refusals, Forgetful.tries = 100, 0
+    with pytest.raises(DriveFault, match="no connection to 127.0.0.1:445"):
+        connections.Connection(Place("127.0.0.1", 445, "share", "user", "password"), bytes(16))
+    assert Forgetful.tries < 10
+
+
+def test_schedule_that_aims_at_a_write_during_a_break() -> None:
+    """Three clients share a file, and nothing else goes on that would end what they have."""
+    from_seed = [Chooser(random.Random(f"7:{number}"), aims=True) for number in range(20)]
+    assert {(it.clients, it.files) for it in from_seed} == {(3, 1)}
+    for chooser in from_seed:
+        left_out = (EventKind.CUT, EventKind.EXPIRE, EventKind.SCAVENGE, EventKind.NOTICE)
+        assert not [it for it in blind_schedule(chooser).events if it.kind in left_out or "durable" in it.words]
+
+
 @pytest.mark.parametrize("path", SCHEDULES, ids=name_of)
 def test_model_server(path: Path, program: str) -> None:
     """Without departures it has the facts of `leasecheck replay`, in whichever order within a step."""
@@ -98,9 +152,11 @@ def test_kept_record(name: str, program: str) -> None:
 def test_table_that_was_cut_short(tmp_path: Path) -> None:
     """`--resume` goes on after its last whole line."""
     table = tmp_path / "table"
-    table.write_text("1 guided 3 2 safe same\n2 blind 4 2 safe same\n3 gui", encoding="ascii")
-    assert explored(str(table), True) == 2
-    assert table.read_text(encoding="ascii") == "1 guided 3 2 safe same\n2 blind 4 2 safe same\n"
+    whole = "1 guided 3 2 granted safe same\n2 blind 4 2 none unsafe 12 3 opens_stay,given_back shrunk 11\n"
+    table.write_text(f"{whole}3 gui", encoding="ascii")
+    rows = rows_in(str(table), True)
+    assert [(it.number, it.verdict, it.left) for it in rows] == [(1, "safe", None), (2, "unsafe 12 3", 11)]
+    assert table.read_text(encoding="ascii") == whole == "".join(it.text for it in rows)
 
 
 KEPT = {"smbd": (True, set(), {}), "profile": (False, {1}, {5: 1})}

@@ -1,0 +1,94 @@
+"""What became of explored schedules: the rows of a table, and a file that a build server reads (JUnit's XML)."""
+from __future__ import annotations
+
+import os
+import re
+import xml.etree.ElementTree as xml
+from collections.abc import Sequence
+from dataclasses import dataclass
+
+from smblease.faults import ToolFault
+
+from drive.faults import Usage
+
+LINE = re.compile(r"(\d+) (\w+) (\d+) (\d+) (\S+) (.*?) (\S+)(?: shrunk (\d+)| (allowed))?")
+
+
+@dataclass(frozen=True)
+class Row:
+    """What became of a schedule."""
+
+    number: int
+    manner: str
+    events: int
+    applied: int
+    leases: str
+    verdict: str
+    likeness: str
+    left: int | None = None
+    is_allowed: bool = False
+
+    @classmethod
+    def read(cls, line: str) -> Row:
+        """The row of a line."""
+        found = LINE.fullmatch(line)
+        if found is None:
+            raise ToolFault(f"no line of a table: {line[:200]}")
+        number, manner, events, applied, leases, verdict, likeness, left, allowed = found.groups()
+        return cls(int(number), manner, int(events), int(applied), leases, verdict, likeness, int(left) if left else None,
+                   bool(allowed))
+
+    @property
+    def text(self) -> str:
+        """Its line of the table."""
+        tail = " allowed" if self.is_allowed else f" shrunk {self.left}" if self.left is not None else ""
+        head = f"{self.number} {self.manner} {self.events} {self.applied} {self.leases}"
+        return f"{head} {' '.join(self.verdict.split())} {self.likeness}{tail}\n"
+
+    @property
+    def is_unsafe(self) -> bool:
+        """Whether it counts as unsafe."""
+        return self.verdict.startswith("unsafe") and not self.is_allowed
+
+    @property
+    def is_fault(self) -> bool:
+        """Whether the schedule wasn't driven to its end."""
+        return self.verdict.startswith("fault ")
+
+    def result(self) -> tuple[str, str]:
+        """What it is to a build server, nothing where it passed, and why."""
+        if self.is_fault:
+            return "error", self.verdict.partition(" ")[2]
+        if self.is_allowed:
+            return "skipped", f"{self.verdict}, {self.likeness}, which is allowed"
+        left = f", {self.left} events are left" if self.left is not None else ""
+        return ("failure", f"{self.verdict}, {self.likeness}{left}") if self.is_unsafe else ("", "")
+
+
+def rows_in(path: str, resume: bool) -> list[Row]:
+    """The rows that the table has already. A line that was cut short is taken away."""
+    if not os.path.exists(path):
+        return []
+    if not resume:
+        raise Usage(f"{path} is there already: --resume goes on with it, --folder names another one")
+    with open(path, "r+", encoding="utf-8") as table:
+        text = table.read()
+        whole = text[:text.rfind("\n") + 1]
+        table.seek(0)
+        table.truncate()
+        table.write(whole)
+    return list(map(Row.read, whole.splitlines()))
+
+
+def junit(rows: Sequence[Row], seed: int) -> bytes:
+    """The rows as a test suite, in which each schedule is a test."""
+    results = [(row, *row.result()) for row in rows]
+    counts = {name: sum(kind == it for _, kind, _ in results)
+              for name, it in (("failures", "failure"), ("errors", "error"), ("skipped", "skipped"))}
+    suite = xml.Element("testsuite", {"name": "drive/explore", "tests": str(len(rows)), **{it: str(counts[it]) for it in counts}})
+    for row, kind, why in results:
+        case = xml.SubElement(suite, "testcase", {"classname": f"seed {seed}", "name": f"schedule {row.number}"})
+        if kind:
+            xml.SubElement(case, kind, {"message": why})
+    xml.indent(suite)
+    return bytes(xml.tostring(suite, encoding="utf-8", xml_declaration=True)) + b"\n"
