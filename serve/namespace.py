@@ -96,8 +96,8 @@ class Namespace:
 
     def make(self, path: str, is_folder: bool) -> Node:
         """A file of a name made anew has another number than one of that name had before, if that was changed."""
-        if path and self.parent(path) is None:
-            raise StatusError(Status.OBJECT_PATH_NOT_FOUND)
+        if path:
+            self.check_folder_of(path)
         number = 0 if is_folder else self.new_number()
         self._made += 1
         node = Node(path, number, FOLDER if is_folder else ARCHIVE, self._made)
@@ -126,9 +126,16 @@ class Namespace:
         found = self.find(path.rpartition("\\")[0])
         return found if found and found.is_folder else None
 
+    def check_folder_of(self, path: str) -> None:
+        """Refuses a new name in a folder that isn't there, or not for long."""
+        folder = self.parent(path)
+        if folder is None or folder.is_deleting:
+            raise StatusError(Status.DELETE_PENDING if folder else Status.OBJECT_PATH_NOT_FOUND)
+
     def remove(self, node: Node) -> None:
-        """A file goes with its streams, as far as nobody has them open."""
+        """A file goes with its streams, those that somebody has open at their last close."""
         for stream in [it for it in self._nodes.values() if it.path.lower().startswith(f"{node.path.lower()}:")]:
+            stream.is_deleting = True
             if not stream.opens:
                 self.remove(stream)
         del self._nodes[node.path.lower()]

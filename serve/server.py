@@ -229,13 +229,14 @@ class Server:  # pylint: disable=too-many-instance-attributes  # its parts find 
                 yield from self.close_open(opened)
 
     def forget_open(self, opened: Open) -> None:
-        """An open is gone. With the last one of a file goes its name, where it is to be deleted."""
+        """An open is gone. With the last one of a file goes its name, where it is to be deleted; a folder stays with what is in
+        it."""
         if self.opens.pop(opened.file_id, None) is None:
             return
         node = opened.node
         self.stop_timer(opened)
         node.opens.remove(opened)
-        node.is_deleting = node.is_deleting or opened.deletes
+        node.is_deleting = (node.is_deleting or opened.deletes) and not (node.is_folder and self.names.children(node))
         self._lease_gone(opened)
         if node.is_deleting and not node.opens and not node.is_gone:
             self.names.remove(node)

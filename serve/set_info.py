@@ -70,43 +70,53 @@ class SetInfo:
         length = int.from_bytes(data[16:20], "little")
         if 20 + length > len(data):
             raise StatusError(Status.INFO_LENGTH_MISMATCH)
-        path = path_of(data[20:20 + length].decode("utf-16le", errors="replace"))
-        node, names = opened.node, self._server.names
-        if not path or not node.path or names.parent(path) is None or f"{path}\\".lower().startswith(f"{node.path}\\".lower()) \
-                and node.is_folder:
-            raise StatusError(Status.OBJECT_PATH_NOT_FOUND)
-        self._check_target(node, path, bool(data[0]))
-        yield from self._server.forced_breaks.break_handles(request, node, opened.client, opened.key)
-        target = names.find(path)
-        if target and target is not node:
+        path, node, names = path_of(data[20:20 + length].decode("utf-16le", errors="replace")), opened.node, self._server.names
+        self._replaced(node, path, bool(data[0]))
+        yield from self._break_handles(request, opened)
+        target = self._replaced(node, path, bool(data[0]))
+        if target:
             names.remove(target)
         names.rename(node, path)
         self._server.record.remark(f"file {node.number} is {path}")
 
-    def _check_target(self, node: Node, path: str, replaces: bool) -> None:
-        """Whether a file of the new name may go."""
+    def _replaced(self, node: Node, path: str, replaces: bool) -> Node | None:
+        """The file that goes for the new name. It is looked for anew after every wait."""
+        if not path or not node.path or node.is_folder and f"{path}\\".lower().startswith(f"{node.path}\\".lower()):
+            raise StatusError(Status.OBJECT_PATH_NOT_FOUND)
+        self._server.names.check_folder_of(path)
         target = self._server.names.find(path)
         if target is None or target is node:
-            return
+            return None
         self._server.forget_unkept(target.opens)
         if not replaces:
             raise StatusError(Status.OBJECT_NAME_COLLISION)
         if target.is_folder or target.opens:
             raise StatusError(Status.ACCESS_DENIED)
+        return None if target.is_gone else target
+
+    def _break_handles(self, request: Request, opened: Open) -> Steps:
+        """Has others give up handles; the open may be closed meanwhile."""
+        yield from self._server.forced_breaks.break_handles(request, opened.node, opened.client, opened.key)
+        if opened.file_id not in self._server.opens:
+            raise StatusError(Status.FILE_CLOSED)
 
     def _dispose(self, request: Request, opened: Open, deletes: bool) -> Steps:
         node = opened.node
         if not opened.access & DELETE or not node.path:
             raise StatusError(Status.ACCESS_DENIED)
-        if deletes and node.attributes & READ_ONLY:
-            raise StatusError(Status.CANNOT_DELETE)
-        if deletes and node.is_folder and self._server.names.children(node):
-            raise StatusError(Status.DIRECTORY_NOT_EMPTY)
         if deletes:
-            yield from self._server.forced_breaks.break_handles(request, node, opened.client, opened.key)
+            self._check_deletable(node)
+            yield from self._break_handles(request, opened)
+            self._check_deletable(node)
         node.is_deleting = deletes
         if not deletes:
             opened.deletes = False
+
+    def _check_deletable(self, node: Node) -> None:
+        if node.attributes & READ_ONLY:
+            raise StatusError(Status.CANNOT_DELETE)
+        if node.is_folder and self._server.names.children(node):
+            raise StatusError(Status.DIRECTORY_NOT_EMPTY)
 
     def _resize(self, opened: Open, size: int, is_end: bool) -> Steps:
         """An end that goes up is a write of zeros at the new end; none goes down."""
