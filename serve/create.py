@@ -4,8 +4,8 @@ from __future__ import annotations
 import struct
 from typing import TYPE_CHECKING
 
-from smblease import (Access, Context, CreateAnswer, CreateAsk, CreateRequest, Created, LeaseState, Reply, Share, Status,
-                      append_context)
+from smblease import (Access, CloseRequest, Context, CreateAnswer, CreateAsk, CreateRequest, Created, LeaseState, Reply, Share,
+                      Status, append_context)
 
 from drive.headers import HEADER
 from serve.create_parameters import (ALLOCATION, CREATE, CREATED, DELETE_ON_CLOSE, DIRECTORY_FILE, KEPT_ATTRIBUTES, MAKING,
@@ -106,7 +106,7 @@ class Create:
         """An open of a file, and the contexts of its reply."""
         if any(conflicts(wanted, it) for it in node.opens):
             yield from self._resolve_conflicts(request, wanted, node)
-        before = (node.number, node.length, node.is_changed)
+        before = (node.number, node.length, node.stale_length)
         if wanted.empties and node.length:
             yield from self._empty(request, wanted, node)
         has_data = reads(wanted.access) or writes(wanted.access) or wanted.empties
@@ -120,6 +120,7 @@ class Create:
             return opened, b""
         client, contexts = self._machine_client(request, wanted, node)
         try:
+            yield from self._clear(request.client, node)
             reply = yield MachineRequest(client.number, wanted.machine_request(node, contexts))
             refuse_failed(reply)
         except StatusError:
@@ -127,6 +128,8 @@ class Create:
             if client.guid is None:
                 self._server.free(client)
             raise
+        if node.number != before[0]:
+            self._server.names.give_back(*before)
         opened, contexts = self._granted(request, wanted, node, client, reply)
         if node.is_gone or node.is_deleting:
             yield from self._server.close_open(opened)
@@ -135,6 +138,20 @@ class Create:
             yield from self._server.forced_breaks.break_all(request, opened)
         yield from self._break_for_deletion(request, opened)
         return opened, contexts if not client.open else self._oplock_contexts(opened)
+
+    def _clear(self, client: MachineClient, node: Node) -> Steps:
+        """Zeros in the place of what another file of this number had. Nobody has it open."""
+        if not node.stale_length:
+            return
+        made = yield MachineRequest(client.number, CreateRequest(node.number, Access.WRITE, Share.READ_WRITE, b""))
+        refuse_failed(made)
+        assert isinstance(made, Created)
+        write = client.next_write(made.file_id, 0, bytes(node.stale_length))
+        self._server.record.wrote(client, node.number, write)
+        reply = yield MachineRequest(client.number, write)
+        refuse_failed(reply)
+        yield MachineRequest(client.number, CloseRequest(made.file_id))
+        node.length = node.stale_length = 0
 
     def _break_for_deletion(self, request: Request, opened: Open) -> Steps:
         """Who deletes at its close has all others give up handles first."""

@@ -43,7 +43,8 @@ class Node:
     times: Times = field(default_factory=Times)
     length: int = 0
     allocated: int = 0
-    is_changed: bool = False
+    # how many bytes of another file, which had the number before, the machine still has
+    stale_length: int = 0
     is_deleting: bool = False
     is_gone: bool = False
     opens: list[Open] = field(default_factory=list)
@@ -84,7 +85,8 @@ class Namespace:
     def __init__(self) -> None:
         self._made = 0
         self._next = 1
-        self._free: list[int] = []
+        # numbers that were used, each with the bytes that the machine still has
+        self._free: list[tuple[int, int]] = []
         self._nodes: dict[str, Node] = {}
         self.root = self.make("", True)
 
@@ -95,32 +97,40 @@ class Namespace:
         return next((it for it in self._nodes.values() if it.number == number and not it.is_folder), None)
 
     def make(self, path: str, is_folder: bool) -> Node:
-        """A file of a name made anew has another number than one of that name had before, if that was changed."""
+        """A file of a name made anew has another number than one of that name had before, as long as there are others."""
         if path:
             self.check_folder_of(path)
-        number = 0 if is_folder else self.new_number()
+        number, stale_length = (0, 0) if is_folder else self._new_number()
         self._made += 1
-        node = Node(path, number, FOLDER if is_folder else ARCHIVE, self._made)
+        node = Node(path, number, FOLDER if is_folder else ARCHIVE, self._made, stale_length=stale_length)
         self._nodes[path.lower()] = node
         return node
 
-    def new_number(self) -> int:
-        if self._free:
-            return self._free.pop(0)
-        if self._next > MOST:
+    def _new_number(self) -> tuple[int, int]:
+        """A number that nothing was written under, as long as there is one; else the one that was given back first."""
+        found = next((it for it in self._free if not it[1]), None)
+        if found is None and self._next <= MOST:
+            self._next += 1
+            return self._next - 1, 0
+        if not self._free:
             raise StatusError(Status.INSUFFICIENT_RESOURCES)
-        self._next += 1
-        return self._next - 1
+        found = found or self._free[0]
+        self._free.remove(found)
+        return found
 
     def renumber(self, node: Node) -> None:
         """The file is empty from here on. Nobody has it open."""
-        node.number, node.length, node.is_changed = self.new_number(), 0, False
+        node.number, node.stale_length = self._new_number()
+        node.length = 0
 
-    def take_back(self, node: Node, before: tuple[int, int, bool]) -> None:
+    def give_back(self, number: int, length: int, stale_length: int) -> None:
+        self._free.append((number, max(length, stale_length)))
+
+    def take_back(self, node: Node, before: tuple[int, int, int]) -> None:
         """The file is the one that it was before it was emptied."""
         if node.number != before[0]:
-            self._free.append(node.number)
-            node.number, node.length, node.is_changed = before
+            self.give_back(node.number, node.length, node.stale_length)
+            node.number, node.length, node.stale_length = before
 
     def parent(self, path: str) -> Node | None:
         found = self.find(path.rpartition("\\")[0])
@@ -140,8 +150,8 @@ class Namespace:
                 self.remove(stream)
         del self._nodes[node.path.lower()]
         node.is_gone = True
-        if not node.is_folder and not node.is_changed:
-            self._free.append(node.number)
+        if not node.is_folder:
+            self.give_back(node.number, node.length, node.stale_length)
 
     def rename(self, node: Node, path: str) -> None:
         old = node.path

@@ -56,7 +56,7 @@ class ReadWriteLock:
         return Answer(Status.SUCCESS, struct.pack("<HH", 4, 0))
 
     def read(self, request: Request) -> Handling:
-        """The machine reads the whole file, of which the client gets its part."""
+        """The machine reads the whole file, of which the client gets its part; past the end it may have zeros of former files."""
         message = request.message
         message.expect(49)
         length, offset, least = message.number(HEADER + 4, 4), message.number(HEADER + 8, 8), message.number(HEADER + 32, 4)
@@ -68,7 +68,8 @@ class ReadWriteLock:
         client = opened.client if opened and opened.client else request.client
         reply = yield MachineRequest(client.number, ReadRequest(opened.file_id if opened else request.file_id()))
         refuse_failed(reply)
-        data = reply.data[offset:offset + length] if isinstance(reply, ReadDone) else b""
+        whole = reply.data if isinstance(reply, ReadDone) else b""
+        data = (whole[:opened.node.length] if opened else whole)[offset:offset + length]
         if length and len(data) < max(1, least):
             raise StatusError(Status.END_OF_FILE)
         if opened:

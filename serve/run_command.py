@@ -112,7 +112,7 @@ def named(folders: list[str], files: dict[str, bytes], record: Record) -> Namesp
             raise DriveFault(f"{path}: a name that can't be served, or more than {LARGEST} bytes")
         node = names.make(path, path not in files)
         if path in files:
-            node.length, node.is_changed = len(files[path]), bool(files[path])
+            node.length = len(files[path])
             record.start(node.number, files[path], path)
     return names
 

@@ -83,7 +83,7 @@ class Server:  # pylint: disable=too-many-instance-attributes  # its parts find 
         elif isinstance(out, Changed) and out.data:
             node = self.names.at(out.file)
             if node:
-                node.is_changed, node.length = True, max(node.length, out.offset + len(out.data))
+                node.length = max(node.length, out.offset + len(out.data))
                 node.times.written = node.times.changed = now()
 
     def broken(self, client: int, notification: bytes) -> None:

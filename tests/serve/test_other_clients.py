@@ -86,3 +86,11 @@ def test_a_password(start: Start, user: str, failures: int, status: int) -> None
     """A named user is refused with a wrong one, and a guest is served as before."""
     ends, output = ended(smbclient(start("--user", USER), "ls", user))
     assert (output.count("NT_STATUS_LOGON_FAILURE"), ends) == (failures, status), output
+
+
+@needs.program("smbclient")
+def test_smbclient_puts_one_name_again_and_again(served: ServerProcess, tmp_path: Path) -> None:
+    given, got = tmp_path / "given", tmp_path / "got"
+    given.write_bytes(b"given")
+    status, output = ended(smbclient(served, f"put {given} name; " * 260 + f"get name {got}"))
+    assert (status, "NT_STATUS" in output, got.read_bytes()) == (0, False, b"given"), output[-300:]
