@@ -275,8 +275,8 @@ class Create:
             contexts = append_context(contexts, Context(MOST_ACCESS, struct.pack("<LL", 0, ALL_ACCESS)))
         if ON_DISK in wanted.others:
             contexts = append_context(contexts, Context(ON_DISK, struct.pack("<QQ16s", node.identifier, 1, b"")))
-        if len(wanted.others.get(ALLOCATION, b"")) == 8 and not node.is_folder and action != OPENED:
-            node.allocated = -(-int.from_bytes(wanted.others[ALLOCATION], "little") // 4096) * 4096
+        if ALLOCATION in wanted.others and not node.is_folder and action != OPENED:
+            node.allocate(wanted.allocation)
         times = node.times
         body = struct.pack("<HBBLQQQQQQLLQQLL", 89, opened.level, 0, action, times.created, times.accessed, times.written,
                            times.changed, node.allocation, node.length, node.attributes or 0x80, 0, opened.file_id,

@@ -7,7 +7,7 @@ from uuid import UUID
 from smblease import Access, CreateAsk, CreateRequest, Fault, LeaseState, Share, Status, each_context
 
 from drive.headers import HEADER, create_name
-from serve.namespace import Node, path_of
+from serve.namespace import Node, check_size, path_of
 from serve.opens import BATCH, DELETE, EXCLUSIVE, LEASE, LEVEL_II, NO_LEVEL, SHARE_DELETE, Open, counts, reads, specific, writes
 from serve.packets import RequestMessage
 from serve.status_error import StatusError
@@ -41,6 +41,10 @@ class CreateParameters:
     @property
     def key(self) -> UUID | None:
         return self.ask.key if self.level == LEASE or self.ask.reconnect is not None else None
+
+    @property
+    def allocation(self) -> int:
+        return int.from_bytes(self.others.get(ALLOCATION, b"")[:8], "little")
 
     @property
     def empties(self) -> bool:
@@ -78,6 +82,7 @@ def check(wanted: CreateParameters) -> None:
     """What a create that reconnects isn't asked for."""
     if wanted.impersonation > 3 or wanted.disposition > OVERWRITE_IF or wanted.share > 7:
         raise StatusError(Status.INVALID_PARAMETER)
+    check_size(wanted.allocation)
     if not wanted.access or wanted.options & DELETE_ON_CLOSE and not wanted.access & DELETE:
         raise StatusError(Status.ACCESS_DENIED)
 

@@ -15,6 +15,9 @@ if TYPE_CHECKING:
 MOST = 255
 READ_ONLY, FOLDER, ARCHIVE, NORMAL = 0x1, 0x10, 0x20, 0x80
 FORBIDDEN = set('"*/<>?|') | {chr(code) for code in range(32)}
+# The bytes that a file may have, as the machine has it.
+LARGEST = 1048576
+UNIT = 4096
 # Seconds from 1601 to 1970.
 EPOCH = 11644473600
 
@@ -67,7 +70,16 @@ class Node:
 
     @property
     def allocation(self) -> int:
-        return max(self.allocated, -(-self.length // 4096) * 4096)
+        return -(-max(self.allocated, self.length) // UNIT) * UNIT
+
+    def allocate(self, size: int) -> None:
+        check_size(size)
+        self.allocated = size
+
+
+def check_size(size: int) -> None:
+    if size > LARGEST:
+        raise StatusError(Status.INVALID_PARAMETER)
 
 
 def path_of(name: str) -> str:

@@ -8,7 +8,7 @@ from smblease import CloseRequest, ReadDone, ReadRequest, Status
 
 from drive.headers import HEADER
 from serve.machine import Handling, MachineRequest, refuse_failed
-from serve.namespace import Node, now
+from serve.namespace import LARGEST, Node, now
 from serve.opens import Lock, Open, reads, writes
 from serve.packets import Answer, RequestMessage
 from serve.status_error import StatusError
@@ -17,7 +17,6 @@ if TYPE_CHECKING:
     from serve.request import Request
     from serve.server import Server
 
-LARGEST = 1048576
 MOST_OFFSET = 0xFFFFFFFF
 WITH_ATTRIBUTES = 1
 MOST_LOCKS = 1024
@@ -142,8 +141,10 @@ class ReadWriteLock:
 
 
 def _lock(message: RequestMessage, place: int) -> tuple[Lock, int]:
-    flags = message.number(place + 16, 4)
-    return Lock(message.number(place, 8), message.number(place + 8, 8), bool(flags & EXCLUSIVE)), flags
+    offset, length, flags = message.number(place, 8), message.number(place + 8, 8), message.number(place + 16, 4)
+    if offset + length > 1 << 64:
+        raise StatusError(Status.INVALID_LOCK_RANGE)
+    return Lock(offset, length, bool(flags & EXCLUSIVE)), flags
 
 
 def _unlock(opened: Open, wanted: list[Lock]) -> None:

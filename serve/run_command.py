@@ -17,14 +17,13 @@ from drive.commands import NOT_DRIVEN, SAFE, UNSAFE, ended
 from drive.faults import DriveFault, Usage
 from serve.event_loop import Loop
 from serve.listener import Listener, listening
-from serve.namespace import FORBIDDEN, MOST, Namespace
+from serve.namespace import FORBIDDEN, LARGEST, MOST, Namespace
 from serve.ntlm import Prover
 from serve.record import Record
 from serve.server import Server, Settings
 from serve.timer_control import Control
 
 LOG = logging.getLogger("serve")
-LARGEST = 1048576
 EPILOG = """It prints `port N`, and serves until it is ended by SIGINT or SIGTERM. With --record it then prints the verdict of the
 record. docs/REAL_SERVERS.md says what is the proved server's and what the shell's, and which rules a record can break.
 

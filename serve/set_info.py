@@ -8,11 +8,10 @@ from smblease import Status
 
 from drive.headers import HEADER
 from serve.machine import Handling, MachineRequest, Steps, refuse_failed
-from serve.namespace import READ_ONLY, Node, path_of
+from serve.namespace import READ_ONLY, Node, check_size, path_of
 from serve.opens import DELETE, WRITE_ATTRIBUTES, Open, writes
 from serve.packets import Answer
 from serve.query_info import FILE
-from serve.read_write_lock import LARGEST
 from serve.status_error import StatusError
 
 if TYPE_CHECKING:
@@ -21,8 +20,16 @@ if TYPE_CHECKING:
 
 BASIC, RENAME, DISPOSITION, POSITION, MODE, ALLOCATION, END_OF_FILE = 4, 10, 13, 14, 16, 19, 20
 LEAST = {BASIC: 36, RENAME: 20, DISPOSITION: 1, POSITION: 8, MODE: 4, ALLOCATION: 8, END_OF_FILE: 8}
-UNCHANGED = (0, 0xFFFFFFFFFFFFFFFF, 0xFFFFFFFFFFFFFFFE)
+UNCHANGED = [it.to_bytes(8, "little", signed=True) for it in (0, -1, -2)]
 KEPT_ATTRIBUTES = 0x1 | 0x2 | 0x4 | 0x10 | 0x20 | 0x100 | 0x2000
+
+
+def signed(data: bytes) -> int:
+    """A number with a sign, which isn't below 0."""
+    value = int.from_bytes(data, "little", signed=True)
+    if value < 0:
+        raise StatusError(Status.INVALID_PARAMETER)
+    return value
 
 
 class SetInfo:
@@ -46,7 +53,7 @@ class SetInfo:
         elif number == DISPOSITION:
             yield from self._dispose(request, opened, bool(data[0]))
         elif number == POSITION:
-            opened.position = int.from_bytes(data[:8], "little")
+            opened.position = signed(data[:8])
         elif number in (ALLOCATION, END_OF_FILE):
             yield from self._resize(opened, int.from_bytes(data[:8], "little"), number == END_OF_FILE)
         return Answer(Status.SUCCESS, struct.pack("<H", 2))
@@ -55,11 +62,11 @@ class SetInfo:
     def _set_basic(opened: Open, data: bytes) -> None:
         if not opened.access & WRITE_ATTRIBUTES:
             raise StatusError(Status.ACCESS_DENIED)
-        created, accessed, written, changed, attributes = struct.unpack_from("<QQQQL", data)
-        node = opened.node
-        for name, value in (("created", created), ("accessed", accessed), ("written", written), ("changed", changed)):
-            if value not in UNCHANGED:
-                setattr(node.times, name, value)
+        node, attributes = opened.node, int.from_bytes(data[32:36], "little")
+        times = [data[place:place + 8] for place in range(0, 32, 8)]
+        names = ("created", "accessed", "written", "changed")
+        for name, value in [(name, signed(it)) for name, it in zip(names, times) if it not in UNCHANGED]:
+            setattr(node.times, name, value)
         if attributes:
             node.attributes = attributes & KEPT_ATTRIBUTES & ~0x10 | node.attributes & 0x10
 
@@ -123,13 +130,12 @@ class SetInfo:
         node = opened.node
         if opened.client is None or not writes(opened.access):
             raise StatusError(Status.ACCESS_DENIED)
-        if not is_end and size >= node.length:
-            node.allocated = -(-size // 4096) * 4096
-            return
+        check_size(size)
         if size < node.length:
             raise StatusError(Status.NOT_SUPPORTED)
-        if size > LARGEST:
-            raise StatusError(Status.INVALID_PARAMETER)
+        if not is_end:
+            node.allocate(size)
+            return
         client = opened.client
         is_longer = size > node.length
         write = client.next_write(opened.file_id, size - 1, b"\0") if is_longer else client.next_write(opened.file_id, 0, b"")

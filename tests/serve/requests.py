@@ -57,8 +57,12 @@ def close(file_id: int) -> Body:
     return Command.CLOSE, struct.pack("<HHL16s", 24, 1, 0, wire(file_id))
 
 
-def lock(file_id: int, flags: int = 2 | 16) -> Body:
-    return Command.LOCK, struct.pack("<HHL16sQQLL", 48, 1, 0, wire(file_id), 0, 1, flags, 0)
+def lock(file_id: int, flags: int = 2 | 16, offset: int = 0, length: int = 1) -> Body:
+    return Command.LOCK, struct.pack("<HHL16sQQLL", 48, 1, 0, wire(file_id), offset, length, flags, 0)
+
+
+def query_info(file_id: int, kind: int) -> Body:
+    return Command.QUERY_INFO, struct.pack("<HBBLHHLLL16s", 41, 1, kind, 4096, 0, 0, 0, 0, 0, wire(file_id)) + b"\0"
 
 
 def set_info(file_id: int, kind: int, data: bytes) -> Body:
@@ -88,7 +92,7 @@ def on_open(file_id: int) -> list[Body]:
     of_file = wire(file_id)
     return [
         write(file_id), read(file_id), (Command.FLUSH, struct.pack("<HHL16s", 24, 0, 0, of_file)), lock(file_id),
-        (Command.QUERY_INFO, struct.pack("<HBBLHHLLL16s", 41, 1, 18, 4096, 0, 0, 0, 0, 0, of_file) + b"\0"),
+        query_info(file_id, 18),
         set_info(file_id, 20, struct.pack("<Q", 100)), rename(file_id, NEW_NAME),
         set_info(file_id, 4, struct.pack("<QQQQLL", 1, 2, 3, 4, 0x20, 0)), query_directory(file_id),
         (Command.IOCTL, struct.pack("<HHL16sLLLLLLLL", 57, 0, 0x00140204, of_file, 120, 4, 0, 0, 0, 100, 1, 0) + b"abcd"),
