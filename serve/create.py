@@ -122,7 +122,7 @@ class Create:
         try:
             yield from self._clear(request.client, node)
             reply = yield MachineRequest(client.number, wanted.machine_request(node, contexts))
-            refuse_failed(reply)
+            yield from self._refuse_late(request, client, reply)
         except StatusError:
             self._server.names.take_back(node, before)
             if client.guid is None:
@@ -138,6 +138,17 @@ class Create:
             yield from self._server.forced_breaks.break_all(request, opened)
         yield from self._break_for_deletion(request, opened)
         return opened, contexts if not client.open else self._oplock_contexts(opened)
+
+    @staticmethod
+    def _refuse_late(request: Request, client: MachineClient, reply: Reply) -> Steps:
+        """What was refused, and what is answered once its tree or session is gone: that is closed again."""
+        refuse_failed(reply)
+        try:
+            request.require_tree()
+        except StatusError:
+            if isinstance(reply, Created):
+                yield MachineRequest(client.number, CloseRequest(reply.file_id))
+            raise
 
     def _clear(self, client: MachineClient, node: Node) -> Steps:
         """Zeros in the place of what another file of this number had. Nobody has it open."""
@@ -240,8 +251,7 @@ class Create:
             is_named = opened and not opened.is_connected and opened.client is request.client and opened.key == wanted.key
             raise StatusError(Status.INVALID_PARAMETER if is_named else Status.OBJECT_NAME_NOT_FOUND)
         reply = yield MachineRequest(request.client.number, wanted.machine_request(node, wanted.contexts))
-        refuse_failed(reply)
-        return self._reconnected(request, wanted, reply)
+        return (yield from self._reconnected(request, wanted, request.client, reply))
 
     def _reconnect_oplock(self, request: Request, wanted: CreateParameters, opened: Open) -> Handling:
         client = opened.client
@@ -253,10 +263,15 @@ class Create:
         reply = yield MachineRequest(client.number, create)
         if not isinstance(reply, Created):
             self._server.forget_open(opened)
-        refuse_failed(reply)
-        return self._reconnected(request, wanted, reply)
+        return (yield from self._reconnected(request, wanted, client, reply))
 
-    def _reconnected(self, request: Request, wanted: CreateParameters, reply: Reply) -> Answer:
+    def _reconnected(self, request: Request, wanted: CreateParameters, client: MachineClient, reply: Reply) -> Handling:
+        try:
+            yield from self._refuse_late(request, client, reply)
+        except StatusError:
+            if isinstance(reply, Created):
+                self._server.forget_open(self._server.opens[reply.file_id])
+            raise
         assert isinstance(reply, Created)
         opened = self._server.opens[reply.file_id]
         self._server.stop_timer(opened)

@@ -101,6 +101,23 @@ def on_open(file_id: int) -> list[Body]:
     ]
 
 
+def tree_connect(share: str = "share") -> Body:
+    path = f"\\\\server\\{share}".encode("utf-16le")
+    return Command.TREE_CONNECT, struct.pack("<HHHH", 9, 0, 72, len(path)) + path
+
+
+def session_setup(token: bytes, previous: int = 0, mode: int = 1) -> Body:
+    return Command.SESSION_SETUP, struct.pack("<HBBLLHHQ", 25, 0, mode, 0, 0, 88, len(token), previous) + token
+
+
+def ntlm_tokens(name: str) -> list[bytes]:
+    """A NEGOTIATE_MESSAGE and an AUTHENTICATE_MESSAGE of this name, without a password (MS-NLMP 2.2.1.1, 2.2.1.3)."""
+    text = name.encode("utf-16le")
+    empty, fields = struct.pack("<HHL", 0, 0, 64), struct.pack("<HHL", len(text), len(text), 64)
+    authenticate = b"NTLMSSP\0" + struct.pack("<L", 3) + empty * 3 + fields + empty * 2 + struct.pack("<L", 0x00080201) + text
+    return [b"NTLMSSP\0" + struct.pack("<LL", 1, 0x00080201) + bytes(16), authenticate]
+
+
 ECHO: Body = (Command.ECHO, struct.pack("<HH", 4, 0))
 PLAIN: list[Body] = [
     ECHO, (Command.NEGOTIATE, struct.pack("<HHHHL16sQHH", 36, 2, 1, 0, 0, b"g" * 16, 0, 0x0202, 0x0210)),

@@ -11,7 +11,7 @@ from smblease import Status
 from drive.connections import Connection
 from drive.headers import UNASKED, Message
 from drive.place import Place
-from tests.serve.requests import Body, frame, header
+from tests.serve.requests import Body, frame, header, ntlm_tokens, session_setup, tree_connect
 
 SECONDS = 20.0
 
@@ -67,6 +67,19 @@ class WireClient:
         message = self.ask(body)
         assert message.status == Status.SUCCESS, hex(message.status)
         return file_id(message)
+
+    def connect_tree(self) -> None:
+        self.tree = self.ask(tree_connect()).tree
+
+    def set_up_another_session(self, name: str = "guest") -> int:
+        """One more session of a guest on this connection, which the client doesn't use."""
+        used, self.session = self.session, 0
+        for token in ntlm_tokens(name):
+            message = self.ask(session_setup(token))
+            self.session = message.session
+        assert message.status == Status.SUCCESS, hex(message.status)
+        made, self.session = self.session, used
+        return made
 
     def has_more(self, seconds: float) -> bool:
         return bool(select.select([self.stream], [], [], seconds)[0])
