@@ -12,7 +12,7 @@ from drive.headers import ASYNC, FROM_SERVER, UNASKED as NOTIFICATION, Command, 
 from serve.event_loop import WRITE
 from serve.machine import Handling, Task
 from serve.opens import MachineClient
-from serve.packets import Answer, Credits, Frames, RequestMessage, Response, framed, signed, split_compound
+from serve.packets import Answer, Credits, Frames, RequestMessage, Response, framed, split_compound
 from serve.request import WITHOUT_SESSION, WITHOUT_TREE, Request
 from serve.sessions import ANY_DIALECT, Session, negotiated
 from serve.status_error import StatusError
@@ -189,9 +189,7 @@ class Connection:
         if len(self._pending) > MOST_PENDING:
             raise StatusError(Status.INSUFFICIENT_RESOURCES)
         if message.command not in WITHOUT_SESSION:
-            key = request.session.key
-            if key and message.is_signed and signed(message.data, key) != message.data:
-                raise StatusError(Status.ACCESS_DENIED)
+            request.session.check_signature(message)
         if message.command not in WITHOUT_TREE:
             request.require_tree()
         return (yield from handler(request))
@@ -234,6 +232,12 @@ class Connection:
         wanted = message.async_id
         found = next((it for it in self._pending.values() if it.async_id == wanted), None) if wanted is not None \
             else self._pending.get(message.identifier)
+        session = self.sessions.get(found.request.session_id) if found else None
+        try:
+            if session:
+                session.check_signature(message)
+        except StatusError:
+            return
         if found and found.request.message.command is Command.CREATE and not found.is_answered:
             found.is_answered = found.request.is_cancelled = True
             found.chain.answered(found, Answer(Status.CANCELLED))

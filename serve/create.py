@@ -232,7 +232,7 @@ class Create:
 
     def _kept(self, request: Request, wanted: CreateParameters, node: Node, file_id: int) -> Open:
         opened = Open(file_id, node, wanted.access, wanted.share, request.connection, request.session, request.tree,
-                      deletes=bool(wanted.options & DELETE_ON_CLOSE))
+                      deletes=bool(wanted.options & DELETE_ON_CLOSE), owner=request.session.owner)
         node.opens.append(opened)
         self._server.opens[file_id] = opened
         return opened
@@ -244,6 +244,8 @@ class Create:
     def _reconnect(self, request: Request, wanted: CreateParameters) -> Handling:
         """A durable open is connected again (3.3.5.9.7). An oplock's has a client and a key of its own."""
         opened = self._server.opens.get(wanted.ask.reconnect or 0)
+        if opened and opened.is_durable and opened.owner != request.session.owner:
+            raise StatusError(Status.ACCESS_DENIED)
         if opened and opened.client and opened.client.open is opened:
             return (yield from self._reconnect_oplock(request, wanted, opened))
         node = self._server.names.find(wanted.path)

@@ -77,6 +77,7 @@ class Open:  # pylint: disable=too-many-instance-attributes  # it has the state 
     level: int = NO_LEVEL
     is_durable: bool = False
     deletes: bool = False
+    owner: str = ""
     position: int = 0
     locks: list[Lock] = field(default_factory=list)
     # the machine's open may do more than this one

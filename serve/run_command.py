@@ -18,7 +18,7 @@ from drive.faults import DriveFault, Usage
 from serve.event_loop import Loop
 from serve.listener import Listener, listening
 from serve.namespace import FORBIDDEN, LARGEST, MOST, Namespace
-from serve.ntlm import Prover
+from serve.ntlm import User
 from serve.record import Record
 from serve.server import Server, Settings
 from serve.timer_control import Control
@@ -40,7 +40,8 @@ def parser() -> argparse.ArgumentParser:
     made.add_argument("--folder", metavar="DIR", help="the share begins with the files of this folder, which stay as they are")
     made.add_argument("--record", metavar="FILE", help="write the record there, and have it judged at the end")
     made.add_argument("--user", metavar="USER%PASSWORD",
-                      help="a user whose sessions are signed, which needs impacket; all others are guests")
+                      help="a user, whose sessions are signed, in place of guests; needs impacket")
+    made.add_argument("--guests", action="store_true", help="let guests in beside the user, whose client then chooses to sign")
     made.add_argument("--break-timer", type=float, default=35.0, metavar="S", help="seconds that a break is waited for (35)")
     made.add_argument("--durable-timer", type=float, default=960.0, metavar="S",
                       help="seconds that a durable open is kept without a connection (960)")
@@ -52,7 +53,7 @@ def parser() -> argparse.ArgumentParser:
     return made
 
 
-def prover_of(user: str | None) -> Prover | None:
+def user_of(user: str | None) -> User | None:
     if user is None:
         return None
     name, percent, password = user.partition("%")
@@ -60,11 +61,11 @@ def prover_of(user: str | None) -> Prover | None:
         raise Usage("--user is USER%PASSWORD")
     try:
         # Guests are served without that package.
-        from serve.named_user import User  # pylint: disable=import-outside-toplevel
+        from serve.named_user import NamedUser  # pylint: disable=import-outside-toplevel
     except ImportError:
         raise DriveFault("--user needs impacket, which can't be imported (tools/setup installs it); "
                          "guests don't need it") from None
-    return User(name, password)
+    return NamedUser(name, password)
 
 
 def settings_of(arguments: argparse.Namespace) -> Settings:
@@ -74,7 +75,10 @@ def settings_of(arguments: argparse.Namespace) -> Settings:
         raise Usage("--share is a name")
     if not 0 < arguments.break_timer < 1e9 or not 0 < arguments.durable_timer < 1e9:
         raise Usage("timers are more than 0 seconds")
-    return Settings(arguments.share, prover_of(arguments.user), arguments.break_timer, arguments.durable_timer, arguments.apart)
+    if arguments.guests and arguments.user is None:
+        raise Usage("--guests goes with --user; without one all are guests")
+    return Settings(arguments.share, user_of(arguments.user), arguments.break_timer, arguments.durable_timer, arguments.apart,
+                    arguments.guests or arguments.user is None)
 
 
 def files_in(folder: str | None) -> tuple[list[str], dict[str, bytes]]:

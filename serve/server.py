@@ -19,7 +19,7 @@ from serve.leases import Leases
 from serve.machine import Handling, Machine, MachineRequest, Steps, Task
 from serve.machine_clients import MachineClients
 from serve.namespace import Namespace, now
-from serve.ntlm import Prover
+from serve.ntlm import User
 from serve.opens import OWN_FILE_IDS, LeaseSeen, MachineClient, Open
 from serve.packets import Answer
 from serve.query_directory import QueryDirectory
@@ -37,11 +37,12 @@ LOG = logging.getLogger("serve")
 @dataclass(frozen=True)
 class Settings:
     share: str
-    user: Prover | None = None
+    user: User | None = None
     break_timer: float = 35.0
     durable_timer: float = 960.0
     # whether an open without a lease, beside a lease of its client, is a client of the machine by itself
     is_apart: bool = False
+    has_guests: bool = True
 
 
 class Server:  # pylint: disable=too-many-instance-attributes  # its parts find one another by it

@@ -118,9 +118,13 @@ def ntlm_tokens(name: str) -> list[bytes]:
     return [b"NTLMSSP\0" + struct.pack("<LL", 1, 0x00080201) + bytes(16), authenticate]
 
 
+def negotiate(guid: bytes) -> Body:
+    return Command.NEGOTIATE, struct.pack("<HHHHL16sQHH", 36, 2, 1, 0, 0, guid, 0, 0x0202, 0x0210)
+
+
 ECHO: Body = (Command.ECHO, struct.pack("<HH", 4, 0))
 PLAIN: list[Body] = [
-    ECHO, (Command.NEGOTIATE, struct.pack("<HHHHL16sQHH", 36, 2, 1, 0, 0, b"g" * 16, 0, 0x0202, 0x0210)),
+    ECHO, negotiate(b"g" * 16),
     (Command.SESSION_SETUP, struct.pack("<HBBLLHHQ", 25, 0, 1, 0, 0, 88, 12, 0) + b"NTLMSSP\0\1\0\0\0"),
     (Command.TREE_CONNECT, struct.pack("<HHHH", 9, 0, 72, 22) + "\\\\a\\share".encode("utf-16le") + bytes(6)),
     (Command.CANCEL, struct.pack("<HH", 4, 0)), acknowledgment(KEY, "RH"), acknowledgment(OTHER_KEY, "none"),

@@ -11,7 +11,7 @@ from smblease import Status
 from serve.create_parameters import CREATE, DELETE_ON_CLOSE, DIRECTORY_FILE, OPEN
 from serve.server_process import ServerProcess
 from tests.serve.conftest import Connect
-from tests.serve.requests import KEY, Body, acknowledgment, close, create, read, rename, set_info, write, leased
+from tests.serve.requests import KEY, Body, acknowledgment, close, create, leased, read, rename, set_info, write
 
 if TYPE_CHECKING:
     from tests.serve.wire_client import WireClient
