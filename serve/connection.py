@@ -12,7 +12,8 @@ from drive.headers import ASYNC, FROM_SERVER, UNASKED as NOTIFICATION, Command, 
 from serve.event_loop import WRITE
 from serve.machine import Handling, Task
 from serve.opens import MachineClient
-from serve.packets import Answer, Credits, Frames, RequestMessage, Response, framed, split_compound
+from serve.packets import (LONGEST_FRAME, LONGEST_WITHOUT_SESSION, MOST_IN_FRAME, Answer, Credits, Frames, RequestMessage,
+                           Response, framed, split_compound)
 from serve.request import WITHOUT_SESSION, WITHOUT_TREE, Request
 from serve.sessions import ANY_DIALECT, Session, negotiated
 from serve.status_error import StatusError
@@ -22,7 +23,8 @@ if TYPE_CHECKING:
 
 LOG = logging.getLogger("serve")
 AT_ONCE = 1 << 18
-MOST_UNSENT = 1 << 26
+# Past so many bytes that a client hasn't read its requests wait; it is closed past more of them, or where all have too many.
+UNREAD, MOST_UNREAD, MOST_UNREAD_OF_ALL = 1 << 20, 1 << 24, 1 << 27
 MOST_PENDING = 512
 OLD_PROTOCOL, PROTOCOL = b"\xffSMB", b"\xfeSMB"
 OLD_NEGOTIATE = 0x72
@@ -83,6 +85,8 @@ class Chain:
         if message.command is Command.CREATE and answer.status >> 30 == 3:
             self._failed = answer.status
         self._responses.append(self._connection.response(pending, answer, self._session, self._tree))
+        if sum(len(it.body) for it in self._responses) > UNREAD:
+            self.send()
         self._is_waiting = False
         # The last answer goes at once: what the machine tells next may be for the same client.
         if self._requests:
@@ -92,8 +96,8 @@ class Chain:
 
 
 class Connection:
-    def __init__(self, server: Server, stream: socket.socket) -> None:
-        self.server = server
+    def __init__(self, server: Server, stream: socket.socket, address: str) -> None:
+        self.server, self.address = server, address
         self.guid: bytes | None = None
         self.is_negotiated = False
         self.is_open = True
@@ -112,6 +116,7 @@ class Connection:
             self._write()
         if events & ~WRITE and self.is_open:
             self._read()
+        self._take_frames()
 
     def _read(self) -> None:
         try:
@@ -124,21 +129,24 @@ class Connection:
             self.close()
             return
         self._frames.add(data)
+
+    def _take_frames(self) -> None:
+        """What came, as long as the client reads what it is answered."""
         try:
-            while self.is_open:
-                frame = self._frames.next()
+            while self.is_open and len(self._unsent) <= UNREAD:
+                frame = self._frames.next(LONGEST_FRAME if self.client else LONGEST_WITHOUT_SESSION)
                 if frame is None:
                     break
-                self._framed(frame)
+                self._take(frame)
         except Unreadable:
             self.close()
 
-    def _framed(self, frame: bytes) -> None:
+    def _take(self, frame: bytes) -> None:
         if frame[:4] == OLD_PROTOCOL:
             self._old_negotiate(frame)
         elif frame:
             chains: list[list[RequestMessage]] = []
-            for message in split_compound(frame):
+            for message in split_compound(frame, MOST_IN_FRAME if self.is_negotiated else 1):
                 self._credit(message)
                 if message.command is Command.CANCEL:
                     self._cancel(message)
@@ -251,9 +259,13 @@ class Connection:
             return
         is_waiting = bool(self._unsent)
         self._unsent += data
-        if not is_waiting:
+        self.server.unread += len(data)
+        if is_waiting:
+            self._watch()
+        else:
             self._write()
-        elif len(self._unsent) > MOST_UNSENT:
+        unread = len(self._unsent)
+        if unread > MOST_UNREAD or unread > UNREAD and self.server.unread > MOST_UNREAD_OF_ALL:
             self.server.close_soon(self)
 
     def _write(self) -> None:
@@ -265,7 +277,11 @@ class Connection:
             self.server.close_soon(self)
             return
         del self._unsent[:sent]
-        self.server.loop.watch_writing(self._stream, self._ready, bool(self._unsent))
+        self.server.unread -= sent
+        self._watch()
+
+    def _watch(self) -> None:
+        self.server.loop.watch_for(self._stream, self._ready, reads=len(self._unsent) <= UNREAD, writes=bool(self._unsent))
 
     def close(self) -> None:
         if not self.is_open:
@@ -273,4 +289,5 @@ class Connection:
         self.is_open = False
         self.server.loop.forget(self._stream)
         self._stream.close()
+        self.server.unread -= len(self._unsent)
         self.server.connection_lost(self)

@@ -201,7 +201,7 @@ class Create:
         if wanted.level == NO_LEVEL and self._server.settings.is_apart and is_beside:
             told = f"an open of client {request.client.number} without a lease"
             return self._server.borrow(request.connection, told), wanted.lease_contexts
-        if wanted.level in (LEASE, NO_LEVEL):
+        if wanted.level in (LEASE, NO_LEVEL) or not self._server.clients.has_room_for_oplock:
             return request.client, wanted.lease_contexts
         others = any(it.client and (it.is_connected or not self._may_write(it)) for it in node.opens)
         state = LeaseState.R if others else oplock_state(wanted.level)

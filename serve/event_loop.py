@@ -53,8 +53,8 @@ class Loop:
     def watch(self, stream: Watched, ready: Callable[[int], None]) -> None:
         self._selector.register(stream, READ, ready)
 
-    def watch_writing(self, stream: Watched, ready: Callable[[int], None], writes: bool) -> None:
-        self._selector.modify(stream, READ | WRITE if writes else READ, ready)
+    def watch_for(self, stream: Watched, ready: Callable[[int], None], reads: bool, writes: bool) -> None:
+        self._selector.modify(stream, READ * reads | WRITE * writes, ready)
 
     def forget(self, stream: Watched) -> None:
         self._selector.unregister(stream)

@@ -46,9 +46,9 @@ class Listener:
     def _watch(self) -> None:
         self._server.loop.watch(self._stream, self._ready)
 
-    def _ready(self, _: int) -> None:
+    def _ready(self, _events: int) -> None:
         try:
-            stream, _ = self._stream.accept()
+            stream, (address, *_) = self._stream.accept()
             stream.setsockopt(socket.IPPROTO_TCP, socket.TCP_NODELAY, 1)
         except (BlockingIOError, ConnectionError):
             return
@@ -57,4 +57,4 @@ class Listener:
             self._server.loop.forget(self._stream)
             self._server.loop.after(PAUSE, self._watch)
             return
-        Connection(self._server, stream)
+        Connection(self._server, stream, str(address))

@@ -12,6 +12,7 @@ from smblease import Status
 from drive.headers import Unreadable
 from serve import spnego
 from serve.namespace import now
+from serve.password_brake import PasswordBrake
 from serve.status_error import StatusError
 
 NAME = "LEASECHECK"
@@ -49,9 +50,10 @@ class User(Protocol):
 class Authentication:
     """The messages of one authentication. `owner` is who proved to be there; `key` that of a session that may be signed."""
 
-    def __init__(self, user: User | None, has_guests: bool) -> None:
+    def __init__(self, user: User | None, has_guests: bool, brake: PasswordBrake, address: str) -> None:
         self._user = user
         self._has_guests = has_guests
+        self._brake, self._address = brake, address
         self._negotiate = self._challenge = self._mechanisms = b""
         self.owner = ""
         self.key: bytes | None = None
@@ -85,11 +87,13 @@ class Authentication:
     def _authenticate(self, message: bytes) -> None:
         name = user_name(message).lower()
         if self._user and name == self._user.name.lower():
+            self._brake.check(self._address)
             self.owner, self.key = f"user {name}", self._user.key(self._negotiate, self._challenge, message)
         elif self._has_guests:
             self.owner = f"guest {name}"
             return
         if self.key is None:
+            self._brake.failed(self._address)
             raise StatusError(Status.LOGON_FAILURE)
 
     def _mic(self, token: spnego.Token) -> bytes:

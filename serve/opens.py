@@ -119,6 +119,8 @@ class MachineClient:
     writes: int = 0
     sent: int = 0
     took: int = 0
+    # when its connection was lost
+    left: float = 0.0
     # the key of an oplock's lease
     own_key: UUID = field(default_factory=lambda: UUID(bytes=b"oplock" + os.urandom(10)))
 

@@ -37,7 +37,8 @@ def parser() -> argparse.ArgumentParser:
     made.add_argument("--port", type=int, required=True, metavar="N", help="the port; 0 for a free one")
     made.add_argument("--share", required=True, metavar="NAME", help="the name of the share")
     made.add_argument("--address", default="127.0.0.1", metavar="A", help="where to listen (127.0.0.1)")
-    made.add_argument("--folder", metavar="DIR", help="the share begins with the files of this folder, which stay as they are")
+    made.add_argument("--folder", metavar="DIR",
+                      help="the share begins with the files of this folder, which stay as they are; links in it aren't followed")
     made.add_argument("--record", metavar="FILE", help="write the record there, and have it judged at the end")
     made.add_argument("--user", metavar="USER%PASSWORD",
                       help="a user, whose sessions are signed, in place of guests; needs impacket")
@@ -95,11 +96,15 @@ def files_in(folder: str | None) -> tuple[list[str], dict[str, bytes]]:
             path = os.path.relpath(place, folder).replace("/", "\\")
             if path != ".":
                 folders.append(path)
-            for name in sorted(names):
-                if not os.path.isfile(os.path.join(place, name)):
-                    raise DriveFault(f"{os.path.join(place, name)}: no plain file")
-                with open(os.path.join(place, name), "rb") as stream:
-                    files[f"{path}\\{name}" if path != "." else name] = stream.read(LARGEST + 1)
+            for name in sorted([*names, *below]):
+                found = os.path.join(place, name)
+                if os.path.islink(found):
+                    LOG.warning("%s: a link, which isn't followed", found)
+                elif name in names and not os.path.isfile(found):
+                    raise DriveFault(f"{found}: no plain file")
+                elif name in names:
+                    with open(os.open(found, os.O_RDONLY | os.O_NOFOLLOW), "rb") as stream:
+                        files[f"{path}\\{name}" if path != "." else name] = stream.read(LARGEST + 1)
     except OSError as fault:
         raise DriveFault(f"{fault.filename}: {fault.strerror}") from None
     return folders, files

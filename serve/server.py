@@ -3,6 +3,7 @@ from __future__ import annotations
 
 import logging
 import os
+import time
 import uuid
 from collections.abc import Callable
 from dataclasses import dataclass
@@ -22,6 +23,7 @@ from serve.namespace import Namespace, now
 from serve.ntlm import User
 from serve.opens import OWN_FILE_IDS, LeaseSeen, MachineClient, Open
 from serve.packets import Answer
+from serve.password_brake import PasswordBrake
 from serve.query_directory import QueryDirectory
 from serve.query_info import QueryInfo
 from serve.read_write_lock import ReadWriteLock
@@ -32,6 +34,8 @@ from serve.set_info import SetInfo
 from serve.status_error import StatusError
 
 LOG = logging.getLogger("serve")
+# Durable opens that a client leaves, the newest of them.
+MOST_KEPT = 64
 
 
 @dataclass(frozen=True)
@@ -56,6 +60,9 @@ class Server:  # pylint: disable=too-many-instance-attributes  # its parts find 
         self.opens: dict[int, Open] = {}
         self.sessions: dict[int, Session] = {}
         self.begun: list[Pending] = []
+        # bytes that clients haven't read yet
+        self.unread = 0
+        self.brake = PasswordBrake()
         self.last_session = int.from_bytes(os.urandom(6), "little") << 8
         self.last_async = 0
         self.leases = Leases(self)
@@ -147,12 +154,19 @@ class Server:  # pylint: disable=too-many-instance-attributes  # its parts find 
         """A client is connected, once at a time (profile)."""
         if connection.client or connection.guid is None:
             return
-        client = self.clients.of_guid(connection.guid) or self.clients.take(connection.guid)
+        client = self.clients.of_guid(connection.guid) or self._take_client(connection.guid)
         if client.connection:
             raise StatusError(Status.REQUEST_NOT_ACCEPTED)
         client.connection, connection.client = connection, client
         self.record.joined(client, str(uuid.UUID(bytes=connection.guid)))
         self.machine.say(f"join {client.number}")
+
+    def _take_client(self, guid: bytes | None) -> MachineClient:
+        """Where all are taken, the one that has been away longest loses what it left."""
+        away = self.clients.longest_away() if self.clients.is_full else None
+        for opened in [it for it in self.opens.values() if it.client is away and away]:
+            self.scavenge(opened.file_id)
+        return self.clients.take(guid)
 
     def close_soon(self, connection: Connection) -> None:
         self.loop.after(0, connection.close)
@@ -174,11 +188,13 @@ class Server:  # pylint: disable=too-many-instance-attributes  # its parts find 
         cut = [client, *(it for it in self.clients.of(connection) if it is not client)]
         connection.client = None
         for one in cut:
-            one.connection = None
+            one.connection, one.left = None, time.monotonic()
             self.record.dropped(one)
             self.machine.say(f"cut {one.number}")
         for opened in opens:
             self._keep_or_forget(opened)
+        for opened in [it for it in opens if it.file_id in self.opens][:-MOST_KEPT]:
+            self.scavenge(opened.file_id)
         self.machine.abandon({it.number for it in cut}, Status.USER_SESSION_DELETED)
         self.settle()
 
@@ -265,7 +281,7 @@ class Server:  # pylint: disable=too-many-instance-attributes  # its parts find 
 
     def borrow(self, connection: Connection, told: str) -> MachineClient:
         """A client of the machine for one open of a connection."""
-        client = self.clients.take(None)
+        client = self._take_client(None)
         self.join_machine(client, connection, told)
         return client
 

@@ -97,7 +97,8 @@ class Sessions:
             raise StatusError(Status.USER_SESSION_DELETED)
         settings = self._server.settings
         session.check_signature(message)
-        current = session.authentication = session.authentication or Authentication(settings.user, settings.has_guests)
+        current = session.authentication = session.authentication or Authentication(
+            settings.user, settings.has_guests, self._server.brake, connection.address)
         try:
             reply = current.reply(token)
             if current.is_over:

@@ -123,6 +123,7 @@ class Status(enum.IntEnum):
     INVALID_LOCK_RANGE = 0xC00001A1
     USER_SESSION_DELETED = 0xC0000203
     NOT_FOUND = 0xC0000225
+    ACCOUNT_LOCKED_OUT = 0xC0000234
 
 
 # The statuses that lines of the machines have by name (docs/FORMATS.md).
