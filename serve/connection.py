@@ -1,15 +1,14 @@
 """A connection: its bytes, its requests in their compounds, and what is answered."""
 from __future__ import annotations
 
+import asyncio
 import logging
-import socket
 from collections.abc import Callable
 from typing import TYPE_CHECKING
 
 from smblease import Status
 
 from drive.headers import ASYNC, FROM_SERVER, UNASKED as NOTIFICATION, Command, Unreadable
-from serve.event_loop import WRITE
 from serve.machine import Handling, Task
 from serve.opens import MachineClient
 from serve.packets import (LONGEST_FRAME, LONGEST_WITHOUT_SESSION, MOST_IN_FRAME, Answer, Credits, Frames, RequestMessage,
@@ -22,7 +21,6 @@ if TYPE_CHECKING:
     from serve.server import Server
 
 LOG = logging.getLogger("serve")
-AT_ONCE = 1 << 18
 # Past so many bytes that a client hasn't read its requests wait; it is closed past more of them, or where all have too many.
 UNREAD, MOST_UNREAD, MOST_UNREAD_OF_ALL = 1 << 20, 1 << 24, 1 << 27
 MOST_PENDING = 512
@@ -95,45 +93,55 @@ class Chain:
             self.send()
 
 
-class Connection:
-    def __init__(self, server: Server, stream: socket.socket, address: str) -> None:
-        self.server, self.address = server, address
+class Connection(asyncio.Protocol):
+    def __init__(self, server: Server) -> None:
+        self.server = server
+        self.address = ""
         self.guid: bytes | None = None
         self.is_negotiated = False
         self.is_open = True
         self.client: MachineClient | None = None
         self.sessions: dict[int, Session] = {}
-        self._stream = stream
+        self._transport = asyncio.Transport()
         self._frames = Frames()
         self._credits = Credits()
-        self._unsent = bytearray()
+        self._is_unread = False
         self._pending: dict[int, Pending] = {}
-        stream.setblocking(False)
-        server.loop.watch(stream, self._ready)
 
-    def _ready(self, events: int) -> None:
-        if events & WRITE:
-            self._write()
-        if events & ~WRITE and self.is_open:
-            self._read()
+    @property
+    def unread(self) -> int:
+        """Bytes that the client hasn't read yet."""
+        return self._transport.get_write_buffer_size() if self.is_open else 0
+
+    def connection_made(self, transport: asyncio.BaseTransport) -> None:
+        assert isinstance(transport, asyncio.Transport)
+        self._transport, self.address = transport, str((transport.get_extra_info("peername") or [""])[0])
+        transport.set_write_buffer_limits(UNREAD)
+        self.server.connections.add(self)
+
+    def data_received(self, data: bytes) -> None:
+        self._frames.add(data)
         self._take_frames()
 
-    def _read(self) -> None:
-        try:
-            data = self._stream.recv(AT_ONCE)
-        except (BlockingIOError, InterruptedError):
-            return
-        except OSError:
-            data = b""
-        if not data:
-            self.close()
-            return
-        self._frames.add(data)
+    def eof_received(self) -> None:
+        self.close()
+
+    def connection_lost(self, _: Exception | None) -> None:
+        self.close()
+
+    def pause_writing(self) -> None:
+        self._is_unread = True
+        self._transport.pause_reading()
+
+    def resume_writing(self) -> None:
+        self._is_unread = False
+        self._transport.resume_reading()
+        self._take_frames()
 
     def _take_frames(self) -> None:
         """What came, as long as the client reads what it is answered."""
         try:
-            while self.is_open and len(self._unsent) <= UNREAD:
+            while self.is_open and not self._is_unread:
                 frame = self._frames.next(LONGEST_FRAME if self.client else LONGEST_WITHOUT_SESSION)
                 if frame is None:
                     break
@@ -257,37 +265,14 @@ class Connection:
     def send(self, data: bytes) -> None:
         if not self.is_open:
             return
-        is_waiting = bool(self._unsent)
-        self._unsent += data
-        self.server.unread += len(data)
-        if is_waiting:
-            self._watch()
-        else:
-            self._write()
-        unread = len(self._unsent)
-        if unread > MOST_UNREAD or unread > UNREAD and self.server.unread > MOST_UNREAD_OF_ALL:
+        self._transport.write(data)
+        unread = self.unread
+        if unread > MOST_UNREAD or unread > UNREAD and sum(it.unread for it in self.server.connections) > MOST_UNREAD_OF_ALL:
             self.server.close_soon(self)
-
-    def _write(self) -> None:
-        try:
-            sent = self._stream.send(self._unsent) if self._unsent else 0
-        except (BlockingIOError, InterruptedError):
-            sent = 0
-        except OSError:
-            self.server.close_soon(self)
-            return
-        del self._unsent[:sent]
-        self.server.unread -= sent
-        self._watch()
-
-    def _watch(self) -> None:
-        self.server.loop.watch_for(self._stream, self._ready, reads=len(self._unsent) <= UNREAD, writes=bool(self._unsent))
 
     def close(self) -> None:
-        if not self.is_open:
-            return
-        self.is_open = False
-        self.server.loop.forget(self._stream)
-        self._stream.close()
-        self.server.unread -= len(self._unsent)
-        self.server.connection_lost(self)
+        if self.is_open:
+            self.is_open = False
+            self._transport.abort()
+            self.server.connections.discard(self)
+            self.server.end_sessions(self)

@@ -44,7 +44,7 @@ class Leases:
             return
         if notification.ack_required:
             lease.broken_by = client.sent
-            lease.timer = self._server.loop.after(self._server.settings.break_timer,
+            lease.timer = self._server.loop.call_later(self._server.settings.break_timer,
                                                   lambda: self.expire(client, notification.key))
         else:
             lease.state = state

@@ -2,13 +2,13 @@
 from __future__ import annotations
 
 import os
+from asyncio import TimerHandle
 from dataclasses import dataclass, field
 from typing import TYPE_CHECKING
 from uuid import UUID
 
 from smblease import LeaseState, WriteRequest
 
-from serve.event_loop import Timer
 from serve.namespace import Node
 
 if TYPE_CHECKING:
@@ -85,7 +85,7 @@ class Open:  # pylint: disable=too-many-instance-attributes  # it has the state 
     # a break of its oplock waits for the client's word
     is_breaking: bool = False
     # until when it is kept without a connection
-    timer: Timer | None = None
+    timer: TimerHandle | None = None
     # of a folder: what is listed, and how far
     listing: list[tuple[str, Node]] | None = None
 
@@ -104,7 +104,7 @@ class LeaseSeen:
     believed: LeaseState = LeaseState.NONE
     # the number of the message by which it is being broken
     broken_by: int | None = None
-    timer: Timer | None = None
+    timer: TimerHandle | None = None
 
 
 @dataclass(eq=False)

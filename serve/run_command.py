@@ -5,7 +5,6 @@ import argparse
 import contextlib
 import logging
 import os
-import signal
 import sys
 from collections.abc import Sequence
 
@@ -15,13 +14,13 @@ from smblease.program import find_program, judge
 
 from drive.commands import NOT_DRIVEN, SAFE, UNSAFE, ended
 from drive.faults import DriveFault, Usage
+from serve.connection import Connection
 from serve.event_loop import Loop
-from serve.listener import Listener, listening
 from serve.namespace import FORBIDDEN, LARGEST, MOST, Namespace
 from serve.ntlm import User
 from serve.record import Record
 from serve.server import Server, Settings
-from serve.timer_control import Control
+from serve.timer_control import TimerControl
 
 LOG = logging.getLogger("serve")
 EPILOG = """It prints `port N`, and serves until it is ended by SIGINT or SIGTERM. With --record it then prints the verdict of the
@@ -128,25 +127,20 @@ def named(folders: list[str], files: dict[str, bytes], record: Record) -> Namesp
 def serve(arguments: argparse.Namespace) -> int:
     settings = settings_of(arguments)
     folders, files = files_in(arguments.folder)
-    with listening(arguments.address, arguments.port) as stream, contextlib.closing(Record(arguments.record)) as record:
-        names = named(folders, files, record)
-        contents = [*files.values(), *[b""] * (MOST - len(files))]
-        machine = LineProcess(arguments.leasecheck, "server", [f"file {digits(it)}" for it in contents])
-        with contextlib.closing(machine), contextlib.closing(Loop()) as loop:
-            server = Server(settings, loop, machine, record, names)
-            Listener(server, stream)
-            if arguments.control is not None:
-                Control(server, arguments.control)
-            loop.stop_at(signal.SIGTERM, signal.SIGINT)
-            machine.say("content 1")
-            print(f"port {stream.getsockname()[1]}", flush=True)
-            try:
+    server: Server
+    with contextlib.closing(Loop()) as loop:
+        port = loop.listen(arguments.address, arguments.port, lambda: Connection(server))
+        with contextlib.closing(Record(arguments.record)) as record:
+            names = named(folders, files, record)
+            contents = [*files.values(), *[b""] * (MOST - len(files))]
+            machine = LineProcess(arguments.leasecheck, "server", [f"file {digits(it)}" for it in contents])
+            with contextlib.closing(machine):
+                server = Server(settings, loop.events, machine, record, names)
+                if arguments.control is not None:
+                    TimerControl(server, arguments.control)
+                machine.say("content 1")
+                print(f"port {port}", flush=True)
                 loop.run()
-            except DriveFault:
-                raise
-            except Exception as fault:
-                LOG.debug("where:", exc_info=fault)
-                raise DriveFault(f"the shell broke down: {type(fault).__name__}: {fault}") from None
     return verdict(arguments)
 
 

@@ -1,6 +1,7 @@
 """The server: what is there, who is connected, and what happens to opens."""
 from __future__ import annotations
 
+import asyncio
 import logging
 import os
 import time
@@ -14,7 +15,6 @@ from smblease.processes import Speaker
 from drive.headers import Command
 from serve.connection import Connection, Pending
 from serve.create import Create
-from serve.event_loop import Loop
 from serve.forced_breaks import ForcedBreaks
 from serve.leases import Leases
 from serve.machine import Handling, Machine, MachineRequest, Steps, Task
@@ -52,7 +52,8 @@ class Settings:
 class Server:  # pylint: disable=too-many-instance-attributes  # its parts find one another by it
     """The shell around the proved server."""
 
-    def __init__(self, settings: Settings, loop: Loop, speaker: Speaker, record: Record, names: Namespace) -> None:
+    def __init__(self, settings: Settings, loop: asyncio.AbstractEventLoop, speaker: Speaker, record: Record,
+                 names: Namespace) -> None:
         self.settings, self.loop, self.record, self.names = settings, loop, record, names
         self.guid = uuid.uuid4().bytes
         self.machine = Machine(speaker, self)
@@ -60,8 +61,7 @@ class Server:  # pylint: disable=too-many-instance-attributes  # its parts find 
         self.opens: dict[int, Open] = {}
         self.sessions: dict[int, Session] = {}
         self.begun: list[Pending] = []
-        # bytes that clients haven't read yet
-        self.unread = 0
+        self.connections: set[Connection] = set()
         self.brake = PasswordBrake()
         self.last_session = int.from_bytes(os.urandom(6), "little") << 8
         self.last_async = 0
@@ -107,7 +107,7 @@ class Server:  # pylint: disable=too-many-instance-attributes  # its parts find 
             return False
         if isinstance(reply, Created):
             file_id = reply.file_id
-            self.loop.after(self.settings.durable_timer, lambda: self._scavenge_unknown(file_id))
+            self.loop.call_later(self.settings.durable_timer, lambda: self._scavenge_unknown(file_id))
         return True
 
     def _scavenge_unknown(self, file_id: int) -> None:
@@ -169,9 +169,9 @@ class Server:  # pylint: disable=too-many-instance-attributes  # its parts find 
         return self.clients.take(guid)
 
     def close_soon(self, connection: Connection) -> None:
-        self.loop.after(0, connection.close)
+        self.loop.call_soon(connection.close)
 
-    def connection_lost(self, connection: Connection) -> None:
+    def end_sessions(self, connection: Connection) -> None:
         for session in list(connection.sessions.values()):
             self.end_session(session)
 
@@ -204,7 +204,7 @@ class Server:  # pylint: disable=too-many-instance-attributes  # its parts find 
         if not self.is_kept(opened):
             self.forget_open(opened)
             return
-        opened.timer = self.loop.after(self.settings.durable_timer, lambda: self.scavenge(opened.file_id))
+        opened.timer = self.loop.call_later(self.settings.durable_timer, lambda: self.scavenge(opened.file_id))
 
     # What becomes of opens
 
