@@ -3,7 +3,6 @@ from __future__ import annotations
 
 import asyncio
 import logging
-from collections.abc import Callable
 from typing import TYPE_CHECKING
 
 from smblease import Status
@@ -185,21 +184,18 @@ class Connection(asyncio.Protocol):
     def begin(self, pending: Pending, failed: Status | None) -> None:
         message = pending.request.message
         self._pending[message.identifier] = pending
-        doing = self._refusing(failed) if failed and message.is_related else self._checked(pending.request)
-        pending.task = Task(doing, lambda answer: self._answered(pending, answer))
+        handling = self._handle(pending.request, failed if message.is_related else None)
+        pending.task = Task(handling, lambda answer: self._answered(pending, answer))
         self.server.begun.append(pending)
         self.server.machine.start(pending.task)
         self.server.send_interim_responses()
 
-    @staticmethod
-    def _refusing(status: Status) -> Handling:
-        yield from ()
-        raise StatusError(status)
-
-    def _checked(self, request: Request) -> Handling:
+    def _handle(self, request: Request, failed: Status | None) -> Handling:
+        """`failed` is what became of the create that the request is related to."""
+        if failed:
+            raise StatusError(failed)
         message = request.message
-        handler: Callable[[Request], Handling] | None = self.server.handlers.get(message.command) if message.command is not None \
-            else None
+        handler = self.server.handlers.get(message.command)
         if handler is None:
             raise StatusError(Status.NOT_SUPPORTED)
         if len(self._pending) > MOST_PENDING:
@@ -208,7 +204,8 @@ class Connection(asyncio.Protocol):
             request.session.check_signature(message)
         if message.command not in WITHOUT_TREE:
             request.require_tree()
-        return (yield from handler(request))
+        handled = handler(request)
+        return handled if isinstance(handled, Answer) else (yield from handled)
 
     def _answered(self, pending: Pending, answer: Answer) -> None:
         message = pending.request.message

@@ -2,7 +2,6 @@
 from __future__ import annotations
 
 import struct
-from typing import TYPE_CHECKING
 
 from smblease import (Access, CloseRequest, Context, CreateAnswer, CreateAsk, CreateRequest, Created, LeaseState, Reply, Share,
                       Status, append_context)
@@ -16,11 +15,8 @@ from serve.machine import Handling, MachineRequest, Steps, Waits, refuse_failed
 from serve.namespace import ARCHIVE, READ_ONLY, Node, now
 from serve.opens import ALL_ACCESS, BATCH, LEASE, NO_LEVEL, SHARE_READ, MachineClient, Open, counts, is_stat, reads, writes
 from serve.packets import Answer
+from serve.request import Handlers, Request
 from serve.status_error import StatusError
-
-if TYPE_CHECKING:
-    from serve.request import Request
-    from serve.server import Server
 
 MOST_OPENS = 16384
 
@@ -29,10 +25,7 @@ class Vanished(Exception):
     """The file was deleted while its create waited; another may have its name."""
 
 
-class Create:
-    def __init__(self, server: Server) -> None:
-        self._server = server
-
+class Create(Handlers):
     def create(self, request: Request) -> Handling:
         wanted = read_parameters(request.message)
         if request.tree.is_pipe:

@@ -2,7 +2,6 @@
 from __future__ import annotations
 
 import struct
-from typing import TYPE_CHECKING
 
 from smblease import CloseRequest, ReadDone, ReadRequest, Status
 
@@ -11,11 +10,8 @@ from serve.machine import Handling, MachineRequest, refuse_failed
 from serve.namespace import LARGEST, Node, now
 from serve.opens import Lock, Open, reads, writes
 from serve.packets import Answer, RequestMessage
+from serve.request import Handlers, Request
 from serve.status_error import StatusError
-
-if TYPE_CHECKING:
-    from serve.request import Request
-    from serve.server import Server
 
 MOST_OFFSET = 0xFFFFFFFF
 WITH_ATTRIBUTES = 1
@@ -29,10 +25,7 @@ def attributes_of(node: Node) -> bytes:
                        node.attributes or 0x80)
 
 
-class ReadWriteLock:
-    def __init__(self, server: Server) -> None:
-        self._server = server
-
+class ReadWriteLock(Handlers):
     def close(self, request: Request) -> Handling:
         request.message.expect(24)
         opened = request.find()
@@ -48,8 +41,7 @@ class ReadWriteLock:
         told = attributes_of(opened.node) if flags else bytes(52)
         return Answer(Status.SUCCESS, struct.pack("<HHL", 60, flags, 0) + told)
 
-    def flush(self, request: Request) -> Handling:
-        yield from ()
+    def flush(self, request: Request) -> Answer:
         request.message.expect(24)
         request.open()
         return Answer(Status.SUCCESS, struct.pack("<HH", 4, 0))

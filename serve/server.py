@@ -69,7 +69,7 @@ class Server:  # pylint: disable=too-many-instance-attributes  # its parts find 
         self._last_own = OWN_FILE_IDS
         self.forced_breaks = ForcedBreaks(self)
         sessions, transfers = Sessions(self), ReadWriteLock(self)
-        self.handlers: dict[Command, Callable[[Request], Handling]] = {
+        self.handlers: dict[Command | None, Callable[[Request], Answer | Handling]] = {
             Command.NEGOTIATE: sessions.negotiate, Command.SESSION_SETUP: sessions.set_up, Command.LOGOFF: sessions.log_off,
             Command.TREE_CONNECT: sessions.connect_tree, Command.TREE_DISCONNECT: sessions.disconnect_tree,
             Command.ECHO: sessions.echo, Command.OPLOCK_BREAK: self.leases.acknowledge,

@@ -13,11 +13,11 @@ from serve.machine import Handling
 from serve.namespace import now
 from serve.ntlm import Authentication
 from serve.packets import Answer, RequestMessage, signed
+from serve.request import Handlers, Request
 from serve.spnego import offered
 from serve.status_error import StatusError
 
 if TYPE_CHECKING:
-    from serve.request import Request
     from serve.connection import Connection
     from serve.server import Server
 
@@ -65,13 +65,12 @@ def negotiated(server: Server, dialect: int) -> Answer:
     return Answer(Status.SUCCESS, fixed + token)
 
 
-class Sessions:
+class Sessions(Handlers):
     def __init__(self, server: Server) -> None:
-        self._server = server
+        super().__init__(server)
         self._next_tree = 1
 
-    def negotiate(self, request: Request) -> Handling:
-        yield from ()
+    def negotiate(self, request: Request) -> Answer:
         message, connection = request.message, request.connection
         message.expect(36)
         if connection.is_negotiated:
@@ -84,9 +83,8 @@ class Sessions:
         connection.is_negotiated = True
         return negotiated(self._server, DIALECT)
 
-    def set_up(self, request: Request) -> Handling:
+    def set_up(self, request: Request) -> Answer:
         """One exchange of messages of NTLM; with the last one the client joins."""
-        yield from ()
         message, connection = request.message, request.connection
         message.expect(25)
         token = message.buffer(HEADER + 12, message.number(HEADER + 14, 2))
@@ -144,8 +142,7 @@ class Sessions:
         self._server.end_session(request.session)
         return Answer(Status.SUCCESS, struct.pack("<HH", 4, 0), key=key)
 
-    def connect_tree(self, request: Request) -> Handling:
-        yield from ()
+    def connect_tree(self, request: Request) -> Answer:
         request.message.expect(9)
         share = tree_path(request.message).rpartition("\\")[2].lower()
         if share not in (self._server.settings.share.lower(), "ipc$"):
@@ -165,7 +162,6 @@ class Sessions:
         yield from self._server.close_all(lambda it: it.tree is tree, True)
         return Answer(Status.SUCCESS, struct.pack("<HH", 4, 0))
 
-    def echo(self, request: Request) -> Handling:
-        yield from ()
+    def echo(self, request: Request) -> Answer:
         request.message.expect(4)
         return Answer(Status.SUCCESS, struct.pack("<HH", 4, 0))

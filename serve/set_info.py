@@ -2,7 +2,6 @@
 from __future__ import annotations
 
 import struct
-from typing import TYPE_CHECKING
 
 from smblease import Status
 
@@ -12,11 +11,8 @@ from serve.namespace import READ_ONLY, Node, check_size, path_of
 from serve.opens import DELETE, WRITE_ATTRIBUTES, Open, writes
 from serve.packets import Answer
 from serve.query_info import FILE
+from serve.request import Handlers, Request
 from serve.status_error import StatusError
-
-if TYPE_CHECKING:
-    from serve.request import Request
-    from serve.server import Server
 
 BASIC, RENAME, DISPOSITION, POSITION, MODE, ALLOCATION, END_OF_FILE = 4, 10, 13, 14, 16, 19, 20
 LEAST = {BASIC: 36, RENAME: 20, DISPOSITION: 1, POSITION: 8, MODE: 4, ALLOCATION: 8, END_OF_FILE: 8}
@@ -32,10 +28,7 @@ def signed(data: bytes) -> int:
     return value
 
 
-class SetInfo:
-    def __init__(self, server: Server) -> None:
-        self._server = server
-
+class SetInfo(Handlers):
     def set(self, request: Request) -> Handling:
         message = request.message
         message.expect(33)
