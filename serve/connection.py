@@ -1,18 +1,17 @@
 """A connection: its bytes, its requests in their compounds, and what is answered."""
 from __future__ import annotations
 
+import asyncio
 import logging
-import socket
-from collections.abc import Callable
 from typing import TYPE_CHECKING
 
 from smblease import Status
 
 from drive.headers import ASYNC, FROM_SERVER, UNASKED as NOTIFICATION, Command, Unreadable
-from serve.event_loop import WRITE
 from serve.machine import Handling, Task
 from serve.opens import MachineClient
-from serve.packets import Answer, Credits, Frames, RequestMessage, Response, framed, signed, split_compound
+from serve.packets import (LONGEST_FRAME, LONGEST_WITHOUT_SESSION, MOST_IN_FRAME, Answer, Credits, Frames, RequestMessage,
+                           Response, framed, split_compound)
 from serve.request import WITHOUT_SESSION, WITHOUT_TREE, Request
 from serve.sessions import ANY_DIALECT, Session, negotiated
 from serve.status_error import StatusError
@@ -21,8 +20,8 @@ if TYPE_CHECKING:
     from serve.server import Server
 
 LOG = logging.getLogger("serve")
-AT_ONCE = 1 << 18
-MOST_UNSENT = 1 << 26
+# Past so many bytes that a client hasn't read its requests wait; it is closed past more of them, or where all have too many.
+UNREAD, MOST_UNREAD, MOST_UNREAD_OF_ALL = 1 << 20, 1 << 24, 1 << 27
 MOST_PENDING = 512
 OLD_PROTOCOL, PROTOCOL = b"\xffSMB", b"\xfeSMB"
 OLD_NEGOTIATE = 0x72
@@ -83,6 +82,8 @@ class Chain:
         if message.command is Command.CREATE and answer.status >> 30 == 3:
             self._failed = answer.status
         self._responses.append(self._connection.response(pending, answer, self._session, self._tree))
+        if sum(len(it.body) for it in self._responses) > UNREAD:
+            self.send()
         self._is_waiting = False
         # The last answer goes at once: what the machine tells next may be for the same client.
         if self._requests:
@@ -91,54 +92,68 @@ class Chain:
             self.send()
 
 
-class Connection:
-    def __init__(self, server: Server, stream: socket.socket) -> None:
+class Connection(asyncio.Protocol):
+    def __init__(self, server: Server) -> None:
         self.server = server
+        self.address = ""
         self.guid: bytes | None = None
         self.is_negotiated = False
         self.is_open = True
         self.client: MachineClient | None = None
         self.sessions: dict[int, Session] = {}
-        self._stream = stream
+        self._transport = asyncio.Transport()
         self._frames = Frames()
         self._credits = Credits()
-        self._unsent = bytearray()
+        self._is_unread = False
         self._pending: dict[int, Pending] = {}
-        stream.setblocking(False)
-        server.loop.watch(stream, self._ready)
 
-    def _ready(self, events: int) -> None:
-        if events & WRITE:
-            self._write()
-        if events & ~WRITE and self.is_open:
-            self._read()
+    @property
+    def unread(self) -> int:
+        """Bytes that the client hasn't read yet."""
+        return self._transport.get_write_buffer_size() if self.is_open else 0
 
-    def _read(self) -> None:
-        try:
-            data = self._stream.recv(AT_ONCE)
-        except (BlockingIOError, InterruptedError):
-            return
-        except OSError:
-            data = b""
-        if not data:
-            self.close()
-            return
+    def connection_made(self, transport: asyncio.BaseTransport) -> None:
+        assert isinstance(transport, asyncio.Transport)
+        self._transport, self.address = transport, str((transport.get_extra_info("peername") or [""])[0])
+        transport.set_write_buffer_limits(UNREAD)
+        self.server.connections.add(self)
+
+    def data_received(self, data: bytes) -> None:
         self._frames.add(data)
+        self._take_frames()
+
+    def eof_received(self) -> None:
+        self.close()
+
+    def connection_lost(self, _: Exception | None) -> None:
+        self.close()
+
+    def pause_writing(self) -> None:
+        self._is_unread = True
+        self._transport.pause_reading()
+
+    def resume_writing(self) -> None:
+        self._is_unread = False
+        self._transport.resume_reading()
+        self._take_frames()
+
+    def _take_frames(self) -> None:
+        """What came, as long as the client reads what it is answered."""
         try:
-            while self.is_open:
-                frame = self._frames.next()
+            while self.is_open and not self._is_unread:
+                frame = self._frames.next(LONGEST_FRAME if self.client else LONGEST_WITHOUT_SESSION)
                 if frame is None:
                     break
-                self._framed(frame)
+                self._take(frame)
         except Unreadable:
             self.close()
 
-    def _framed(self, frame: bytes) -> None:
+    def _take(self, frame: bytes) -> None:
         if frame[:4] == OLD_PROTOCOL:
             self._old_negotiate(frame)
         elif frame:
             chains: list[list[RequestMessage]] = []
-            for message in split_compound(frame):
+            for message in split_compound(frame, MOST_IN_FRAME if self.is_negotiated else 1):
                 self._credit(message)
                 if message.command is Command.CANCEL:
                     self._cancel(message)
@@ -169,32 +184,28 @@ class Connection:
     def begin(self, pending: Pending, failed: Status | None) -> None:
         message = pending.request.message
         self._pending[message.identifier] = pending
-        doing = self._refusing(failed) if failed and message.is_related else self._checked(pending.request)
-        pending.task = Task(doing, lambda answer: self._answered(pending, answer))
+        handling = self._handle(pending.request, failed if message.is_related else None)
+        pending.task = Task(handling, lambda answer: self._answered(pending, answer))
         self.server.begun.append(pending)
         self.server.machine.start(pending.task)
         self.server.send_interim_responses()
 
-    @staticmethod
-    def _refusing(status: Status) -> Handling:
-        yield from ()
-        raise StatusError(status)
-
-    def _checked(self, request: Request) -> Handling:
+    def _handle(self, request: Request, failed: Status | None) -> Handling:
+        """`failed` is what became of the create that the request is related to."""
+        if failed:
+            raise StatusError(failed)
         message = request.message
-        handler: Callable[[Request], Handling] | None = self.server.handlers.get(message.command) if message.command is not None \
-            else None
+        handler = self.server.handlers.get(message.command)
         if handler is None:
             raise StatusError(Status.NOT_SUPPORTED)
         if len(self._pending) > MOST_PENDING:
             raise StatusError(Status.INSUFFICIENT_RESOURCES)
         if message.command not in WITHOUT_SESSION:
-            key = request.session.key
-            if key and message.is_signed and signed(message.data, key) != message.data:
-                raise StatusError(Status.ACCESS_DENIED)
+            request.session.check_signature(message)
         if message.command not in WITHOUT_TREE:
             request.require_tree()
-        return (yield from handler(request))
+        handled = handler(request)
+        return handled if isinstance(handled, Answer) else (yield from handled)
 
     def _answered(self, pending: Pending, answer: Answer) -> None:
         message = pending.request.message
@@ -234,6 +245,12 @@ class Connection:
         wanted = message.async_id
         found = next((it for it in self._pending.values() if it.async_id == wanted), None) if wanted is not None \
             else self._pending.get(message.identifier)
+        session = self.sessions.get(found.request.session_id) if found else None
+        try:
+            if session:
+                session.check_signature(message)
+        except StatusError:
+            return
         if found and found.request.message.command is Command.CREATE and not found.is_answered:
             found.is_answered = found.request.is_cancelled = True
             found.chain.answered(found, Answer(Status.CANCELLED))
@@ -245,28 +262,14 @@ class Connection:
     def send(self, data: bytes) -> None:
         if not self.is_open:
             return
-        is_waiting = bool(self._unsent)
-        self._unsent += data
-        if not is_waiting:
-            self._write()
-        elif len(self._unsent) > MOST_UNSENT:
+        self._transport.write(data)
+        unread = self.unread
+        if unread > MOST_UNREAD or unread > UNREAD and sum(it.unread for it in self.server.connections) > MOST_UNREAD_OF_ALL:
             self.server.close_soon(self)
-
-    def _write(self) -> None:
-        try:
-            sent = self._stream.send(self._unsent) if self._unsent else 0
-        except (BlockingIOError, InterruptedError):
-            sent = 0
-        except OSError:
-            self.server.close_soon(self)
-            return
-        del self._unsent[:sent]
-        self.server.loop.watch_writing(self._stream, self._ready, bool(self._unsent))
 
     def close(self) -> None:
-        if not self.is_open:
-            return
-        self.is_open = False
-        self.server.loop.forget(self._stream)
-        self._stream.close()
-        self.server.connection_lost(self)
+        if self.is_open:
+            self.is_open = False
+            self._transport.abort()
+            self.server.connections.discard(self)
+            self.server.end_sessions(self)

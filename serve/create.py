@@ -2,10 +2,9 @@
 from __future__ import annotations
 
 import struct
-from typing import TYPE_CHECKING
 
-from smblease import (Access, Context, CreateAnswer, CreateAsk, CreateRequest, Created, LeaseState, Reply, Share, Status,
-                      append_context)
+from smblease import (Access, CloseRequest, Context, CreateAnswer, CreateAsk, CreateRequest, Created, LeaseState, Reply, Share,
+                      Status, append_context)
 
 from drive.headers import HEADER
 from serve.create_parameters import (ALLOCATION, CREATE, CREATED, DELETE_ON_CLOSE, DIRECTORY_FILE, KEPT_ATTRIBUTES, MAKING,
@@ -16,11 +15,8 @@ from serve.machine import Handling, MachineRequest, Steps, Waits, refuse_failed
 from serve.namespace import ARCHIVE, READ_ONLY, Node, now
 from serve.opens import ALL_ACCESS, BATCH, LEASE, NO_LEVEL, SHARE_READ, MachineClient, Open, counts, is_stat, reads, writes
 from serve.packets import Answer
+from serve.request import Handlers, Request
 from serve.status_error import StatusError
-
-if TYPE_CHECKING:
-    from serve.request import Request
-    from serve.server import Server
 
 MOST_OPENS = 16384
 
@@ -29,10 +25,7 @@ class Vanished(Exception):
     """The file was deleted while its create waited; another may have its name."""
 
 
-class Create:
-    def __init__(self, server: Server) -> None:
-        self._server = server
-
+class Create(Handlers):
     def create(self, request: Request) -> Handling:
         wanted = read_parameters(request.message)
         if request.tree.is_pipe:
@@ -106,7 +99,7 @@ class Create:
         """An open of a file, and the contexts of its reply."""
         if any(conflicts(wanted, it) for it in node.opens):
             yield from self._resolve_conflicts(request, wanted, node)
-        before = (node.number, node.length, node.is_changed)
+        before = (node.number, node.length, node.stale_length)
         if wanted.empties and node.length:
             yield from self._empty(request, wanted, node)
         has_data = reads(wanted.access) or writes(wanted.access) or wanted.empties
@@ -120,13 +113,16 @@ class Create:
             return opened, b""
         client, contexts = self._machine_client(request, wanted, node)
         try:
+            yield from self._clear(request.client, node)
             reply = yield MachineRequest(client.number, wanted.machine_request(node, contexts))
-            refuse_failed(reply)
+            yield from self._refuse_late(request, client, reply)
         except StatusError:
             self._server.names.take_back(node, before)
             if client.guid is None:
                 self._server.free(client)
             raise
+        if node.number != before[0]:
+            self._server.names.give_back(*before)
         opened, contexts = self._granted(request, wanted, node, client, reply)
         if node.is_gone or node.is_deleting:
             yield from self._server.close_open(opened)
@@ -135,6 +131,31 @@ class Create:
             yield from self._server.forced_breaks.break_all(request, opened)
         yield from self._break_for_deletion(request, opened)
         return opened, contexts if not client.open else self._oplock_contexts(opened)
+
+    @staticmethod
+    def _refuse_late(request: Request, client: MachineClient, reply: Reply) -> Steps:
+        """What was refused, and what is answered once its tree or session is gone: that is closed again."""
+        refuse_failed(reply)
+        try:
+            request.require_tree()
+        except StatusError:
+            if isinstance(reply, Created):
+                yield MachineRequest(client.number, CloseRequest(reply.file_id))
+            raise
+
+    def _clear(self, client: MachineClient, node: Node) -> Steps:
+        """Zeros in the place of what another file of this number had. Nobody has it open."""
+        if not node.stale_length:
+            return
+        made = yield MachineRequest(client.number, CreateRequest(node.number, Access.WRITE, Share.READ_WRITE, b""))
+        refuse_failed(made)
+        assert isinstance(made, Created)
+        write = client.next_write(made.file_id, 0, bytes(node.stale_length))
+        self._server.record.wrote(client, node.number, write)
+        reply = yield MachineRequest(client.number, write)
+        refuse_failed(reply)
+        yield MachineRequest(client.number, CloseRequest(made.file_id))
+        node.length = node.stale_length = 0
 
     def _break_for_deletion(self, request: Request, opened: Open) -> Steps:
         """Who deletes at its close has all others give up handles first."""
@@ -173,7 +194,7 @@ class Create:
         if wanted.level == NO_LEVEL and self._server.settings.is_apart and is_beside:
             told = f"an open of client {request.client.number} without a lease"
             return self._server.borrow(request.connection, told), wanted.lease_contexts
-        if wanted.level in (LEASE, NO_LEVEL):
+        if wanted.level in (LEASE, NO_LEVEL) or not self._server.clients.has_room_for_oplock:
             return request.client, wanted.lease_contexts
         others = any(it.client and (it.is_connected or not self._may_write(it)) for it in node.opens)
         state = LeaseState.R if others else oplock_state(wanted.level)
@@ -204,7 +225,7 @@ class Create:
 
     def _kept(self, request: Request, wanted: CreateParameters, node: Node, file_id: int) -> Open:
         opened = Open(file_id, node, wanted.access, wanted.share, request.connection, request.session, request.tree,
-                      deletes=bool(wanted.options & DELETE_ON_CLOSE))
+                      deletes=bool(wanted.options & DELETE_ON_CLOSE), owner=request.session.owner)
         node.opens.append(opened)
         self._server.opens[file_id] = opened
         return opened
@@ -216,6 +237,8 @@ class Create:
     def _reconnect(self, request: Request, wanted: CreateParameters) -> Handling:
         """A durable open is connected again (3.3.5.9.7). An oplock's has a client and a key of its own."""
         opened = self._server.opens.get(wanted.ask.reconnect or 0)
+        if opened and opened.is_durable and opened.owner != request.session.owner:
+            raise StatusError(Status.ACCESS_DENIED)
         if opened and opened.client and opened.client.open is opened:
             return (yield from self._reconnect_oplock(request, wanted, opened))
         node = self._server.names.find(wanted.path)
@@ -223,8 +246,7 @@ class Create:
             is_named = opened and not opened.is_connected and opened.client is request.client and opened.key == wanted.key
             raise StatusError(Status.INVALID_PARAMETER if is_named else Status.OBJECT_NAME_NOT_FOUND)
         reply = yield MachineRequest(request.client.number, wanted.machine_request(node, wanted.contexts))
-        refuse_failed(reply)
-        return self._reconnected(request, wanted, reply)
+        return (yield from self._reconnected(request, wanted, request.client, reply))
 
     def _reconnect_oplock(self, request: Request, wanted: CreateParameters, opened: Open) -> Handling:
         client = opened.client
@@ -236,10 +258,15 @@ class Create:
         reply = yield MachineRequest(client.number, create)
         if not isinstance(reply, Created):
             self._server.forget_open(opened)
-        refuse_failed(reply)
-        return self._reconnected(request, wanted, reply)
+        return (yield from self._reconnected(request, wanted, client, reply))
 
-    def _reconnected(self, request: Request, wanted: CreateParameters, reply: Reply) -> Answer:
+    def _reconnected(self, request: Request, wanted: CreateParameters, client: MachineClient, reply: Reply) -> Handling:
+        try:
+            yield from self._refuse_late(request, client, reply)
+        except StatusError:
+            if isinstance(reply, Created):
+                self._server.forget_open(self._server.opens[reply.file_id])
+            raise
         assert isinstance(reply, Created)
         opened = self._server.opens[reply.file_id]
         self._server.stop_timer(opened)
@@ -258,8 +285,8 @@ class Create:
             contexts = append_context(contexts, Context(MOST_ACCESS, struct.pack("<LL", 0, ALL_ACCESS)))
         if ON_DISK in wanted.others:
             contexts = append_context(contexts, Context(ON_DISK, struct.pack("<QQ16s", node.identifier, 1, b"")))
-        if len(wanted.others.get(ALLOCATION, b"")) == 8 and not node.is_folder and action != OPENED:
-            node.allocated = -(-int.from_bytes(wanted.others[ALLOCATION], "little") // 4096) * 4096
+        if ALLOCATION in wanted.others and not node.is_folder and action != OPENED:
+            node.allocate(wanted.allocation)
         times = node.times
         body = struct.pack("<HBBLQQQQQQLLQQLL", 89, opened.level, 0, action, times.created, times.accessed, times.written,
                            times.changed, node.allocation, node.length, node.attributes or 0x80, 0, opened.file_id,

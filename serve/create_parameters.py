@@ -1,13 +1,14 @@
 """What a CREATE asks for (2.2.13), and what of it goes to the machine."""
 from __future__ import annotations
 
+import itertools
 from dataclasses import dataclass
 from uuid import UUID
 
 from smblease import Access, CreateAsk, CreateRequest, Fault, LeaseState, Share, Status, each_context
 
 from drive.headers import HEADER, create_name
-from serve.namespace import Node, path_of
+from serve.namespace import Node, check_size, path_of
 from serve.opens import BATCH, DELETE, EXCLUSIVE, LEASE, LEVEL_II, NO_LEVEL, SHARE_DELETE, Open, counts, reads, specific, writes
 from serve.packets import RequestMessage
 from serve.status_error import StatusError
@@ -18,6 +19,7 @@ EMPTYING = {SUPERSEDE, OVERWRITE, OVERWRITE_IF}
 DIRECTORY_FILE, NON_DIRECTORY_FILE, DELETE_ON_CLOSE = 0x1, 0x40, 0x1000
 SUPERSEDED, OPENED, CREATED, OVERWRITTEN = range(4)
 KEPT_ATTRIBUTES = 0x1 | 0x2 | 0x4 | 0x20 | 0x100 | 0x2000
+MOST_CONTEXTS = 32
 MOST_ACCESS, ON_DISK, ALLOCATION = b"MxAc", b"QFid", b"AlSi"
 RWH = LeaseState.of("RWH")
 OPLOCK_STATES = {NO_LEVEL: LeaseState.NONE, LEVEL_II: LeaseState.R, EXCLUSIVE: LeaseState.of("RW"), BATCH: RWH}
@@ -43,6 +45,10 @@ class CreateParameters:
         return self.ask.key if self.level == LEASE or self.ask.reconnect is not None else None
 
     @property
+    def allocation(self) -> int:
+        return int.from_bytes(self.others.get(ALLOCATION, b"")[:8], "little")
+
+    @property
     def empties(self) -> bool:
         return self.disposition in EMPTYING
 
@@ -65,7 +71,10 @@ def read_parameters(message: RequestMessage) -> CreateParameters:
     length = message.number(HEADER + 52, 4)
     text = message.part(message.number(HEADER + 48, 4), length) if length else b""
     try:
-        ask, others = CreateAsk.read(text), {it.name: it.data for it in each_context(text)}
+        contexts = list(itertools.islice(each_context(text), MOST_CONTEXTS + 1))
+        if len(contexts) > MOST_CONTEXTS:
+            raise StatusError(Status.INVALID_PARAMETER)
+        ask, others = CreateAsk.read(text), {it.name: it.data for it in contexts}
     except Fault as fault:
         raise StatusError(Status(fault.status)) from None
     share, disposition, options = (message.number(HEADER + place, 4) for place in (32, 36, 40))
@@ -78,6 +87,7 @@ def check(wanted: CreateParameters) -> None:
     """What a create that reconnects isn't asked for."""
     if wanted.impersonation > 3 or wanted.disposition > OVERWRITE_IF or wanted.share > 7:
         raise StatusError(Status.INVALID_PARAMETER)
+    check_size(wanted.allocation)
     if not wanted.access or wanted.options & DELETE_ON_CLOSE and not wanted.access & DELETE:
         raise StatusError(Status.ACCESS_DENIED)
 

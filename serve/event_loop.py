@@ -1,94 +1,57 @@
-"""The event loop: sockets that are ready, and timers."""
+"""The event loop: connections that come, timers, and signals that end it."""
 from __future__ import annotations
 
-import heapq
-import itertools
-import selectors
+import asyncio
+import ipaddress
+import logging
+import os
 import signal
-import socket
-import time
 from collections.abc import Callable
-from dataclasses import dataclass, field
-from typing import Protocol
+from typing import Any
 
-READ, WRITE = selectors.EVENT_READ, selectors.EVENT_WRITE
+from smblease.faults import ToolFault
 
+from drive.faults import DriveFault, Usage
 
-class Watched(Protocol):
-    def fileno(self) -> int:
-        ...
-
-
-@dataclass(order=True)
-class Timer:
-    due: float
-    place: int
-    ring: Callable[[], object] = field(compare=False)
-    is_over: bool = field(default=False, compare=False)
-
-    def cancel(self) -> None:
-        self.is_over = True
+LOG = logging.getLogger("serve")
 
 
 class Loop:
+    """An event loop that ends with the first fault of what it calls."""
+
     def __init__(self) -> None:
-        self._selector = selectors.DefaultSelector()
-        self._timers: list[Timer] = []
-        self._places = itertools.count()
-        self._is_stopped = False
-        # A signal wakes the loop by a byte.
-        self._woken, self._waker = socket.socketpair()
-        for end in (self._woken, self._waker):
-            end.setblocking(False)
-        self.watch(self._woken, lambda events: self._wake())
+        self.events = asyncio.new_event_loop()
+        self.events.set_exception_handler(self._failed)
+        self._fault: BaseException | None = None
 
-    def stop_at(self, *signals: int) -> None:
-        signal.set_wakeup_fd(self._waker.fileno(), warn_on_full_buffer=False)
-        for number in signals:
-            signal.signal(number, lambda *_: self.stop())
+    def _failed(self, events: asyncio.AbstractEventLoop, context: dict[str, Any]) -> None:
+        fault = context.get("exception")
+        if isinstance(fault, OSError):
+            LOG.warning("%s: %s", context["message"], fault.strerror)
+        elif fault:
+            self._fault = self._fault or fault
+            events.stop()
 
-    def _wake(self) -> None:
-        self._woken.recv(64)
-
-    def watch(self, stream: Watched, ready: Callable[[int], None]) -> None:
-        self._selector.register(stream, READ, ready)
-
-    def watch_writing(self, stream: Watched, ready: Callable[[int], None], writes: bool) -> None:
-        self._selector.modify(stream, READ | WRITE if writes else READ, ready)
-
-    def forget(self, stream: Watched) -> None:
-        self._selector.unregister(stream)
-
-    def after(self, seconds: float, ring: Callable[[], object]) -> Timer:
-        timer = Timer(time.monotonic() + seconds, next(self._places), ring)
-        heapq.heappush(self._timers, timer)
-        return timer
-
-    def stop(self) -> None:
-        self._is_stopped = True
+    def listen(self, address: str, port: int, made: Callable[[], asyncio.Protocol]) -> int:
+        """Takes connections at a port, once it runs; the port."""
+        try:
+            ipaddress.ip_address(address)
+            listening = self.events.run_until_complete(self.events.create_server(made, address, port))
+        except ValueError:
+            raise Usage("--address is an address of IP") from None
+        except OSError as fault:
+            raise DriveFault(f"{address}, port {port}: {os.strerror(fault.errno or 0)}") from None
+        return int(listening.sockets[0].getsockname()[1])
 
     def run(self) -> None:
-        while not self._is_stopped:
-            for key, events in self._selector.select(self._until_next()):
-                # What was ready may have been forgotten since.
-                if key.fd in self._selector.get_map() and self._selector.get_key(key.fd).data is key.data:
-                    key.data(events)
-            self._ring()
+        for number in (signal.SIGTERM, signal.SIGINT):
+            self.events.add_signal_handler(number, self.events.stop)
+        self.events.run_forever()
+        if isinstance(self._fault, ToolFault):
+            raise self._fault
+        if self._fault:
+            LOG.debug("where:", exc_info=self._fault)
+            raise DriveFault(f"the shell broke down: {type(self._fault).__name__}: {self._fault}")
 
     def close(self) -> None:
-        signal.set_wakeup_fd(-1)
-        self._selector.close()
-        self._woken.close()
-        self._waker.close()
-
-    def _until_next(self) -> float | None:
-        while self._timers and self._timers[0].is_over:
-            heapq.heappop(self._timers)
-        return max(0.0, self._timers[0].due - time.monotonic()) if self._timers else None
-
-    def _ring(self) -> None:
-        while self._timers and (self._timers[0].is_over or self._timers[0].due <= time.monotonic()):
-            timer = heapq.heappop(self._timers)
-            if not timer.is_over:
-                timer.is_over = True
-                timer.ring()
+        self.events.close()

@@ -1,7 +1,6 @@
 """Breaks that the shell needs besides those that clients call for: by requests that the machine has anyway."""
 from __future__ import annotations
 
-from typing import TYPE_CHECKING
 from uuid import UUID
 
 from smblease import Access, CloseRequest, CreateAsk, CreateRequest, Created, Share, Status, WriteRequest
@@ -9,17 +8,11 @@ from smblease import Access, CloseRequest, CreateAsk, CreateRequest, Created, Sh
 from serve.machine import MachineRequest, Steps
 from serve.namespace import Node
 from serve.opens import MachineClient, Open, writes
+from serve.request import Handlers, Request
 from serve.status_error import StatusError
 
-if TYPE_CHECKING:
-    from serve.request import Request
-    from serve.server import Server
 
-
-class ForcedBreaks:
-    def __init__(self, server: Server) -> None:
-        self._server = server
-
+class ForcedBreaks(Handlers):
     def break_handles(self, request: Request, node: Node, client: MachineClient | None, key: UUID | None) -> Steps:
         """Has all others that hold handles give them up, as for a create that shares nothing. It goes by the key of the one
         that asks, which gives up nothing; that it is refused for sharing doesn't matter."""

@@ -2,7 +2,6 @@
 from __future__ import annotations
 
 import struct
-from typing import TYPE_CHECKING
 from uuid import UUID
 
 from smblease import (AcknowledgeDone, AcknowledgeRequest, Acknowledgment, CreateAnswer, Fault, LeaseState, Notification,
@@ -13,20 +12,14 @@ from serve.machine import Handling, MachineRequest, Waits, refuse_failed
 from serve.namespace import Node
 from serve.opens import LEVEL_II, NO_LEVEL, LeaseSeen, MachineClient, Open
 from serve.packets import Answer
+from serve.request import Handlers, Request
 from serve.status_error import StatusError
-
-if TYPE_CHECKING:
-    from serve.request import Request
-    from serve.server import Server
 
 OPLOCK = struct.Struct("<HBBLQQ")
 ACKNOWLEDGMENT_SIZE = 36
 
 
-class Leases:
-    def __init__(self, server: Server) -> None:
-        self._server = server
-
+class Leases(Handlers):
     def granted(self, client: MachineClient, node: Node, answer: CreateAnswer) -> None:
         """A reply grants a lease. While a break is in progress nothing new is believed."""
         if answer.key is None:
@@ -44,7 +37,7 @@ class Leases:
             return
         if notification.ack_required:
             lease.broken_by = client.sent
-            lease.timer = self._server.loop.after(self._server.settings.break_timer,
+            lease.timer = self._server.loop.call_later(self._server.settings.break_timer,
                                                   lambda: self.expire(client, notification.key))
         else:
             lease.state = state

@@ -12,7 +12,7 @@ from serve.status_error import StatusError
 if TYPE_CHECKING:
     from serve.connection import Connection
 
-MOST = 255
+MOST, MOST_OPLOCKS = 255, 128
 
 
 class MachineClients:
@@ -29,10 +29,26 @@ class MachineClients:
     def of(self, connection: Connection) -> list[MachineClient]:
         return [it for it in self._by_number.values() if it.connection is connection]
 
+    @property
+    def is_full(self) -> bool:
+        return not self._free and self._idle() is None
+
+    def _idle(self) -> MachineClient | None:
+        """A client of a ClientGuid that has left nothing."""
+        return next((it for it in self._by_number.values() if it.guid and not it.connection and not it.leases), None)
+
+    @property
+    def has_room_for_oplock(self) -> bool:
+        return sum(it.guid is None for it in self._by_number.values()) < MOST_OPLOCKS
+
+    def longest_away(self) -> MachineClient | None:
+        away = [it for it in self._by_number.values() if it.connection is None]
+        return min(away, key=lambda it: it.left) if away else None
+
     def take(self, guid: bytes | None) -> MachineClient:
         """A client that isn't there yet. Where all numbers are taken, one of a ClientGuid that has left nothing is free."""
         if not self._free:
-            idle = next((it for it in self._by_number.values() if it.guid and not it.connection and not it.leases), None)
+            idle = self._idle()
             if idle is None:
                 raise StatusError(Status.INSUFFICIENT_RESOURCES)
             self.free(idle)

@@ -10,7 +10,7 @@ from drive.headers import Unreadable
 
 
 @dataclass(frozen=True)
-class User:
+class NamedUser:
     name: str
     password: str = field(repr=False)
 
@@ -25,3 +25,9 @@ class User:
         except Exception:  # impacket raises bare ones at bytes that it can't read
             raise Unreadable from None
         return None if status else bytes(key[:16])
+
+    def mic(self, key: bytes, flags: int, data: bytes, side: str) -> bytes:
+        if not flags & ntlm.NTLMSSP_NEGOTIATE_EXTENDED_SESSIONSECURITY:
+            raise Unreadable
+        seal = ntlm.ARC4.new(ntlm.SEALKEY(flags, key, side)).encrypt
+        return bytes(ntlm.MAC(flags, seal, ntlm.SIGNKEY(flags, key, side), 0, data).getData())

@@ -15,6 +15,9 @@ if TYPE_CHECKING:
 MOST = 255
 READ_ONLY, FOLDER, ARCHIVE, NORMAL = 0x1, 0x10, 0x20, 0x80
 FORBIDDEN = set('"*/<>?|') | {chr(code) for code in range(32)}
+# The bytes that a file may have, as the machine has it.
+LARGEST = 1048576
+UNIT = 4096
 # Seconds from 1601 to 1970.
 EPOCH = 11644473600
 
@@ -43,7 +46,8 @@ class Node:
     times: Times = field(default_factory=Times)
     length: int = 0
     allocated: int = 0
-    is_changed: bool = False
+    # how many bytes of another file, which had the number before, the machine still has
+    stale_length: int = 0
     is_deleting: bool = False
     is_gone: bool = False
     opens: list[Open] = field(default_factory=list)
@@ -66,7 +70,16 @@ class Node:
 
     @property
     def allocation(self) -> int:
-        return max(self.allocated, -(-self.length // 4096) * 4096)
+        return -(-max(self.allocated, self.length) // UNIT) * UNIT
+
+    def allocate(self, size: int) -> None:
+        check_size(size)
+        self.allocated = size
+
+
+def check_size(size: int) -> None:
+    if size > LARGEST:
+        raise StatusError(Status.INVALID_PARAMETER)
 
 
 def path_of(name: str) -> str:
@@ -84,7 +97,8 @@ class Namespace:
     def __init__(self) -> None:
         self._made = 0
         self._next = 1
-        self._free: list[int] = []
+        # numbers that were used, each with the bytes that the machine still has
+        self._free: list[tuple[int, int]] = []
         self._nodes: dict[str, Node] = {}
         self.root = self.make("", True)
 
@@ -95,46 +109,61 @@ class Namespace:
         return next((it for it in self._nodes.values() if it.number == number and not it.is_folder), None)
 
     def make(self, path: str, is_folder: bool) -> Node:
-        """A file of a name made anew has another number than one of that name had before, if that was changed."""
-        if path and self.parent(path) is None:
-            raise StatusError(Status.OBJECT_PATH_NOT_FOUND)
-        number = 0 if is_folder else self.new_number()
+        """A file of a name made anew has another number than one of that name had before, as long as there are others."""
+        if path:
+            self.check_folder_of(path)
+        number, stale_length = (0, 0) if is_folder else self._new_number()
         self._made += 1
-        node = Node(path, number, FOLDER if is_folder else ARCHIVE, self._made)
+        node = Node(path, number, FOLDER if is_folder else ARCHIVE, self._made, stale_length=stale_length)
         self._nodes[path.lower()] = node
         return node
 
-    def new_number(self) -> int:
-        if self._free:
-            return self._free.pop(0)
-        if self._next > MOST:
+    def _new_number(self) -> tuple[int, int]:
+        """A number that nothing was written under, as long as there is one; else the one that was given back first."""
+        found = next((it for it in self._free if not it[1]), None)
+        if found is None and self._next <= MOST:
+            self._next += 1
+            return self._next - 1, 0
+        if not self._free:
             raise StatusError(Status.INSUFFICIENT_RESOURCES)
-        self._next += 1
-        return self._next - 1
+        found = found or self._free[0]
+        self._free.remove(found)
+        return found
 
     def renumber(self, node: Node) -> None:
         """The file is empty from here on. Nobody has it open."""
-        node.number, node.length, node.is_changed = self.new_number(), 0, False
+        node.number, node.stale_length = self._new_number()
+        node.length = 0
 
-    def take_back(self, node: Node, before: tuple[int, int, bool]) -> None:
+    def give_back(self, number: int, length: int, stale_length: int) -> None:
+        self._free.append((number, max(length, stale_length)))
+
+    def take_back(self, node: Node, before: tuple[int, int, int]) -> None:
         """The file is the one that it was before it was emptied."""
         if node.number != before[0]:
-            self._free.append(node.number)
-            node.number, node.length, node.is_changed = before
+            self.give_back(node.number, node.length, node.stale_length)
+            node.number, node.length, node.stale_length = before
 
     def parent(self, path: str) -> Node | None:
         found = self.find(path.rpartition("\\")[0])
         return found if found and found.is_folder else None
 
+    def check_folder_of(self, path: str) -> None:
+        """Refuses a new name in a folder that isn't there, or not for long."""
+        folder = self.parent(path)
+        if folder is None or folder.is_deleting:
+            raise StatusError(Status.DELETE_PENDING if folder else Status.OBJECT_PATH_NOT_FOUND)
+
     def remove(self, node: Node) -> None:
-        """A file goes with its streams, as far as nobody has them open."""
+        """A file goes with its streams, those that somebody has open at their last close."""
         for stream in [it for it in self._nodes.values() if it.path.lower().startswith(f"{node.path.lower()}:")]:
+            stream.is_deleting = True
             if not stream.opens:
                 self.remove(stream)
         del self._nodes[node.path.lower()]
         node.is_gone = True
-        if not node.is_folder and not node.is_changed:
-            self._free.append(node.number)
+        if not node.is_folder:
+            self.give_back(node.number, node.length, node.stale_length)
 
     def rename(self, node: Node, path: str) -> None:
         old = node.path

@@ -12,6 +12,7 @@ from smblease import Status
 from drive.headers import Unreadable
 from serve import spnego
 from serve.namespace import now
+from serve.password_brake import PasswordBrake
 from serve.status_error import StatusError
 
 NAME = "LEASECHECK"
@@ -32,7 +33,7 @@ ADDED = HAS_VERSION | TARGET_INFO | IS_SERVER | PLAIN | REQUEST_TARGET
 END, COMPUTER, DOMAIN, DNS_COMPUTER, DNS_DOMAIN, TIME = 0, 1, 2, 3, 4, 7
 
 
-class Prover(Protocol):
+class User(Protocol):
     """The user that isn't a guest."""
 
     @property
@@ -42,26 +43,34 @@ class Prover(Protocol):
     def key(self, negotiate: bytes, challenge: bytes, authenticate: bytes) -> bytes | None:
         """The key of the session, by the three messages; none where they don't prove the password."""
 
+    def mic(self, key: bytes, flags: int, data: bytes, side: str) -> bytes:
+        """The first signature that a side, `Client` or `Server`, makes under a key."""
 
-class Exchange:
-    """The messages of one authentication. `key` is that of a session that is signed; a guest has none."""
 
-    def __init__(self, user: Prover | None) -> None:
+class Authentication:
+    """The messages of one authentication. `owner` is who proved to be there; `key` that of a session that may be signed."""
+
+    def __init__(self, user: User | None, has_guests: bool, brake: PasswordBrake, address: str) -> None:
         self._user = user
-        self._negotiate = self._challenge = b""
+        self._has_guests = has_guests
+        self._brake, self._address = brake, address
+        self._negotiate = self._challenge = self._mechanisms = b""
+        self.owner = ""
         self.key: bytes | None = None
         self.is_over = False
 
-    def goes(self, token: bytes) -> bytes:
+    def reply(self, data: bytes) -> bytes:
         """The server's next message."""
         try:
-            return self._goes(token)
+            return self._reply(data)
         except Unreadable:
             raise StatusError(Status.INVALID_PARAMETER) from None
 
-    def _goes(self, token: bytes) -> bytes:
-        is_wrapped = token[:1] != SIGNATURE[:1]
-        message = spnego.unwrapped(token) if is_wrapped else token
+    def _reply(self, data: bytes) -> bytes:
+        is_wrapped = data[:1] != SIGNATURE[:1]
+        token = spnego.unwrapped(data) if is_wrapped else spnego.Token(data)
+        self._mechanisms = self._mechanisms or token.mechanisms
+        message = token.message
         if not message.startswith(SIGNATURE):
             return spnego.wrapped(b"", spnego.REQUEST_MIC, True)
         kind = int.from_bytes(message[8:12], "little")
@@ -71,16 +80,30 @@ class Exchange:
         if kind != AUTHENTICATE or not self._challenge:
             raise StatusError(Status.INVALID_PARAMETER)
         self._authenticate(message)
+        mic = self._mic(token)
         self.is_over = True
-        return spnego.wrapped(b"", spnego.ACCEPTED, False) if is_wrapped else b""
+        return spnego.wrapped(b"", spnego.ACCEPTED, False, mic) if is_wrapped else b""
 
     def _authenticate(self, message: bytes) -> None:
-        name = user_name(message)
-        if self._user is None or name.lower() != self._user.name.lower():
+        name = user_name(message).lower()
+        if self._user and name == self._user.name.lower():
+            self._brake.check(self._address)
+            self.owner, self.key = f"user {name}", self._user.key(self._negotiate, self._challenge, message)
+        elif self._has_guests:
+            self.owner = f"guest {name}"
             return
-        self.key = self._user.key(self._negotiate, self._challenge, message)
         if self.key is None:
+            self._brake.failed(self._address)
             raise StatusError(Status.LOGON_FAILURE)
+
+    def _mic(self, token: spnego.Token) -> bytes:
+        """The server's mechListMIC, where the client sent one (RFC 4178, 5)."""
+        if self._user is None or self.key is None or not token.mic:
+            return b""
+        flags = int.from_bytes(token.message[AUTHENTICATE_FLAGS:AUTHENTICATE_FLAGS + 4], "little")
+        if self._user.mic(self.key, flags, self._mechanisms, "Client") != token.mic:
+            raise StatusError(Status.LOGON_FAILURE)
+        return self._user.mic(self.key, flags, self._mechanisms, "Server")
 
 
 def challenge(negotiate: bytes, nonce: bytes) -> bytes:

@@ -2,13 +2,13 @@
 from __future__ import annotations
 
 import os
+from asyncio import TimerHandle
 from dataclasses import dataclass, field
 from typing import TYPE_CHECKING
 from uuid import UUID
 
 from smblease import LeaseState, WriteRequest
 
-from serve.event_loop import Timer
 from serve.namespace import Node
 
 if TYPE_CHECKING:
@@ -77,6 +77,7 @@ class Open:  # pylint: disable=too-many-instance-attributes  # it has the state 
     level: int = NO_LEVEL
     is_durable: bool = False
     deletes: bool = False
+    owner: str = ""
     position: int = 0
     locks: list[Lock] = field(default_factory=list)
     # the machine's open may do more than this one
@@ -84,7 +85,7 @@ class Open:  # pylint: disable=too-many-instance-attributes  # it has the state 
     # a break of its oplock waits for the client's word
     is_breaking: bool = False
     # until when it is kept without a connection
-    timer: Timer | None = None
+    timer: TimerHandle | None = None
     # of a folder: what is listed, and how far
     listing: list[tuple[str, Node]] | None = None
 
@@ -103,7 +104,7 @@ class LeaseSeen:
     believed: LeaseState = LeaseState.NONE
     # the number of the message by which it is being broken
     broken_by: int | None = None
-    timer: Timer | None = None
+    timer: TimerHandle | None = None
 
 
 @dataclass(eq=False)
@@ -118,6 +119,8 @@ class MachineClient:
     writes: int = 0
     sent: int = 0
     took: int = 0
+    # when its connection was lost
+    left: float = 0.0
     # the key of an oplock's lease
     own_key: UUID = field(default_factory=lambda: UUID(bytes=b"oplock" + os.urandom(10)))
 

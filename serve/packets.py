@@ -16,6 +16,8 @@ ERROR_BODY = struct.pack("<HBBL", 9, 0, 0, 0) + b"\0"
 SIGNED = 8
 # What a frame may hold: the most that is read or written at once, with room for headers and what stands beside it.
 LONGEST_FRAME = 1048576 + 131072
+LONGEST_WITHOUT_SESSION = 65536
+MOST_IN_FRAME = 1024
 
 
 @dataclass(frozen=True)
@@ -106,19 +108,19 @@ def framed(responses: list[Response]) -> bytes:
     return struct.pack(">L", len(text)) + text
 
 
-def split_compound(frame: bytes) -> list[RequestMessage]:
-    """The requests of a frame."""
+def split_compound(frame: bytes, most: int = MOST_IN_FRAME) -> list[RequestMessage]:
+    """The requests of a frame, so many at most."""
     found: list[RequestMessage] = []
-    while True:
-        message = RequestMessage(frame)
-        following = message.number(20, 4)
-        is_placed = not following or HEADER <= following <= len(frame) - HEADER and following % 8 == 0
-        if frame[:4] != PROTOCOL or message.number(4, 2) != HEADER or not is_placed:
+    start, following = 0, HEADER
+    while following:
+        head = RequestMessage(frame[start:start + HEADER])
+        following, left = head.number(20, 4), len(frame) - start
+        is_placed = not following or HEADER <= following <= left - HEADER and following % 8 == 0
+        if head.data[:4] != PROTOCOL or head.number(4, 2) != HEADER or not is_placed or len(found) == most:
             raise Unreadable
-        found.append(RequestMessage(frame[:following]) if following else message)
-        if not following:
-            return found
-        frame = frame[following:]
+        found.append(RequestMessage(frame[start:start + following] if following else frame[start:]))
+        start += following
+    return found
 
 
 class Frames:
@@ -130,12 +132,12 @@ class Frames:
     def add(self, data: bytes) -> None:
         self._bytes += data
 
-    def next(self) -> bytes | None:
+    def next(self, longest: int = LONGEST_FRAME) -> bytes | None:
         """The next whole frame. What can't begin one is Unreadable."""
         if len(self._bytes) < 4:
             return None
         length = int.from_bytes(self._bytes[1:4], "big")
-        if self._bytes[0] or length > LONGEST_FRAME:
+        if self._bytes[0] or length > longest:
             raise Unreadable
         if len(self._bytes) < 4 + length:
             return None

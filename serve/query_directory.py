@@ -4,21 +4,16 @@ from __future__ import annotations
 import fnmatch
 import re
 import struct
-from typing import TYPE_CHECKING
 
 from smblease import Status
 
 from drive.headers import HEADER
-from serve.machine import Handling
 from serve.namespace import Node
 from serve.opens import Open
 from serve.packets import Answer
 from serve.read_write_lock import attributes_of
+from serve.request import Handlers, Request
 from serve.status_error import StatusError
-
-if TYPE_CHECKING:
-    from serve.request import Request
-    from serve.server import Server
 
 DIRECTORY, FULL, BOTH, NAMES, BOTH_WITH_ID, FULL_WITH_ID = 1, 2, 3, 12, 37, 38
 RESTART, SINGLE, REOPEN = 1, 2, 16
@@ -48,12 +43,8 @@ def entry(node: Node, name: str, kind: int) -> bytes:
     return head + text
 
 
-class QueryDirectory:
-    def __init__(self, server: Server) -> None:
-        self._server = server
-
-    def query(self, request: Request) -> Handling:
-        yield from ()
+class QueryDirectory(Handlers):
+    def query(self, request: Request) -> Answer:
         message = request.message
         message.expect(33)
         kind, flags, most = message.number(HEADER + 2, 1), message.number(HEADER + 3, 1), message.number(HEADER + 28, 4)

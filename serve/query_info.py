@@ -3,21 +3,16 @@ from __future__ import annotations
 
 import struct
 from collections.abc import Callable
-from typing import TYPE_CHECKING
 
 from smblease import Status
 
 from drive.headers import HEADER
-from serve.machine import Handling
 from serve.namespace import Node
 from serve.opens import Open
 from serve.packets import Answer
 from serve.read_write_lock import attributes_of
+from serve.request import Handlers, Request
 from serve.status_error import StatusError
-
-if TYPE_CHECKING:
-    from serve.request import Request
-    from serve.server import Server
 
 FILE, FILESYSTEM, SECURITY = 1, 2, 3
 UNITS, SECTORS, SECTOR = 1 << 20, 8, 512
@@ -72,12 +67,8 @@ DESCRIPTOR = struct.pack("<BBHLLLL", 1, 0, 0x8004, 20, 32, 0, 44) + EVERYONE * 2
     "<BBHHHBBHL", 2, 0, 28, 1, 0, 0, 0, 20, 0x1F01FF) + EVERYONE
 
 
-class QueryInfo:
-    def __init__(self, server: Server) -> None:
-        self._server = server
-
-    def query(self, request: Request) -> Handling:
-        yield from ()
+class QueryInfo(Handlers):
+    def query(self, request: Request) -> Answer:
         message = request.message
         message.expect(41)
         kind, number, most = message.number(HEADER + 2, 1), message.number(HEADER + 3, 1), message.number(HEADER + 4, 4)
@@ -100,13 +91,11 @@ class QueryInfo:
         raise StatusError(Status.INVALID_INFO_CLASS if kind in (FILE, FILESYSTEM) else Status.NOT_SUPPORTED)
 
     @staticmethod
-    def control(request: Request) -> Handling:
-        yield from ()
+    def control(request: Request) -> Answer:
         request.message.expect(57)
         raise StatusError(Status.INVALID_DEVICE_REQUEST)
 
     @staticmethod
-    def notify(request: Request) -> Handling:
-        yield from ()
+    def notify(request: Request) -> Answer:
         request.message.expect(32)
         raise StatusError(Status.NOT_SUPPORTED)

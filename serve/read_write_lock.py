@@ -2,22 +2,17 @@
 from __future__ import annotations
 
 import struct
-from typing import TYPE_CHECKING
 
 from smblease import CloseRequest, ReadDone, ReadRequest, Status
 
 from drive.headers import HEADER
 from serve.machine import Handling, MachineRequest, refuse_failed
-from serve.namespace import Node, now
+from serve.namespace import LARGEST, Node, now
 from serve.opens import Lock, Open, reads, writes
 from serve.packets import Answer, RequestMessage
+from serve.request import Handlers, Request
 from serve.status_error import StatusError
 
-if TYPE_CHECKING:
-    from serve.request import Request
-    from serve.server import Server
-
-LARGEST = 1048576
 MOST_OFFSET = 0xFFFFFFFF
 WITH_ATTRIBUTES = 1
 MOST_LOCKS = 1024
@@ -30,10 +25,7 @@ def attributes_of(node: Node) -> bytes:
                        node.attributes or 0x80)
 
 
-class ReadWriteLock:
-    def __init__(self, server: Server) -> None:
-        self._server = server
-
+class ReadWriteLock(Handlers):
     def close(self, request: Request) -> Handling:
         request.message.expect(24)
         opened = request.find()
@@ -49,14 +41,13 @@ class ReadWriteLock:
         told = attributes_of(opened.node) if flags else bytes(52)
         return Answer(Status.SUCCESS, struct.pack("<HHL", 60, flags, 0) + told)
 
-    def flush(self, request: Request) -> Handling:
-        yield from ()
+    def flush(self, request: Request) -> Answer:
         request.message.expect(24)
         request.open()
         return Answer(Status.SUCCESS, struct.pack("<HH", 4, 0))
 
     def read(self, request: Request) -> Handling:
-        """The machine reads the whole file, of which the client gets its part."""
+        """The machine reads the whole file, of which the client gets its part; past the end it may have zeros of former files."""
         message = request.message
         message.expect(49)
         length, offset, least = message.number(HEADER + 4, 4), message.number(HEADER + 8, 8), message.number(HEADER + 32, 4)
@@ -68,7 +59,8 @@ class ReadWriteLock:
         client = opened.client if opened and opened.client else request.client
         reply = yield MachineRequest(client.number, ReadRequest(opened.file_id if opened else request.file_id()))
         refuse_failed(reply)
-        data = reply.data[offset:offset + length] if isinstance(reply, ReadDone) else b""
+        whole = reply.data if isinstance(reply, ReadDone) else b""
+        data = (whole[:opened.node.length] if opened else whole)[offset:offset + length]
         if length and len(data) < max(1, least):
             raise StatusError(Status.END_OF_FILE)
         if opened:
@@ -141,8 +133,10 @@ class ReadWriteLock:
 
 
 def _lock(message: RequestMessage, place: int) -> tuple[Lock, int]:
-    flags = message.number(place + 16, 4)
-    return Lock(message.number(place, 8), message.number(place + 8, 8), bool(flags & EXCLUSIVE)), flags
+    offset, length, flags = message.number(place, 8), message.number(place + 8, 8), message.number(place + 16, 4)
+    if offset + length > 1 << 64:
+        raise StatusError(Status.INVALID_LOCK_RANGE)
+    return Lock(offset, length, bool(flags & EXCLUSIVE)), flags
 
 
 def _unlock(opened: Open, wanted: list[Lock]) -> None:

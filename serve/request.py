@@ -86,3 +86,10 @@ class Request:
         if found is None:
             raise StatusError(Status.FILE_CLOSED)
         return found
+
+
+class Handlers:
+    """What handles some commands, or is asked for by what does."""
+
+    def __init__(self, server: Server) -> None:
+        self._server = server

@@ -5,7 +5,6 @@ import argparse
 import contextlib
 import logging
 import os
-import signal
 import sys
 from collections.abc import Sequence
 
@@ -15,16 +14,15 @@ from smblease.program import find_program, judge
 
 from drive.commands import NOT_DRIVEN, SAFE, UNSAFE, ended
 from drive.faults import DriveFault, Usage
+from serve.connection import Connection
 from serve.event_loop import Loop
-from serve.listener import Listener, listening
-from serve.namespace import FORBIDDEN, MOST, Namespace
-from serve.ntlm import Prover
+from serve.namespace import FORBIDDEN, LARGEST, MOST, Namespace
+from serve.ntlm import User
 from serve.record import Record
 from serve.server import Server, Settings
-from serve.timer_control import Control
+from serve.timer_control import TimerControl
 
 LOG = logging.getLogger("serve")
-LARGEST = 1048576
 EPILOG = """It prints `port N`, and serves until it is ended by SIGINT or SIGTERM. With --record it then prints the verdict of the
 record. docs/REAL_SERVERS.md says what is the proved server's and what the shell's, and which rules a record can break.
 
@@ -38,10 +36,12 @@ def parser() -> argparse.ArgumentParser:
     made.add_argument("--port", type=int, required=True, metavar="N", help="the port; 0 for a free one")
     made.add_argument("--share", required=True, metavar="NAME", help="the name of the share")
     made.add_argument("--address", default="127.0.0.1", metavar="A", help="where to listen (127.0.0.1)")
-    made.add_argument("--folder", metavar="DIR", help="the share begins with the files of this folder, which stay as they are")
+    made.add_argument("--folder", metavar="DIR",
+                      help="the share begins with the files of this folder, which stay as they are; links in it aren't followed")
     made.add_argument("--record", metavar="FILE", help="write the record there, and have it judged at the end")
     made.add_argument("--user", metavar="USER%PASSWORD",
-                      help="a user whose sessions are signed, which needs impacket; all others are guests")
+                      help="a user, whose sessions are signed, in place of guests; needs impacket")
+    made.add_argument("--guests", action="store_true", help="let guests in beside the user, whose client then chooses to sign")
     made.add_argument("--break-timer", type=float, default=35.0, metavar="S", help="seconds that a break is waited for (35)")
     made.add_argument("--durable-timer", type=float, default=960.0, metavar="S",
                       help="seconds that a durable open is kept without a connection (960)")
@@ -53,7 +53,7 @@ def parser() -> argparse.ArgumentParser:
     return made
 
 
-def prover_of(user: str | None) -> Prover | None:
+def user_of(user: str | None) -> User | None:
     if user is None:
         return None
     name, percent, password = user.partition("%")
@@ -61,11 +61,11 @@ def prover_of(user: str | None) -> Prover | None:
         raise Usage("--user is USER%PASSWORD")
     try:
         # Guests are served without that package.
-        from serve.named_user import User  # pylint: disable=import-outside-toplevel
+        from serve.named_user import NamedUser  # pylint: disable=import-outside-toplevel
     except ImportError:
         raise DriveFault("--user needs impacket, which can't be imported (tools/setup installs it); "
                          "guests don't need it") from None
-    return User(name, password)
+    return NamedUser(name, password)
 
 
 def settings_of(arguments: argparse.Namespace) -> Settings:
@@ -75,7 +75,10 @@ def settings_of(arguments: argparse.Namespace) -> Settings:
         raise Usage("--share is a name")
     if not 0 < arguments.break_timer < 1e9 or not 0 < arguments.durable_timer < 1e9:
         raise Usage("timers are more than 0 seconds")
-    return Settings(arguments.share, prover_of(arguments.user), arguments.break_timer, arguments.durable_timer, arguments.apart)
+    if arguments.guests and arguments.user is None:
+        raise Usage("--guests goes with --user; without one all are guests")
+    return Settings(arguments.share, user_of(arguments.user), arguments.break_timer, arguments.durable_timer, arguments.apart,
+                    arguments.guests or arguments.user is None)
 
 
 def files_in(folder: str | None) -> tuple[list[str], dict[str, bytes]]:
@@ -92,11 +95,15 @@ def files_in(folder: str | None) -> tuple[list[str], dict[str, bytes]]:
             path = os.path.relpath(place, folder).replace("/", "\\")
             if path != ".":
                 folders.append(path)
-            for name in sorted(names):
-                if not os.path.isfile(os.path.join(place, name)):
-                    raise DriveFault(f"{os.path.join(place, name)}: no plain file")
-                with open(os.path.join(place, name), "rb") as stream:
-                    files[f"{path}\\{name}" if path != "." else name] = stream.read(LARGEST + 1)
+            for name in sorted([*names, *below]):
+                found = os.path.join(place, name)
+                if os.path.islink(found):
+                    LOG.warning("%s: a link, which isn't followed", found)
+                elif name in names and not os.path.isfile(found):
+                    raise DriveFault(f"{found}: no plain file")
+                elif name in names:
+                    with open(os.open(found, os.O_RDONLY | os.O_NOFOLLOW), "rb") as stream:
+                        files[f"{path}\\{name}" if path != "." else name] = stream.read(LARGEST + 1)
     except OSError as fault:
         raise DriveFault(f"{fault.filename}: {fault.strerror}") from None
     return folders, files
@@ -112,7 +119,7 @@ def named(folders: list[str], files: dict[str, bytes], record: Record) -> Namesp
             raise DriveFault(f"{path}: a name that can't be served, or more than {LARGEST} bytes")
         node = names.make(path, path not in files)
         if path in files:
-            node.length, node.is_changed = len(files[path]), bool(files[path])
+            node.length = len(files[path])
             record.start(node.number, files[path], path)
     return names
 
@@ -120,25 +127,20 @@ def named(folders: list[str], files: dict[str, bytes], record: Record) -> Namesp
 def serve(arguments: argparse.Namespace) -> int:
     settings = settings_of(arguments)
     folders, files = files_in(arguments.folder)
-    with listening(arguments.address, arguments.port) as stream, contextlib.closing(Record(arguments.record)) as record:
-        names = named(folders, files, record)
-        contents = [*files.values(), *[b""] * (MOST - len(files))]
-        machine = LineProcess(arguments.leasecheck, "server", [f"file {digits(it)}" for it in contents])
-        with contextlib.closing(machine), contextlib.closing(Loop()) as loop:
-            server = Server(settings, loop, machine, record, names)
-            Listener(server, stream)
-            if arguments.control is not None:
-                Control(server, arguments.control)
-            loop.stop_at(signal.SIGTERM, signal.SIGINT)
-            machine.say("content 1")
-            print(f"port {stream.getsockname()[1]}", flush=True)
-            try:
+    server: Server
+    with contextlib.closing(Loop()) as loop:
+        port = loop.listen(arguments.address, arguments.port, lambda: Connection(server))
+        with contextlib.closing(Record(arguments.record)) as record:
+            names = named(folders, files, record)
+            contents = [*files.values(), *[b""] * (MOST - len(files))]
+            machine = LineProcess(arguments.leasecheck, "server", [f"file {digits(it)}" for it in contents])
+            with contextlib.closing(machine):
+                server = Server(settings, loop.events, machine, record, names)
+                if arguments.control is not None:
+                    TimerControl(server, arguments.control)
+                machine.say("content 1")
+                print(f"port {port}", flush=True)
                 loop.run()
-            except DriveFault:
-                raise
-            except Exception as fault:
-                LOG.debug("where:", exc_info=fault)
-                raise DriveFault(f"the shell broke down: {type(fault).__name__}: {fault}") from None
     return verdict(arguments)
 
 

@@ -1,8 +1,10 @@
 """The server: what is there, who is connected, and what happens to opens."""
 from __future__ import annotations
 
+import asyncio
 import logging
 import os
+import time
 import uuid
 from collections.abc import Callable
 from dataclasses import dataclass
@@ -13,15 +15,15 @@ from smblease.processes import Speaker
 from drive.headers import Command
 from serve.connection import Connection, Pending
 from serve.create import Create
-from serve.event_loop import Loop
 from serve.forced_breaks import ForcedBreaks
 from serve.leases import Leases
 from serve.machine import Handling, Machine, MachineRequest, Steps, Task
 from serve.machine_clients import MachineClients
 from serve.namespace import Namespace, now
-from serve.ntlm import Prover
+from serve.ntlm import User
 from serve.opens import OWN_FILE_IDS, LeaseSeen, MachineClient, Open
 from serve.packets import Answer
+from serve.password_brake import PasswordBrake
 from serve.query_directory import QueryDirectory
 from serve.query_info import QueryInfo
 from serve.read_write_lock import ReadWriteLock
@@ -32,22 +34,26 @@ from serve.set_info import SetInfo
 from serve.status_error import StatusError
 
 LOG = logging.getLogger("serve")
+# Durable opens that a client leaves, the newest of them.
+MOST_KEPT = 64
 
 
 @dataclass(frozen=True)
 class Settings:
     share: str
-    user: Prover | None = None
+    user: User | None = None
     break_timer: float = 35.0
     durable_timer: float = 960.0
     # whether an open without a lease, beside a lease of its client, is a client of the machine by itself
     is_apart: bool = False
+    has_guests: bool = True
 
 
 class Server:  # pylint: disable=too-many-instance-attributes  # its parts find one another by it
     """The shell around the proved server."""
 
-    def __init__(self, settings: Settings, loop: Loop, speaker: Speaker, record: Record, names: Namespace) -> None:
+    def __init__(self, settings: Settings, loop: asyncio.AbstractEventLoop, speaker: Speaker, record: Record,
+                 names: Namespace) -> None:
         self.settings, self.loop, self.record, self.names = settings, loop, record, names
         self.guid = uuid.uuid4().bytes
         self.machine = Machine(speaker, self)
@@ -55,13 +61,15 @@ class Server:  # pylint: disable=too-many-instance-attributes  # its parts find 
         self.opens: dict[int, Open] = {}
         self.sessions: dict[int, Session] = {}
         self.begun: list[Pending] = []
+        self.connections: set[Connection] = set()
+        self.brake = PasswordBrake()
         self.last_session = int.from_bytes(os.urandom(6), "little") << 8
         self.last_async = 0
         self.leases = Leases(self)
         self._last_own = OWN_FILE_IDS
         self.forced_breaks = ForcedBreaks(self)
         sessions, transfers = Sessions(self), ReadWriteLock(self)
-        self.handlers: dict[Command, Callable[[Request], Handling]] = {
+        self.handlers: dict[Command | None, Callable[[Request], Answer | Handling]] = {
             Command.NEGOTIATE: sessions.negotiate, Command.SESSION_SETUP: sessions.set_up, Command.LOGOFF: sessions.log_off,
             Command.TREE_CONNECT: sessions.connect_tree, Command.TREE_DISCONNECT: sessions.disconnect_tree,
             Command.ECHO: sessions.echo, Command.OPLOCK_BREAK: self.leases.acknowledge,
@@ -83,7 +91,7 @@ class Server:  # pylint: disable=too-many-instance-attributes  # its parts find 
         elif isinstance(out, Changed) and out.data:
             node = self.names.at(out.file)
             if node:
-                node.is_changed, node.length = True, max(node.length, out.offset + len(out.data))
+                node.length = max(node.length, out.offset + len(out.data))
                 node.times.written = node.times.changed = now()
 
     def broken(self, client: int, notification: bytes) -> None:
@@ -99,7 +107,7 @@ class Server:  # pylint: disable=too-many-instance-attributes  # its parts find 
             return False
         if isinstance(reply, Created):
             file_id = reply.file_id
-            self.loop.after(self.settings.durable_timer, lambda: self._scavenge_unknown(file_id))
+            self.loop.call_later(self.settings.durable_timer, lambda: self._scavenge_unknown(file_id))
         return True
 
     def _scavenge_unknown(self, file_id: int) -> None:
@@ -146,17 +154,24 @@ class Server:  # pylint: disable=too-many-instance-attributes  # its parts find 
         """A client is connected, once at a time (profile)."""
         if connection.client or connection.guid is None:
             return
-        client = self.clients.of_guid(connection.guid) or self.clients.take(connection.guid)
+        client = self.clients.of_guid(connection.guid) or self._take_client(connection.guid)
         if client.connection:
             raise StatusError(Status.REQUEST_NOT_ACCEPTED)
         client.connection, connection.client = connection, client
         self.record.joined(client, str(uuid.UUID(bytes=connection.guid)))
         self.machine.say(f"join {client.number}")
 
-    def close_soon(self, connection: Connection) -> None:
-        self.loop.after(0, connection.close)
+    def _take_client(self, guid: bytes | None) -> MachineClient:
+        """Where all are taken, the one that has been away longest loses what it left."""
+        away = self.clients.longest_away() if self.clients.is_full else None
+        for opened in [it for it in self.opens.values() if it.client is away and away]:
+            self.scavenge(opened.file_id)
+        return self.clients.take(guid)
 
-    def connection_lost(self, connection: Connection) -> None:
+    def close_soon(self, connection: Connection) -> None:
+        self.loop.call_soon(connection.close)
+
+    def end_sessions(self, connection: Connection) -> None:
         for session in list(connection.sessions.values()):
             self.end_session(session)
 
@@ -173,11 +188,13 @@ class Server:  # pylint: disable=too-many-instance-attributes  # its parts find 
         cut = [client, *(it for it in self.clients.of(connection) if it is not client)]
         connection.client = None
         for one in cut:
-            one.connection = None
+            one.connection, one.left = None, time.monotonic()
             self.record.dropped(one)
             self.machine.say(f"cut {one.number}")
         for opened in opens:
             self._keep_or_forget(opened)
+        for opened in [it for it in opens if it.file_id in self.opens][:-MOST_KEPT]:
+            self.scavenge(opened.file_id)
         self.machine.abandon({it.number for it in cut}, Status.USER_SESSION_DELETED)
         self.settle()
 
@@ -187,7 +204,7 @@ class Server:  # pylint: disable=too-many-instance-attributes  # its parts find 
         if not self.is_kept(opened):
             self.forget_open(opened)
             return
-        opened.timer = self.loop.after(self.settings.durable_timer, lambda: self.scavenge(opened.file_id))
+        opened.timer = self.loop.call_later(self.settings.durable_timer, lambda: self.scavenge(opened.file_id))
 
     # What becomes of opens
 
@@ -229,13 +246,14 @@ class Server:  # pylint: disable=too-many-instance-attributes  # its parts find 
                 yield from self.close_open(opened)
 
     def forget_open(self, opened: Open) -> None:
-        """An open is gone. With the last one of a file goes its name, where it is to be deleted."""
+        """An open is gone. With the last one of a file goes its name, where it is to be deleted; a folder stays with what is in
+        it."""
         if self.opens.pop(opened.file_id, None) is None:
             return
         node = opened.node
         self.stop_timer(opened)
         node.opens.remove(opened)
-        node.is_deleting = node.is_deleting or opened.deletes
+        node.is_deleting = (node.is_deleting or opened.deletes) and not (node.is_folder and self.names.children(node))
         self._lease_gone(opened)
         if node.is_deleting and not node.opens and not node.is_gone:
             self.names.remove(node)
@@ -263,7 +281,7 @@ class Server:  # pylint: disable=too-many-instance-attributes  # its parts find 
 
     def borrow(self, connection: Connection, told: str) -> MachineClient:
         """A client of the machine for one open of a connection."""
-        client = self.clients.take(None)
+        client = self._take_client(None)
         self.join_machine(client, connection, told)
         return client
 

@@ -1,6 +1,7 @@
 """NEGOTIATE, SESSION_SETUP, LOGOFF, TREE_CONNECT, TREE_DISCONNECT and ECHO (3.3.5.3 to 3.3.5.9, 3.3.5.17)."""
 from __future__ import annotations
 
+import hmac
 import struct
 from dataclasses import dataclass, field
 from typing import TYPE_CHECKING
@@ -10,18 +11,18 @@ from smblease import Status
 from drive.headers import HEADER, tree_path
 from serve.machine import Handling
 from serve.namespace import now
-from serve.ntlm import Exchange
-from serve.packets import Answer
+from serve.ntlm import Authentication
+from serve.packets import Answer, RequestMessage, signed
+from serve.request import Handlers, Request
 from serve.spnego import offered
 from serve.status_error import StatusError
 
 if TYPE_CHECKING:
-    from serve.request import Request
     from serve.connection import Connection
     from serve.server import Server
 
 DIALECT, ANY_DIALECT = 0x0210, 0x02FF
-SIGNING_ENABLED = 1
+SIGNING_ENABLED, SIGNING_REQUIRED = 1, 2
 LEASING, LARGE_MTU = 2, 4
 LARGEST = 1048576
 IS_GUEST = 1
@@ -41,26 +42,35 @@ class Tree:
 class Session:
     identifier: int
     connection: Connection
-    exchange: Exchange | None = None
+    authentication: Authentication | None = None
     is_ready: bool = False
+    owner: str = ""
     key: bytes | None = None
+    signs: bool = False
     trees: dict[int, Tree] = field(default_factory=dict)
+
+    def check_signature(self, message: RequestMessage) -> None:
+        """A session that signs is refused what isn't signed, and one with a key what is signed wrongly (3.3.5.2.4)."""
+        is_wrong = message.is_signed and self.key and not hmac.compare_digest(signed(message.data, self.key), message.data)
+        if is_wrong or self.signs and not message.is_signed:
+            raise StatusError(Status.ACCESS_DENIED)
 
 
 def negotiated(server: Server, dialect: int) -> Answer:
     token = offered()
-    fixed = struct.pack("<HHHH16sLLLLQQHHL", 65, SIGNING_ENABLED, dialect, 0, server.guid, LEASING | LARGE_MTU, LARGEST, LARGEST,
+    needs_signing = server.settings.user and not server.settings.has_guests
+    mode = SIGNING_ENABLED | (SIGNING_REQUIRED if needs_signing else 0)
+    fixed = struct.pack("<HHHH16sLLLLQQHHL", 65, mode, dialect, 0, server.guid, LEASING | LARGE_MTU, LARGEST, LARGEST,
                         LARGEST, now(), 0, HEADER + 64, len(token), 0)
     return Answer(Status.SUCCESS, fixed + token)
 
 
-class Sessions:
+class Sessions(Handlers):
     def __init__(self, server: Server) -> None:
-        self._server = server
+        super().__init__(server)
         self._next_tree = 1
 
-    def negotiate(self, request: Request) -> Handling:
-        yield from ()
+    def negotiate(self, request: Request) -> Answer:
         message, connection = request.message, request.connection
         message.expect(36)
         if connection.is_negotiated:
@@ -73,9 +83,8 @@ class Sessions:
         connection.is_negotiated = True
         return negotiated(self._server, DIALECT)
 
-    def set_up(self, request: Request) -> Handling:
+    def set_up(self, request: Request) -> Answer:
         """One exchange of messages of NTLM; with the last one the client joins."""
-        yield from ()
         message, connection = request.message, request.connection
         message.expect(25)
         token = message.buffer(HEADER + 12, message.number(HEADER + 14, 2))
@@ -84,22 +93,25 @@ class Sessions:
         session = connection.sessions.get(message.session) if message.session else self._new(connection)
         if session is None:
             raise StatusError(Status.USER_SESSION_DELETED)
-        exchange = session.exchange = session.exchange or Exchange(self._server.settings.user)
+        settings = self._server.settings
+        session.check_signature(message)
+        current = session.authentication = session.authentication or Authentication(
+            settings.user, settings.has_guests, self._server.brake, connection.address)
         try:
-            reply = exchange.goes(token)
-            if exchange.is_over:
-                self._established(session, exchange, message.number(HEADER + 16, 8))
+            reply = current.reply(token)
+            if current.is_over:
+                self._establish(session, current, message)
         except StatusError:
-            session.exchange = None
+            session.authentication = None
             if not session.is_ready:
                 self._server.end_session(session)
             raise
-        status = Status.SUCCESS if exchange.is_over else Status.MORE_PROCESSING_REQUIRED
-        flags = IS_GUEST if exchange.is_over and not session.key else 0
-        if exchange.is_over:
-            session.exchange = None
+        status = Status.SUCCESS if current.is_over else Status.MORE_PROCESSING_REQUIRED
+        flags = IS_GUEST if current.is_over and not session.key else 0
+        if current.is_over:
+            session.authentication = None
         body = struct.pack("<HHHH", 9, flags, HEADER + 8, len(reply)) + reply
-        return Answer(status, body, session=session.identifier, key=session.key if exchange.is_over else None)
+        return Answer(status, body, session=session.identifier, key=session.key if current.is_over else None)
 
     def _new(self, connection: Connection) -> Session:
         if len(connection.sessions) == MOST_SESSIONS:
@@ -110,14 +122,18 @@ class Sessions:
         self._server.sessions[session.identifier] = session
         return session
 
-    def _established(self, session: Session, exchange: Exchange, previous: int) -> None:
-        """An earlier session that is named is over (3.3.5.5.3); a client is connected once."""
-        old = self._server.sessions.get(previous)
-        if old and old is not session:
+    def _establish(self, session: Session, proved: Authentication, message: RequestMessage) -> None:
+        """An earlier session of the same owner that is named is over (3.3.5.5.3); a client is connected once."""
+        if session.is_ready and session.owner != proved.owner:
+            raise StatusError(Status.ACCESS_DENIED)
+        old = self._server.sessions.get(message.number(HEADER + 16, 8))
+        if old and old is not session and old.owner == proved.owner:
             self._server.end_session(old)
         if not session.is_ready:
             self._server.connect_client(session.connection)
-        session.is_ready, session.key = True, exchange.key
+        session.is_ready, session.owner, session.key = True, proved.owner, proved.key
+        wants_to_sign = message.number(HEADER + 3, 1) & SIGNING_REQUIRED or not self._server.settings.has_guests
+        session.signs = session.signs or bool(proved.key and wants_to_sign)
 
     def log_off(self, request: Request) -> Handling:
         request.message.expect(4)
@@ -126,8 +142,7 @@ class Sessions:
         self._server.end_session(request.session)
         return Answer(Status.SUCCESS, struct.pack("<HH", 4, 0), key=key)
 
-    def connect_tree(self, request: Request) -> Handling:
-        yield from ()
+    def connect_tree(self, request: Request) -> Answer:
         request.message.expect(9)
         share = tree_path(request.message).rpartition("\\")[2].lower()
         if share not in (self._server.settings.share.lower(), "ipc$"):
@@ -147,7 +162,6 @@ class Sessions:
         yield from self._server.close_all(lambda it: it.tree is tree, True)
         return Answer(Status.SUCCESS, struct.pack("<HH", 4, 0))
 
-    def echo(self, request: Request) -> Handling:
-        yield from ()
+    def echo(self, request: Request) -> Answer:
         request.message.expect(4)
         return Answer(Status.SUCCESS, struct.pack("<HH", 4, 0))

@@ -2,33 +2,33 @@
 from __future__ import annotations
 
 import struct
-from typing import TYPE_CHECKING
 
 from smblease import Status
 
 from drive.headers import HEADER
 from serve.machine import Handling, MachineRequest, Steps, refuse_failed
-from serve.namespace import READ_ONLY, Node, path_of
+from serve.namespace import READ_ONLY, Node, check_size, path_of
 from serve.opens import DELETE, WRITE_ATTRIBUTES, Open, writes
 from serve.packets import Answer
 from serve.query_info import FILE
-from serve.read_write_lock import LARGEST
+from serve.request import Handlers, Request
 from serve.status_error import StatusError
-
-if TYPE_CHECKING:
-    from serve.request import Request
-    from serve.server import Server
 
 BASIC, RENAME, DISPOSITION, POSITION, MODE, ALLOCATION, END_OF_FILE = 4, 10, 13, 14, 16, 19, 20
 LEAST = {BASIC: 36, RENAME: 20, DISPOSITION: 1, POSITION: 8, MODE: 4, ALLOCATION: 8, END_OF_FILE: 8}
-UNCHANGED = (0, 0xFFFFFFFFFFFFFFFF, 0xFFFFFFFFFFFFFFFE)
+UNCHANGED = [it.to_bytes(8, "little", signed=True) for it in (0, -1, -2)]
 KEPT_ATTRIBUTES = 0x1 | 0x2 | 0x4 | 0x10 | 0x20 | 0x100 | 0x2000
 
 
-class SetInfo:
-    def __init__(self, server: Server) -> None:
-        self._server = server
+def signed(data: bytes) -> int:
+    """A number with a sign, which isn't below 0."""
+    value = int.from_bytes(data, "little", signed=True)
+    if value < 0:
+        raise StatusError(Status.INVALID_PARAMETER)
+    return value
 
+
+class SetInfo(Handlers):
     def set(self, request: Request) -> Handling:
         message = request.message
         message.expect(33)
@@ -46,7 +46,7 @@ class SetInfo:
         elif number == DISPOSITION:
             yield from self._dispose(request, opened, bool(data[0]))
         elif number == POSITION:
-            opened.position = int.from_bytes(data[:8], "little")
+            opened.position = signed(data[:8])
         elif number in (ALLOCATION, END_OF_FILE):
             yield from self._resize(opened, int.from_bytes(data[:8], "little"), number == END_OF_FILE)
         return Answer(Status.SUCCESS, struct.pack("<H", 2))
@@ -55,11 +55,11 @@ class SetInfo:
     def _set_basic(opened: Open, data: bytes) -> None:
         if not opened.access & WRITE_ATTRIBUTES:
             raise StatusError(Status.ACCESS_DENIED)
-        created, accessed, written, changed, attributes = struct.unpack_from("<QQQQL", data)
-        node = opened.node
-        for name, value in (("created", created), ("accessed", accessed), ("written", written), ("changed", changed)):
-            if value not in UNCHANGED:
-                setattr(node.times, name, value)
+        node, attributes = opened.node, int.from_bytes(data[32:36], "little")
+        times = [data[place:place + 8] for place in range(0, 32, 8)]
+        names = ("created", "accessed", "written", "changed")
+        for name, value in [(name, signed(it)) for name, it in zip(names, times) if it not in UNCHANGED]:
+            setattr(node.times, name, value)
         if attributes:
             node.attributes = attributes & KEPT_ATTRIBUTES & ~0x10 | node.attributes & 0x10
 
@@ -70,56 +70,65 @@ class SetInfo:
         length = int.from_bytes(data[16:20], "little")
         if 20 + length > len(data):
             raise StatusError(Status.INFO_LENGTH_MISMATCH)
-        path = path_of(data[20:20 + length].decode("utf-16le", errors="replace"))
-        node, names = opened.node, self._server.names
-        if not path or not node.path or names.parent(path) is None or f"{path}\\".lower().startswith(f"{node.path}\\".lower()) \
-                and node.is_folder:
-            raise StatusError(Status.OBJECT_PATH_NOT_FOUND)
-        self._check_target(node, path, bool(data[0]))
-        yield from self._server.forced_breaks.break_handles(request, node, opened.client, opened.key)
-        target = names.find(path)
-        if target and target is not node:
+        path, node, names = path_of(data[20:20 + length].decode("utf-16le", errors="replace")), opened.node, self._server.names
+        self._replaced(node, path, bool(data[0]))
+        yield from self._break_handles(request, opened)
+        target = self._replaced(node, path, bool(data[0]))
+        if target:
             names.remove(target)
         names.rename(node, path)
         self._server.record.remark(f"file {node.number} is {path}")
 
-    def _check_target(self, node: Node, path: str, replaces: bool) -> None:
-        """Whether a file of the new name may go."""
+    def _replaced(self, node: Node, path: str, replaces: bool) -> Node | None:
+        """The file that goes for the new name. It is looked for anew after every wait."""
+        if not path or not node.path or node.is_folder and f"{path}\\".lower().startswith(f"{node.path}\\".lower()):
+            raise StatusError(Status.OBJECT_PATH_NOT_FOUND)
+        self._server.names.check_folder_of(path)
         target = self._server.names.find(path)
         if target is None or target is node:
-            return
+            return None
         self._server.forget_unkept(target.opens)
         if not replaces:
             raise StatusError(Status.OBJECT_NAME_COLLISION)
         if target.is_folder or target.opens:
             raise StatusError(Status.ACCESS_DENIED)
+        return None if target.is_gone else target
+
+    def _break_handles(self, request: Request, opened: Open) -> Steps:
+        """Has others give up handles; the open may be closed meanwhile."""
+        yield from self._server.forced_breaks.break_handles(request, opened.node, opened.client, opened.key)
+        if opened.file_id not in self._server.opens:
+            raise StatusError(Status.FILE_CLOSED)
 
     def _dispose(self, request: Request, opened: Open, deletes: bool) -> Steps:
         node = opened.node
         if not opened.access & DELETE or not node.path:
             raise StatusError(Status.ACCESS_DENIED)
-        if deletes and node.attributes & READ_ONLY:
-            raise StatusError(Status.CANNOT_DELETE)
-        if deletes and node.is_folder and self._server.names.children(node):
-            raise StatusError(Status.DIRECTORY_NOT_EMPTY)
         if deletes:
-            yield from self._server.forced_breaks.break_handles(request, node, opened.client, opened.key)
+            self._check_deletable(node)
+            yield from self._break_handles(request, opened)
+            self._check_deletable(node)
         node.is_deleting = deletes
         if not deletes:
             opened.deletes = False
+
+    def _check_deletable(self, node: Node) -> None:
+        if node.attributes & READ_ONLY:
+            raise StatusError(Status.CANNOT_DELETE)
+        if node.is_folder and self._server.names.children(node):
+            raise StatusError(Status.DIRECTORY_NOT_EMPTY)
 
     def _resize(self, opened: Open, size: int, is_end: bool) -> Steps:
         """An end that goes up is a write of zeros at the new end; none goes down."""
         node = opened.node
         if opened.client is None or not writes(opened.access):
             raise StatusError(Status.ACCESS_DENIED)
-        if not is_end and size >= node.length:
-            node.allocated = -(-size // 4096) * 4096
-            return
+        check_size(size)
         if size < node.length:
             raise StatusError(Status.NOT_SUPPORTED)
-        if size > LARGEST:
-            raise StatusError(Status.INVALID_PARAMETER)
+        if not is_end:
+            node.allocate(size)
+            return
         client = opened.client
         is_longer = size > node.length
         write = client.next_write(opened.file_id, size - 1, b"\0") if is_longer else client.next_write(opened.file_id, 0, b"")

@@ -4,6 +4,7 @@ impacket has these too. They stand here so that guests are served by Python's st
 from __future__ import annotations
 
 from collections.abc import Iterator
+from typing import NamedTuple
 
 from drive.headers import Unreadable
 
@@ -18,6 +19,15 @@ ACCEPTED, INCOMPLETE, REQUEST_MIC = 0, 1, 3
 MECHANISMS = STATE = 0
 SUPPORTED = 1
 TOKEN = 2
+MIC = 3
+
+
+class Token(NamedTuple):
+    """What a token has: a message; of a first token the list of mechanisms, as it stands there; and a MIC of that list."""
+
+    message: bytes
+    mechanisms: bytes = b""
+    mic: bytes = b""
 
 
 def element(tag: int, content: bytes) -> bytes:
@@ -60,26 +70,31 @@ def offered() -> bytes:
     return element(INITIAL, element(IDENTIFIER, SPNEGO) + element(FIELD, element(SEQUENCE, mechanisms)))
 
 
-def unwrapped(token: bytes) -> bytes:
-    """The message in a client's token; nothing where there is none, or where the client would rather have another mechanism."""
+def unwrapped(token: bytes) -> Token:
+    """A client's token; with no message where there is none, or where the client would rather have another mechanism."""
+    mechanisms = b""
     if token[:1] == bytes((INITIAL,)):
         parts = dict(elements(inside(token, INITIAL)))
         if parts.get(IDENTIFIER) != SPNEGO or FIELD not in parts:
             raise Unreadable
         fields = dict(elements(inside(parts[FIELD], SEQUENCE)))
-        if inside(inside(fields.get(FIELD + MECHANISMS, b""), SEQUENCE), IDENTIFIER) != NTLM:
-            return b""
+        mechanisms = fields.get(FIELD + MECHANISMS, b"")
+        if inside(inside(mechanisms, SEQUENCE), IDENTIFIER) != NTLM:
+            return Token(b"", mechanisms)
     elif token[:1] == bytes((RESPONSE,)):
         fields = dict(elements(inside(inside(token, RESPONSE), SEQUENCE)))
     else:
-        return b""
-    return inside(fields[FIELD + TOKEN], OCTETS) if FIELD + TOKEN in fields else b""
+        return Token(b"")
+    message, mic = (inside(fields[it], OCTETS) if it in fields else b"" for it in (FIELD + TOKEN, FIELD + MIC))
+    return Token(message, mechanisms, mic)
 
 
-def wrapped(message: bytes, state: int, names_mechanism: bool) -> bytes:
+def wrapped(message: bytes, state: int, names_mechanism: bool, mic: bytes = b"") -> bytes:
     fields = element(FIELD + STATE, element(ENUMERATED, bytes((state,))))
     if names_mechanism:
         fields += element(FIELD + SUPPORTED, element(IDENTIFIER, NTLM))
     if message:
         fields += element(FIELD + TOKEN, element(OCTETS, message))
+    if mic:
+        fields += element(FIELD + MIC, element(OCTETS, mic))
     return element(RESPONSE, element(SEQUENCE, fields))

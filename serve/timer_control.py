@@ -14,7 +14,7 @@ if TYPE_CHECKING:
 AT_ONCE = 1 << 16
 
 
-class Control:
+class TimerControl:
     """`expire C KEY` and `scavenge FID`, each answered `done` or `nothing`, or `refused` where it can't be read. C is the
     client's number in the record, or its ClientGuid; KEY are the hexadecimal digits of a lease's key."""
 
@@ -24,14 +24,11 @@ class Control:
         self._bytes = b""
         try:
             os.set_blocking(descriptor, False)
-            server.loop.watch(self, self._ready)
+            server.loop.add_reader(descriptor, self._ready)
         except (OSError, ValueError) as fault:
             raise Usage(f"--control {descriptor}: {fault}") from None
 
-    def fileno(self) -> int:
-        return self._descriptor
-
-    def _ready(self, _: int) -> None:
+    def _ready(self) -> None:
         try:
             data = os.read(self._descriptor, AT_ONCE)
         except BlockingIOError:
@@ -39,7 +36,7 @@ class Control:
         except OSError:
             data = b""
         if not data:
-            self._server.loop.forget(self)
+            self._server.loop.remove_reader(self._descriptor)
             return
         *lines, self._bytes = (self._bytes + data).split(b"\n")
         for line in lines:

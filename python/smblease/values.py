@@ -120,8 +120,10 @@ class Status(enum.IntEnum):
     CANCELLED = 0xC0000120
     CANNOT_DELETE = 0xC0000121
     FILE_CLOSED = 0xC0000128
+    INVALID_LOCK_RANGE = 0xC00001A1
     USER_SESSION_DELETED = 0xC0000203
     NOT_FOUND = 0xC0000225
+    ACCOUNT_LOCKED_OUT = 0xC0000234
 
 
 # The statuses that lines of the machines have by name (docs/FORMATS.md).

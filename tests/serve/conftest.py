@@ -2,6 +2,7 @@
 from __future__ import annotations
 
 from collections.abc import Callable, Iterator
+from dataclasses import replace
 from pathlib import Path
 from typing import TYPE_CHECKING
 
@@ -44,8 +45,8 @@ def connect() -> Iterator[Connect]:
     from tests.serve.wire_client import WireClient  # pylint: disable=import-outside-toplevel
     clients: list[WireClient] = []
 
-    def connected(server: ServerProcess, guid: bytes | None = None) -> WireClient:
-        clients.append(WireClient(server.place, guid))
+    def connected(server: ServerProcess, guid: bytes | None = None, user: str = "guest", password: str = "guest") -> WireClient:
+        clients.append(WireClient(replace(server.place, user=user, password=password), guid))
         return clients[-1]
     yield connected
     for client in clients:

@@ -57,8 +57,12 @@ def close(file_id: int) -> Body:
     return Command.CLOSE, struct.pack("<HHL16s", 24, 1, 0, wire(file_id))
 
 
-def lock(file_id: int, flags: int = 2 | 16) -> Body:
-    return Command.LOCK, struct.pack("<HHL16sQQLL", 48, 1, 0, wire(file_id), 0, 1, flags, 0)
+def lock(file_id: int, flags: int = 2 | 16, offset: int = 0, length: int = 1) -> Body:
+    return Command.LOCK, struct.pack("<HHL16sQQLL", 48, 1, 0, wire(file_id), offset, length, flags, 0)
+
+
+def query_info(file_id: int, kind: int) -> Body:
+    return Command.QUERY_INFO, struct.pack("<HBBLHHLLL16s", 41, 1, kind, 4096, 0, 0, 0, 0, 0, wire(file_id)) + b"\0"
 
 
 def set_info(file_id: int, kind: int, data: bytes) -> Body:
@@ -88,7 +92,7 @@ def on_open(file_id: int) -> list[Body]:
     of_file = wire(file_id)
     return [
         write(file_id), read(file_id), (Command.FLUSH, struct.pack("<HHL16s", 24, 0, 0, of_file)), lock(file_id),
-        (Command.QUERY_INFO, struct.pack("<HBBLHHLLL16s", 41, 1, 18, 4096, 0, 0, 0, 0, 0, of_file) + b"\0"),
+        query_info(file_id, 18),
         set_info(file_id, 20, struct.pack("<Q", 100)), rename(file_id, NEW_NAME),
         set_info(file_id, 4, struct.pack("<QQQQLL", 1, 2, 3, 4, 0x20, 0)), query_directory(file_id),
         (Command.IOCTL, struct.pack("<HHL16sLLLLLLLL", 57, 0, 0x00140204, of_file, 120, 4, 0, 0, 0, 100, 1, 0) + b"abcd"),
@@ -97,9 +101,30 @@ def on_open(file_id: int) -> list[Body]:
     ]
 
 
+def tree_connect(share: str = "share") -> Body:
+    path = f"\\\\server\\{share}".encode("utf-16le")
+    return Command.TREE_CONNECT, struct.pack("<HHHH", 9, 0, 72, len(path)) + path
+
+
+def session_setup(token: bytes, previous: int = 0, mode: int = 1) -> Body:
+    return Command.SESSION_SETUP, struct.pack("<HBBLLHHQ", 25, 0, mode, 0, 0, 88, len(token), previous) + token
+
+
+def ntlm_tokens(name: str) -> list[bytes]:
+    """A NEGOTIATE_MESSAGE and an AUTHENTICATE_MESSAGE of this name, without a password (MS-NLMP 2.2.1.1, 2.2.1.3)."""
+    text = name.encode("utf-16le")
+    empty, fields = struct.pack("<HHL", 0, 0, 64), struct.pack("<HHL", len(text), len(text), 64)
+    authenticate = b"NTLMSSP\0" + struct.pack("<L", 3) + empty * 3 + fields + empty * 2 + struct.pack("<L", 0x00080201) + text
+    return [b"NTLMSSP\0" + struct.pack("<LL", 1, 0x00080201) + bytes(16), authenticate]
+
+
+def negotiate(guid: bytes) -> Body:
+    return Command.NEGOTIATE, struct.pack("<HHHHL16sQHH", 36, 2, 1, 0, 0, guid, 0, 0x0202, 0x0210)
+
+
 ECHO: Body = (Command.ECHO, struct.pack("<HH", 4, 0))
 PLAIN: list[Body] = [
-    ECHO, (Command.NEGOTIATE, struct.pack("<HHHHL16sQHH", 36, 2, 1, 0, 0, b"g" * 16, 0, 0x0202, 0x0210)),
+    ECHO, negotiate(b"g" * 16),
     (Command.SESSION_SETUP, struct.pack("<HBBLLHHQ", 25, 0, 1, 0, 0, 88, 12, 0) + b"NTLMSSP\0\1\0\0\0"),
     (Command.TREE_CONNECT, struct.pack("<HHHH", 9, 0, 72, 22) + "\\\\a\\share".encode("utf-16le") + bytes(6)),
     (Command.CANCEL, struct.pack("<HH", 4, 0)), acknowledgment(KEY, "RH"), acknowledgment(OTHER_KEY, "none"),

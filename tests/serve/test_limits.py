@@ -9,10 +9,10 @@ from smblease import Status
 
 from drive.faults import DriveFault
 from drive.headers import Command
-from serve.create_parameters import DELETE_ON_CLOSE
+from serve.create_parameters import DELETE_ON_CLOSE, OVERWRITE_IF
 from serve.server_process import ServerProcess
 from tests.serve.conftest import Connect
-from tests.serve.requests import close, create, frame, header, read, set_info, write
+from tests.serve.requests import KEY, close, create, frame, header, leased, read, set_info, write
 
 LARGEST_FILE = 1048576
 END_OF_FILE = 20
@@ -71,3 +71,37 @@ def test_clients(served: ServerProcess, connect: Connect) -> None:
         connect(served, b"3" * 16)
     there.pop().close()
     connect(served, b"4" * 16)
+
+
+def test_names_that_come_and_go(served: ServerProcess, connect: Connect) -> None:
+    """255 files are the most at a time, and not ever: files that are written to and deleted make room, and begin empty."""
+    one = connect(served)
+    for number in range(300):
+        file_id = one.open(create(f"name-{number % 7}", access=0x13019F, options=DELETE_ON_CLOSE))
+        assert one.status(write(file_id, 3, b"bytes")) == Status.SUCCESS, number
+        assert one.ask(read(file_id)).data[80:] == b"\0\0\0bytes", number
+        assert one.status(close(file_id)) == Status.SUCCESS
+
+
+def test_a_name_that_is_overwritten(served: ServerProcess, connect: Connect) -> None:
+    """Each time the file begins empty, and a shorter one has nothing of the one before it."""
+    one = connect(served)
+    for number in range(300):
+        message = one.ask(create("name", disposition=OVERWRITE_IF))
+        assert (message.status, message.number(112, 8)) == (Status.SUCCESS, 0), number
+        file_id = message.number(128, 8)
+        assert one.status(write(file_id, 300 - number, b"x")) == Status.SUCCESS, number
+        assert one.ask(read(file_id, 4096)).data[80:] == bytes(300 - number) + b"x", number
+        assert one.status(close(file_id)) == Status.SUCCESS
+
+
+def test_a_file_of_a_number_that_was_used_before_opens_under_a_lease(served: ServerProcess, connect: Connect) -> None:
+    """What is read is what was written since, by another client too."""
+    one, other = connect(served), connect(served)
+    for number in range(260):
+        one.ask(close(one.open(create("name", disposition=OVERWRITE_IF))))
+        file_id = one.open(leased("name", KEY, "RWH"))
+        assert one.status(write(file_id, 0, f"{number:05}".encode())) == Status.SUCCESS, number
+        one.ask(close(file_id))
+    file_id = other.open(create("name"))
+    assert other.ask(read(file_id)).data[80:] == b"00259"

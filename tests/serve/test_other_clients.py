@@ -47,6 +47,7 @@ def test_smbtorture(program: str, name: str, words: list[str], interpreter: tupl
 @pytest.mark.parametrize("user, words, interpreter", [
     pytest.param("guest%", [], (), id="a_guest"), pytest.param("guest%", [], BARE, id="a_guest-standard_library_alone"),
     pytest.param(USER, ["--user", USER], (), id="a_user", marks=needs.package("impacket")),
+    pytest.param(USER, ["--user", USER, "--guests"], (), id="a_user_beside_guests", marks=needs.package("impacket")),
 ])
 def test_smbclient(start: Start, tmp_path: Path, user: str, words: list[str], interpreter: tuple[str, ...]) -> None:
     """A file goes there and comes back, is listed and deleted."""
@@ -83,6 +84,14 @@ def test_two_of_smbclient(served: ServerProcess, tmp_path: Path) -> None:
     pytest.param("guest%", 0, 0, id="guest"),
 ])
 def test_a_password(start: Start, user: str, failures: int, status: int) -> None:
-    """A named user is refused with a wrong one, and a guest is served as before."""
-    ends, output = ended(smbclient(start("--user", USER), "ls", user))
+    """A named user is refused with a wrong one, and guests are served where they are let in."""
+    ends, output = ended(smbclient(start("--user", USER, "--guests"), "ls", user))
     assert (output.count("NT_STATUS_LOGON_FAILURE"), ends) == (failures, status), output
+
+
+@needs.program("smbclient")
+def test_smbclient_puts_one_name_again_and_again(served: ServerProcess, tmp_path: Path) -> None:
+    given, got = tmp_path / "given", tmp_path / "got"
+    given.write_bytes(b"given")
+    status, output = ended(smbclient(served, f"put {given} name; " * 260 + f"get name {got}"))
+    assert (status, "NT_STATUS" in output, got.read_bytes()) == (0, False, b"given"), output[-300:]

@@ -67,8 +67,10 @@ def test_a_token_that_is_made(made: bytes, expected: bytes) -> None:
 @pytest.mark.parametrize("length", LENGTHS)
 def test_the_message_of_a_token(length: int) -> None:
     text = random.Random(length).randbytes(length)
-    assert spnego.unwrapped(initial([spnego.NTLM, KERBEROS], text)) == text
-    assert spnego.unwrapped(response(text)) == text
+    token = spnego.unwrapped(initial([spnego.NTLM, KERBEROS], text))
+    kerberos = spnego.element(6, KERBEROS)
+    assert token == spnego.Token(text, spnego.element(0x30, spnego.element(6, spnego.NTLM) + kerberos))
+    assert spnego.unwrapped(response(text)) == spnego.Token(text)
 
 
 @pytest.mark.parametrize("token, expected", [
@@ -78,7 +80,12 @@ def test_the_message_of_a_token(length: int) -> None:
     pytest.param(b"four", b"", id="no_token"),
 ])
 def test_an_odd_token(token: bytes, expected: bytes) -> None:
-    assert spnego.unwrapped(token) == expected
+    assert spnego.unwrapped(token).message == expected
+
+
+def test_the_mic_of_a_token() -> None:
+    assert spnego.unwrapped(WITH_MIC).mic == bytes(16)
+    assert spnego.unwrapped(spnego.wrapped(b"five", spnego.ACCEPTED, False, b"mic")) == spnego.Token(b"five", mic=b"mic")
 
 
 def negotiate(flags: int) -> bytes:

@@ -1,6 +1,8 @@
 """A client that sends requests as bytes, one by one, on a session that impacket sets up."""
 from __future__ import annotations
 
+import hashlib
+import hmac
 import select
 import socket
 import struct
@@ -9,11 +11,17 @@ import uuid
 from smblease import Status
 
 from drive.connections import Connection
-from drive.headers import UNASKED, Message
+from drive.headers import UNASKED, Command, Message
 from drive.place import Place
-from tests.serve.requests import Body, frame, header
+from tests.serve.requests import Body, frame, header, ntlm_tokens, session_setup, tree_connect
 
 SECONDS = 20.0
+SIGNED = 8
+
+
+def signature(data: bytes, key: bytes) -> bytes:
+    """Of a session of dialect 2.1 (3.1.4.1)."""
+    return hmac.new(key, data[:48] + bytes(16) + data[64:], hashlib.sha256).digest()[:16]
 
 
 class Closed(Exception):
@@ -30,16 +38,26 @@ class WireClient:
         self.session = int(smb._Session["SessionID"])
         self.tree = int(self._connection._tree)
         self.number = int(smb._Connection["SequenceWindow"])
+        self.key = bytes(smb._Session["SessionKey"] or b"")[:16]
         self.breaks: list[Message] = []
 
     def close(self) -> None:
         self._connection.close()
 
-    def send(self, body: Body) -> int:
+    def send(self, body: Body, signs: bool = False, damages: bool = False) -> int:
         command, text = body
-        self.stream.sendall(frame(header(command, self.number, self.session, self.tree) + text))
+        data = header(command, self.number, self.session, self.tree, flags=SIGNED if signs else 0) + text
+        if signs:
+            data = data[:48] + signature(data, self.key) + data[64:]
+        self.stream.sendall(frame(data[:-1] + bytes([data[-1] ^ damages])))
         self.number += 1
         return self.number - 1
+
+    def send_cancel(self, number: int) -> None:
+        self.stream.sendall(frame(header(Command.CANCEL, number, self.session, self.tree) + struct.pack("<HH", 4, 0)))
+
+    def is_signed(self, message: Message) -> bool:
+        return bool(message.flags & SIGNED) and message.part(48, 16) == signature(message.data, self.key)
 
     def receive(self, seconds: float = SECONDS) -> Message:
         """The next message, or the messages of a compound, as they come."""
@@ -67,6 +85,19 @@ class WireClient:
         message = self.ask(body)
         assert message.status == Status.SUCCESS, hex(message.status)
         return file_id(message)
+
+    def connect_tree(self) -> None:
+        self.tree = self.ask(tree_connect()).tree
+
+    def set_up_another_session(self, name: str = "guest") -> int:
+        """One more session of a guest on this connection, which the client doesn't use."""
+        used, self.session = self.session, 0
+        for token in ntlm_tokens(name):
+            message = self.ask(session_setup(token))
+            self.session = message.session
+        assert message.status == Status.SUCCESS, hex(message.status)
+        made, self.session = self.session, used
+        return made
 
     def has_more(self, seconds: float) -> bool:
         return bool(select.select([self.stream], [], [], seconds)[0])

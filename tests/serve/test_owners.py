@@ -1,0 +1,171 @@
+"""Whose word counts: sessions and durable opens have an owner, and with --user nobody else comes in."""
+from __future__ import annotations
+
+import socket
+from typing import TYPE_CHECKING
+
+import pytest
+from smblease import CreateAsk, LeaseState, Status
+
+from drive.headers import Command, Message
+from serve.server_process import ServerProcess
+from tests import needs
+from tests.serve.conftest import Connect, Start
+from tests.serve.requests import (ECHO, KEY, Body, acknowledgment, close, create, frame, header, leased, negotiate, ntlm_tokens,
+                                  query_directory, read, session_setup, tree_connect)
+from tests.serve.test_other_clients import USER, ended, smbclient
+
+if TYPE_CHECKING:
+    from tests.serve.wire_client import WireClient
+
+BATCH = 9
+SIGNING_ENABLED, SIGNING_REQUIRED = 1, 2
+LIST: Body = create("", access=0x81, disposition=1, options=1)
+NAME, PASSWORD = USER.split("%")
+
+
+def set_up(client: "WireClient", name: str, previous: int = 0) -> Message:
+    """A session of a guest of this name on a connection that has one already; the last answer."""
+    used, client.session = client.session, 0
+    for token in ntlm_tokens(name):
+        message = client.ask(session_setup(token, previous))
+        client.session = message.session
+        if message.status not in (Status.SUCCESS, Status.MORE_PROCESSING_REQUIRED):
+            break
+    client.session = used
+    return message
+
+
+@pytest.mark.parametrize("name, status", [pytest.param("guest", Status.USER_SESSION_DELETED, id="its_owner"),
+                                          pytest.param("GUEST", Status.USER_SESSION_DELETED, id="its_owner_in_capitals"),
+                                          pytest.param("other", Status.SUCCESS, id="another_guest")])
+def test_a_session_that_is_named_by_another(served: ServerProcess, connect: Connect, name: str, status: Status) -> None:
+    """It ends where its owner names it, and else goes on (3.3.5.5.3)."""
+    one, other = connect(served), connect(served)
+    assert set_up(other, name, previous=one.session).status == Status.SUCCESS
+    assert one.status(LIST) == status
+
+
+@needs.package("impacket")
+def test_a_guest_of_the_name_of_a_user(start: Start, connect: Connect) -> None:
+    """A name is proved by its password."""
+    server = start("--user", USER, "--guests")
+    assert set_up(connect(server), NAME).status == Status.LOGON_FAILURE
+
+
+def test_a_durable_oplock_of_another(served: ServerProcess, connect: Connect) -> None:
+    """A FileId is no secret: an open is given to its owner alone, from any ClientGuid of his (3.3.5.9.7)."""
+    one, other = connect(served), connect(served)
+    number = one.open(create("file", level=BATCH, contexts=CreateAsk(durable=True).write()))
+    one.close()
+    again = create("another name", contexts=CreateAsk(reconnect=number).write())
+    other.session = set_up(other, "other").session
+    other.connect_tree()
+    assert other.status(again) == Status.ACCESS_DENIED
+    assert connect(served).status(again) == Status.SUCCESS
+
+
+def test_a_durable_lease_of_another(served: ServerProcess, connect: Connect) -> None:
+    """Of a lease the ClientGuid has to be the same too."""
+    guid = b"9" * 16
+    one, other = connect(served, guid), connect(served)
+    number = one.open(leased("file", KEY, "RWH", durable=True))
+    one.close()
+    again = create("file", level=0xFF, contexts=CreateAsk(KEY, LeaseState.NONE, reconnect=number).write())
+    assert other.status(again) == Status.OBJECT_NAME_NOT_FOUND
+    one = connect(served, guid)
+    guest, one.session = one.session, set_up(one, "other").session
+    one.connect_tree()
+    assert one.status(again) == Status.ACCESS_DENIED
+    one.session = guest
+    one.connect_tree()
+    assert one.status(again) == Status.SUCCESS
+
+
+@needs.program("smbclient")
+@needs.package("impacket")
+@pytest.mark.parametrize("words, user, failures", [
+    pytest.param(["--user", USER], "guest%", 1, id="no_guests"), pytest.param(["--user", USER], USER, 0, id="the_user"),
+    pytest.param(["--user", USER, "--guests"], "guest%", 0, id="guests"),
+    pytest.param([], "guest%", 0, id="guests_where_nobody_is_named"),
+])
+def test_guests(start: Start, words: list[str], user: str, failures: int) -> None:
+    status, output = ended(smbclient(start(*words), "ls", user))
+    assert (output.count("NT_STATUS_LOGON_FAILURE"), status) == (failures, failures), output
+
+
+def test_guests_without_a_user(program: str) -> None:
+    from tests.serve.test_command_line import PLACE, run  # pylint: disable=import-outside-toplevel
+    done = run(program, *PLACE, "--guests")
+    assert (done.returncode, done.stderr) == (2, "serve/run: --guests goes with --user; without one all are guests\n")
+
+
+@pytest.fixture
+def signing(start: Start, connect: Connect) -> "WireClient":
+    """A client whose session signs."""
+    server = start("--user", USER)
+    return connect(server, user=NAME, password=PASSWORD)
+
+
+@needs.package("impacket")
+def test_a_request_that_is_signed(signing: "WireClient") -> None:
+    message = signing.answer_to(signing.send(LIST, signs=True))
+    assert message.status == Status.SUCCESS
+    assert signing.is_signed(message)
+
+
+@needs.package("impacket")
+@pytest.mark.parametrize("body", [LIST, tree_connect(), create("file"), read(1), close(1), query_directory(1)],
+                         ids=["list", "TREE_CONNECT", "CREATE", "READ", "CLOSE", "QUERY_DIRECTORY"])
+def test_a_request_that_is_not_signed(signing: "WireClient", body: Body) -> None:
+    """A session that signs is refused it (3.3.5.2.4)."""
+    assert signing.status(body) == Status.ACCESS_DENIED
+
+
+@needs.package("impacket")
+def test_a_signature_that_is_wrong(signing: "WireClient") -> None:
+    assert signing.answer_to(signing.send(LIST, signs=True, damages=True)).status == Status.ACCESS_DENIED
+
+
+@needs.package("impacket")
+def test_a_cancel_that_is_not_signed(start: Start, connect: Connect) -> None:
+    """It is passed over; the create goes on waiting."""
+    server = start("--user", USER)
+    one = connect(server, user=NAME, password=PASSWORD)
+    held = one.answer_to(one.send(leased("file", KEY, "RWH"), signs=True))
+    assert held.status == Status.SUCCESS
+    number = one.send(create("file", share=0), signs=True)
+    assert {one.receive().command, one.receive().command} == {Command.OPLOCK_BREAK, Command.CREATE}, "a break, and PENDING"
+    one.send_cancel(number)
+    assert one.answer_to(one.send(ECHO, signs=True)).status == Status.SUCCESS
+    one.send(acknowledgment(KEY, "RW"), signs=True)
+    assert one.answer_to(number).status == Status.SHARING_VIOLATION
+
+
+@needs.package("impacket")
+@pytest.mark.parametrize("words, mode", [pytest.param(["--user", USER], SIGNING_ENABLED | SIGNING_REQUIRED, id="user"),
+                                         pytest.param(["--user", USER, "--guests"], SIGNING_ENABLED, id="user_and_guests"),
+                                         pytest.param([], SIGNING_ENABLED, id="guests")])
+def test_what_negotiate_says_of_signing(start: Start, words: list[str], mode: int) -> None:
+    place = start(*words).place
+    with socket.create_connection((place.host, place.port)) as stream:
+        stream.sendall(frame(header(Command.NEGOTIATE, 0, 0, 0) + negotiate(b"g" * 16)[1]))
+        assert stream.recv(4096)[4 + 64 + 2] == mode
+
+
+@needs.program("smbclient")
+@needs.package("impacket")
+@pytest.mark.parametrize("protection", ["sign", "off"])
+def test_smbclient_with_protection(start: Start, protection: str) -> None:
+    """It wants a mechListMIC of a session that is signed (RFC 4178, 5)."""
+    status, output = ended(smbclient(start("--user", USER), "ls", USER, [f"--client-protection={protection}"]))
+    assert (status, "NT_STATUS" in output) == (0, False), output
+
+
+@needs.package("impacket")
+def test_a_user_who_need_not_sign(start: Start, connect: Connect) -> None:
+    """With guests beside the user a session signs where its client asks for that; what is signed is signed rightly."""
+    one = connect(start("--user", USER, "--guests"), user=NAME, password=PASSWORD)
+    assert one.status(LIST) == Status.SUCCESS
+    assert one.answer_to(one.send(LIST, signs=True)).status == Status.SUCCESS
+    assert one.answer_to(one.send(LIST, signs=True, damages=True)).status == Status.ACCESS_DENIED

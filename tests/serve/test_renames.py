@@ -1,0 +1,128 @@
+"""What a rename and a deletion find when others give up handles, which they wait for."""
+from __future__ import annotations
+
+from collections.abc import Callable
+from dataclasses import dataclass
+from typing import TYPE_CHECKING
+
+import pytest
+from smblease import Status
+
+from serve.create_parameters import CREATE, DELETE_ON_CLOSE, DIRECTORY_FILE, OPEN
+from serve.server_process import ServerProcess
+from tests.serve.conftest import Connect
+from tests.serve.requests import KEY, Body, acknowledgment, close, create, leased, read, rename, set_info, write
+
+if TYPE_CHECKING:
+    from tests.serve.wire_client import WireClient
+
+DELETING = 0x13019F
+LIST = 0x81
+KEPT = b"kept"
+
+
+@dataclass
+class Waiting:
+    """A request of `one` that waits for `holder` to give up the handles of `file`, while `other` does what it likes."""
+
+    holder: "WireClient"
+    one: "WireClient"
+    other: "WireClient"
+    opened: int
+    number: int = 0
+
+    def begin(self, body: Body) -> None:
+        self.number = self.one.send(body)
+        assert self.one.receive().status == Status.PENDING
+
+    def end(self) -> int:
+        self.holder.ask(acknowledgment(KEY, "R"))
+        return self.one.answer_to(self.number).status
+
+    def content(self, name: str) -> bytes | None:
+        """The bytes of a file, or none where there is no such file."""
+        message = self.other.ask(create(name, disposition=OPEN))
+        if message.status != Status.SUCCESS:
+            return None
+        file_id = message.number(128, 8)
+        data = self.other.ask(read(file_id)).data[80:]
+        self.other.ask(close(file_id))
+        return data
+
+    def make(self, name: str) -> int:
+        file_id = self.other.open(create(name, disposition=CREATE))
+        assert self.other.status(write(file_id, 0, KEPT)) == Status.SUCCESS
+        return file_id
+
+
+@pytest.fixture
+def waiting(served: ServerProcess, connect: Connect) -> Waiting:
+    holder, one, other = (connect(served) for _ in range(3))
+    file_id = holder.open(leased("file", KEY, "RH"))
+    holder.ask(write(file_id, 0, b"file"))
+    return Waiting(holder, one, other, one.open(create("file", access=DELETING, disposition=OPEN)))
+
+
+@pytest.mark.parametrize("replaces", [False, True])
+def test_a_file_that_was_made_meanwhile(waiting: Waiting, replaces: bool) -> None:
+    """It is replaced where that was asked for; else both files stay."""
+    waiting.begin(rename(waiting.opened, "new", replaces))
+    waiting.other.ask(close(waiting.make("new")))
+    assert waiting.end() == (Status.SUCCESS if replaces else Status.OBJECT_NAME_COLLISION)
+    assert waiting.content("new") == (b"file" if replaces else KEPT)
+    assert waiting.content("file") == (None if replaces else b"file")
+
+
+def test_a_file_that_was_opened_meanwhile(waiting: Waiting) -> None:
+    """What somebody has open isn't replaced."""
+    waiting.begin(rename(waiting.opened, "new"))
+    waiting.make("new")
+    assert waiting.end() == Status.ACCESS_DENIED
+    assert (waiting.content("new"), waiting.content("file")) == (KEPT, b"file")
+
+
+def test_a_folder_that_was_removed_meanwhile(waiting: Waiting) -> None:
+    folder = waiting.other.open(create("folder", access=DELETING, options=DIRECTORY_FILE))
+    waiting.begin(rename(waiting.opened, "folder\\new"))
+    assert waiting.other.status(set_info(folder, 13, b"\1")) == Status.SUCCESS
+    assert waiting.other.status(close(folder)) == Status.SUCCESS
+    assert waiting.end() == Status.OBJECT_PATH_NOT_FOUND
+    assert waiting.content("file") == b"file"
+
+
+@pytest.mark.parametrize("body", [pytest.param(lambda it: rename(it, "new"), id="rename"),
+                                  pytest.param(lambda it: set_info(it, 13, b"\1"), id="deletion")])
+def test_an_open_that_was_closed_meanwhile(waiting: Waiting, body: Callable[[int], Body]) -> None:
+    waiting.begin(body(waiting.opened))
+    assert waiting.one.status(close(waiting.opened)) == Status.SUCCESS
+    assert waiting.end() == Status.FILE_CLOSED
+    assert (waiting.content("new"), waiting.content("file")) == (None, b"file")
+
+
+def test_a_file_in_a_folder_that_is_to_be_deleted(served: ServerProcess, connect: Connect) -> None:
+    """It isn't made, since it would be left without its folder."""
+    one = connect(served)
+    folder = one.open(create("folder", access=DELETING, options=DIRECTORY_FILE))
+    assert one.status(set_info(folder, 13, b"\1")) == Status.SUCCESS
+    assert one.status(create("folder\\file", disposition=CREATE)) == Status.DELETE_PENDING
+
+
+def test_a_folder_that_is_to_be_deleted_at_its_close(served: ServerProcess, connect: Connect) -> None:
+    """It stays where there is something in it."""
+    one = connect(served)
+    folder = one.open(create("folder", access=DELETING, options=DIRECTORY_FILE | DELETE_ON_CLOSE))
+    one.ask(close(one.open(create("folder\\file", disposition=CREATE))))
+    one.ask(close(folder))
+    assert one.status(create("folder", access=LIST, disposition=OPEN, options=DIRECTORY_FILE)) == Status.SUCCESS
+    assert one.status(create("folder\\file", disposition=OPEN)) == Status.SUCCESS
+
+
+def test_an_open_stream_of_a_file_that_was_deleted(served: ServerProcess, connect: Connect) -> None:
+    """It goes with its last open."""
+    one = connect(served)
+    file_id = one.open(create("file", access=DELETING))
+    stream = one.open(create("file:stream"))
+    assert one.status(set_info(file_id, 13, b"\1")) == Status.SUCCESS
+    one.ask(close(file_id))
+    one.ask(close(stream))
+    assert one.status(create("file:stream", disposition=OPEN)) == Status.OBJECT_NAME_NOT_FOUND
