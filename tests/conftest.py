@@ -18,6 +18,7 @@ else:
 
 def pytest_addoption(parser: pytest.Parser) -> None:
     parser.addoption("--seed", type=int, default=1, help="what random inputs are made from (1)")
+    parser.addoption("--full-sizes", action="store_true", help="measure growth at four times the sizes")
 
 
 def pytest_report_header(config: pytest.Config) -> str:

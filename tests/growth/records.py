@@ -1,9 +1,9 @@
 """Families of records for `leasecheck judge`. All writes go to the first byte of a file of one
 byte, and write what is there, so that a record is as long as its facts are many."""
-from typing import List
+from __future__ import annotations
 
-from .colliding import colliding_numbers
-from .family import Family
+from tests.growth.colliding import colliding_numbers
+from tests.growth.family import Family
 
 # A client is connected, took a message and may read from its cache.
 BEGUN = ['start 1 61', 'joined 1', 'sent 1', 'took 1', 'believes 1 1 R']
@@ -12,7 +12,7 @@ CLIENTS = 255
 FILES = 255
 
 
-def text(lines: List[str]) -> str:
+def text(lines: list[str]) -> str:
     return '\n'.join(lines) + '\n'
 
 

@@ -5,8 +5,7 @@ four words of 32 bits of the product by exclusive or. The low bits of what comes
 place in the table where a search begins. A seed that is chosen anew in each run makes these numbers
 ordinary ones.
 """
-from typing import List
-
+from __future__ import annotations
 SEED = 0x243F6A8885A308D3
 MULTIPLIER = 0x9E3779B97F4A7C15
 # A text of eight bytes is multiplied by this.
@@ -22,9 +21,9 @@ def hash_of(number: int) -> int:
     return (product ^ product >> 32) & 0xFFFFFFFF
 
 
-def colliding_numbers(count: int) -> List[int]:
+def colliding_numbers(count: int) -> list[int]:
     """The first numbers whose searches begin in the table's first place."""
-    found: List[int] = []
+    found: list[int] = []
     number = 0
     while len(found) < count:
         number += 1

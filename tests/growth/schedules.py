@@ -1,8 +1,8 @@
 """Families of schedules for `leasecheck replay`. A run has at most 16 clients and 10,000 events, so
 many leases are asked for by raw requests of one client, each with a key of its own."""
-from typing import List
+from __future__ import annotations
 
-from .family import Family
+from tests.growth.family import Family
 
 HOLDERS = 14
 READ_HANDLES = 3
@@ -15,7 +15,7 @@ def guid(client: int) -> str:
     return f'{client:032x}'
 
 
-def begun(content: str, clients: int) -> List[str]:
+def begun(content: str, clients: int) -> list[str]:
     """A file and connected clients."""
     numbers = range(1, clients + 1)
     return ([f'file {content}'] + [f'client {guid(client)}' for client in numbers]
@@ -28,19 +28,19 @@ def lease_ask(key: int, state: int) -> str:
     return (header + key.to_bytes(16, 'big') + state.to_bytes(4, 'little') + bytes(12)).hex()
 
 
-def served(client: int, request: str) -> List[str]:
+def served(client: int, request: str) -> list[str]:
     return [f'raw {client} {request}', f'serve {client}']
 
 
-def leases(count: int) -> List[str]:
+def leases(count: int) -> list[str]:
     """n opens of client 1, each with a lease of its own on reads and handles."""
-    lines: List[str] = []
+    lines: list[str] = []
     for key in range(1, count + 1):
         lines += served(1, f'create 1 r rw {lease_ask(key, READ_HANDLES)}')
     return lines
 
 
-def text(lines: List[str]) -> str:
+def text(lines: list[str]) -> str:
     return '\n'.join(lines) + '\n'
 
 

@@ -1,0 +1,1 @@
+"""How the cost of `leasecheck judge` and `leasecheck replay` grows with their input."""

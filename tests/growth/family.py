@@ -1,0 +1,38 @@
+"""A family of inputs: one text for each size, and what is wanted of their cost."""
+from __future__ import annotations
+
+from dataclasses import dataclass, field
+from typing import Callable, Optional
+
+# The largest exponent where cost is wanted to be linear.
+LINEAR = 1.25
+
+
+@dataclass(frozen=True)
+class Family:
+    """`make(n)` is the input of size n, a record for `judge` or a schedule for `replay`. Its doc string says what the family
+    shows; `make(0)` is the set-up, whose cost is subtracted."""
+
+    name: str
+    command: str
+    make: Callable[[int], str]
+    smallest: int
+    unit: str
+    # How many lines of the replayed record begin with these words, as a multiple of n.
+    facts: dict[str, int] = field(default_factory=dict)
+    # The most instructions for one unit, where that is limited too.
+    most_instructions: Optional[int] = None
+    # The peak of memory has to rise by fewer bytes than this for one more unit.
+    most_memory: Optional[int] = None
+
+    def sizes(self, divisor: int) -> list[int]:
+        """Four sizes, each twice the one before."""
+        return [max(1, self.smallest // divisor) << step for step in range(4)]
+
+    def check_answer(self, size: int, answer: str) -> None:
+        """The answer has to be safe, and a replayed record has to have the facts of its family."""
+        lines = answer.splitlines()
+        assert lines[-1] == ("safe" if self.command == "judge" else "# safe"), size
+        for words, times in self.facts.items():
+            count = sum(f"{line} ".startswith(f"{words} ") for line in lines)
+            assert not size or 0 <= count - times * size <= 1, (words, size, count)
