@@ -54,6 +54,13 @@ def capturing(path: Path) -> Iterator[None]:
             process.communicate()
 
 
+def on_port(path: Path, port: int) -> str:
+    """What a capture has of one server: others may run on this machine."""
+    found = path.with_name("of_the_port.pcapng")
+    subprocess.run(["tshark", "-r", path, "-Y", f"tcp.port == {port}", "-w", found], capture_output=True, check=True)
+    return str(found)
+
+
 def known(facts: list[str], others: int, at_client: bool) -> dict[str, list[str]]:
     """What the wire and the driver know both: what the server did, in its order; links; and, at a client, what each believed. The
     capture has clients before those of the schedule (`others`), and goes on to the end of their connections."""
@@ -83,7 +90,7 @@ def test_while_a_schedule_is_driven(path: Path, program: str, tmp_path: Path) ->
 
     with capturing(tmp_path / "one.pcapng"):
         outcome = Runner(program, server).run(Schedule.read(path.read_text(encoding="ascii")))
-    capture = read_capture(str(tmp_path / "one.pcapng"), ports)
+    capture = read_capture(on_port(tmp_path / "one.pcapng", *ports), ports)
     for at_client in (True, False):
         record = record_of(capture, at_client)
         facts = [record.text(fact) for fact in record.facts]
@@ -104,5 +111,5 @@ def test_while_smbtorture_runs(program: str, tmp_path: Path) -> None:
             subprocess.run(words, capture_output=True, timeout=60, check=False)
     finally:
         server.close()
-    sets = record_of(read_capture(str(tmp_path / "one.pcapng"), [place.port]), True).sets()
+    sets = record_of(read_capture(on_port(tmp_path / "one.pcapng", place.port), [place.port]), True).sets()
     assert [judge(program, text_of(it)).text for it in sets] == ["safe"] * len(TORTURES)
