@@ -90,7 +90,7 @@ def test_while_a_schedule_is_driven(path: Path, program: str, tmp_path: Path) ->
 
     with capturing(tmp_path / "one.pcapng"):
         outcome = Runner(program, server).run(Schedule.read(path.read_text(encoding="ascii")))
-    capture = read_capture(on_port(tmp_path / "one.pcapng", *ports), ports)
+    capture = read_capture(on_port(tmp_path / "one.pcapng", ports[0]), ports)
     for at_client in (True, False):
         record = record_of(capture, at_client)
         facts = [record.text(fact) for fact in record.facts]
