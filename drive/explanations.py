@@ -18,6 +18,7 @@ from drive.records import Record
 
 NONE: frozenset[Departure] = frozenset()
 SOMETIMES = (Departure.LAST_FIRST, Departure.BY_ARRIVAL, Departure.KEPT_HOLDS, Departure.KEPT_ALONE)
+RARE = (Departure.KEPT_HOLDS_ALL, Departure.BACK_NOT_KEPT, Departure.UNKEPT_GIVES_BACK)
 
 
 class ModelWorld(World[Peer]):
@@ -82,29 +83,39 @@ def alike(one: list[str], other: list[str]) -> int:
 
 
 def explained(program: str, schedule: Schedule, facts: list[str]) -> frozenset[Departure] | None:
-    """The departures that give these facts, of which none can be left out; none where no set was found.
+    """The departures that give these facts, of which none can be left out; none where no set was found. The rare ones are looked
+    at where the others don't do."""
+    usual = [it for it in Departure if it not in RARE]
+    for known in (usual, list(Departure)):
+        found = _found(program, schedule, facts, known)
+        if found is not None:
+            return found
+    return None
 
-    They are looked for one by one: the next is one that has the most facts from the first on come out as they should."""
+
+def _found(program: str, schedule: Schedule, facts: list[str], known: Sequence[Departure]) -> frozenset[Departure] | None:
+    """They are looked for one by one: the next is one that has the most facts from the first on come out as they should."""
     chosen: frozenset[Departure] = NONE
     reached = -1
     while True:
         if facts_of(program, schedule, chosen) == facts:
             return _needed(program, schedule, facts, chosen)
-        tried = {it: facts_of(program, schedule, chosen | {it}) for it in Departure if it not in chosen}
+        tried = {it: facts_of(program, schedule, chosen | {it}) for it in known if it not in chosen}
         if not tried:
             return None
         best = max(tried, key=lambda it: (tried[it] == facts, alike(tried[it], facts)))
         now = alike(tried[best], facts)
         if tried[best] != facts and now <= reached:
-            return _from_all(program, schedule, facts)
+            return _from_all(program, schedule, facts, known)
         chosen, reached = chosen | {best}, now
 
 
-def _from_all(program: str, schedule: Schedule, facts: list[str]) -> frozenset[Departure] | None:
+def _from_all(program: str, schedule: Schedule, facts: list[str], known: Sequence[Departure]) -> frozenset[Departure] | None:
     """Begins with all departures, but for some of those that smbd doesn't always show."""
+    sometimes = [it for it in (*SOMETIMES, *RARE) if it in known]
     for count in range(len(SOMETIMES) + 1):
-        for left_out in combinations(SOMETIMES, count):
-            chosen = frozenset(Departure) - frozenset(left_out)
+        for left_out in combinations(sometimes, count):
+            chosen = frozenset(known) - frozenset(left_out)
             if facts_of(program, schedule, chosen) == facts:
                 return _needed(program, schedule, facts, chosen)
     return None

@@ -38,6 +38,9 @@ class Departure(Enum):
     KEPT_HOLDS = "such an open goes on holding a create that conflicts with it"
     TIMERS_TOGETHER = "the break timers of a connection run out together"
     BREAKS_ALL = "a create that conflicts breaks the handle caching of all keys"
+    KEPT_HOLDS_ALL = "such an open goes on holding any create that waits for its lease"
+    BACK_NOT_KEPT = "an open under a lease that was given back isn't kept at a cut"
+    UNKEPT_GIVES_BACK = "the lease of an open that isn't kept for another client's open is given back to its key"
 
 
 @dataclass
@@ -59,6 +62,7 @@ class Lease:
     # the state that it is breaking to, and whether a break to none has to follow
     broken_to: LeaseState | None = None
     none_next: bool = False
+    was_given_back: bool = False
 
 
 @dataclass
@@ -126,7 +130,7 @@ class Model:
         for one in [it for it in self.tables.opens if it.client == client and it.connected]:
             one.connected = False
             if not self._is_kept(one):
-                self._close(one)
+                self._close(one, dropped={Departure.KEPT_ALONE, Departure.UNKEPT_GIVES_BACK} <= self._departures and one.durable)
         self._passes()
 
     def expire(self, keys: list[Key]) -> None:
@@ -196,6 +200,8 @@ class Model:
     def _is_kept(self, one: Open) -> bool:
         lease = self.tables.leases.get(one.key) if one.key else None
         if not one.durable or lease is None or H not in lease.state:
+            return False
+        if lease.was_given_back and Departure.BACK_NOT_KEPT in self._departures:
             return False
         if Departure.KEPT_ALONE in self._departures and any(
                 it.file == one.file and it.connected and it.client != one.client for it in self.tables.opens):
@@ -287,7 +293,8 @@ class Model:
     # what a request does
 
     def _drop_disconnected(self, held: Held, request: CreateRequest, key: Key | None) -> None:
-        waits = held in self.tables.held and Departure.KEPT_HOLDS in self._departures and bool(self._conflicts(request))
+        waits = held in self.tables.held and (Departure.KEPT_HOLDS_ALL in self._departures
+                                              or Departure.KEPT_HOLDS in self._departures and bool(self._conflicts(request)))
         for one in [it for it in self.tables.opens if it.file == held.file and not it.connected and it.key]:
             departure = Departure.OWN_DROPPED if one.key == key else Departure.OPEN_DROPS
             if departure in self._departures and not (waits and one.key and self.is_breaking(one.key)):
@@ -333,6 +340,7 @@ class Model:
         lease = self.tables.leases.get(key)
         if lease is None and back is not None and Departure.GIVEN_BACK in self._departures:
             lease = self.tables.leases[key] = back
+            lease.was_given_back = True
             rises = back.state in offered
         else:
             rises = Departure.RISES_WHOLE not in self._departures or offered == want

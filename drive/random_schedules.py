@@ -5,6 +5,7 @@ import random
 import uuid
 from collections.abc import Callable
 from dataclasses import dataclass
+from functools import partial
 
 from smblease.schedules import Event, EventKind, Schedule
 from smblease.world import Link
@@ -24,7 +25,7 @@ BLIND_WEIGHTS: dict[EventKind, float] = {
 @dataclass(frozen=True)
 class Temper:
     """What a schedule likes to do: how often its rarer events come, how soon each client opens files and takes what was sent
-    to it, and what files are opened for."""
+    to it, and what each opens files for."""
 
     opens: tuple[float, ...]
     takes: tuple[float, ...]
@@ -32,9 +33,10 @@ class Temper:
     cuts: float
     timers: float
     durable: float
-    wants: tuple[str, ...]
-    accesses: tuple[str, ...]
-    shares: tuple[str, ...]
+    wants: tuple[tuple[str, ...], ...]
+    accesses: tuple[tuple[str, ...], ...]
+    shares: tuple[tuple[str, ...], ...]
+    reads: float = 1.5
 
 
 def drawn_temper(chance: random.Random) -> Temper:
@@ -45,21 +47,20 @@ def drawn_temper(chance: random.Random) -> Temper:
         cuts=chance.choice((0.0, 0.7, 2.5)),
         timers=chance.choice((0.0, 1.0, 3.0)),
         durable=chance.choice((0.0, 0.5, 0.9)),
-        wants=chance.choice((("RWH",), ("RWH", "RH"), ("RWH", "RH", "R", "none"), ("RWH", "RW", "RH", "R", "none"))),
-        accesses=chance.choice((("rw",), ("rw", "r"), ("rw", "r", "w"))),
-        shares=chance.choice((("rw",), ("rw",), ("rw", "rw", "-"), ("rw", "r", "w", "-"))),
+        wants=MOST_CLIENTS * (chance.choice((("RWH",), ("RWH", "RH"), ("RWH", "RH", "R", "none"),
+                                             ("RWH", "RW", "RH", "R", "none"))),),
+        accesses=MOST_CLIENTS * (chance.choice((("rw",), ("rw", "r"), ("rw", "r", "w"))),),
+        shares=MOST_CLIENTS * (chance.choice((("rw",), ("rw",), ("rw", "rw", "-"), ("rw", "r", "w", "-"))),),
     )
 
 
 def aimed_temper(chance: random.Random) -> Temper:
-    """It aims at a write while the lease of another client breaks to reads: that client lets breaks wait, opens refuse to share,
-    and nothing ends what the clients have but closes."""
+    """It aims at a write while the lease of another client breaks to reads: the first client caches reads and handles, and takes
+    what comes late; the second asks for opens that share nothing; the third writes."""
     return Temper(
-        opens=tuple(chance.choice((1.0, 3.0)) for _ in range(MOST_CLIENTS)),
-        takes=tuple(chance.choice((0.5, 1.0, 2.0)) for _ in range(MOST_CLIENTS)),
+        opens=(2.0, chance.choice((1.0, 2.0)), 2.0), takes=(chance.choice((0.5, 1.0)), 3.0, 3.0),
         closes=chance.choice((0.3, 1.0)), cuts=0.0, timers=0.0, durable=0.0,
-        wants=chance.choice((("RH", "none"), ("RH", "R", "none"), ("RWH", "RH", "none"))),
-        accesses=("rw", "r"), shares=("rw", "rw", "-"),
+        wants=(("RH",), ("none",), ("none",)), accesses=(("r",), ("r",), ("rw",)), shares=(("rw",), ("-",), ("rw",)), reads=5.0,
     )
 
 
@@ -117,7 +118,7 @@ class Chooser:
         opens = 0.7 if peer.files else likes.opens[client - 1] * (3 if left else 1)
         return {
             EventKind.SERVE: 6 if peer.requests else 0, EventKind.TAKE: likes.takes[client - 1] if peer.replies else 0,
-            EventKind.OPEN: opens, EventKind.WRITE: 1.5 * busy, EventKind.READ: 1.5 * busy,
+            EventKind.OPEN: opens, EventKind.WRITE: 1.5 * busy, EventKind.READ: likes.reads * busy,
             EventKind.CLOSE: 0.7 * likes.closes * busy, EventKind.FLUSH: 0.4 * busy,
             EventKind.CUT: likes.cuts * (1.0 if alone and not left else 0.1 * busy),
             EventKind.EXPIRE: likes.timers if peer.breaking else 0, EventKind.SCAVENGE: scavenge,
@@ -125,7 +126,7 @@ class Chooser:
 
     def _event(self, kind: EventKind, client: int) -> Event:
         words: dict[EventKind, Callable[[], tuple[str, ...]]] = {
-            EventKind.OPEN: self._open, EventKind.WRITE: self._write, EventKind.CLOSE: self._file,
+            EventKind.OPEN: partial(self._open, client), EventKind.WRITE: self._write, EventKind.CLOSE: self._file,
             EventKind.READ: self._file, EventKind.FLUSH: self._file, EventKind.EXPIRE: self._file,
             EventKind.SCAVENGE: self._file,
         }
@@ -134,10 +135,10 @@ class Chooser:
     def _file(self) -> tuple[str, ...]:
         return (str(self._chance.randint(1, self.files)),)
 
-    def _open(self) -> tuple[str, ...]:
+    def _open(self, client: int) -> tuple[str, ...]:
         likes = self._temper
-        words = (*self._file(), self._chance.choice(likes.accesses), self._chance.choice(likes.shares),
-                 self._chance.choice(likes.wants))
+        liked = (its[client - 1] for its in (likes.accesses, likes.shares, likes.wants))
+        words = (*self._file(), *(self._chance.choice(its) for its in liked))
         return (*words, "durable") if self._chance.random() < likes.durable else words
 
     def _write(self) -> tuple[str, ...]:

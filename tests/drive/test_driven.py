@@ -39,7 +39,10 @@ DEPARTING: dict[str, int | None] = {
     "answer_of_a_create_lost": None, "break_holds_a_write": None, "break_timer": 3, "raw_requests": None,
     "refused_requests": None, "replies_lost": None, "timer_while_asking": None, "two_files": None,
 }
-BESIDE = {"breaking_kept": ",given_back"}
+BESIDE = {
+    "breaking_kept": ["given_back"], "back_not_kept": ["given_back", "own_dropped"],
+    "unkept_gives_back": ["given_back", "kept_alone"], "kept_holds_all": ["breaking_kept", "creates_wait", "nothing_behind"],
+}
 HERE = TESTS / "drive"
 BROKEN: list[tuple[Filter, Path, int]] = [
     (broken_clients.GoesOnAfterItsAcknowledgment, TESTS / "schedules" / "break_answered", 1),
@@ -90,7 +93,7 @@ def test_departure(name: str, runner: Runner) -> None:
 
     def check() -> None:
         facts = runner.run(schedule).record.facts()
-        assert likeness_of(runner.program, schedule, facts).word == name + BESIDE.get(name, "")
+        assert likeness_of(runner.program, schedule, facts).word == ",".join(sorted([name, *BESIDE.get(name, [])]))
     tried(check)
 
 
