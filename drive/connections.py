@@ -24,7 +24,7 @@ LIMIT = 1048576
 CREDIT_BYTES = 65536
 # A server may stand still for some seconds (smbd does while it retries a lock).
 PATIENCE = 25.0
-SESSION_TRIES = 5
+SESSION_TRIES = 20
 BETWEEN_TRIES = 0.1
 ACCESS = {Access.READ: 0x120089, Access.WRITE: 0x120116, Access.READ_WRITE: 0x12019F}
 SHARE_ALL = 7
@@ -74,8 +74,7 @@ class Connection:
     def __init__(self, place: Place, guid: bytes) -> None:
         self._place = place
         try:
-            self._smb = _with_session(place, guid)
-            self._tree = self._smb.connectTree(place.share)
+            self._smb, self._tree = _connected(place, guid)
         except Exception as fault:  # impacket raises bare ones too
             raise DriveFault(f"no connection to {place.host}:{place.port}: {line_of(fault)}") from None
         if self._smb.getDialect() != smb2.SMB2_DIALECT_21:
@@ -146,19 +145,20 @@ class Connection:
         return number
 
 
-def _with_session(place: Place, guid: bytes) -> Protocol:
-    """A connection with a session. One that the server has no memory for is tried again: smbd says so now and then."""
+def _connected(place: Place, guid: bytes) -> tuple[Protocol, int]:
+    """A connection with a session, and a tree. What the server has no memory for is tried again: smbd says so until its daemon of
+    notifications has started."""
     for left in range(SESSION_TRIES - 1, -1, -1):
         smb = Protocol(place, guid)
         try:
             smb.login(place.user, place.password)
-            break
+            return smb, int(smb.connectTree(place.share))
         except SessionError as fault:
             if fault.get_error_code() != Status.NO_MEMORY or not left:
                 raise
             smb.close_session()
             time.sleep(BETWEEN_TRIES)
-    return smb
+    raise DriveFault("no session was tried")
 
 
 def _wire_id(file_id: FileId) -> smb2.SMB2_FILEID:

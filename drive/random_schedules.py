@@ -37,6 +37,10 @@ class Temper:
     accesses: tuple[tuple[str, ...], ...]
     shares: tuple[tuple[str, ...], ...]
     reads: float = 1.5
+    # how often files are written while nobody else has a break to acknowledge, and while somebody has
+    writes: tuple[float, float] = (1.5, 1.5)
+    # by how much less often a client takes messages while it has a break to acknowledge
+    late: float = 1.0
 
 
 def drawn_temper(chance: random.Random) -> Temper:
@@ -55,12 +59,13 @@ def drawn_temper(chance: random.Random) -> Temper:
 
 
 def aimed_temper(chance: random.Random) -> Temper:
-    """It aims at a write while the lease of another client breaks to reads: the first client caches reads and handles, and takes
-    what comes late; the second asks for opens that share nothing; the third writes."""
+    """It aims at a write while the lease of another client breaks to reads: the first client caches reads and handles, and
+    takes a break late; the second asks for opens that share nothing; the third writes."""
     return Temper(
-        opens=(2.0, chance.choice((1.0, 2.0)), 2.0), takes=(chance.choice((0.5, 1.0)), 3.0, 3.0),
-        closes=chance.choice((0.3, 1.0)), cuts=0.0, timers=0.0, durable=0.0,
-        wants=(("RH",), ("none",), ("none",)), accesses=(("r",), ("r",), ("rw",)), shares=(("rw",), ("-",), ("rw",)), reads=5.0,
+        opens=(3.0, chance.choice((0.3, 0.6)), 3.0), takes=(3.0, 3.0, 3.0), closes=chance.choice((0.3, 1.0)),
+        cuts=0.0, timers=0.0, durable=0.0,
+        wants=(("RH",), ("none",), ("none",)), accesses=(("r",), ("r",), ("rw",)), shares=(("rw",), ("-",), ("rw",)),
+        reads=4.0, writes=(0.05, 1.5), late=0.15,
     )
 
 
@@ -115,10 +120,12 @@ class Chooser:
         busy = 1.0 if peer.files else 0.1
         alone = bool(peer.files) and not any(it.files for it in others)
         left = any(it.kept for it in others)
+        takes = likes.takes[client - 1] * (likes.late if peer.breaking else 1)
         opens = 0.7 if peer.files else likes.opens[client - 1] * (3 if left else 1)
         return {
-            EventKind.SERVE: 6 if peer.requests else 0, EventKind.TAKE: likes.takes[client - 1] if peer.replies else 0,
-            EventKind.OPEN: opens, EventKind.WRITE: 1.5 * busy, EventKind.READ: likes.reads * busy,
+            EventKind.SERVE: 6 if peer.requests else 0, EventKind.TAKE: takes if peer.replies else 0,
+            EventKind.OPEN: opens, EventKind.WRITE: likes.writes[any(it.breaking for it in others)] * busy,
+            EventKind.READ: likes.reads * busy,
             EventKind.CLOSE: 0.7 * likes.closes * busy, EventKind.FLUSH: 0.4 * busy,
             EventKind.CUT: likes.cuts * (1.0 if alone and not left else 0.1 * busy),
             EventKind.EXPIRE: likes.timers if peer.breaking else 0, EventKind.SCAVENGE: scavenge,

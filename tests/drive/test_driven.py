@@ -137,6 +137,14 @@ def test_keys_with_the_names_of_contexts(program: str, runner: Runner) -> None:
     tried(check)
 
 
+def test_schedule_that_aims_at_a_write_during_a_break(program: str, tmp_path: Path) -> None:
+    """Of seed 10 the schedule 37 is one, and finds it."""
+    def check() -> None:
+        row = Explorer(Runner(program, PrivateServer), 10, str(tmp_path), False).explore(37)
+        assert (row.manner, row.verdict[-2:], row.likeness) == ("aimed", " 2", "writes_go_on"), row
+    tried(check)
+
+
 def test_schedule_that_is_unsafe_by_what_is_allowed(program: str, tmp_path: Path) -> None:
     """Without that departure the model server is safe, so the schedule doesn't count."""
     def check() -> None:

@@ -87,20 +87,25 @@ def test_random_schedule(number: int, program: str) -> None:
 
 
 class Forgetful:
-    """A protocol whose server has no memory for the first sessions."""
+    """A protocol whose server has no memory for the first sessions, or for the trees of these."""
 
     refusals = 0
     tries = 0
+    step = "login"
 
     def __init__(self, place: Place, guid: bytes) -> None:
         self.given = (place, guid)
-
-    def login(self, *_: str) -> None:
         Forgetful.tries += 1
-        if Forgetful.tries <= Forgetful.refusals:
+
+    def refuse(self, step: str) -> None:
+        if step == Forgetful.step and Forgetful.tries <= Forgetful.refusals:
             raise SessionError(Status.NO_MEMORY)
 
+    def login(self, *_: str) -> None:
+        self.refuse("login")
+
     def connectTree(self, _: str) -> int:  # pylint: disable=invalid-name
+        self.refuse("tree")
         return 1
 
     def getDialect(self) -> int:  # pylint: disable=invalid-name
@@ -110,21 +115,23 @@ class Forgetful:
         """Closes nothing."""
 
 
+@pytest.mark.parametrize("step", ["login", "tree"])
 @pytest.mark.parametrize(("refusals", "tries"), [(0, 1), (2, 3)])
-def test_session_that_had_no_memory(refusals: int, tries: int, monkeypatch: pytest.MonkeyPatch) -> None:
-    """STATUS_NO_MEMORY at a session set-up, which smbd answers now and then, is tried again."""
+def test_session_that_had_no_memory(refusals: int, tries: int, step: str, monkeypatch: pytest.MonkeyPatch) -> None:
+    """STATUS_NO_MEMORY at a session set-up or a tree connect, which smbd answers while it starts, is tried again."""
     monkeypatch.setattr(connections, "Protocol", Forgetful)
-    Forgetful.refusals, Forgetful.tries = refusals, 0
+    Forgetful.refusals, Forgetful.tries, Forgetful.step = refusals, 0, step
     connections.Connection(Place("127.0.0.1", 445, "share", "user", "password"), bytes(16))
     assert Forgetful.tries == tries
 
 
 def test_session_that_never_has_memory(monkeypatch: pytest.MonkeyPatch) -> None:
     monkeypatch.setattr(connections, "Protocol", Forgetful)
-    Forgetful.refusals, Forgetful.tries = 100, 0
+    monkeypatch.setattr(connections, "BETWEEN_TRIES", 0.001)
+    Forgetful.refusals, Forgetful.tries, Forgetful.step = 100, 0, "login"
     with pytest.raises(DriveFault, match="no connection to 127.0.0.1:445"):
         connections.Connection(Place("127.0.0.1", 445, "share", "user", "password"), bytes(16))
-    assert Forgetful.tries < 10
+    assert Forgetful.tries == connections.SESSION_TRIES
 
 
 def test_schedule_that_aims_at_a_write_during_a_break() -> None:
