@@ -3,6 +3,7 @@ from __future__ import annotations
 
 import asyncio
 import logging
+from dataclasses import dataclass
 from typing import TYPE_CHECKING
 
 from smblease import Status
@@ -23,19 +24,19 @@ LOG = logging.getLogger("serve")
 # Past so many bytes that a client hasn't read its requests wait; it is closed past more of them, or where all have too many.
 UNREAD, MOST_UNREAD, MOST_UNREAD_OF_ALL = 1 << 20, 1 << 24, 1 << 27
 MOST_PENDING = 512
-OLD_PROTOCOL, PROTOCOL = b"\xffSMB", b"\xfeSMB"
+OLD_PROTOCOL = b"\xffSMB"
 OLD_NEGOTIATE = 0x72
 
 
+@dataclass(eq=False)
 class Pending:
     """A request that isn't answered for good."""
 
-    def __init__(self, request: Request, chain: Chain) -> None:
-        self.request = request
-        self.chain = chain
-        self.async_id: int | None = None
-        self.is_answered = False
-        self.task: Task | None = None
+    request: Request
+    chain: Chain
+    async_id: int | None = None
+    is_answered: bool = False
+    task: Task | None = None
 
 
 class Chain:
@@ -265,7 +266,7 @@ class Connection(asyncio.Protocol):
         self._transport.write(data)
         unread = self.unread
         if unread > MOST_UNREAD or unread > UNREAD and sum(it.unread for it in self.server.connections) > MOST_UNREAD_OF_ALL:
-            self.server.close_soon(self)
+            self.server.loop.call_soon(self.close)
 
     def close(self) -> None:
         if self.is_open:

@@ -52,6 +52,3 @@ class Loop:
         if self._fault:
             LOG.debug("where:", exc_info=self._fault)
             raise DriveFault(f"the shell broke down: {type(self._fault).__name__}: {self._fault}")
-
-    def close(self) -> None:
-        self.events.close()
