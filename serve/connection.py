@@ -166,18 +166,16 @@ class Connection(asyncio.Protocol):
                 Chain(self, chain).go_on()
 
     def _credit(self, message: RequestMessage) -> None:
-        """A request without its credits ends the connection (3.3.5.2.3)."""
+        """A request without its credits ends the connection (3.3.5.2.3), and so does one before NEGOTIATE."""
+        is_early = self.guid is None and message.command is not Command.NEGOTIATE
         is_free = message.command is Command.CANCEL
-        if message.is_from_server or not is_free and not self._credits.take(message.identifier, message.charge):
-            raise Unreadable
-        if not is_free and self.guid is None and message.command is not Command.NEGOTIATE:
+        if message.is_from_server or not is_free and (is_early or not self._credits.take(message.identifier, message.charge)):
             raise Unreadable
 
     def _old_negotiate(self, frame: bytes) -> None:
         """The NEGOTIATE of SMB 1 that names SMB 2 among its dialects (3.3.5.3.1)."""
-        if self.is_negotiated or frame[4:5] != bytes([OLD_NEGOTIATE]) or b"\x02SMB 2.???\0" not in frame:
-            raise Unreadable
-        if not self._credits.take(0, 1):
+        is_one = frame[4:5] == bytes([OLD_NEGOTIATE]) and b"\x02SMB 2.???\0" in frame
+        if self.is_negotiated or not is_one or not self._credits.take(0, 1):
             raise Unreadable
         answer = negotiated(self.server, ANY_DIALECT)
         self.send(framed([Response(Command.NEGOTIATE, answer.status, 0, self._credits.grant(1), 0, 0, answer.body)]))
