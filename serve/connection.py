@@ -259,7 +259,7 @@ class Connection(asyncio.Protocol):
         self.send(framed([Response(Command.OPLOCK_BREAK, Status.SUCCESS, NOTIFICATION, 0, 0, 0, body)]))
 
     def send(self, data: bytes) -> None:
-        if not self.is_open:
+        if not self.is_open or self._transport.is_closing():
             return
         self._transport.write(data)
         unread = self.unread
