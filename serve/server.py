@@ -103,19 +103,14 @@ class Server:  # pylint: disable=too-many-instance-attributes  # its parts find 
             self.leases.broken(found, notification)
 
     def is_late(self, client: int, reply: Reply) -> bool:
-        """A client that is cut may have been answered by what another one's cut set free. An open that is kept is in nobody's
-        hands then, until its timer runs out."""
+        """A client that is cut may have been answered by what another one's cut set free. Nobody would have an open that is
+        kept then, so it is closed."""
         found = self.clients.numbered(client)
         if found and found.connection:
             return False
         if isinstance(reply, Created):
-            file_id = reply.file_id
-            self.loop.call_later(self.settings.durable_timer, lambda: self._scavenge_unknown(file_id))
+            self.machine.say(f"scavenge {reply.file_id}")
         return True
-
-    def _scavenge_unknown(self, file_id: int) -> None:
-        self.machine.say(f"scavenge {file_id}")
-        self.settle()
 
     def failed(self, fault: Exception) -> Status:
         LOG.warning("a request broke down: %s: %s", type(fault).__name__, str(fault)[:200])
