@@ -3,6 +3,7 @@ from __future__ import annotations
 
 import asyncio
 import logging
+from dataclasses import dataclass
 from typing import TYPE_CHECKING
 
 from smblease import Status
@@ -23,19 +24,19 @@ LOG = logging.getLogger("serve")
 # Past so many bytes that a client hasn't read its requests wait; it is closed past more of them, or where all have too many.
 UNREAD, MOST_UNREAD, MOST_UNREAD_OF_ALL = 1 << 20, 1 << 24, 1 << 27
 MOST_PENDING = 512
-OLD_PROTOCOL, PROTOCOL = b"\xffSMB", b"\xfeSMB"
+OLD_PROTOCOL = b"\xffSMB"
 OLD_NEGOTIATE = 0x72
 
 
+@dataclass(eq=False)
 class Pending:
     """A request that isn't answered for good."""
 
-    def __init__(self, request: Request, chain: Chain) -> None:
-        self.request = request
-        self.chain = chain
-        self.async_id: int | None = None
-        self.is_answered = False
-        self.task: Task | None = None
+    request: Request
+    chain: Chain
+    async_id: int | None = None
+    is_answered: bool = False
+    task: Task | None = None
 
 
 class Chain:
@@ -165,18 +166,16 @@ class Connection(asyncio.Protocol):
                 Chain(self, chain).go_on()
 
     def _credit(self, message: RequestMessage) -> None:
-        """A request without its credits ends the connection (3.3.5.2.3)."""
+        """A request without its credits ends the connection (3.3.5.2.3), and so does one before NEGOTIATE."""
+        is_early = self.guid is None and message.command is not Command.NEGOTIATE
         is_free = message.command is Command.CANCEL
-        if message.is_from_server or not is_free and not self._credits.take(message.identifier, message.charge):
-            raise Unreadable
-        if not is_free and self.guid is None and message.command is not Command.NEGOTIATE:
+        if message.is_from_server or not is_free and (is_early or not self._credits.take(message.identifier, message.charge)):
             raise Unreadable
 
     def _old_negotiate(self, frame: bytes) -> None:
         """The NEGOTIATE of SMB 1 that names SMB 2 among its dialects (3.3.5.3.1)."""
-        if self.is_negotiated or frame[4:5] != bytes([OLD_NEGOTIATE]) or b"\x02SMB 2.???\0" not in frame:
-            raise Unreadable
-        if not self._credits.take(0, 1):
+        is_one = frame[4:5] == bytes([OLD_NEGOTIATE]) and b"\x02SMB 2.???\0" in frame
+        if self.is_negotiated or not is_one or not self._credits.take(0, 1):
             raise Unreadable
         answer = negotiated(self.server, ANY_DIALECT)
         self.send(framed([Response(Command.NEGOTIATE, answer.status, 0, self._credits.grant(1), 0, 0, answer.body)]))
@@ -260,12 +259,12 @@ class Connection(asyncio.Protocol):
         self.send(framed([Response(Command.OPLOCK_BREAK, Status.SUCCESS, NOTIFICATION, 0, 0, 0, body)]))
 
     def send(self, data: bytes) -> None:
-        if not self.is_open:
+        if not self.is_open or self._transport.is_closing():
             return
         self._transport.write(data)
         unread = self.unread
         if unread > MOST_UNREAD or unread > UNREAD and sum(it.unread for it in self.server.connections) > MOST_UNREAD_OF_ALL:
-            self.server.close_soon(self)
+            self.server.loop.call_soon(self.close)
 
     def close(self) -> None:
         if self.is_open:

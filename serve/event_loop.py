@@ -23,11 +23,15 @@ class Loop:
         self.events = asyncio.new_event_loop()
         self.events.set_exception_handler(self._failed)
         self._fault: BaseException | None = None
+        self._said = 0.0
 
     def _failed(self, events: asyncio.AbstractEventLoop, context: dict[str, Any]) -> None:
         fault = context.get("exception")
         if isinstance(fault, OSError):
-            LOG.warning("%s: %s", context["message"], fault.strerror)
+            # No connection can be taken: asyncio says so for each that waits, and tries again after a second.
+            if events.time() > self._said + 1:
+                LOG.warning("%s: %s", context["message"], fault.strerror)
+                self._said = events.time()
         elif fault:
             self._fault = self._fault or fault
             events.stop()
@@ -52,6 +56,3 @@ class Loop:
         if self._fault:
             LOG.debug("where:", exc_info=self._fault)
             raise DriveFault(f"the shell broke down: {type(self._fault).__name__}: {self._fault}")
-
-    def close(self) -> None:
-        self.events.close()

@@ -7,7 +7,7 @@ from __future__ import annotations
 from collections import deque
 from collections.abc import Callable, Generator
 from dataclasses import dataclass
-from typing import Protocol, TypeVar, Union
+from typing import TYPE_CHECKING, TypeVar, Union
 
 from smblease import (AcknowledgeDone, AcknowledgeFailed, AcknowledgeRequest, Break, Changed, CloseFailed, CloseRequest, Closed,
                       CreateFailed, CreateRequest, Created, Opened, Out, ReadDone, ReadFailed, ReadRequest, Reply, Request,
@@ -19,6 +19,9 @@ from smblease.processes import Speaker
 from drive.headers import Unreadable
 from serve.packets import Answer
 from serve.status_error import StatusError
+
+if TYPE_CHECKING:
+    from serve.server import Server
 
 # What a reply is found by beside its client: what was asked for, and the file of a create, the number of a write, a FileId.
 MATCHES: dict[type, str] = {
@@ -63,26 +66,10 @@ class Task:
     is_over: bool = False
 
 
-class Listener(Protocol):
-    """Whoever hears what the machine did."""
-
-    def happened(self, out: Out) -> None:
-        """What the machine gave out."""
-
-    def broken(self, client: int, notification: bytes) -> None:
-        """A break goes to a client."""
-
-    def is_late(self, client: int, reply: Reply) -> bool:
-        """Whether nobody waits for this, since its client is gone."""
-
-    def failed(self, fault: Exception) -> Status:
-        """A task broke down."""
-
-
 class Machine:
-    def __init__(self, speaker: Speaker, listener: Listener) -> None:
+    def __init__(self, speaker: Speaker, server: Server) -> None:
         self._speaker = speaker
-        self._listener = listener
+        self._server = server
         self._waiting: dict[Match, deque[Task]] = {}
         self._outs: deque[str] = deque()
         self.is_draining = False
@@ -120,11 +107,11 @@ class Machine:
             self._refuse(task, status)
 
     def _take(self, out: Out) -> None:
-        self._listener.happened(out)
+        self._server.happened(out)
         if isinstance(out, (Opened, Changed)):
             return
         if isinstance(out.reply, Break):
-            self._listener.broken(out.client, out.reply.message)
+            self._server.broken(out.client, out.reply.message)
             return
         reply = out.reply
         key = match(out.client, reply)
@@ -133,7 +120,7 @@ class Machine:
             task = tasks[0]
             self._forget(key, task)
             self._go(task, lambda: task.handling.send(reply))
-        elif not self._listener.is_late(out.client, reply):
+        elif not self._server.is_late(out.client, reply):
             raise ToolFault(f"the server machine answered no request: {str(out)[:200]}")
 
     def _go(self, task: Task, step: Callable[[], MachineRequest]) -> None:
@@ -148,7 +135,7 @@ class Machine:
         except ToolFault:
             raise
         except Exception as fault:  # pylint: disable=broad-exception-caught  # one request's fault ends no other
-            self._end(task, Answer(self._listener.failed(fault)))
+            self._end(task, Answer(self._server.failed(fault)))
         else:
             key = match(asked.client, asked.request)
             self._waiting.setdefault(key, deque()).append(task)

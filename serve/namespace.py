@@ -13,7 +13,7 @@ if TYPE_CHECKING:
     from serve.opens import Open
 
 MOST = 255
-READ_ONLY, FOLDER, ARCHIVE, NORMAL = 0x1, 0x10, 0x20, 0x80
+READ_ONLY, FOLDER, ARCHIVE = 0x1, 0x10, 0x20
 FORBIDDEN = set('"*/<>?|') | {chr(code) for code in range(32)}
 # The bytes that a file may have, as the machine has it.
 LARGEST = 1048576

@@ -5,7 +5,7 @@ from __future__ import annotations
 
 import os
 import struct
-from typing import Protocol
+from typing import TYPE_CHECKING
 
 from smblease import Status
 
@@ -14,6 +14,9 @@ from serve import spnego
 from serve.namespace import now
 from serve.password_brake import PasswordBrake
 from serve.status_error import StatusError
+
+if TYPE_CHECKING:
+    from serve.named_user import NamedUser
 
 NAME = "LEASECHECK"
 SIGNATURE = b"NTLMSSP\0"
@@ -33,24 +36,10 @@ ADDED = HAS_VERSION | TARGET_INFO | IS_SERVER | PLAIN | REQUEST_TARGET
 END, COMPUTER, DOMAIN, DNS_COMPUTER, DNS_DOMAIN, TIME = 0, 1, 2, 3, 4, 7
 
 
-class User(Protocol):
-    """The user that isn't a guest."""
-
-    @property
-    def name(self) -> str:
-        ...
-
-    def key(self, negotiate: bytes, challenge: bytes, authenticate: bytes) -> bytes | None:
-        """The key of the session, by the three messages; none where they don't prove the password."""
-
-    def mic(self, key: bytes, flags: int, data: bytes, side: str) -> bytes:
-        """The first signature that a side, `Client` or `Server`, makes under a key."""
-
-
 class Authentication:
     """The messages of one authentication. `owner` is who proved to be there; `key` that of a session that may be signed."""
 
-    def __init__(self, user: User | None, has_guests: bool, brake: PasswordBrake, address: str) -> None:
+    def __init__(self, user: NamedUser | None, has_guests: bool, brake: PasswordBrake, address: str) -> None:
         self._user = user
         self._has_guests = has_guests
         self._brake, self._address = brake, address

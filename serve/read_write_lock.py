@@ -55,7 +55,8 @@ class ReadWriteLock(Handlers):
             raise StatusError(Status.INVALID_PARAMETER)
         opened = request.find()
         if opened:
-            self._readable(opened, offset, length)
+            locked = any(it.is_exclusive and it.meets(offset, length) for it in _locks_of_others(opened))
+            self._check(opened, reads(opened.access), locked)
         client = opened.client if opened and opened.client else request.client
         reply = yield MachineRequest(client.number, ReadRequest(opened.file_id if opened else request.file_id()))
         refuse_failed(reply)
@@ -67,15 +68,6 @@ class ReadWriteLock(Handlers):
             opened.position = offset + len(data)
         return Answer(Status.SUCCESS, struct.pack("<HBBLLL", 17, HEADER + 16, 0, len(data), 0, 0) + (data or b"\0"))
 
-    @staticmethod
-    def _readable(opened: Open, offset: int, length: int) -> None:
-        if opened.node.is_folder:
-            raise StatusError(Status.INVALID_DEVICE_REQUEST)
-        if opened.client is None or opened.is_lent and not reads(opened.access):
-            raise StatusError(Status.ACCESS_DENIED)
-        if any(lock.is_exclusive and lock.meets(offset, length) for lock in _locks_of_others(opened)):
-            raise StatusError(Status.FILE_LOCK_CONFLICT)
-
     def write(self, request: Request) -> Handling:
         message = request.message
         message.expect(49)
@@ -85,7 +77,8 @@ class ReadWriteLock(Handlers):
             raise StatusError(Status.INVALID_PARAMETER)
         opened = request.find()
         if opened:
-            self._writable(opened, offset, length)
+            locked = any(it.meets(offset, length) for it in _locks_of_others(opened))
+            self._check(opened, writes(opened.access), locked)
         client = opened.client if opened and opened.client else request.client
         if offset > MOST_OFFSET:
             raise StatusError(Status.INVALID_PARAMETER)
@@ -98,12 +91,12 @@ class ReadWriteLock(Handlers):
         return Answer(Status.SUCCESS, struct.pack("<HHLLHH", 17, 0, length, 0, 0, 0) + b"\0")
 
     @staticmethod
-    def _writable(opened: Open, offset: int, length: int) -> None:
+    def _check(opened: Open, is_allowed: bool, locked: bool) -> None:
         if opened.node.is_folder:
             raise StatusError(Status.INVALID_DEVICE_REQUEST)
-        if opened.client is None or opened.is_lent and not writes(opened.access):
+        if opened.client is None or opened.is_lent and not is_allowed:
             raise StatusError(Status.ACCESS_DENIED)
-        if any(lock.meets(offset, length) for lock in _locks_of_others(opened)):
+        if locked:
             raise StatusError(Status.FILE_LOCK_CONFLICT)
 
     def lock(self, request: Request) -> Handling:

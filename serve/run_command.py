@@ -7,6 +7,7 @@ import logging
 import os
 import sys
 from collections.abc import Sequence
+from typing import TYPE_CHECKING
 
 from smblease.lines import digits
 from smblease.processes import LineProcess
@@ -17,10 +18,12 @@ from drive.faults import DriveFault, Usage
 from serve.connection import Connection
 from serve.event_loop import Loop
 from serve.namespace import FORBIDDEN, LARGEST, MOST, Namespace
-from serve.ntlm import User
 from serve.record import Record
 from serve.server import Server, Settings
 from serve.timer_control import TimerControl
+
+if TYPE_CHECKING:
+    from serve.named_user import NamedUser as User
 
 LOG = logging.getLogger("serve")
 EPILOG = """It prints `port N`, and serves until it is ended by SIGINT or SIGTERM. With --record it then prints the verdict of the
@@ -128,7 +131,8 @@ def serve(arguments: argparse.Namespace) -> int:
     settings = settings_of(arguments)
     folders, files = files_in(arguments.folder)
     server: Server
-    with contextlib.closing(Loop()) as loop:
+    loop = Loop()
+    with contextlib.closing(loop.events):
         port = loop.listen(arguments.address, arguments.port, lambda: Connection(server))
         with contextlib.closing(Record(arguments.record)) as record:
             names = named(folders, files, record)

@@ -8,6 +8,7 @@ import time
 import uuid
 from collections.abc import Callable
 from dataclasses import dataclass
+from typing import TYPE_CHECKING
 
 from smblease import Changed, CloseRequest, Created, LeaseState, Out, Reply, Sent, Status
 from smblease.processes import Speaker
@@ -20,7 +21,6 @@ from serve.leases import Leases
 from serve.machine import Handling, Machine, MachineRequest, Steps, Task
 from serve.machine_clients import MachineClients
 from serve.namespace import Namespace, now
-from serve.ntlm import User
 from serve.opens import OWN_FILE_IDS, LeaseSeen, MachineClient, Open
 from serve.packets import Answer
 from serve.password_brake import PasswordBrake
@@ -33,6 +33,9 @@ from serve.sessions import Session, Sessions
 from serve.set_info import SetInfo
 from serve.status_error import StatusError
 
+if TYPE_CHECKING:
+    from serve.named_user import NamedUser
+
 LOG = logging.getLogger("serve")
 # Durable opens that a client leaves, the newest of them.
 MOST_KEPT = 64
@@ -41,7 +44,7 @@ MOST_KEPT = 64
 @dataclass(frozen=True)
 class Settings:
     share: str
-    user: User | None = None
+    user: NamedUser | None = None
     break_timer: float = 35.0
     durable_timer: float = 960.0
     # whether an open without a lease, beside a lease of its client, is a client of the machine by itself
@@ -100,19 +103,14 @@ class Server:  # pylint: disable=too-many-instance-attributes  # its parts find 
             self.leases.broken(found, notification)
 
     def is_late(self, client: int, reply: Reply) -> bool:
-        """A client that is cut may have been answered by what another one's cut set free. An open that is kept is in nobody's
-        hands then, until its timer runs out."""
+        """A client that is cut may have been answered by what another one's cut set free. Nobody would have an open that is
+        kept then, so it is closed."""
         found = self.clients.numbered(client)
         if found and found.connection:
             return False
         if isinstance(reply, Created):
-            file_id = reply.file_id
-            self.loop.call_later(self.settings.durable_timer, lambda: self._scavenge_unknown(file_id))
+            self.machine.say(f"scavenge {reply.file_id}")
         return True
-
-    def _scavenge_unknown(self, file_id: int) -> None:
-        self.machine.say(f"scavenge {file_id}")
-        self.settle()
 
     def failed(self, fault: Exception) -> Status:
         LOG.warning("a request broke down: %s: %s", type(fault).__name__, str(fault)[:200])
@@ -140,9 +138,8 @@ class Server:  # pylint: disable=too-many-instance-attributes  # its parts find 
 
     def undo(self, answer: Answer) -> None:
         """The answer to a create that was cancelled."""
-        opened = self.opens.get(answer.opened) if answer.opened is not None else None
-        if opened:
-            self.start(self._closing(opened))
+        if answer.opened in self.opens:
+            self.start(self._closing(self.opens[answer.opened]))
 
     def _closing(self, opened: Open) -> Handling:
         yield from self.close_open(opened)
@@ -167,9 +164,6 @@ class Server:  # pylint: disable=too-many-instance-attributes  # its parts find 
         for opened in [it for it in self.opens.values() if it.client is away and away]:
             self.scavenge(opened.file_id)
         return self.clients.take(guid)
-
-    def close_soon(self, connection: Connection) -> None:
-        self.loop.call_soon(connection.close)
 
     def end_sessions(self, connection: Connection) -> None:
         for session in list(connection.sessions.values()):

@@ -28,6 +28,7 @@ class ServerProcess:
                  user: str = "guest", password: str = "guest", interpreter: Sequence[str] = ()) -> None:
         self._control, theirs = socket.socketpair()
         self._control.settimeout(PATIENCE)
+        self._answers = self._control.makefile(encoding="utf-8")
         recording = ["--record", record] if record else []
         stub = os.path.join(TOP, "serve", "run")
         program = [*interpreter, stub] if os.path.exists(stub) else [sys.executable, "-m", "serve.run_command"]
@@ -59,24 +60,12 @@ class ServerProcess:
         """A line of control; answers whether it did anything."""
         try:
             self._control.sendall(f"{line}\n".encode())
-            told = b""
-            while not told.endswith(b"\n"):
-                data = self._control.recv(64)
-                if not data:
-                    raise DriveFault("the server has ended")
-                told += data
+            told = self._answers.readline()
         except OSError as fault:
             raise DriveFault(f"the server's control: {fault}") from None
-        if told == b"refused\n":
-            raise DriveFault(f"the server's control refused: {line}")
-        return told == b"done\n"
-
-    def wait(self) -> None:
-        """Until it has ended by itself."""
-        try:
-            self._process.wait(PATIENCE)
-        except subprocess.TimeoutExpired:
-            raise DriveFault("the server doesn't end") from None
+        if told in ("", "refused\n"):
+            raise DriveFault(f"the server's control refused: {line}" if told else "the server has ended")
+        return told == "done\n"
 
     def close(self) -> None:
         """Ends it, where that wasn't done before; its verdict is what it printed last."""
@@ -89,6 +78,7 @@ class ServerProcess:
         except subprocess.TimeoutExpired:
             self._process.kill()
             told = self._process.communicate()[0]
+        self._answers.close()
         self._control.close()
         self.verdict = told.strip().rpartition("\n")[2] or None
         self._errors.seek(0)

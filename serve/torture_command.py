@@ -11,15 +11,17 @@ from concurrent.futures import ThreadPoolExecutor
 from contextlib import closing
 from dataclasses import dataclass
 from enum import Enum
-from typing import Protocol
+from typing import TYPE_CHECKING
 
 from smblease.program import find_program
 
 from drive.clock import library
 from drive.commands import NOT_DRIVEN, SAFE, ended
 from drive.faults import DriveFault, Usage
-from drive.place import Place
 from serve.server_process import ServerProcess
+
+if TYPE_CHECKING:
+    from drive.servers import PrivateServer
 
 SUITES = ("smb2.lease", "smb2.durable-open", "smb2.durable-open-disconnect")
 EPILOG = """Each test is a line: its name, `passed`, `failed` or `skipped`, its seconds, and smbtorture's own words, if any.
@@ -43,15 +45,6 @@ class Row:
     @property
     def text(self) -> str:
         return f"{self.name:45} {self.kind.value:8} {self.seconds:6.1f} {self.words}".rstrip()
-
-
-class Target(Protocol):
-    @property
-    def place(self) -> Place:
-        ...
-
-    def close(self) -> None:
-        ...
 
 
 def parser() -> argparse.ArgumentParser:
@@ -82,7 +75,7 @@ def _ran(words: list[str], limit: float) -> subprocess.CompletedProcess[str]:
         raise DriveFault(f"smbtorture: {fault.strerror} (tools/setup installs it)") from None
 
 
-def run_test(name: str, server: Callable[[str], Target], limit: float) -> Row:
+def run_test(name: str, server: Callable[[str], ServerProcess | PrivateServer], limit: float) -> Row:
     begun = time.monotonic()
     with closing(server(name)) as target:
         place = target.place
@@ -111,13 +104,13 @@ def _last_word(told: str) -> str:
     return " ".join((lines or told.splitlines() or ["nothing"])[-1].split())
 
 
-def private_server() -> Target:
+def private_server() -> PrivateServer:
     try:
         # The proved server is tested without impacket.
-        from drive.servers import PrivateServer  # pylint: disable=import-outside-toplevel
+        from drive import servers  # pylint: disable=import-outside-toplevel
     except ImportError:
         raise DriveFault("--smbd needs impacket, which can't be imported (tools/setup installs it)") from None
-    return PrivateServer()
+    return servers.PrivateServer()
 
 
 def torture(arguments: argparse.Namespace) -> int:
@@ -126,7 +119,7 @@ def torture(arguments: argparse.Namespace) -> int:
     if unknown or arguments.jobs < 1:
         raise Usage(f"no test of {', '.join(SUITES)}: {unknown[0]}" if unknown else "--jobs is at least 1")
 
-    def server(name: str) -> Target:
+    def server(name: str) -> ServerProcess | PrivateServer:
         if arguments.smbd:
             return private_server()
         record = f"{arguments.record}{name}" if arguments.record else None

@@ -18,9 +18,8 @@ Start = Callable[..., ServerProcess]
 Connect = Callable[..., "WireClient"]
 
 
-@pytest.fixture
-def start(program: str) -> Iterator[Start]:
-    """Starts a server with these words. None may end in another way than it should, or complain."""
+def starting(program: str) -> Iterator[Start]:
+    """Starts servers with these words. None may end in another way than it should, or complain."""
     servers: list[ServerProcess] = []
 
     def started(*words: str, record: Path | None = None, interpreter: tuple[str, ...] = ()) -> ServerProcess:
@@ -30,6 +29,22 @@ def start(program: str) -> Iterator[Start]:
     for server in servers:
         server.close()
     assert [(it.status, it.complaints) for it in servers] == [(0, "")] * len(servers)
+
+
+@pytest.fixture
+def start(program: str) -> Iterator[Start]:
+    yield from starting(program)
+
+
+@pytest.fixture(scope="module")
+def start_for_all(program: str) -> Iterator[Start]:
+    """Starts a server that the tests of a module share."""
+    yield from starting(program)
+
+
+@pytest.fixture(scope="module")
+def shared(start_for_all: Start) -> ServerProcess:
+    return start_for_all()
 
 
 @pytest.fixture

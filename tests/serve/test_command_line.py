@@ -6,6 +6,7 @@ import signal
 import socket
 import subprocess
 import sys
+import time
 from pathlib import Path
 
 import pytest
@@ -86,7 +87,9 @@ def test_want_of_memory(tmp_path: Path, connect: Connect) -> None:
     server = ServerProcess(executable(tmp_path / "machine", FORGETFUL))
     with pytest.raises(DriveFault):
         connect(server)
-    server.wait()
+    until = time.monotonic() + 20
+    while Path(f"/proc/{server.process}/status").read_text(encoding="utf-8").find("State:\tZ") < 0 and time.monotonic() < until:
+        time.sleep(0.01)
     server.close()
     assert (server.status, server.complaints.count("\n"), "fault memory" in server.complaints) == (1, 1, True)
 

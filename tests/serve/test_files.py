@@ -105,8 +105,8 @@ def test_oplocks(served: ServerProcess, connect: Connect) -> None:
     pytest.param(0x120089, Status.SUCCESS, id="reading"), pytest.param(0x120116, Status.SHARING_VIOLATION, id="writing"),
     pytest.param(0x10000, Status.SHARING_VIOLATION, id="deleting"), pytest.param(0x80, Status.SUCCESS, id="attributes"),
 ])
-def test_sharing(served: ServerProcess, connect: Connect, access: int, expected: Status) -> None:
+def test_sharing(shared: ServerProcess, connect: Connect, access: int, expected: Status) -> None:
     """Reading and writing is shared by the machine's rules, deletion by the shell's. The first open shares reading alone."""
-    one, other = connect(served), connect(served)
+    one, other = connect(shared), connect(shared)
     one.open(create("file", access=0x120089, share=1))
     assert other.status(create("file", access=access, share=7)) == expected

@@ -5,6 +5,7 @@ import socket
 import struct
 
 import pytest
+from hypothesis import given, strategies as some
 from smblease import CreateAnswer, LeaseState, Status, each_context
 
 from drive.headers import RELATED, Command, Unreadable
@@ -101,3 +102,33 @@ def test_a_negotiate_of_smb_1(served: ServerProcess, dialects: bytes, answered: 
         one.sendall(frame(b"\xffSMB\x72" + bytes(27) + b"\0" + struct.pack("<H", len(dialects)) + dialects))
         data = one.recv(4096)
     assert (int.from_bytes(data[72:74], "little") if data else None) == answered
+
+
+@given(some.lists(some.binary(max_size=40), max_size=5), some.lists(some.integers(1, 50), max_size=20))
+def test_frames_however_they_are_cut(parts: list[bytes], cuts: list[int]) -> None:
+    """What comes in any pieces is the frames that were sent, in order, and nothing more."""
+    frames, data = Frames(), b"".join(map(frame, parts))
+    found: list[bytes] = []
+    for length in [*cuts, len(data)]:
+        frames.add(data[:length])
+        data = data[length:]
+        found += iter(frames.next, None)
+    assert found == parts
+
+
+@given(some.lists(some.binary(max_size=30), min_size=1, max_size=5))
+def test_requests_of_a_compound(bodies: list[bytes]) -> None:
+    """Each is there, with the bytes up to the next one."""
+    texts = [body + bytes(-len(body) % 8) for body in bodies]
+    data = b"".join(header(Command.ECHO, place, 0, 0, 64 + len(it) if place < len(texts) - 1 else 0) + it
+                    for place, it in enumerate(texts))
+    assert [(it.identifier, it.data[64:]) for it in split_compound(data)] == list(enumerate(texts))
+
+
+@given(some.binary(max_size=200))
+def test_any_bytes(data: bytes) -> None:
+    for text in (data, ECHO_HEADER[:12] + data, ECHO_HEADER + data):
+        try:
+            assert split_compound(text)
+        except Unreadable:
+            continue

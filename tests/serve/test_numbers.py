@@ -32,17 +32,17 @@ def check_all_is_well(served: ServerProcess, connect: Connect) -> None:
 
 @pytest.mark.parametrize("kind", [ALLOCATION, END_OF_FILE], ids=["allocation", "end_of_file"])
 @pytest.mark.parametrize("size", HUGE)
-def test_a_size_that_is_set(served: ServerProcess, connect: Connect, kind: int, size: int) -> None:
-    one = connect(served)
+def test_a_size_that_is_set(shared: ServerProcess, connect: Connect, kind: int, size: int) -> None:
+    one = connect(shared)
     assert one.status(set_info(one.open(create("file")), kind, struct.pack("<Q", size))) == Status.INVALID_PARAMETER
-    check_all_is_well(served, connect)
+    check_all_is_well(shared, connect)
 
 
 @pytest.mark.parametrize("disposition", [3, OVERWRITE_IF], ids=["open_if", "overwrite_if"])
 @pytest.mark.parametrize("size", HUGE)
-def test_a_size_that_a_create_asks_for(served: ServerProcess, connect: Connect, size: int, disposition: int) -> None:
-    assert connect(served).status(allocated(size, disposition)) == Status.INVALID_PARAMETER
-    check_all_is_well(served, connect)
+def test_a_size_that_a_create_asks_for(shared: ServerProcess, connect: Connect, size: int, disposition: int) -> None:
+    assert connect(shared).status(allocated(size, disposition)) == Status.INVALID_PARAMETER
+    check_all_is_well(shared, connect)
 
 
 @pytest.mark.parametrize("size", [0, 1, 4096, 4097, LARGEST_FILE])
@@ -57,11 +57,11 @@ def test_a_size_that_a_file_has(served: ServerProcess, connect: Connect, size: i
     pytest.param((1 << 63) - 1, Status.SUCCESS, id="the_last"), pytest.param(1 << 63, Status.INVALID_PARAMETER, id="below_0"),
     pytest.param((1 << 64) - 1, Status.INVALID_PARAMETER, id="minus_1"),
 ])
-def test_a_position(served: ServerProcess, connect: Connect, position: int, expected: Status) -> None:
+def test_a_position(shared: ServerProcess, connect: Connect, position: int, expected: Status) -> None:
     """Positions and times are numbers with a sign, and none of them is below 0 (MS-FSCC 2.4.7, 2.4.35)."""
-    one = connect(served)
+    one = connect(shared)
     assert one.status(set_info(one.open(create("file")), POSITION, struct.pack("<Q", position))) == expected
-    check_all_is_well(served, connect)
+    check_all_is_well(shared, connect)
 
 
 @pytest.mark.parametrize("place", range(4), ids=["created", "accessed", "written", "changed"])
@@ -69,11 +69,11 @@ def test_a_position(served: ServerProcess, connect: Connect, position: int, expe
     pytest.param((1 << 64) - 1, Status.SUCCESS, id="unchanged"), pytest.param((1 << 63) - 1, Status.SUCCESS, id="the_last"),
     pytest.param((1 << 64) - 3, Status.INVALID_PARAMETER, id="minus_3"),
 ])
-def test_a_time(served: ServerProcess, connect: Connect, place: int, time: int, expected: Status) -> None:
-    one, times = connect(served), [0] * 4
+def test_a_time(shared: ServerProcess, connect: Connect, place: int, time: int, expected: Status) -> None:
+    one, times = connect(shared), [0] * 4
     times[place] = time
     assert one.status(set_info(one.open(create("file")), BASIC, struct.pack("<QQQQLL", *times, 0, 0))) == expected
-    check_all_is_well(served, connect)
+    check_all_is_well(shared, connect)
 
 
 @pytest.mark.parametrize("offset, length, expected", [
@@ -81,7 +81,7 @@ def test_a_time(served: ServerProcess, connect: Connect, place: int, time: int, 
     pytest.param((1 << 64) - 1, 2, Status.INVALID_LOCK_RANGE, id="past_the_last_byte"),
     pytest.param((1 << 64) - 1, (1 << 64) - 1, Status.INVALID_LOCK_RANGE, id="far_past_it"),
 ])
-def test_a_range_of_a_lock(served: ServerProcess, connect: Connect, offset: int, length: int, expected: Status) -> None:
-    one = connect(served)
+def test_a_range_of_a_lock(shared: ServerProcess, connect: Connect, offset: int, length: int, expected: Status) -> None:
+    one = connect(shared)
     assert one.status(lock(one.open(create("file")), offset=offset, length=length)) == expected
-    check_all_is_well(served, connect)
+    check_all_is_well(shared, connect)

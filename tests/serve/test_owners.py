@@ -100,11 +100,15 @@ def test_guests_without_a_user(program: str) -> None:
     assert (done.returncode, done.stderr) == (2, "serve/run: --guests goes with --user; without one all are guests\n")
 
 
+@pytest.fixture(scope="module")
+def for_the_user(start_for_all: Start) -> ServerProcess:
+    return start_for_all("--user", USER)
+
+
 @pytest.fixture
-def signing(start: Start, connect: Connect) -> "WireClient":
+def signing(for_the_user: ServerProcess, connect: Connect) -> "WireClient":
     """A client whose session signs."""
-    server = start("--user", USER)
-    return connect(server, user=NAME, password=PASSWORD)
+    return connect(for_the_user, user=NAME, password=PASSWORD)
 
 
 @needs.package("impacket")

@@ -58,14 +58,14 @@ def test_a_create_that_waits_is_cancelled(served: ServerProcess, connect: Connec
 
 
 @pytest.mark.parametrize("line", ["", "expire", "expire 1 6", "expire one 61", "scavenge x", "scavenge 1 2", "expire 300 61 61"])
-def test_a_line_of_control_that_is_refused(served: ServerProcess, line: str) -> None:
+def test_a_line_of_control_that_is_refused(shared: ServerProcess, line: str) -> None:
     with pytest.raises(DriveFault, match="refused"):
-        served.tell(line)
+        shared.tell(line)
 
 
 @pytest.mark.parametrize("line", [f"expire 1 {KEY.hex}", f"expire 9 {KEY.hex}", "scavenge 1"])
-def test_a_line_of_control_of_what_is_not_there(served: ServerProcess, line: str) -> None:
-    assert not served.tell(line)
+def test_a_line_of_control_of_what_is_not_there(shared: ServerProcess, line: str) -> None:
+    assert not shared.tell(line)
 
 
 def test_a_line_of_control_ends_the_timer_of_a_break(served: ServerProcess, connect: Connect) -> None:
