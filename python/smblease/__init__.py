@@ -13,6 +13,7 @@ from smblease.steps import (Answer, Believes, CachedRead, Done, Failed, FileByte
                             Settlement, Step, Waiting, Wrote)
 from smblease.values import Access, LeaseState, Share, Status
 
+__version__ = "0.3.0"
 __all__ = [
     "Access", "AcknowledgeDone", "AcknowledgeFailed", "AcknowledgeRequest", "Acknowledgment", "Answer", "Believes", "Break",
     "CachedRead", "Changed", "Client", "Closed", "CloseFailed", "CloseRequest", "Context", "CreateAnswer", "CreateAsk",

@@ -20,6 +20,7 @@ from smblease.schedules import Schedule
 from smblease.world import MachineWorld
 from tests.paths import EXAMPLE, SCHEDULES, TESTS, built_program, files_of, name_of
 from tests.program.ran import SAFE, Ended, run
+from tests.shims import shim
 
 SECONDS = 20.0
 CONVERSATIONS = files_of(TESTS / "conversations")
@@ -104,6 +105,13 @@ def test_conversation(machine: Machine, lines: list[str]) -> None:
 
 def test_input_that_ends_within_a_line() -> None:
     assert run(["server"], b"file -\njoin 1\ncontent 1") == Ended(0, b"answer done\nanswer bytes -\n")
+
+
+@pytest.mark.parametrize("task", ["client", "server"])
+def test_input_is_read_in_blocks(task: str) -> None:
+    """131,072 bytes of a pipe are read by fewer than a hundred calls."""
+    env = {"LD_PRELOAD": shim("streams"), "FAILING_CALL": "100"}
+    assert run([task], b"# a remark, of 32 bytes in all.\n" * 4096, env) == Ended(0)
 
 
 def test_output_that_is_full() -> None:

@@ -1,14 +1,33 @@
-"""The program's version, with the line of the kit that it was proved with."""
+"""One version stands for the program, the library and the Python package; the program names the kit that it was proved with."""
 from __future__ import annotations
+
+import re
+import subprocess
+import sys
 
 import pytest
 
-from tests.paths import TOP
+from tests.paths import PACKAGES, TOP
 from tests.program.ran import Ended, run
 
-VERSION = "0.1"
+HEADER = (TOP / "include" / "smblease.h").read_text(encoding="utf-8")
+VERSION = ".".join(re.findall(r"^#define SMBLEASE_VERSION_[A-Z]+ (\d+)$", HEADER, re.M))
 
 
 @pytest.mark.parametrize("word", ["--version", "-V"])
 def test_version(word: str) -> None:
     assert run([word]) == Ended(0, f"leasecheck {VERSION}\n{(TOP / 'kit.txt').read_text(encoding='utf-8')}".encode())
+
+
+def test_version_of_the_package() -> None:
+    """The library that the package finds has it too."""
+    program = """
+import smblease
+from smblease._library import library
+has = library.smblease_version()
+print(smblease.__version__, f"{has.major}.{has.minor}.{has.patch}")
+"""
+    env = {"PYTHONPATH": PACKAGES, "PATH": "/usr/bin:/bin"}
+    printed = subprocess.run([sys.executable, "-c", program], env=env, stdout=subprocess.PIPE, text=True, check=True).stdout
+    assert printed == f"{VERSION} {VERSION}\n"
+    assert f'\nversion = "{VERSION}"\n' in (TOP / "pyproject.toml").read_text(encoding="utf-8")

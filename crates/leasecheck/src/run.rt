@@ -14,7 +14,7 @@ use crate::printing::{perform, tell_failure};
 use crate::tasks::{Asked, Task, Usage};
 use lease_lines::Machines;
 use std::alloc::{AllocError, Global};
-use std::io::Write;
+use std::io::{BufReader, Write};
 use std::rt::Files;
 use std::{fs, io};
 
@@ -79,7 +79,7 @@ fn perform_on_file<R: Files + Input + AllocGlobal, O: Write, F: Write>(
     }
 }
 
-// Lets machines speak on standard input and output.
+// Lets machines speak on standard input and output. The input is read in blocks: a pipe by itself is read a byte at a time.
 fn speak<R: Input + AllocGlobal, O: Write, F: Write>(
     rt: &R,
     machines: Machines,
@@ -91,7 +91,11 @@ fn speak<R: Input + AllocGlobal, O: Write, F: Write>(
     ensures answered { result ≡ 0 → (lines : List (List ℕ))
         × Appends (O.contents out.old) (O.contents out.new) (transcript (machines_of machines) 1 lines) }
 {
-    match converse(rt.alloc(), machines, &mut rt.reader(), out) {
+    let spoken = match BufReader::new(rt.alloc(), rt.reader()) {
+        Ok(mut input) => converse(rt.alloc(), machines, &mut input, out),
+        Err(_) => Err(Failure::Memory),
+    };
+    match spoken {
         Ok(()) => 0,
         Err(failure) => {
             let _ = tell_failure(failure, faults);
