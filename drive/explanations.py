@@ -113,7 +113,7 @@ def _found(program: str, schedule: Schedule, facts: list[str], known: Sequence[D
 def _from_all(program: str, schedule: Schedule, facts: list[str], known: Sequence[Departure]) -> frozenset[Departure] | None:
     """Begins with all departures, but for some of those that smbd doesn't always show."""
     sometimes = [it for it in (*SOMETIMES, *RARE) if it in known]
-    for count in range(len(SOMETIMES) + 1):
+    for count in range(len(sometimes) + 1):
         for left_out in combinations(sometimes, count):
             chosen = frozenset(known) - frozenset(left_out)
             if facts_of(program, schedule, chosen) == facts:
