@@ -231,6 +231,7 @@ def test_create_that_is_refused_for_its_key(runner: Runner) -> None:
     assert verdict_lines(outcome) == ["safe", "1 create was refused for its lease key (STATUS_INVALID_PARAMETER)"]
 
 
+@pytest.mark.long
 def test_schedule_that_is_drawn_and_shrunk(program: str, tmp_path: Path) -> None:
     def check() -> None:
         row = Explorer(Runner(program, PrivateServer), SEED, str(tmp_path), True).explore(NUMBER)
