@@ -35,7 +35,7 @@ def verdict_lines(outcome: Outcome) -> list[str]:
     lines = [outcome.verdict.text]
     if outcome.orders_differ:
         lines.append(f"with {Order.BREAKS_LAST.value}: {outcome.verdicts[Order.BREAKS_LAST].text}")
-    return [*lines, *outcome.leases.remarks]
+    return lines
 
 
 def status_of(outcome: Outcome) -> int:
@@ -51,10 +51,10 @@ def _drive(arguments: argparse.Namespace) -> int:
     outcome = runner.run(schedule_in(arguments.schedule, arguments.leasecheck))
     for line in outcome.skipped:
         print(f"left out: {line}", file=sys.stderr)
-    record = outcome.record.text_with_messages() if arguments.messages else outcome.record.text()
+    record = outcome.text(arguments.messages)
     if arguments.record:
         write_text(arguments.record, record)
-        sys.stdout.write("".join(f"{it}\n" for it in verdict_lines(outcome)))
+        sys.stdout.write("".join(f"{it}\n" for it in (*verdict_lines(outcome), *outcome.leases.remarks)))
     else:
         sys.stdout.write(record + "".join(f"# {it}\n" for it in verdict_lines(outcome)))
     return status_of(outcome)

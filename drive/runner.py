@@ -44,6 +44,11 @@ class Outcome:
         """The rule that is broken then."""
         return self.verdict.rule
 
+    def text(self, with_messages: bool = False) -> str:
+        """The record as it is kept: with remarks on what it says little by."""
+        record = self.record.text_with_messages() if with_messages else self.record.text()
+        return record + "".join(f"# {it}\n" for it in self.leases.remarks)
+
     @property
     def orders_differ(self) -> bool:
         """Whether the verdict depends on the order within a step."""
