@@ -22,8 +22,6 @@ RARE = (Departure.KEPT_HOLDS_ALL, Departure.BACK_NOT_KEPT, Departure.UNKEPT_GIVE
 
 
 class ModelWorld(World[Peer]):
-    """A run on the model server."""
-
     def __init__(self, schedule: Schedule, clients: LineClients, departures: frozenset[Departure]) -> None:
         self.record = Record()
         super().__init__(schedule, {number: Peer(guid) for number, guid in enumerate(schedule.clients, 1)}, clients, self.record)
@@ -136,7 +134,6 @@ class Likeness:
 
     @property
     def is_open(self) -> bool:
-        """Whether no explanation was found."""
         return self.departures is None
 
     @property

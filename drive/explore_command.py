@@ -35,7 +35,6 @@ Exit status, by all of the table: 0 all records are safe, or unsafe by what is a
 
 
 def parser() -> argparse.ArgumentParser:
-    """What the command line is."""
     made = argparse.ArgumentParser(prog="drive/explore", description="Drives a server through random schedules.",
                                    epilog=EPILOG, formatter_class=argparse.RawDescriptionHelpFormatter)
     made.add_argument("--seed", type=int, required=True, metavar="S", help="what the schedules are drawn from")
@@ -60,7 +59,6 @@ class Shard:
 
     @classmethod
     def read(cls, text: str) -> Shard:
-        """The shard that is written as I/N."""
         found = re.fullmatch(r"(\d+)/(\d+)", text, re.ASCII)
         number, count = map(int, found.groups()) if found else (0, 0)
         if not 1 <= number <= count:
@@ -68,12 +66,10 @@ class Shard:
         return cls(number, count)
 
     def numbers(self, last: int) -> range:
-        """The numbers of its schedules."""
         return range(self.number, last + 1, self.count)
 
     @property
     def name(self) -> str:
-        """What is added to the name of its folder."""
         return f"-{self.number}-of-{self.count}" if self.count > 1 else ""
 
 
@@ -86,7 +82,6 @@ class Progress:
         self._shows = sys.stderr.isatty()
 
     def show(self, rows: Sequence[Row]) -> None:
-        """Writes it."""
         if self._shows:
             each = (time.monotonic() - self._start) / len(rows)
             unsafe, faults = sum(it.is_unsafe for it in rows), sum(it.is_fault for it in rows)
@@ -94,13 +89,11 @@ class Progress:
             sys.stderr.flush()
 
     def end(self) -> None:
-        """Ends the line."""
         if self._shows:
             sys.stderr.write("\n")
 
 
 def _explore(arguments: argparse.Namespace) -> int:
-    """Explores, and prints what became of it; the status."""
     if arguments.count < 1:
         raise Usage("--count is at least 1")
     shard = Shard.read(arguments.shard) if arguments.shard is not None else Shard()
@@ -139,5 +132,4 @@ def _all(explorer: Explorer, numbers: Sequence[int], path: str) -> list[Row]:
 
 
 def main(words: Sequence[str] | None = None) -> int:
-    """The command; its status."""
     return ended(parser(), _explore, words)

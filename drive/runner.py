@@ -41,7 +41,6 @@ class Outcome:
 
     @property
     def rule(self) -> int | None:
-        """The rule that is broken then."""
         return self.verdict.rule
 
     def text(self, with_messages: bool = False) -> str:
@@ -65,7 +64,6 @@ class Runner:
     filtered: Filter | None = None
 
     def run(self, schedule: Schedule) -> Outcome:
-        """Drives a whole schedule."""
         with self.driving(schedule) as driver:
             outcome = Outcome(driver.record)
             for event in schedule.events:
@@ -89,7 +87,6 @@ class Runner:
         return applied
 
     def judged(self, outcome: Outcome) -> Outcome:
-        """The outcome with its verdicts."""
         texts = {order: outcome.record.text(order) for order in Order}
         verdicts = {text: judge(self.program, text) for text in set(texts.values())}
         outcome.verdicts = {order: verdicts[text] for order, text in texts.items()}
