@@ -17,7 +17,6 @@ BREAK_TIME = 40.0
 
 
 def server_arguments(parser: argparse.ArgumentParser) -> None:
-    """Adds which server is driven, and how."""
     parser.add_argument("--smbd", action="store_true", help="a private smbd, started afresh for each schedule and ended")
     parser.add_argument("--served", action="store_true", help="the proved server (serve/run), started and ended likewise")
     parser.add_argument("--server", metavar="HOST:PORT", help="a server that is there, in place of a private one")
@@ -32,7 +31,6 @@ def server_arguments(parser: argparse.ArgumentParser) -> None:
 
 
 def runner_of(arguments: argparse.Namespace) -> Runner:
-    """What the command line says of runs."""
     return Runner(arguments.leasecheck, _server_maker(arguments), arguments.skip)
 
 

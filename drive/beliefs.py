@@ -63,8 +63,6 @@ class Chain:
 
 @dataclass(frozen=True)
 class Placed:
-    """A change at a position."""
-
     position: int
     chain: Chain
     turn: Turn
@@ -79,7 +77,6 @@ class Way:
     before: Way | None = None
 
     def steps(self) -> list[Placed]:
-        """The steps, from the first on."""
         found: list[Placed] = []
         way: Way | None = self
         while way is not None:

@@ -23,7 +23,6 @@ command line is refused; 3 it is unsafe: rule 1 is broken in every order that fi
 
 
 def parser() -> argparse.ArgumentParser:
-    """What the command line is."""
     made = argparse.ArgumentParser(prog="drive/capture", description="Makes a record of a capture of SMB 2.1, and judges it.",
                                    epilog=EPILOG, formatter_class=argparse.RawDescriptionHelpFormatter)
     made.add_argument("capture", metavar="FILE", help="a capture that tshark reads, as pcapng")
@@ -46,7 +45,6 @@ def beliefs_at(record: CaptureRecord, verdict: Verdict) -> list[str]:
 
 
 def text_of(record: CaptureRecord) -> str:
-    """A record with its remarks."""
     return "".join(f"{it}\n" for it in record.lines())
 
 
@@ -61,7 +59,6 @@ def verdicts_of_sets(record: CaptureRecord, program: str) -> list[str]:
 
 
 def _judge(arguments: argparse.Namespace) -> int:
-    """Prints the record and its verdict; the status."""
     if any(not 0 < port < 65536 for port in arguments.port):
         raise Usage("--port is a number from 1 to 65535")
     if not os.path.isfile(arguments.capture):
@@ -82,5 +79,4 @@ def _judge(arguments: argparse.Namespace) -> int:
 
 
 def main(words: Sequence[str] | None = None) -> int:
-    """The command; its status."""
     return ended(parser(), _judge, words)

@@ -49,11 +49,9 @@ class CaptureRecord:
         return lines
 
     def text(self, fact: Fact) -> str:
-        """A fact with the number of its file."""
         return fact.text.replace("{file}", str(self.numbers[fact.file])) if fact.file else fact.text
 
     def client(self, fact: Fact) -> int:
-        """The client of a fact."""
         words = fact.text.split(" ")
         return int(words[2 if words[0] in ("opened", "changed") else 1])
 
@@ -104,7 +102,6 @@ def _bytes_told(file: File, number: int) -> str:
 
 
 def record_of(capture: Capture, at_client: bool) -> CaptureRecord:
-    """The record of a capture."""
     walk = Walk(at_client, servers_of(capture.packets))
     for packet in capture.packets:
         walk.goes(packet)

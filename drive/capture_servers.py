@@ -35,7 +35,6 @@ class _Stream:
     keys: set[uuid.UUID] = field(default_factory=set)
 
     def takes(self, packet: Packet, message: Message) -> None:
-        """Keeps what a message shows."""
         if message.is_from_server:
             self.address = packet.sender
         if message.command is Command.NEGOTIATE:

@@ -19,12 +19,10 @@ NONE = LeaseState.NONE
 
 
 def at(packet: Packet) -> int:
-    """The position of a packet."""
     return 2 * packet.number
 
 
 def before(packet: Packet) -> int:
-    """The position before a packet."""
     return 2 * packet.number - 1
 
 
@@ -56,7 +54,6 @@ class Walk:
         }
 
     def goes(self, packet: Packet) -> None:
-        """Takes the next packet."""
         connection = self.connections.setdefault(packet.stream, Connection(packet.stream, self._servers[packet.stream]))
         if packet.is_gap:
             self._lost(connection, packet, "packets, or parts of them, aren't in the capture")

@@ -69,12 +69,10 @@ def schedule_in(path: str, program: str) -> Schedule:
 
 
 def write_text(path: str, text: str) -> None:
-    """Writes a file."""
     write_bytes(path, text.encode())
 
 
 def write_bytes(path: str, data: bytes) -> None:
-    """Writes a file."""
     try:
         with open(path, "wb") as stream:
             stream.write(data)

@@ -22,7 +22,6 @@ is refused."""
 
 
 def parser() -> argparse.ArgumentParser:
-    """What the command line is."""
     made = argparse.ArgumentParser(prog="drive/compare", description="Compares a driven record with the profile's.",
                                    epilog=EPILOG, formatter_class=argparse.RawDescriptionHelpFormatter)
     made.add_argument("schedule", metavar="SCHEDULE", help="a file with a schedule, - for standard input")
@@ -46,7 +45,6 @@ def _facts(arguments: argparse.Namespace, schedule: Schedule) -> tuple[list[str]
 
 
 def _compare(arguments: argparse.Namespace) -> int:
-    """Prints the differences, and what explains them; the status."""
     schedule = schedule_in(arguments.schedule, arguments.leasecheck)
     facts, counts = _facts(arguments, schedule)
     likeness = likeness_of(arguments.leasecheck, schedule, facts, counts)
@@ -66,5 +64,4 @@ def _compare(arguments: argparse.Namespace) -> int:
 
 
 def main(words: Sequence[str] | None = None) -> int:
-    """The command; its status."""
     return ended(parser(), _compare, words)

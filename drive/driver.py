@@ -45,11 +45,9 @@ class Driver(World[DrivenPeer]):
 
     @property
     def leases(self) -> LeaseCount:
-        """How many leases were asked for and granted so far."""
         return self._exchange.leases
 
     def close(self) -> None:
-        """Closes the connections."""
         for peer in self.peers.values():
             if peer.connection:
                 peer.connection.close()

@@ -104,7 +104,6 @@ class LeaseCount:
     refused: int = 0
 
     def after(self, request: Request, reply: Reply) -> LeaseCount:
-        """The count with one more answer."""
         if not isinstance(request, CreateRequest):
             return self
         try:

@@ -22,8 +22,6 @@ RARE = (Departure.KEPT_HOLDS_ALL, Departure.BACK_NOT_KEPT, Departure.UNKEPT_GIVE
 
 
 class ModelWorld(World[Peer]):
-    """A run on the model server."""
-
     def __init__(self, schedule: Schedule, clients: LineClients, departures: frozenset[Departure]) -> None:
         self.record = Record()
         super().__init__(schedule, {number: Peer(guid) for number, guid in enumerate(schedule.clients, 1)}, clients, self.record)
@@ -113,7 +111,7 @@ def _found(program: str, schedule: Schedule, facts: list[str], known: Sequence[D
 def _from_all(program: str, schedule: Schedule, facts: list[str], known: Sequence[Departure]) -> frozenset[Departure] | None:
     """Begins with all departures, but for some of those that smbd doesn't always show."""
     sometimes = [it for it in (*SOMETIMES, *RARE) if it in known]
-    for count in range(len(SOMETIMES) + 1):
+    for count in range(len(sometimes) + 1):
         for left_out in combinations(sometimes, count):
             chosen = frozenset(known) - frozenset(left_out)
             if facts_of(program, schedule, chosen) == facts:
@@ -136,7 +134,6 @@ class Likeness:
 
     @property
     def is_open(self) -> bool:
-        """Whether no explanation was found."""
         return self.departures is None
 
     @property

@@ -48,7 +48,7 @@ class Explorer:
         left = None
         if likeness.is_open or not outcome.verdict.is_safe:
             self._write(f"{number}.schedule", schedule.text)
-            self._write(f"{number}.record", outcome.record.text())
+            self._write(f"{number}.record", outcome.text())
         is_allowed = rule_of(outcome) is not None and self._is_allowed(schedule, likeness)
         if rule_of(outcome) and self._shrinks and not is_allowed:
             left = self._shrunk(number, schedule.with_events(tuple(outcome.applied)), rule_of(outcome))
@@ -82,7 +82,7 @@ class Explorer:
         least = shrunk(schedule, stays_unsafe(self._runner, rule))
         self._write(f"{number}.shrunk", least.text)
         try:
-            self._write(f"{number}.shrunk.record", self._runner.run(least).record.text())
+            self._write(f"{number}.shrunk.record", self._runner.run(least).text())
         except ToolFault as fault:
             LOG.warning("%d has no record of what is left: %s", number, fault)
         return len(least.events)

@@ -16,32 +16,31 @@ from drive.explored import Row, junit, rows_in
 from drive.faults import DriveFault, Usage
 from drive.model import Departure
 
-EPILOG = """FOLDER/table gets a line for each schedule: its number; `blind` (its events were chosen beforehand), `guided` (each by
-what the run had come to) or `aimed` (guided towards a write during a break to reads); its events, and how many of them did something; what became of leases: `granted`,
-`none` where creates asked for some and none was granted, `refused` where a create was refused for its lease key,
-`unasked`; the verdict; `same` where the
-record is the profile's, else the known departures that explain it, or `unexplained` (docs/REAL_SERVERS.md); and for an
-unsafe one `shrunk N`, the events that are left, or `allowed`: it is safe on a model server without the departures of
---allow, and doesn't count. A schedule that is unsafe or unexplained is kept next to the table by its
-number, with its record and what is left of it. It counts as unsafe, and is shrunk, where it breaks one rule in both orders
-of messages; where the rules differ the table says `unsure` and both verdicts.
-One seed gives one table, as far as the server does the same again.
+EPILOG = """FOLDER/table gets a line for each schedule: its number; `blind` (its events were chosen beforehand),
+`guided` (each by what the run had come to) or `aimed` (guided towards a write during a break to reads); its events,
+and how many of them did something; what became of leases: `granted`, `none` where creates asked for some and none was
+granted, `refused` where a create was refused for its lease key, `unasked`; the verdict; `same` where the record is
+the profile's, else the known departures that explain it, or `unexplained` (docs/REAL_SERVERS.md); and for an unsafe
+one `shrunk N`, the events that are left, or `allowed`: it is safe on a model server without the departures of
+--allow, and doesn't count. A schedule that is unsafe or unexplained is kept next to the table by its number, with its
+record and what is left of it. It counts as unsafe, and is shrunk, where it breaks one rule in both orders of
+messages; where the rules differ the table says `unsure` and both verdicts. One seed gives one table, as far as the
+server does the same again.
 
 With --shard 2/8 only the schedules 2, 10, 18 and so on are driven; the tables of all eight have together what one of
 the whole has, and each has a folder of its own. --junit FILE has a test for each schedule of the table.
 
-Exit status, by all of the table: 0 all records are safe, or unsafe by what is allowed; 1 a schedule couldn't be driven;
-2 the command line is refused; 3 a record is unsafe."""
+Exit status, by all of the table: 0 all records are safe, or unsafe by what is allowed; 1 a schedule couldn't be
+driven; 2 the command line is refused; 3 a record is unsafe."""
 
 
 def parser() -> argparse.ArgumentParser:
-    """What the command line is."""
     made = argparse.ArgumentParser(prog="drive/explore", description="Drives a server through random schedules.",
                                    epilog=EPILOG, formatter_class=argparse.RawDescriptionHelpFormatter)
     made.add_argument("--seed", type=int, required=True, metavar="S", help="what the schedules are drawn from")
     made.add_argument("--count", type=int, required=True, metavar="N", help="how many")
     made.add_argument("--folder", metavar="FOLDER", help="where the table and what is unsafe go (explored-S)")
-    made.add_argument("--resume", action="store_true", help="go on after the last line of the table")
+    made.add_argument("--resume", action="store_true", help="go on with what the table doesn't have yet")
     made.add_argument("--allow", metavar="DEPARTURE", nargs="+", default=[], choices=[it.name.lower() for it in Departure],
                       help="what is unsafe by these known departures alone doesn't count (docs/REAL_SERVERS.md)")
     made.add_argument("--shard", metavar="I/N", help="of the schedules only each N-th, from the I-th on")
@@ -60,7 +59,6 @@ class Shard:
 
     @classmethod
     def read(cls, text: str) -> Shard:
-        """The shard that is written as I/N."""
         found = re.fullmatch(r"(\d+)/(\d+)", text, re.ASCII)
         number, count = map(int, found.groups()) if found else (0, 0)
         if not 1 <= number <= count:
@@ -68,12 +66,10 @@ class Shard:
         return cls(number, count)
 
     def numbers(self, last: int) -> range:
-        """The numbers of its schedules."""
         return range(self.number, last + 1, self.count)
 
     @property
     def name(self) -> str:
-        """What is added to the name of its folder."""
         return f"-{self.number}-of-{self.count}" if self.count > 1 else ""
 
 
@@ -86,7 +82,6 @@ class Progress:
         self._shows = sys.stderr.isatty()
 
     def show(self, rows: Sequence[Row]) -> None:
-        """Writes it."""
         if self._shows:
             each = (time.monotonic() - self._start) / len(rows)
             unsafe, faults = sum(it.is_unsafe for it in rows), sum(it.is_fault for it in rows)
@@ -94,13 +89,11 @@ class Progress:
             sys.stderr.flush()
 
     def end(self) -> None:
-        """Ends the line."""
         if self._shows:
             sys.stderr.write("\n")
 
 
 def _explore(arguments: argparse.Namespace) -> int:
-    """Explores, and prints what became of it; the status."""
     if arguments.count < 1:
         raise Usage("--count is at least 1")
     shard = Shard.read(arguments.shard) if arguments.shard is not None else Shard()
@@ -139,5 +132,4 @@ def _all(explorer: Explorer, numbers: Sequence[int], path: str) -> list[Row]:
 
 
 def main(words: Sequence[str] | None = None) -> int:
-    """The command; its status."""
     return ended(parser(), _explore, words)

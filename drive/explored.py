@@ -16,8 +16,6 @@ LINE = re.compile(r"(\d+) (\w+) (\d+) (\d+) (\S+) (.*?) (\S+)(?: shrunk (\d+)| (
 
 @dataclass(frozen=True)
 class Row:
-    """What became of a schedule."""
-
     number: int
     manner: str
     events: int
@@ -30,7 +28,6 @@ class Row:
 
     @classmethod
     def read(cls, line: str) -> Row:
-        """The row of a line."""
         found = LINE.fullmatch(line)
         if found is None:
             raise ToolFault(f"no line of a table: {line[:200]}")
@@ -40,14 +37,12 @@ class Row:
 
     @property
     def text(self) -> str:
-        """Its line of the table."""
         tail = " allowed" if self.is_allowed else f" shrunk {self.left}" if self.left is not None else ""
         head = f"{self.number} {self.manner} {self.events} {self.applied} {self.leases}"
         return f"{head} {' '.join(self.verdict.split())} {self.likeness}{tail}\n"
 
     @property
     def is_unsafe(self) -> bool:
-        """Whether it counts as unsafe."""
         return self.verdict.startswith("unsafe") and not self.is_allowed
 
     @property

@@ -158,7 +158,6 @@ def renamed(request: Message) -> str | None:
 
 
 def server_guid(message: Message) -> bytes:
-    """The ServerGuid of a NEGOTIATE response."""
     return message.part(72, 16)
 
 

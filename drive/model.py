@@ -99,12 +99,10 @@ class Model:
         self._outs: list[Arrival] = []
 
     def taken(self) -> list[Arrival]:
-        """What was sent since the last call."""
         outs, self._outs = self._outs, []
         return outs
 
     def join(self, client: int) -> None:
-        """A client connects."""
         self.tables.connected.add(client)
         self.tables.expired = {it for it in self.tables.expired if it[0] != client}
 
@@ -124,7 +122,6 @@ class Model:
             self._passes()
 
     def cut(self, client: int) -> None:
-        """A client's connection is lost."""
         self.tables.connected.discard(client)
         self.tables.held = [it for it in self.tables.held if it.client != client]
         for one in [it for it in self.tables.opens if it.client == client and it.connected]:
@@ -134,7 +131,6 @@ class Model:
         self._passes()
 
     def expire(self, keys: list[Key]) -> None:
-        """The break timers of these leases run out."""
         for key in keys:
             self._expire(key)
         self._passes()

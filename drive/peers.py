@@ -38,11 +38,9 @@ class DrivenPeer(Peer):
     loses_kept: bool = False
 
     def key_of(self, file: int) -> uuid.UUID:
-        """The lease key of a file."""
         return smblease.lease_key(self.guid, file)
 
     def file_of(self, key: uuid.UUID) -> int | None:
-        """The file whose lease key this is."""
         file = key.bytes[12]
         return file if key == self.key_of(file) else None
 
@@ -53,7 +51,6 @@ class DrivenPeer(Peer):
         return self.file_ids.get(request.file_id, FileId(request.file_id, request.file_id))
 
     def is_opened(self, file: int, file_id: FileId) -> None:
-        """The server opened a file for the client."""
         self.file_ids[file_id.persistent] = file_id
         self.files[file_id.persistent] = file
         self.kept_opens.pop(file_id.persistent, None)
@@ -63,7 +60,6 @@ class DrivenPeer(Peer):
             self.kept.discard(file)
 
     def is_closed(self, file_id: int) -> None:
-        """The server closed an open of the client."""
         file = self.files.pop(file_id, None)
         self.file_ids.pop(file_id, None)
         if file is not None and file not in self.files.values():

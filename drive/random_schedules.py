@@ -82,7 +82,6 @@ class Chooser:
         self.length = 80 if aims else chance.randint(30, 80)
 
     def setup(self) -> Schedule:
-        """The files and clients, without events."""
         guids = tuple(uuid.UUID(bytes=bytes([16 * number + number]) * 16) for number in range(1, self.clients + 1))
         return Schedule(self.files * (FILE,), guids, ())
 

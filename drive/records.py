@@ -11,7 +11,6 @@ from smblease.replies import AcknowledgeDone, AcknowledgeFailed, Break, Closed, 
 
 
 def applied(change: Changed, content: bytes) -> bytes:
-    """What a file holds after a change."""
     if not change.data:
         return content
     content = content.ljust(change.offset, b"\0")
@@ -58,7 +57,6 @@ class Arrival:
         return ArrivalKind.END if isinstance(self.reply, ends) else ArrivalKind.ANSWER
 
     def lines(self) -> list[str]:
-        """Its lines of the record."""
         effect = [out_words(self.effect)] if self.effect else []
         return [*effect, f"# sent {self.client} {reply_words(self.reply)}", f"sent {self.client}"]
 
@@ -87,22 +85,18 @@ class Record:
         self.count = 0
 
     def fact(self, text: str) -> None:
-        """Adds a fact."""
         self._items.append(text)
         self.count += 1
 
     def remark(self, text: str) -> None:
-        """Adds a remark."""
         self._items.append(f"# {text}")
 
     def step(self, arrivals: Sequence[Arrival]) -> None:
-        """Adds the messages that a step brought."""
         if arrivals:
             self._items.append(tuple(arrivals))
             self.count += sum(2 if arrival.effect else 1 for arrival in arrivals)
 
     def lines(self, order: Order = Order.BREAKS_FIRST) -> list[str]:
-        """Its lines, remarks too."""
         lines: list[str] = []
         for item in self._items:
             if isinstance(item, str):
@@ -113,13 +107,10 @@ class Record:
         return lines
 
     def facts(self, order: Order = Order.BREAKS_FIRST) -> list[str]:
-        """Its facts."""
         return [it for it in self.lines(order) if not it.startswith("#")]
 
     def text(self, order: Order = Order.BREAKS_FIRST) -> str:
-        """Its facts as a text."""
         return "".join(f"{it}\n" for it in self.facts(order))
 
     def text_with_messages(self) -> str:
-        """Its lines as a text."""
         return "".join(f"{it}\n" for it in self.lines())

@@ -19,7 +19,6 @@ record is unsafe."""
 
 
 def parser() -> argparse.ArgumentParser:
-    """What the command line is."""
     made = argparse.ArgumentParser(prog="drive/run", description="Drives a real SMB 2.1 server through a schedule.",
                                    epilog=EPILOG, formatter_class=argparse.RawDescriptionHelpFormatter)
     made.add_argument("schedule", metavar="SCHEDULE", help="a file with a schedule (docs/FORMATS.md), - for standard input")
@@ -31,35 +30,31 @@ def parser() -> argparse.ArgumentParser:
 
 
 def verdict_lines(outcome: Outcome) -> list[str]:
-    """The lines of a verdict."""
     lines = [outcome.verdict.text]
     if outcome.orders_differ:
         lines.append(f"with {Order.BREAKS_LAST.value}: {outcome.verdicts[Order.BREAKS_LAST].text}")
-    return [*lines, *outcome.leases.remarks]
+    return lines
 
 
 def status_of(outcome: Outcome) -> int:
-    """The status of a run."""
     if outcome.rule is not None:
         return UNSAFE
     return SAFE if outcome.verdict.is_safe else NOT_DRIVEN
 
 
 def _drive(arguments: argparse.Namespace) -> int:
-    """Drives the schedule and prints its record; the status."""
     runner = runner_of(arguments)
     outcome = runner.run(schedule_in(arguments.schedule, arguments.leasecheck))
     for line in outcome.skipped:
         print(f"left out: {line}", file=sys.stderr)
-    record = outcome.record.text_with_messages() if arguments.messages else outcome.record.text()
+    record = outcome.text(arguments.messages)
     if arguments.record:
         write_text(arguments.record, record)
-        sys.stdout.write("".join(f"{it}\n" for it in verdict_lines(outcome)))
+        sys.stdout.write("".join(f"{it}\n" for it in (*verdict_lines(outcome), *outcome.leases.remarks)))
     else:
         sys.stdout.write(record + "".join(f"# {it}\n" for it in verdict_lines(outcome)))
     return status_of(outcome)
 
 
 def main(words: Sequence[str] | None = None) -> int:
-    """The command; its status."""
     return ended(parser(), _drive, words)

@@ -41,8 +41,12 @@ class Outcome:
 
     @property
     def rule(self) -> int | None:
-        """The rule that is broken then."""
         return self.verdict.rule
+
+    def text(self, with_messages: bool = False) -> str:
+        """The record as it is kept: with remarks on what it says little by."""
+        record = self.record.text_with_messages() if with_messages else self.record.text()
+        return record + "".join(f"# {it}\n" for it in self.leases.remarks)
 
     @property
     def orders_differ(self) -> bool:
@@ -60,7 +64,6 @@ class Runner:
     filtered: Filter | None = None
 
     def run(self, schedule: Schedule) -> Outcome:
-        """Drives a whole schedule."""
         with self.driving(schedule) as driver:
             outcome = Outcome(driver.record)
             for event in schedule.events:
@@ -84,7 +87,6 @@ class Runner:
         return applied
 
     def judged(self, outcome: Outcome) -> Outcome:
-        """The outcome with its verdicts."""
         texts = {order: outcome.record.text(order) for order in Order}
         verdicts = {text: judge(self.program, text) for text in set(texts.values())}
         outcome.verdicts = {order: verdicts[text] for order, text in texts.items()}

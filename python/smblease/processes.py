@@ -3,15 +3,12 @@ from __future__ import annotations
 
 import logging
 import subprocess
-import uuid
 from collections.abc import Sequence
 from typing import IO, Protocol
 
 from smblease.faults import ToolFault
-from smblease.lines import digits, read_answer, read_note, read_out, read_request, reply_words, request_words
-from smblease.outs import Out
+from smblease.lines import read_answer, read_note, read_request, reply_words
 from smblease.replies import Reply
-from smblease.requests import Request
 from smblease.schedules import Event, Schedule
 from smblease.steps import Step
 
@@ -101,18 +98,13 @@ def client_process(program: str, schedule: Schedule) -> LineProcess:
     return LineProcess(program, "client", [f"files {files}", *(f"client {guid}" for guid in schedule.clients)])
 
 
-def server_process(program: str, schedule: Schedule) -> LineProcess:
-    """The server machine of a schedule."""
-    return LineProcess(program, "server", [f"file {digits(data)}" for data in schedule.files])
-
-
-class _Asked:
+class LineMachine:
     """Machines that are asked by lines."""
 
     def __init__(self, speaker: Speaker) -> None:
         self._speaker = speaker
 
-    def _ask(self, line: str) -> tuple[list[str], str]:
+    def ask(self, line: str) -> tuple[list[str], str]:
         """The lines of an answer, and what its last one says."""
         *lines, last = self._speaker.say(line)
         if last.startswith("fault "):
@@ -124,18 +116,19 @@ class _Asked:
         self._speaker.close()
 
 
-class LineClients(_Asked):
+class LineClients(LineMachine):
     """The client machines of a run, which are asked by lines; its methods are those of smblease.world.ClientObjects.
 
+    >>> from uuid import UUID
     >>> from smblease.program import find_program
-    >>> clients = LineClients(client_process(find_program(), Schedule((b"abc",), (uuid.UUID(int=1),), ())))
+    >>> clients = LineClients(client_process(find_program(), Schedule((b"abc",), (UUID(int=1),), ())))
     >>> clients.step(Event.read("read 1 1"))
     Step(answer=Refused(refusal=<Refusal.NOT_OPEN: 1>), requests=(), notes=())
     >>> clients.close()
     """
 
     def _step(self, line: str) -> Step:
-        lines, answer = self._ask(line)
+        lines, answer = self.ask(line)
         sent = [it.partition(" ")[2] for it in lines if it.startswith("request ")]
         notes = [it for it in lines if not it.startswith("request ")]
         return Step(read_answer(answer), tuple(map(read_request, sent)), tuple(read_note(it)[1] for it in notes))
@@ -145,42 +138,3 @@ class LineClients(_Asked):
 
     def take(self, client: int, reply: Reply) -> Step:
         return self._step(f"take {client} {reply_words(reply)}")
-
-
-class LineServer(_Asked):
-    """The server machine of a run, which is asked by lines; its methods are those of smblease.Server.
-
-    >>> from smblease import Access, CreateRequest, Share
-    >>> from smblease.program import find_program
-    >>> server = LineServer(server_process(find_program(), Schedule((b"abc",), (), ())))
-    >>> server.join(1), server.receive(1, CreateRequest(1, Access.READ, Share.READ, b""))[0]
-    ((), Opened(file=1, client=1))
-    >>> server.kept(1, 1), server.breaking(1, uuid.UUID(int=1))
-    (None, False)
-    >>> server.close()
-    """
-
-    def _outs(self, line: str) -> tuple[Out, ...]:
-        return tuple(map(read_out, self._ask(line)[0]))
-
-    def join(self, client: int) -> tuple[Out, ...]:
-        return self._outs(f"join {client}")
-
-    def cut(self, client: int) -> tuple[Out, ...]:
-        return self._outs(f"cut {client}")
-
-    def receive(self, client: int, request: Request) -> tuple[Out, ...]:
-        return self._outs(f"receive {client} {request_words(request)}")
-
-    def expire(self, client: int, key: uuid.UUID) -> tuple[Out, ...]:
-        return self._outs(f"expire {client} {key.bytes.hex()}")
-
-    def scavenge(self, file_id: int) -> tuple[Out, ...]:
-        return self._outs(f"scavenge {file_id}")
-
-    def breaking(self, client: int, key: uuid.UUID) -> bool:
-        return self._ask(f"breaking {client} {key.bytes.hex()}")[1] == "yes"
-
-    def kept(self, client: int, file: int) -> int | None:
-        word, _, file_id = self._ask(f"kept {client} {file}")[1].partition(" ")
-        return int(file_id) if word == "fid" else None

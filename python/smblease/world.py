@@ -11,17 +11,15 @@ from collections import deque
 from collections.abc import Callable
 from dataclasses import dataclass, field
 from enum import Enum
-from functools import partial
-from typing import Generic, Protocol, TypeVar
+from typing import Any, Generic, Protocol, TypeVar
 
 from smblease.client import Client, lease_key
 from smblease.lines import ACCESS, SHARE, digits, note_words, out_words, read_digits, read_request, reply_words
 from smblease.outs import Out, Sent
-from smblease.processes import LineClients, LineServer
+from smblease.processes import LineClients
 from smblease.replies import Reply
 from smblease.requests import Request
 from smblease.schedules import Event, EventKind, Schedule
-from smblease.server import Server
 from smblease.steps import Refused, Step
 from smblease.values import LeaseState
 
@@ -231,14 +229,14 @@ class MachineWorld(World[Peer]):
     took 1
     """
 
-    def __init__(self, schedule: Schedule, clients: ClientObjects | LineClients, server: Server | LineServer,
-                 record: Recorder) -> None:
+    def __init__(self, schedule: Schedule, clients: ClientObjects | LineClients, server: Any, record: Recorder) -> None:
+        """`server` has the methods of a smblease.Server."""
         peers = {number: Peer(guid) for number, guid in enumerate(schedule.clients, 1)}
         super().__init__(schedule, peers, clients, record)
         self._server = server
 
-    def _give_out(self, call: Callable[[], tuple[Out, ...]]) -> None:
-        for out in self._called(call):
+    def _give_out(self, call: Callable[..., tuple[Out, ...]], *given: object) -> None:
+        for out in self._called(lambda: call(*given)):
             peer = self.peers[out.client]
             if not isinstance(out, Sent):
                 self._record.fact(out_words(out))
@@ -248,24 +246,24 @@ class MachineWorld(World[Peer]):
                 peer.replies.append(out.reply)
 
     def _served(self, client: int, request: Request) -> None:
-        self._give_out(lambda: self._server.receive(client, request))
+        self._give_out(self._server.receive, client, request)
 
     def _joined(self, client: int) -> None:
-        self._give_out(lambda: self._server.join(client))
+        self._give_out(self._server.join, client)
 
     def _dropped(self, client: int) -> None:
-        self._give_out(lambda: self._server.cut(client))
+        self._give_out(self._server.cut, client)
 
     def _expire(self, client: int, file: int) -> bool:
         key = lease_key(self.peers[client].guid, file)
         if not self._server.breaking(client, key):
             return False
         self._record.fact(f"expired {client} {file}")
-        self._give_out(lambda: self._server.expire(client, key))
+        self._give_out(self._server.expire, client, key)
         return True
 
     def _scavenge(self, client: int, file: int) -> bool:
         kept = self._server.kept(client, file)
         if kept is not None:
-            self._give_out(partial(self._server.scavenge, kept))
+            self._give_out(self._server.scavenge, kept)
         return kept is not None

@@ -9,6 +9,7 @@
 """
 from __future__ import annotations
 
+import re
 from collections.abc import Iterator
 from contextlib import contextmanager
 from pathlib import Path
@@ -29,7 +30,6 @@ from drive import servers  # noqa: E402
 from drive.explanations import likeness_of  # noqa: E402
 from drive.exploration import Explorer  # noqa: E402
 from drive.model import Departure  # noqa: E402
-from drive.run_command import verdict_lines  # noqa: E402
 from drive.runner import Filter, Outcome, Runner  # noqa: E402
 from drive.servers import PrivateServer  # noqa: E402
 
@@ -204,11 +204,15 @@ def test_run_after_one_that_left_an_open(tmp_path: Path) -> None:
 def test_run_without_a_lease(program: str, tmp_path: Path, monkeypatch: pytest.MonkeyPatch) -> None:
     """A server that grants no lease shows nothing, and that is said."""
     monkeypatch.setattr(servers, "CONFIGURATION", servers.CONFIGURATION.replace("smb2 leases = yes", "smb2 leases = no"))
-    row = Explorer(Runner(program, PrivateServer), SEED, str(tmp_path), False).explore(NUMBER)
+    explorer = Explorer(Runner(program, PrivateServer), SEED, str(tmp_path), False)
+    row = explorer.explore(NUMBER)
     assert row.text.split(" ")[4] == "none", row
+    kept = (tmp_path / f"{NUMBER}.record").read_text(encoding="ascii")
+    assert re.search(r"^# no lease was granted: \d+ creates asked for one$", kept, re.MULTILINE)
     schedule = schedule_of(TESTS / "schedules" / "break_answered")
-    lines = verdict_lines(Runner(program, PrivateServer).run(schedule))
-    assert lines == ["safe", "no lease was granted: 2 creates asked for one"]
+    outcome = Runner(program, PrivateServer).run(schedule)
+    assert outcome.verdict.is_safe
+    assert outcome.text().endswith("\n# no lease was granted: 2 creates asked for one\n")
 
 
 REFUSED_KEY = """file 616263
@@ -228,9 +232,10 @@ def test_create_that_is_refused_for_its_key(runner: Runner) -> None:
     """It asks for the second file under the key of the first."""
     outcome = runner.run(Schedule.read(REFUSED_KEY))
     assert outcome.leases.word == "refused"
-    assert verdict_lines(outcome) == ["safe", "1 create was refused for its lease key (STATUS_INVALID_PARAMETER)"]
+    assert outcome.text().endswith("\n# 1 create was refused for its lease key (STATUS_INVALID_PARAMETER)\n")
 
 
+@pytest.mark.long
 def test_schedule_that_is_drawn_and_shrunk(program: str, tmp_path: Path) -> None:
     def check() -> None:
         row = Explorer(Runner(program, PrivateServer), SEED, str(tmp_path), True).explore(NUMBER)

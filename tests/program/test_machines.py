@@ -15,10 +15,11 @@ from typing import Iterator
 
 import pytest
 
-from smblease.processes import LineClients, LineServer, client_process, server_process
+from smblease.processes import LineClients, client_process
 from smblease.schedules import Schedule
 from smblease.world import MachineWorld
 from tests.paths import EXAMPLE, SCHEDULES, TESTS, built_program, files_of, name_of
+from tests.program.line_server import LineServer, server_process
 from tests.program.ran import SAFE, Ended, run
 from tests.shims import shim
 
