@@ -111,7 +111,7 @@ class ReadWriteLock(Handlers):
         if wanted[0][1] & UNLOCK:
             _unlock(opened, [it[0] for it in wanted])
         else:
-            if len(opened.locks) + count > MOST_LOCKS:
+            if sum(len(it.locks) for it in opened.node.opens) + count > MOST_LOCKS:
                 raise StatusError(Status.INSUFFICIENT_RESOURCES)
             yield from self._server.forced_breaks.break_all(request, opened)
             for lock, flags in wanted:

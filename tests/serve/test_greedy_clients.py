@@ -18,7 +18,7 @@ from serve.status_error import StatusError
 from tests import needs
 from tests.paths import TOP
 from tests.serve.conftest import Connect, Start
-from tests.serve.requests import ECHO, Body, create, frame, header, leased, negotiate, read, write
+from tests.serve.requests import ECHO, Body, create, frame, header, leased, lock, negotiate, read, write
 from tests.serve.test_other_clients import USER
 
 MIB = 1 << 20
@@ -106,6 +106,20 @@ def test_contexts_of_a_create(served: ServerProcess, connect: Connect, count: in
         one = struct.pack("<LHHHHL4s4x", 24, 16, 4, 0, 24, 0, b"many")
         text = one * (count - 33) + text
     assert connect(served).status(create("file", contexts=text)) == expected
+
+
+def test_locks_of_a_file(served: ServerProcess, connect: Connect) -> None:
+    """1,024, of all its opens: each new one is compared with all that are there."""
+    one = connect(served)
+    first, second = one.open(create("file")), one.open(create("file"))
+    many = struct.pack("<HHL16s", 48, 512, 0, struct.pack("<QQ", first, first)) + b"".join(
+        struct.pack("<QQLL", place, 1, 2 | 16, 0) for place in range(512))
+    assert one.status((Command.LOCK, many)) == Status.SUCCESS
+    more = many[:8] + struct.pack("<QQ", second, second) + b"".join(
+        struct.pack("<QQLL", 1000 + place, 1, 2 | 16, 0) for place in range(512))
+    assert one.status((Command.LOCK, more)) == Status.SUCCESS
+    assert one.status(lock(first, offset=5000)) == Status.INSUFFICIENT_RESOURCES
+    assert one.status(lock(second, offset=5000)) == Status.INSUFFICIENT_RESOURCES
 
 
 def raw(server: ServerProcess) -> socket.socket:
