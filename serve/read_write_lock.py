@@ -114,13 +114,15 @@ class ReadWriteLock(Handlers):
             if sum(len(it.locks) for it in opened.node.opens) + count > MOST_LOCKS:
                 raise StatusError(Status.INSUFFICIENT_RESOURCES)
             yield from self._server.forced_breaks.break_all(request, opened)
+            locks = [*opened.locks]
             for lock, flags in wanted:
                 if flags & ~AT_ONCE not in (SHARED, EXCLUSIVE):
                     raise StatusError(Status.INVALID_PARAMETER)
                 if any(it.meets(lock.offset, lock.length) and (it.is_exclusive or lock.is_exclusive)
-                       for it in [*_locks_of_others(opened), *opened.locks]):
+                       for it in [*_locks_of_others(opened), *locks]):
                     raise StatusError(Status.LOCK_NOT_GRANTED)
-                opened.locks.append(lock)
+                locks.append(lock)
+            opened.locks = locks
         opened.node.times.accessed = now()
         return Answer(Status.SUCCESS, struct.pack("<HH", 4, 0))
 

@@ -112,12 +112,8 @@ def test_locks_of_a_file(served: ServerProcess, connect: Connect) -> None:
     """1,024, of all its opens: each new one is compared with all that are there."""
     one = connect(served)
     first, second = one.open(create("file")), one.open(create("file"))
-    many = struct.pack("<HHL16s", 48, 512, 0, struct.pack("<QQ", first, first)) + b"".join(
-        struct.pack("<QQLL", place, 1, 2 | 16, 0) for place in range(512))
-    assert one.status((Command.LOCK, many)) == Status.SUCCESS
-    more = many[:8] + struct.pack("<QQ", second, second) + b"".join(
-        struct.pack("<QQLL", 1000 + place, 1, 2 | 16, 0) for place in range(512))
-    assert one.status((Command.LOCK, more)) == Status.SUCCESS
+    assert one.status(lock(first, more=range(1, 512))) == Status.SUCCESS
+    assert one.status(lock(second, offset=1000, more=range(1001, 1512))) == Status.SUCCESS
     assert one.status(lock(first, offset=5000)) == Status.INSUFFICIENT_RESOURCES
     assert one.status(lock(second, offset=5000)) == Status.INSUFFICIENT_RESOURCES
 
