@@ -190,10 +190,10 @@ class Create(Handlers):
 
     def _machine_client(self, request: Request, wanted: CreateParameters, node: Node) -> tuple[MachineClient, bytes]:
         """Who asks the machine, and with which contexts: an oplock is a lease under a key of its own."""
-        is_beside = any(it.client is request.client and it.key for it in node.opens)
-        if wanted.level == NO_LEVEL and self._server.settings.is_apart and is_beside:
-            told = f"an open of client {request.client.number} without a lease"
-            return self._server.borrow(request.connection, told), wanted.lease_contexts
+        has_lease = any(it.client is request.client and it.key for it in node.opens)
+        if wanted.level == NO_LEVEL and self._server.settings.is_apart and has_lease:
+            who = f"an open of client {request.client.number} without a lease"
+            return self._server.borrow(request.connection, who), wanted.lease_contexts
         if wanted.level in (LEASE, NO_LEVEL) or not self._server.clients.has_room_for_oplock:
             return request.client, wanted.lease_contexts
         others = any(it.client and (it.is_connected or not self._may_write(it)) for it in node.opens)

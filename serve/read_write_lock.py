@@ -38,8 +38,8 @@ class ReadWriteLock(Handlers):
         self._server.forget_open(opened)
         self._server.forget_unkept(opened.node.opens)
         flags = request.message.number(HEADER + 2, 2) & WITH_ATTRIBUTES
-        told = attributes_of(opened.node) if flags else bytes(52)
-        return Answer(Status.SUCCESS, struct.pack("<HHL", 60, flags, 0) + told)
+        attributes = attributes_of(opened.node) if flags else bytes(52)
+        return Answer(Status.SUCCESS, struct.pack("<HHL", 60, flags, 0) + attributes)
 
     def flush(self, request: Request) -> Answer:
         request.message.expect(24)
