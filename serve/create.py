@@ -99,9 +99,11 @@ class Create(Handlers):
         """An open of a file, and the contexts of its reply."""
         if any(conflicts(wanted, it) for it in node.opens):
             yield from self._resolve_conflicts(request, wanted, node)
+        if wanted.empties and node.length and node.opens:
+            yield from self._break_handles(request, wanted, node)
         before = (node.number, node.length, node.stale_length)
         if wanted.empties and node.length:
-            yield from self._empty(request, wanted, node)
+            self._empty(node)
         has_data = reads(wanted.access) or writes(wanted.access) or wanted.empties
         if not has_data and wanted.level == NO_LEVEL:
             if not is_stat(wanted.access):
@@ -174,10 +176,8 @@ class Create(Handlers):
         if node.is_gone:
             raise Vanished
 
-    def _empty(self, request: Request, wanted: CreateParameters, node: Node) -> Steps:
+    def _empty(self, node: Node) -> None:
         """An empty file in the place of one that nobody has open. There is no truncation of others."""
-        if node.opens:
-            yield from self._break_handles(request, wanted, node)
         if node.opens:
             raise StatusError(Status.NOT_SUPPORTED)
         self._server.names.renumber(node)
