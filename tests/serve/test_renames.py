@@ -140,3 +140,19 @@ def test_an_overwrite_that_is_refused_after_it_waited(served: ServerProcess, con
     holder.ask(close(file_id))
     assert one.answer_to(number).status == Status.INVALID_PARAMETER
     assert other.ask(read(other.open(create("file", disposition=OPEN)))).data[80:] == b"file and more"
+
+
+@pytest.mark.parametrize("old, new", [("file", "other:stream"), ("file:stream", "other"), ("file:stream", "file:other")])
+def test_a_stream_has_no_new_name(served: ServerProcess, connect: Connect, old: str, new: str) -> None:
+    """A file that became a stream of nothing couldn't be found any more."""
+    one = connect(served)
+    assert one.status(rename(one.open(create(old, access=DELETING)), new)) == Status.NOT_SUPPORTED
+    assert one.status(create(old, disposition=OPEN)) == Status.SUCCESS
+
+
+def test_a_file_that_may_only_be_read_is_not_replaced(served: ServerProcess, connect: Connect) -> None:
+    one = connect(served)
+    kept = one.open(create("kept"))
+    assert one.status(set_info(kept, 4, bytes(32) + (1).to_bytes(4, "little") + bytes(4))) == Status.SUCCESS
+    one.ask(close(kept))
+    assert one.status(rename(one.open(create("file", access=DELETING)), "kept")) == Status.ACCESS_DENIED
