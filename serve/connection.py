@@ -52,7 +52,7 @@ class Chain:
         self._is_waiting = self._is_going = False
 
     def go_on(self) -> None:
-        """Begins each request once the one before it is answered, and sends the answers behind the last."""
+        """Begins each request once the one before it is answered, and sends the answers after the last."""
         if self._is_going:
             return
         self._is_going = True
@@ -86,7 +86,7 @@ class Chain:
         if sum(len(it.body) for it in self._responses) > UNREAD:
             self.send()
         self._is_waiting = False
-        # The last answer goes at once: what the machine tells next may be for the same client.
+        # The last answer goes at once: what the machine gives out next may be for the same client.
         if self._requests:
             self.go_on()
         else:

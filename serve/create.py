@@ -99,9 +99,11 @@ class Create(Handlers):
         """An open of a file, and the contexts of its reply."""
         if any(conflicts(wanted, it) for it in node.opens):
             yield from self._resolve_conflicts(request, wanted, node)
+        if wanted.empties and node.length and node.opens:
+            yield from self._break_handles(request, wanted, node)
         before = (node.number, node.length, node.stale_length)
         if wanted.empties and node.length:
-            yield from self._empty(request, wanted, node)
+            self._empty(node)
         has_data = reads(wanted.access) or writes(wanted.access) or wanted.empties
         if not has_data and wanted.level == NO_LEVEL:
             if not is_stat(wanted.access):
@@ -174,10 +176,8 @@ class Create(Handlers):
         if node.is_gone:
             raise Vanished
 
-    def _empty(self, request: Request, wanted: CreateParameters, node: Node) -> Steps:
+    def _empty(self, node: Node) -> None:
         """An empty file in the place of one that nobody has open. There is no truncation of others."""
-        if node.opens:
-            yield from self._break_handles(request, wanted, node)
         if node.opens:
             raise StatusError(Status.NOT_SUPPORTED)
         self._server.names.renumber(node)
@@ -190,10 +190,10 @@ class Create(Handlers):
 
     def _machine_client(self, request: Request, wanted: CreateParameters, node: Node) -> tuple[MachineClient, bytes]:
         """Who asks the machine, and with which contexts: an oplock is a lease under a key of its own."""
-        is_beside = any(it.client is request.client and it.key for it in node.opens)
-        if wanted.level == NO_LEVEL and self._server.settings.is_apart and is_beside:
-            told = f"an open of client {request.client.number} without a lease"
-            return self._server.borrow(request.connection, told), wanted.lease_contexts
+        has_lease = any(it.client is request.client and it.key for it in node.opens)
+        if wanted.level == NO_LEVEL and self._server.settings.is_apart and has_lease:
+            who = f"an open of client {request.client.number} without a lease"
+            return self._server.borrow(request.connection, who), wanted.lease_contexts
         if wanted.level in (LEASE, NO_LEVEL) or not self._server.clients.has_room_for_oplock:
             return request.client, wanted.lease_contexts
         others = any(it.client and (it.is_connected or not self._may_write(it)) for it in node.opens)

@@ -1,4 +1,4 @@
-"""Breaks that the shell needs besides those that clients call for: by requests that the machine has anyway."""
+"""Breaks that the shell needs itself, for deletion, renames, overwrites and locks: by requests that the machine has anyway."""
 from __future__ import annotations
 
 from uuid import UUID

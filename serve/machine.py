@@ -23,7 +23,7 @@ from serve.status_error import StatusError
 if TYPE_CHECKING:
     from serve.server import Server
 
-# What a reply is found by beside its client: what was asked for, and the file of a create, the number of a write, a FileId.
+# By what a reply of a client is matched to its request: its kind, and the file of a create, the number of a write, or a FileId.
 MATCHES: dict[type, str] = {
     **dict.fromkeys((CreateRequest, Created, CreateFailed), "create file"),
     **dict.fromkeys((ReadRequest, ReadDone, ReadFailed), "read file_id"),

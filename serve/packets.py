@@ -14,7 +14,7 @@ from drive.packets import PROTOCOL
 HEAD = struct.Struct("<4sHHLHHLLQQQ16s")
 ERROR_BODY = struct.pack("<HBBL", 9, 0, 0, 0) + b"\0"
 SIGNED = 8
-# What a frame may hold: the most that is read or written at once, with room for headers and what stands beside it.
+# What a frame may hold: the most that is read or written at once, with room for headers and contexts.
 LONGEST_FRAME = 1048576 + 131072
 LONGEST_WITHOUT_SESSION = 65536
 MOST_IN_FRAME = 1024

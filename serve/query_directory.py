@@ -21,7 +21,7 @@ WILD = str.maketrans({"<": "*", ">": "?", '"': "."})
 
 
 def entry(node: Node, name: str, kind: int) -> bytes:
-    """What is told of a file, with no distance to the next one yet."""
+    """An entry for a file, with no distance to the next one yet."""
     text = name.encode("utf-16le", errors="replace")
     length = struct.pack("<L", len(text))
     times = attributes_of(node)
@@ -57,13 +57,13 @@ class QueryDirectory(Handlers):
             raise StatusError(Status.INVALID_INFO_CLASS)
         is_first = opened.listing is None or bool(flags & (RESTART | REOPEN))
         if is_first or opened.listing is None:
-            opened.listing = self._found(opened, pattern)
+            opened.listing = self._matching(opened, pattern)
         if not opened.listing:
             raise StatusError(Status.NO_SUCH_FILE if is_first else Status.NO_MORE_FILES)
-        told = self._told(opened.listing, kind, most, bool(flags & SINGLE))
-        return Answer(Status.SUCCESS, struct.pack("<HHL", 9, HEADER + 8, len(told)) + told)
+        entries = self._entries(opened.listing, kind, most, bool(flags & SINGLE))
+        return Answer(Status.SUCCESS, struct.pack("<HHL", 9, HEADER + 8, len(entries)) + entries)
 
-    def _found(self, opened: Open, pattern: str) -> list[tuple[str, Node]]:
+    def _matching(self, opened: Open, pattern: str) -> list[tuple[str, Node]]:
         folder = opened.node
         glob = "*" if pattern == "*.*" else pattern.translate(WILD).replace("[", "[[]")
         shape = re.compile(fnmatch.translate(glob), re.IGNORECASE)
@@ -71,20 +71,21 @@ class QueryDirectory(Handlers):
         return dots + [(it.name, it) for it in self._server.names.children(folder) if shape.match(it.name)]
 
     @staticmethod
-    def _told(listing: list[tuple[str, Node]], kind: int, most: int, is_single: bool) -> bytes:
+    def _entries(listing: list[tuple[str, Node]], kind: int, most: int, is_single: bool) -> bytes:
         """As many entries as fit, each at a multiple of eight."""
-        told, before = b"", 0
-        while listing and not (is_single and told):
+        entries, before = b"", 0
+        while listing and not (is_single and entries):
             name, node = listing[0]
-            start = -(-len(told) // 8) * 8
+            start = -(-len(entries) // 8) * 8
             one = entry(node, name, kind)
             if start + len(one) > most:
                 break
-            if told:
-                told = told[:before] + struct.pack("<L", start - before) + told[before + 4:].ljust(start - before - 4, b"\0")
+            if entries:
+                last = struct.pack("<L", start - before) + entries[before + 4:]
+                entries = entries[:before] + last.ljust(start - before, b"\0")
                 before = start
-            told += one
+            entries += one
             listing.pop(0)
-        if not told:
+        if not entries:
             raise StatusError(Status.INFO_LENGTH_MISMATCH)
-        return told
+        return entries

@@ -73,15 +73,15 @@ class QueryInfo(Handlers):
         message.expect(41)
         kind, number, most = message.number(HEADER + 2, 1), message.number(HEADER + 3, 1), message.number(HEADER + 4, 4)
         opened = request.open()
-        told = self._told(opened, kind, number)
-        if kind == SECURITY and most < len(told):
+        information = self._information(opened, kind, number)
+        if kind == SECURITY and most < len(information):
             raise StatusError(Status.BUFFER_TOO_SMALL)
-        status = Status.BUFFER_OVERFLOW if most < len(told) else Status.SUCCESS
-        told = told[:most]
-        return Answer(status, struct.pack("<HHL", 9, HEADER + 8, len(told)) + (told or b"\0"))
+        status = Status.BUFFER_OVERFLOW if most < len(information) else Status.SUCCESS
+        information = information[:most]
+        return Answer(status, struct.pack("<HHL", 9, HEADER + 8, len(information)) + (information or b"\0"))
 
     @staticmethod
-    def _told(opened: Open, kind: int, number: int) -> bytes:
+    def _information(opened: Open, kind: int, number: int) -> bytes:
         if kind == FILE and number in FILE_CLASSES:
             return FILE_CLASSES[number](opened)
         if kind == FILESYSTEM and number in FILESYSTEM_CLASSES:

@@ -38,8 +38,8 @@ class ReadWriteLock(Handlers):
         self._server.forget_open(opened)
         self._server.forget_unkept(opened.node.opens)
         flags = request.message.number(HEADER + 2, 2) & WITH_ATTRIBUTES
-        told = attributes_of(opened.node) if flags else bytes(52)
-        return Answer(Status.SUCCESS, struct.pack("<HHL", 60, flags, 0) + told)
+        attributes = attributes_of(opened.node) if flags else bytes(52)
+        return Answer(Status.SUCCESS, struct.pack("<HHL", 60, flags, 0) + attributes)
 
     def flush(self, request: Request) -> Answer:
         request.message.expect(24)
@@ -111,16 +111,18 @@ class ReadWriteLock(Handlers):
         if wanted[0][1] & UNLOCK:
             _unlock(opened, [it[0] for it in wanted])
         else:
-            if len(opened.locks) + count > MOST_LOCKS:
+            if sum(len(it.locks) for it in opened.node.opens) + count > MOST_LOCKS:
                 raise StatusError(Status.INSUFFICIENT_RESOURCES)
             yield from self._server.forced_breaks.break_all(request, opened)
+            locks = [*opened.locks]
             for lock, flags in wanted:
                 if flags & ~AT_ONCE not in (SHARED, EXCLUSIVE):
                     raise StatusError(Status.INVALID_PARAMETER)
                 if any(it.meets(lock.offset, lock.length) and (it.is_exclusive or lock.is_exclusive)
-                       for it in [*_locks_of_others(opened), *opened.locks]):
+                       for it in [*_locks_of_others(opened), *locks]):
                     raise StatusError(Status.LOCK_NOT_GRANTED)
-                opened.locks.append(lock)
+                locks.append(lock)
+            opened.locks = locks
         opened.node.times.accessed = now()
         return Answer(Status.SUCCESS, struct.pack("<HH", 4, 0))
 

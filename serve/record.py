@@ -42,8 +42,8 @@ class Record:
             self._started.add(number)
             self.fact(f"start {number} {digits(content)}")
 
-    def joined(self, client: MachineClient, told: str) -> None:
-        self.remark(f"client {client.number} is {told}")
+    def joined(self, client: MachineClient, who: str) -> None:
+        self.remark(f"client {client.number} is {who}")
         client.sent = client.took = 0
         self.fact(f"joined {client.number}")
 

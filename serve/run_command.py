@@ -44,7 +44,7 @@ def parser() -> argparse.ArgumentParser:
     made.add_argument("--record", metavar="FILE", help="write the record there, and have it judged at the end")
     made.add_argument("--user", metavar="USER%PASSWORD",
                       help="a user, whose sessions are signed, in place of guests; needs impacket")
-    made.add_argument("--guests", action="store_true", help="let guests in beside the user, whose client then chooses to sign")
+    made.add_argument("--guests", action="store_true", help="let guests in too; the user's client then chooses whether to sign")
     made.add_argument("--break-timer", type=float, default=35.0, metavar="S", help="seconds that a break is waited for (35)")
     made.add_argument("--durable-timer", type=float, default=960.0, metavar="S",
                       help="seconds that a durable open is kept without a connection (960)")
@@ -152,9 +152,9 @@ def verdict(arguments: argparse.Namespace) -> int:
     if not arguments.record:
         return SAFE
     with open(arguments.record, encoding="utf-8") as stream:
-        told = judge(arguments.leasecheck, stream.read())
-    print(told.text)
-    return SAFE if told.is_safe else UNSAFE if told.rule is not None else NOT_DRIVEN
+        found = judge(arguments.leasecheck, stream.read())
+    print(found.text)
+    return SAFE if found.is_safe else UNSAFE if found.rule is not None else NOT_DRIVEN
 
 
 def main(words: Sequence[str] | None = None) -> int:

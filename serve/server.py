@@ -47,7 +47,7 @@ class Settings:
     user: NamedUser | None = None
     break_timer: float = 35.0
     durable_timer: float = 960.0
-    # whether an open without a lease, beside a lease of its client, is a client of the machine by itself
+    # whether an open without a lease, of a client that has one on the file, is a client of the machine by itself
     is_apart: bool = False
     has_guests: bool = True
 
@@ -83,7 +83,7 @@ class Server:  # pylint: disable=too-many-instance-attributes  # its parts find 
             Command.CHANGE_NOTIFY: QueryInfo.notify,
         }
 
-    # What the machine tells
+    # What the machine gives out
 
     def happened(self, out: Out) -> None:
         self.record.gave_out(out)
@@ -124,7 +124,7 @@ class Server:  # pylint: disable=too-many-instance-attributes  # its parts find 
         self.send_interim_responses()
 
     def send_interim_responses(self) -> None:
-        """What was begun and waits is told so, once all is quiet."""
+        """The clients of requests that were begun and wait get STATUS_PENDING, once all is quiet."""
         if self.machine.is_draining:
             return
         begun, self.begun = self.begun, []
@@ -207,11 +207,11 @@ class Server:  # pylint: disable=too-many-instance-attributes  # its parts find 
         return self._last_own
 
     def is_kept(self, opened: Open) -> bool:
-        """Whether the machine keeps an open without a connection. It tells the oldest one of a client on a file."""
+        """Whether the machine keeps an open without a connection. It names the oldest one of a client on a file."""
         if not opened.client or not opened.is_durable:
             return False
-        told = self.machine.say(f"kept {opened.client.number} {opened.node.number}").split(" ")
-        return told[0] == "fid" and int(told[1]) <= opened.file_id
+        word, _, oldest = self.machine.say(f"kept {opened.client.number} {opened.node.number}").partition(" ")
+        return word == "fid" and int(oldest) <= opened.file_id
 
     def forget_unkept(self, opens: list[Open]) -> None:
         """The machine closes opens without a connection silently, where another open needs that."""
@@ -273,15 +273,15 @@ class Server:  # pylint: disable=too-many-instance-attributes  # its parts find 
             self.machine.say(f"cut {client.number}")
         self.clients.free(client)
 
-    def borrow(self, connection: Connection, told: str) -> MachineClient:
+    def borrow(self, connection: Connection, who: str) -> MachineClient:
         """A client of the machine for one open of a connection."""
         client = self._take_client(None)
-        self.join_machine(client, connection, told)
+        self.join_machine(client, connection, who)
         return client
 
-    def join_machine(self, client: MachineClient, connection: Connection, told: str) -> None:
+    def join_machine(self, client: MachineClient, connection: Connection, who: str) -> None:
         client.connection = connection
-        self.record.joined(client, told)
+        self.record.joined(client, who)
         self.machine.say(f"join {client.number}")
 
     @staticmethod

@@ -60,12 +60,12 @@ class ServerProcess:
         """A line of control; answers whether it did anything."""
         try:
             self._control.sendall(f"{line}\n".encode())
-            told = self._answers.readline()
+            answer = self._answers.readline()
         except OSError as fault:
             raise DriveFault(f"the server's control: {fault}") from None
-        if told in ("", "refused\n"):
-            raise DriveFault(f"the server's control refused: {line}" if told else "the server has ended")
-        return told == "done\n"
+        if answer in ("", "refused\n"):
+            raise DriveFault(f"the server's control refused: {line}" if answer else "the server has ended")
+        return answer == "done\n"
 
     def close(self) -> None:
         """Ends it, where that wasn't done before; its verdict is what it printed last."""
@@ -74,13 +74,13 @@ class ServerProcess:
         if self._process.poll() is None:
             self._process.send_signal(signal.SIGTERM)
         try:
-            told = self._process.communicate(timeout=600)[0]
+            output = self._process.communicate(timeout=600)[0]
         except subprocess.TimeoutExpired:
             self._process.kill()
-            told = self._process.communicate()[0]
+            output = self._process.communicate()[0]
         self._answers.close()
         self._control.close()
-        self.verdict = told.strip().rpartition("\n")[2] or None
+        self.verdict = output.strip().rpartition("\n")[2] or None
         self._errors.seek(0)
         self.complaints, self.status = self._errors.read(), self._process.returncode
         self._errors.close()

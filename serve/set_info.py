@@ -83,6 +83,8 @@ class SetInfo(Handlers):
         """The file that goes for the new name. It is looked for anew after every wait."""
         if not path or not node.path or node.is_folder and f"{path}\\".lower().startswith(f"{node.path}\\".lower()):
             raise StatusError(Status.OBJECT_PATH_NOT_FOUND)
+        if ":" in path or node.is_stream:
+            raise StatusError(Status.NOT_SUPPORTED)
         self._server.names.check_folder_of(path)
         target = self._server.names.find(path)
         if target is None or target is node:
@@ -90,7 +92,7 @@ class SetInfo(Handlers):
         self._server.forget_unkept(target.opens)
         if not replaces:
             raise StatusError(Status.OBJECT_NAME_COLLISION)
-        if target.is_folder or target.opens:
+        if target.is_folder or target.opens or target.attributes & READ_ONLY:
             raise StatusError(Status.ACCESS_DENIED)
         return None if target.is_gone else target
 

@@ -62,8 +62,8 @@ def parser() -> argparse.ArgumentParser:
 
 def known_tests() -> list[str]:
     """The tests of the suites, as smbtorture lists them: with the last name twice."""
-    told = _ran(["smbtorture", "--list"], 60.0).stdout
-    names = [line.strip().rpartition(".")[0] for line in told.splitlines()]
+    output = _ran(["smbtorture", "--list"], 60.0).stdout
+    names = [line.strip().rpartition(".")[0] for line in output.splitlines()]
     return [name for name in names if name.rpartition(".")[0] in SUITES]
 
 
@@ -82,26 +82,26 @@ def run_test(name: str, server: Callable[[str], ServerProcess | PrivateServer], 
         words = ["smbtorture", f"//{place.host}/{place.share}", "-p", str(place.port), "-U", f"{place.user}%{place.password}",
                  "-m", "SMB2_10", name]
         try:
-            told = _ran(words, limit)
-            kind, why = _outcome(told.stdout + told.stderr, told.returncode)
+            output = _ran(words, limit)
+            kind, why = _outcome(output.stdout + output.stderr, output.returncode)
         except subprocess.TimeoutExpired:
             kind, why = Kind.FAILED, f"not over within {limit:.0f} s"
     complaints = target.complaints.strip() if isinstance(target, ServerProcess) else ""
     return Row(name, kind, time.monotonic() - begun, f"{why} {complaints}".strip())
 
 
-def _outcome(told: str, status: int) -> tuple[Kind, str]:
-    found = re.search(r"^(success|skip|failure|error): \S+(?: \[\n(.*?)\n\])?$", told, re.MULTILINE | re.DOTALL)
-    words = " ".join((found.group(2) or "").split()) if found else _last_word(told)
+def _outcome(output: str, status: int) -> tuple[Kind, str]:
+    found = re.search(r"^(success|skip|failure|error): \S+(?: \[\n(.*?)\n\])?$", output, re.MULTILINE | re.DOTALL)
+    words = " ".join((found.group(2) or "").split()) if found else _last_status(output)
     if found and found.group(1) == "success" and status == 0:
         return Kind.PASSED, ""
     return (Kind.SKIPPED if found and found.group(1) == "skip" else Kind.FAILED), words
 
 
-def _last_word(told: str) -> str:
-    """What was told last of a status, where smbtorture breaks down without a word of its own."""
-    lines = [line for line in told.splitlines() if "NT_STATUS_" in line]
-    return " ".join((lines or told.splitlines() or ["nothing"])[-1].split())
+def _last_status(output: str) -> str:
+    """The last line with a status, where smbtorture breaks down without a word of its own."""
+    lines = [line for line in output.splitlines() if "NT_STATUS_" in line]
+    return " ".join((lines or output.splitlines() or ["nothing"])[-1].split())
 
 
 def private_server() -> PrivateServer:

@@ -3,6 +3,7 @@ from __future__ import annotations
 
 import struct
 import uuid
+from collections.abc import Sequence
 from typing import Tuple
 
 from smblease import Acknowledgment, Context, CreateAsk, LeaseState, append_context
@@ -57,8 +58,10 @@ def close(file_id: int) -> Body:
     return Command.CLOSE, struct.pack("<HHL16s", 24, 1, 0, wire(file_id))
 
 
-def lock(file_id: int, flags: int = 2 | 16, offset: int = 0, length: int = 1) -> Body:
-    return Command.LOCK, struct.pack("<HHL16sQQLL", 48, 1, 0, wire(file_id), offset, length, flags, 0)
+def lock(file_id: int, flags: int = 2 | 16, offset: int = 0, length: int = 1, more: Sequence[int] = ()) -> Body:
+    """A lock of a range, and of more of this length."""
+    ranges = b"".join(struct.pack("<QQLL", it, length, flags, 0) for it in (offset, *more))
+    return Command.LOCK, struct.pack("<HHL16s", 48, 1 + len(more), 0, wire(file_id)) + ranges
 
 
 def query_info(file_id: int, kind: int) -> Body:

@@ -110,3 +110,12 @@ def test_sharing(shared: ServerProcess, connect: Connect, access: int, expected:
     one, other = connect(shared), connect(shared)
     one.open(create("file", access=0x120089, share=1))
     assert other.status(create("file", access=access, share=7)) == expected
+
+
+def test_locks_that_are_refused_together(served: ServerProcess, connect: Connect) -> None:
+    """Where one of a request isn't to be had, none is taken (3.3.5.14.2)."""
+    one, other = connect(served), connect(served)
+    first, second = one.open(create("file")), other.open(create("file"))
+    assert one.status(lock(first, offset=7)) == Status.SUCCESS
+    assert other.status(lock(second, offset=5, more=[6, 7])) == Status.LOCK_NOT_GRANTED
+    assert one.status(lock(first, offset=5)) == Status.SUCCESS

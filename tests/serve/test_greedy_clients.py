@@ -18,7 +18,7 @@ from serve.status_error import StatusError
 from tests import needs
 from tests.paths import TOP
 from tests.serve.conftest import Connect, Start
-from tests.serve.requests import ECHO, Body, create, frame, header, leased, negotiate, read, write
+from tests.serve.requests import ECHO, Body, create, frame, header, leased, lock, negotiate, read, write
 from tests.serve.test_other_clients import USER
 
 MIB = 1 << 20
@@ -106,6 +106,16 @@ def test_contexts_of_a_create(served: ServerProcess, connect: Connect, count: in
         one = struct.pack("<LHHHHL4s4x", 24, 16, 4, 0, 24, 0, b"many")
         text = one * (count - 33) + text
     assert connect(served).status(create("file", contexts=text)) == expected
+
+
+def test_locks_of_a_file(served: ServerProcess, connect: Connect) -> None:
+    """1,024, of all its opens: each new one is compared with all that are there."""
+    one = connect(served)
+    first, second = one.open(create("file")), one.open(create("file"))
+    assert one.status(lock(first, more=range(1, 512))) == Status.SUCCESS
+    assert one.status(lock(second, offset=1000, more=range(1001, 1512))) == Status.SUCCESS
+    assert one.status(lock(first, offset=5000)) == Status.INSUFFICIENT_RESOURCES
+    assert one.status(lock(second, offset=5000)) == Status.INSUFFICIENT_RESOURCES
 
 
 def raw(server: ServerProcess) -> socket.socket:

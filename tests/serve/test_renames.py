@@ -8,10 +8,10 @@ from typing import TYPE_CHECKING
 import pytest
 from smblease import Status
 
-from serve.create_parameters import CREATE, DELETE_ON_CLOSE, DIRECTORY_FILE, OPEN
+from serve.create_parameters import CREATE, DELETE_ON_CLOSE, DIRECTORY_FILE, OPEN, OVERWRITE_IF
 from serve.server_process import ServerProcess
 from tests.serve.conftest import Connect
-from tests.serve.requests import KEY, Body, acknowledgment, close, create, leased, read, rename, set_info, write
+from tests.serve.requests import KEY, OTHER_KEY, Body, acknowledgment, close, create, leased, read, rename, set_info, write
 
 if TYPE_CHECKING:
     from tests.serve.wire_client import WireClient
@@ -126,3 +126,33 @@ def test_an_open_stream_of_a_file_that_was_deleted(served: ServerProcess, connec
     one.ask(close(file_id))
     one.ask(close(stream))
     assert one.status(create("file:stream", disposition=OPEN)) == Status.OBJECT_NAME_NOT_FOUND
+
+
+def test_an_overwrite_that_is_refused_after_it_waited(served: ServerProcess, connect: Connect) -> None:
+    """What was written meanwhile is kept. The key of the create has a lease on another file by then."""
+    holder, one, other = (connect(served) for _ in range(3))
+    file_id = holder.open(leased("file", KEY, "RWH"))
+    holder.ask(write(file_id, 0, b"file"))
+    number = one.send(leased("file", OTHER_KEY, "RWH", disposition=OVERWRITE_IF))
+    assert one.receive().status == Status.PENDING
+    one.open(leased("other", OTHER_KEY, "RWH"))
+    assert holder.status(write(file_id, 4, b" and more")) == Status.SUCCESS
+    holder.ask(close(file_id))
+    assert one.answer_to(number).status == Status.INVALID_PARAMETER
+    assert other.ask(read(other.open(create("file", disposition=OPEN)))).data[80:] == b"file and more"
+
+
+@pytest.mark.parametrize("old, new", [("file", "other:stream"), ("file:stream", "other"), ("file:stream", "file:other")])
+def test_a_stream_has_no_new_name(served: ServerProcess, connect: Connect, old: str, new: str) -> None:
+    """A file that became a stream of nothing couldn't be found any more."""
+    one = connect(served)
+    assert one.status(rename(one.open(create(old, access=DELETING)), new)) == Status.NOT_SUPPORTED
+    assert one.status(create(old, disposition=OPEN)) == Status.SUCCESS
+
+
+def test_a_file_that_may_only_be_read_is_not_replaced(served: ServerProcess, connect: Connect) -> None:
+    one = connect(served)
+    kept = one.open(create("kept"))
+    assert one.status(set_info(kept, 4, bytes(32) + (1).to_bytes(4, "little") + bytes(4))) == Status.SUCCESS
+    one.ask(close(kept))
+    assert one.status(rename(one.open(create("file", access=DELETING)), "kept")) == Status.ACCESS_DENIED
