@@ -31,19 +31,20 @@ HEADERS := $(notdir $(wildcard include/*.h))
 
 all: $(OUT)/libsmblease.so
 
-# What was made from these sources stands in one folder, which tools/current prints, and is copied only where it changed.
+# What was made from these sources stands in one folder, which tools/current prints, and is copied only where it changed. Each file is made beside
+# its place and then moved there, since programs that are started at once may each have it made.
 $(OUT)/libsmblease.a: FORCE
 	@mkdir -p $(OUT)
 	@found=$$(tools/current) && for file in libsmblease.a leasecheck; do \
-	    cmp -s "$$found/$$file" $(OUT)/$$file || cp "$$found/$$file" $(OUT)/$$file || exit 1; done
+	    cmp -s "$$found/$$file" $(OUT)/$$file || { cp "$$found/$$file" $(OUT)/$$file.$$$$ && mv $(OUT)/$$file.$$$$ $(OUT)/$$file; } || exit 1; done
 
 $(OUT)/$(SHARED): $(OUT)/libsmblease.a include/smblease.map
 	$(CC) $(CFLAGS) -shared -Wl,-soname,$(SONAME) -Wl,--version-script=include/smblease.map -Wl,-z,defs -Wl,-z,noexecstack \
-	    -o $@ -Wl,--whole-archive $(OUT)/libsmblease.a -Wl,--no-whole-archive $(LDFLAGS)
+	    -o $@.$$$$ -Wl,--whole-archive $(OUT)/libsmblease.a -Wl,--no-whole-archive $(LDFLAGS) && mv $@.$$$$ $@
 
 $(OUT)/libsmblease.so: $(OUT)/$(SHARED)
-	ln -sf $(SHARED) $(OUT)/$(SONAME)
-	ln -sf $(SONAME) $@
+	ln -s $(SHARED) $(OUT)/$(SONAME).$$$$ && mv -T $(OUT)/$(SONAME).$$$$ $(OUT)/$(SONAME)
+	ln -s $(SONAME) $@.$$$$ && mv -T $@.$$$$ $@
 
 install: all
 	mkdir -p "$(DESTDIR)$(BINDIR)" "$(DESTDIR)$(LIBDIR)/pkgconfig" "$(DESTDIR)$(INCLUDEDIR)"

@@ -25,7 +25,10 @@ def _linked() -> str:
     """The library of the repository, which `make` links from the archive where it isn't there or is older."""
     made = [os.path.getmtime(it) for it in ARCHIVES if os.path.exists(it)]
     if not os.path.exists(LINKED) or os.path.getmtime(LINKED) < max(made, default=0.0):
-        subprocess.run(["make", "--silent", "-C", TOP], stdout=subprocess.DEVNULL, check=False)
+        done = subprocess.run(["make", "--silent", "-C", TOP], stdout=subprocess.DEVNULL, check=False)
+        # (what is the same as before isn't linked again, and isn't to be asked for again either)
+        if done.returncode == 0:
+            os.utime(LINKED)
     return LINKED
 
 

@@ -5,6 +5,7 @@ import os
 import shutil
 import subprocess
 import sys
+from concurrent.futures import ThreadPoolExecutor
 from pathlib import Path
 from types import SimpleNamespace
 from typing import Any
@@ -54,6 +55,18 @@ def test_a_library_that_the_package_brings(tmp_path: Path) -> None:
 
 def test_the_library_of_the_repository() -> None:
     assert loaded() == (0, BUILT)
+
+
+def test_a_library_that_several_programs_want_at_once(tmp_path: Path) -> None:
+    """In a fresh clone each of them has it linked, and finds a whole one."""
+    for name in ("python", "include", "tools", "dist", "crates", "Makefile", "crates.txt", "kit.txt"):
+        if (TOP / name).is_dir():
+            shutil.copytree(TOP / name, tmp_path / name, ignore=shutil.ignore_patterns("out", "__pycache__"))
+        else:
+            shutil.copy2(TOP / name, tmp_path / name)
+    with ThreadPoolExecutor() as pool:
+        ended = list(pool.map(loaded, [tmp_path / "python"] * 6))
+    assert ended == [(0, str(tmp_path / "out/c/libsmblease.so"))] * 6
 
 
 @pytest.mark.parametrize("major, minor", [(0, 2), (0, 3)])
