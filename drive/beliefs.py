@@ -1,7 +1,8 @@
 """What clients believed of their leases, and an order of it that blames nobody who could be innocent.
 
-Each change of a belief has a window: the positions at which it may stand. The search below keeps all ways to place the
-changes so far by which rule 1 isn't broken; where none is left, rule 1 is broken in every order that fits the capture."""
+Each change of a belief has a window: the positions at which it may stand. The search below keeps ways to place the changes so far
+by which rule 1 isn't broken, and passes over those that seem to gain nothing. Where none is left, all ways are looked at: only
+where these break rule 1 too, it is broken in every order that fits the capture."""
 from __future__ import annotations
 
 import uuid
@@ -91,6 +92,10 @@ def conflicts(one: LeaseState, other: LeaseState) -> bool:
     return bool((LeaseState.W in one and other) or (LeaseState.W in other and one))
 
 
+class TooManyWays(Exception):
+    """There are more ways than are looked at."""
+
+
 class Search:
     """The search over the leases of one file."""
 
@@ -100,14 +105,25 @@ class Search:
 
     def placed(self) -> list[Placed] | None:
         """The changes in an order; None where there are too many ways to look at."""
-        ways = {way.done: way for way in [Way(tuple(0 for _ in self._chains))]}
-        for position in self._positions():
-            found = self._reached(ways, position)
-            if len(found) > MOST_WAYS:
-                return None
-            kept = {done: way for done, way in found.items() if not self._overdue(way, position)}
-            ways = kept or self._forced(max(found.values(), key=lambda it: sum(it.done)), position)
+        is_unsafe = False
+        ways = self._begun()
+        try:
+            for position in self._positions():
+                found = self._reached(ways, position)
+                kept = {done: way for done, way in found.items() if not self._overdue(way, position)}
+                if not kept and not is_unsafe:
+                    innocent = Thorough(self._chains).clean()
+                    if innocent is not None:
+                        return innocent
+                    is_unsafe = True
+                ways = kept or self._forced(max(found.values(), key=lambda it: sum(it.done)), position)
+        except TooManyWays:
+            return None
         return max(ways.values(), key=lambda it: sum(it.done)).steps()
+
+    def _begun(self) -> dict[tuple[int, ...], Way]:
+        begun = Way(tuple(0 for _ in self._chains))
+        return {begun.done: begun}
 
     def _positions(self) -> list[int]:
         turns = [turn for turns in self._turns for turn in turns]
@@ -116,11 +132,13 @@ class Search:
     def _reached(self, ways: dict[tuple[int, ...], Way], position: int) -> dict[tuple[int, ...], Way]:
         found: dict[tuple[int, ...], Way] = {}
         waiting = list(ways.values())
-        while waiting and len(found) <= MOST_WAYS:
+        while waiting:
             way = self._lowered(waiting.pop(), position)
             if way.done in found:
                 continue
             found[way.done] = way
+            if len(found) > MOST_WAYS:
+                raise TooManyWays
             for index in range(len(self._chains)):
                 if self._may_rise(way, index, position):
                     waiting.append(self._advanced(way, index, position))
@@ -143,6 +161,10 @@ class Search:
             return False
         if turn.last != position and not self._may_gain(way, index, turn):
             return False
+        return self._fits(way, index, turn)
+
+    def _fits(self, way: Way, index: int, turn: Turn) -> bool:
+        """Whether no other client believes what a change conflicts with."""
         return not any(conflicts(turn.state, self._state(way, other)) for other in range(len(self._chains))
                        if self._chains[other].client != self._chains[index].client)
 
@@ -176,9 +198,48 @@ class Search:
     def _state(self, way: Way, index: int) -> LeaseState:
         return self._turns[index][way.done[index] - 1].state if way.done[index] else LeaseState.NONE
 
-    def _advanced(self, way: Way, index: int, position: int) -> Way:
-        done = (*way.done[:index], way.done[index] + 1, *way.done[index + 1:])
-        return Way(done, Placed(position, self._chains[index], self._turns[index][way.done[index]]), way)
+    def _advanced(self, way: Way, index: int, position: int, skipped: int = 0) -> Way:
+        """With the next change of a chain, or one behind it."""
+        place = way.done[index] + skipped
+        done = (*way.done[:index], place + 1, *way.done[index + 1:])
+        return Way(done, Placed(position, self._chains[index], self._turns[index][place]), way)
+
+
+class Thorough(Search):
+    """The search over all ways, in which any change that has no last position may be left out."""
+
+    def __init__(self, chains: Sequence[Chain]) -> None:
+        super().__init__(chains)
+        self._turns = [chain.turns for chain in chains]
+
+    def clean(self) -> list[Placed] | None:
+        """An order by which rule 1 isn't broken; None where there is none."""
+        ways = self._begun()
+        for position in self._positions():
+            found: dict[tuple[int, ...], Way] = {}
+            waiting = list(ways.values())
+            while waiting:
+                way = waiting.pop()
+                if way.done not in found:
+                    found[way.done] = way
+                    waiting += self._following(way, position)
+                if len(found) > MOST_WAYS:
+                    raise TooManyWays
+            ways = {done: way for done, way in found.items() if not self._overdue(way, position)}
+        return max(ways.values(), key=lambda it: sum(it.done)).steps() if ways else None
+
+    def _following(self, way: Way, position: int) -> list[Way]:
+        found = []
+        for index, turns in enumerate(self._turns):
+            for skipped, turn in enumerate(turns[way.done[index]:]):
+                if turn.earliest <= position and (turn.last is None or position <= turn.last) and self._fits(way, index, turn):
+                    found.append(self._advanced(way, index, position, skipped))
+                if turn.last is not None:
+                    break
+        return found
+
+    def _is_due(self, way: Way, index: int, position: int) -> bool:
+        return any(turn.last is not None and turn.last <= position for turn in self._turns[index][way.done[index]:])
 
 
 def _certain(chain: Chain) -> list[Turn]:
