@@ -1,11 +1,10 @@
 """Create contexts, break messages and whole messages that are cut at each length, and a long chain of contexts."""
 from __future__ import annotations
 
-import re
-
 import pytest
 
 from tests.program.ran import ACKNOWLEDGMENT, BREAK, Ended, run
+from tests.program.test_transcripts import is_fault
 
 LEASE = "0000000010000400000018002000000052714c7300000000000102030405060708090a0b0c0d0e0f07000000000000000000000000000000"
 LEASE_LINES = "context 52714c73 32\nlease 00010203-0405-0607-0809-0a0b0c0d0e0f RWH\n"
@@ -28,13 +27,13 @@ def prefixes(digits: str, answers: dict[int, str], most: int) -> list[tuple[str,
 
 
 def check(words: list[str], answer: str) -> None:
-    """An answer of lines, or of a fault, whose second line says more."""
+    """An answer of lines, or of a fault, whose second line has to say more."""
     ended = run(words)
     if answer.endswith("\n"):
         assert ended == Ended(0, answer.encode())
     else:
         assert ended[:2] == (1, b"")
-        assert re.fullmatch(re.escape(f"fault {answer}\n") + "(?:.+\n)?", ended.faults.decode()), ended.faults
+        assert is_fault(ended.faults.decode(), f"fault {answer}\n"), ended.faults
 
 
 @pytest.mark.parametrize(("digits", "answer"), [*prefixes(LEASE, CUT_LEASE, 56),

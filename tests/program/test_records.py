@@ -7,6 +7,7 @@ import pytest
 
 from tests.paths import RECORDS, RUNS, SCHEDULES, TESTS, name_of
 from tests.program.ran import SAFE, Ended, run
+from tests.program.test_transcripts import is_fault
 
 VERDICTS = {
     "every_fact_safe": Ended(0, b"safe\n"), "two_caches_one_writes": Ended(3, b"unsafe 5 1\n"),
@@ -45,7 +46,7 @@ def test_judge(record: Path) -> None:
     ended = run(["judge", record])
     wanted = VERDICTS[record.name]
     assert ended[:2] == wanted[:2]
-    assert ended.faults.startswith(wanted.faults) and bool(ended.faults) == bool(wanted.faults)
+    assert is_fault(ended.faults.decode(), wanted.faults.decode()), ended.faults
 
 
 @pytest.mark.parametrize(("text", "status", "out", "fault"), [
@@ -55,4 +56,4 @@ def test_judge(record: Path) -> None:
 def test_ends_of_lines(text: bytes, status: int, out: bytes, fault: bytes) -> None:
     ended = run(["judge", "-"], text)
     assert (ended.status, ended.out) == (status, out)
-    assert ended.faults.startswith(fault) and bool(ended.faults) == bool(fault)
+    assert is_fault(ended.faults.decode(), fault.decode()), ended.faults
