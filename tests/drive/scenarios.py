@@ -31,18 +31,23 @@ def two_caches(made: Made) -> Expected:
     return Expected(1, 1, (f"packet {first} ", f"packet {second} "))
 
 
+def shares_after_a_break(line: Line, other: Line, name: str, acknowledgment: int) -> None:
+    """Opens the file for `other`, whose grant comes once `line` has given up its write cache by the request of that number."""
+    other.asks(hand_made.create(3, name, hand_made.lease(0xB2, R | W | H)))
+    line.answers(hand_made.notification(0xA1, R | W | H, R | H))
+    other.answers(hand_made.pending(3, 5))
+    line.asks(hand_made.acknowledgment(acknowledgment, 0xA1, R | H))
+    line.answers(hand_made.acknowledged(acknowledgment, 0xA1, R | H))
+    other.answers(hand_made.created(3, 22, hand_made.lease(0xB2, R | H)))
+    other.asks(hand_made.read(4, 22))
+
+
 def break_acknowledged(made: Made) -> Expected:
     line, other = Line(made, 50001), Line(made, 50002)
     line.begins(1)
     line.opens(3, 11, 0xA1, R | W | H)
     other.begins(2)
-    other.asks(hand_made.create(3, "f", hand_made.lease(0xB2, R | W | H)))
-    line.answers(hand_made.notification(0xA1, R | W | H, R | H))
-    other.answers(hand_made.pending(3, 5))
-    line.asks(hand_made.acknowledgment(5, 0xA1, R | H))
-    line.answers(hand_made.acknowledged(5, 0xA1, R | H))
-    other.answers(hand_made.created(3, 22, hand_made.lease(0xB2, R | H)))
-    other.asks(hand_made.read(4, 22))
+    shares_after_a_break(line, other, "f", acknowledgment=5)
     return SAFE
 
 
@@ -212,13 +217,7 @@ def key_used_again(made: Made, kind: str) -> Expected:
     line.answers(hand_made.created(6, 12, hand_made.lease(0xA1, R | W | H), action))
     line.asks(hand_made.read(7, 12))
     other.begins(2)
-    other.asks(hand_made.create(3, name, hand_made.lease(0xB2, R | W | H)))
-    line.answers(hand_made.notification(0xA1, R | W | H, R | H))
-    other.answers(hand_made.pending(3, 5))
-    line.asks(hand_made.acknowledgment(8, 0xA1, R | H))
-    line.answers(hand_made.acknowledged(8, 0xA1, R | H))
-    other.answers(hand_made.created(3, 22, hand_made.lease(0xB2, R | H)))
-    other.asks(hand_made.read(4, 22))
+    shares_after_a_break(line, other, name, acknowledgment=8)
     return SAFE
 
 
