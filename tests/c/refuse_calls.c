@@ -4,22 +4,12 @@
 #include <stdio.h>
 #include <stdlib.h>
 
+#include "../shims/refused.h"
+
 void *__real_malloc(size_t);
 void *__real_realloc(void *, size_t);
 void *__wrap_malloc(size_t);
 void *__wrap_realloc(void *, size_t);
-
-static unsigned long calls;
-
-static unsigned long number(const char *name) {
-    const char *digits = getenv(name);
-    return digits ? strtoul(digits, NULL, 10) : 0;
-}
-
-static int is_refused(void) {
-    calls++;
-    return calls >= number("REFUSED_FROM") && calls <= number("REFUSED_TO");
-}
 
 void *__wrap_malloc(size_t size) {
     return is_refused() ? NULL : __real_malloc(size);

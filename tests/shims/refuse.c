@@ -5,19 +5,9 @@
 #include <stdlib.h>
 #include <unistd.h>
 
+#include "refused.h"
+
 void *__libc_malloc(size_t), *__libc_realloc(void *, size_t), *__libc_calloc(size_t, size_t);
-
-static unsigned long calls;
-
-static unsigned long number(const char *name) {
-    const char *digits = getenv(name);
-    return digits ? strtoul(digits, NULL, 10) : 0;
-}
-
-static int is_refused(void) {
-    calls++;
-    return calls >= number("REFUSED_FROM") && calls <= number("REFUSED_TO");
-}
 
 void *malloc(size_t size) { return is_refused() ? NULL : __libc_malloc(size); }
 void *realloc(void *old, size_t size) { return is_refused() ? NULL : __libc_realloc(old, size); }
