@@ -15,7 +15,7 @@ use Rattle.leasecheck.specs.declared.tasks.Task.TheVariants.{Ack, Show, Replay, 
 
 -- the program's name and version, and the kit that it is proved and built with, a line each
 abbrev pub version_text : List ℕ
-version_text = codes "leasecheck 0.3.0" ++ 10 ∷ (codes "rattle-kit-13b logic dac8208d650f15bf" ++ 10 ∷ [])
+version_text = codes "leasecheck 0.3.0" ++ 10 ∷ (codes "rattle-kit-13f logic dac8208d650f15bf" ++ 10 ∷ [])
 
 -- The text is what the task prints, and the status how it ends, where its file has these bytes. Of what a replay prints for bytes
 -- that aren't known nothing is said, and of a judge's verdict on them only that it is one.

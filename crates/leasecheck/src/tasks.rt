@@ -52,7 +52,7 @@ pub enum Asked {
 }
 
 /// The program's name and version, and the line of the kit that it is proved and built with.
-pub const VERSION: &str = "leasecheck 0.3.0\nrattle-kit-13b logic dac8208d650f15bf\n";
+pub const VERSION: &str = "leasecheck 0.3.0\nrattle-kit-13f logic dac8208d650f15bf\n";
 
 impl Task {
     /// The file that it reads; a hyphen stands for standard input.
