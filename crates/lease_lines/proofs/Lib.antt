@@ -1,3 +1,2 @@
 mod Notes
-pub mod Behind
 pub mod Places

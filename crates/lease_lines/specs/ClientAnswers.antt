@@ -6,13 +6,14 @@ use Rattle.lease_model.specs.client.Commands.{Answer, Refusal, Settlement, Note}
 use Rattle.lease_model.specs.client.Step.{Step}
 use Rattle.lease_model.specs.messages.ToBytes.{request_written}
 use Rattle.lease_state.specs.declared.request.Request.{Request}
-use Rattle.lease_texts.specs.Records.{digits_word, patch_words, way_word, read_words}
-use Rattle.lease_texts.specs.Schedules.{request_words}
-use Rattle.lease_texts.specs.Words.{state_word}
-use Rattle.lease_lines.specs.Statuses.{given_word}
+use Rattle.lease_texts.specs.Kinds.{line, say}
+use Rattle.lease_texts.specs.Lines.{line_text, spaced}
+use Rattle.lease_texts.specs.Statuses.{given_word}
+use Rattle.lease_texts.specs.Words.{digits_word, state_word, way_word}
+use Rattle.lease_texts.specs.declared.kinds.Field.TheVariants as field
 
 abbrev pub request_line : Request → List ℕ
-request_line request = codes "request " ++ request_words request ++ 10 ∷ []
+request_line request = line_text (line (codes "request") (say field.Request request ∷ []))
 
 abbrev pub settlement_word : Settlement → List ℕ
 settlement_word Settlement.Done = codes "done"
@@ -23,13 +24,13 @@ settlement_word Settlement.Lost = codes "lost"
 -- a client's note, as the line of a record
 abbrev pub note_line : ℕ → Note → List ℕ
 note_line client (Note.Settled number outcome) =
-    codes "settled " ++ decimal client ++ codes " " ++ decimal number ++ codes " " ++ settlement_word outcome ++ 10 ∷ []
-note_line client (Note.Wrote file number patch buffered) =
-    codes "wrote " ++ decimal client ++ codes " " ++ decimal file ++ codes " " ++ decimal number
-    ++ codes " " ++ patch_words patch ++ way_word buffered ++ 10 ∷ []
+    codes "settled" ++ spaced (decimal client ∷ decimal number ∷ settlement_word outcome ∷ []) ++ 10 ∷ []
+note_line client (Note.Wrote file number patch buffered) = codes "wrote" ++ spaced (decimal client ∷ decimal file
+    ∷ decimal number ∷ decimal patch.offset ∷ digits_word patch.bytes ∷ way_word buffered ∷ []) ++ 10 ∷ []
 note_line client (Note.Believes file state) =
-    codes "believes " ++ decimal client ++ codes " " ++ decimal file ++ codes " " ++ state_word state ++ 10 ∷ []
-note_line client (Note.CachedRead file bytes) = read_words client file ++ digits_word bytes ++ 10 ∷ []
+    codes "believes" ++ spaced (decimal client ∷ decimal file ∷ state_word state ∷ []) ++ 10 ∷ []
+note_line client (Note.CachedRead file bytes) =
+    codes "cachedread" ++ spaced (decimal client ∷ decimal file ∷ digits_word bytes ∷ []) ++ 10 ∷ []
 
 abbrev pub refusal_word : Refusal → List ℕ
 refusal_word Refusal.NotOpen = codes "notopen"

@@ -1,5 +1,3 @@
-pub mod Statuses
-pub mod Replies
 pub mod ClientLines
 pub mod ClientAnswers
 pub mod ClientTables

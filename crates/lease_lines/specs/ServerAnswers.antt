@@ -3,18 +3,22 @@ use Rattle.std.specs.Prelude.{ℕ, ◌++◌, Bool, true, false, List, [], ◌∷
 use Rattle.std.specs.Fmt.{decimal}
 use Rattle.std.specs.List.{flat_map}
 use Rattle.lease_model.specs.messages.Replies as model
-use Rattle.lease_texts.specs.Records.{digits_word, patch_words}
+use Rattle.lease_facts.specs.declared.fact.Fact.TheVariants as fact
+use Rattle.lease_texts.specs.Kinds.{line, say}
+use Rattle.lease_texts.specs.Lines.{line_text}
+use Rattle.lease_texts.specs.Records.{fact_line}
+use Rattle.lease_texts.specs.Replies.{plain}
+use Rattle.lease_texts.specs.Words.{digits_word}
+use Rattle.lease_texts.specs.declared.kinds.Field.TheVariants as field
 use Rattle.share_server.specs.Written.{out_written}
 use Rattle.share_server.specs.declared.values.out.Out.{Out}
 use Rattle.share_server.specs.declared.values.out.Out.TheVariants as out
-use Rattle.lease_lines.specs.Replies.{reply_words}
 
 abbrev pub out_line : Out → List ℕ
-out_line (out.Sent client reply) = codes "sent " ++ decimal client.0 ++ codes " " ++ reply_words reply ++ 10 ∷ []
-out_line (out.Opened file client) = codes "opened " ++ decimal file.0 ++ codes " " ++ decimal client.0 ++ 10 ∷ []
-out_line (out.Changed file client number patch) =
-    codes "changed " ++ decimal file.0 ++ codes " " ++ decimal client.0 ++ codes " " ++ decimal number
-    ++ codes " " ++ patch_words patch ++ 10 ∷ []
+out_line (out.Sent client reply) =
+    line_text (line (codes "sent") (say field.Client client ∷ say field.Reply (plain reply) ∷ []))
+out_line (out.Opened file client) = fact_line (fact.Opened file client)
+out_line (out.Changed file client number patch) = fact_line (fact.Changed file client number patch)
 
 -- in the machine's order
 abbrev pub out_lines : List model.Out → List ℕ

@@ -9,19 +9,16 @@ ghost use Rattle.lease_client.specs.Answers.{answer_of, note_of, refusal_of};
 ghost use Rattle.lease_client.specs.Steps.{IsStep};
 ghost use Rattle.lease_lines.specs.ClientAnswers.{request_line, note_line, refusal_word, answer_words, answer_line, step_text};
 
-use crate::status::push_given;
 use lease_client::{Answer, Client, Note, Refusal, Step};
 use lease_facts::Fact;
 use lease_state::{Bytes, ClientNo, Request};
-use lease_texts::{digits_of, push_fact, push_request};
+use lease_texts::{Said, digits_of, push_fact, push_given, push_line};
 use std::alloc::{AllocError, Global};
 
 fn push_request_line(alloc: Global, text: &mut String, request: &Request) -> Result<(), AllocError>
     ensures { OnOk result (string_bytes text.new ≡ string_bytes text.old ++ request_line request.now) }
 {
-    text.push_str("request ")?;
-    push_request(alloc, text, request)?;
-    text.push_str("\n")
+    push_line(alloc, text, "request", &[Said::Request(request)])
 }
 
 /// Adds the lines of requests.
@@ -39,7 +36,6 @@ pub fn push_requests(
 }
 
 // A client's note, as a fact of a record.
-#[tactic(auto, using(crate::proofs::Notes::outcome_told))]
 fn fact_noted(client: ClientNo, note: Note) -> Fact
     ensures { fact_line result ≡ note_line client.0 (note_of note) }
 {

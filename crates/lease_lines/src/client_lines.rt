@@ -1,13 +1,11 @@
 ghost use Rattle.std.specs.Prelude.{◌≡◌, Some, None, MatchResult};
-ghost use Rattle.lease_texts.specs.Takes.{Takes};
-ghost use Rattle.lease_lines.specs.ClientLines.{other_of, take_in, asked_of_client, client_line_named, client_line_told};
-ghost use Rattle.lease_lines.specs.ClientLines.{client_line_in};
+ghost use Rattle.lease_texts.specs.Takes.{Takes, Reads};
+ghost use Rattle.lease_lines.specs.ClientLines.{asked_of, client_line_in, client_line_named, client_line_told, other_of};
 
-use crate::replies::{Arrival, read_arrival};
 use lease_client::Command;
 use lease_facts::Event;
 use lease_state::ClientNo;
-use lease_texts::{Fields, LineFault, is, read_event, read_guid};
+use lease_texts::{Arrival, Fields, LineFault, Part, is, read_arrival, read_part_of};
 use std::alloc::Global;
 
 /// What a line asks of client machines.
@@ -46,48 +44,41 @@ impl Asked {
     }
 }
 
-#[tactic(auto, unfolding(crate::specs::ClientLines::take_in))]
-fn read_take(alloc: Global, fields: &mut Fields) -> Result<ClientLine, LineFault>
-    ensures { Takes (λ line. line) take_in fields.old fields.new result }
+// Of the lines of schedules those that client machines are given.
+fn asked_of(told: Part) -> Option<ClientLine>
+    ensures { result ≡ asked_of told }
 {
-    let client = fields.client()?;
-    let arrival = read_arrival(alloc, fields)?;
-    Ok(ClientLine::Asks(client, Asked::Take(arrival)))
-}
-
-// Of the events of schedules those that a client machine sees.
-fn asked_of_client(happening: Event) -> Option<ClientLine>
-    ensures { result ≡ asked_of_client happening }
-{
-    match happening {
-        Event::App(client, command) => Some(ClientLine::Asks(client, Asked::App(command))),
-        Event::Notice(client) => Some(ClientLine::Asks(client, Asked::Notice)),
-        Event::Connect(client) => Some(ClientLine::Asks(client, Asked::Connect)),
+    match told {
+        Part::Client(guid) => Some(ClientLine::Client(guid)),
+        Part::Happens(Event::App(client, command)) => {
+            Some(ClientLine::Asks(client, Asked::App(command)))
+        }
+        Part::Happens(Event::Notice(client)) => Some(ClientLine::Asks(client, Asked::Notice)),
+        Part::Happens(Event::Connect(client)) => Some(ClientLine::Asks(client, Asked::Connect)),
         _ => None,
     }
 }
 
-#[tactic(auto, unfolding(crate::specs::ClientLines::client_line_named))]
-fn read_named(alloc: Global, kind: &[u8], fields: &mut Fields) -> Result<ClientLine, LineFault>
-    ensures { Takes (λ line. line) (client_line_named kind.now) fields.old fields.new result }
+#[tactic(auto, unfolding(crate::specs::ClientLines::client_line_named, lease_texts::specs::Kinds::taken))]
+fn read_named(alloc: Global, word: &[u8], fields: &mut Fields) -> Result<ClientLine, LineFault>
+    ensures { Takes (client_line_named word.now) fields.old fields.new result }
 {
-    if is(kind, b"files") {
+    if is(word, b"files") {
         Ok(ClientLine::Files(fields.file()?.0))
-    } else if is(kind, b"client") {
-        Ok(ClientLine::Client(read_guid(fields)?))
-    } else if is(kind, b"take") {
-        read_take(alloc, fields)
+    } else if is(word, b"take") {
+        let client = fields.client()?;
+        Ok(ClientLine::Asks(client, Asked::Take(read_arrival(alloc, fields)?)))
     } else {
-        let happening = read_event(alloc, kind, fields)?;
-        asked_of_client(happening).ok_or(LineFault::Refused)
+        let told = read_part_of(alloc, word, fields)?;
+        asked_of(told).ok_or(LineFault::Refused)
     }
 }
 
 fn read_told(alloc: Global, fields: &mut Fields) -> Result<ClientLine, LineFault>
-    ensures { Takes (λ line. line) client_line_told fields.old fields.new result }
+    ensures { Takes client_line_told fields.old fields.new result }
 {
-    let kind = fields.next()?;
-    read_named(alloc, kind, fields)
+    let word = fields.next()?;
+    read_named(alloc, word, fields)
 }
 
 /// What a line asks of client machines.
@@ -97,8 +88,7 @@ fn read_told(alloc: Global, fields: &mut Fields) -> Result<ClientLine, LineFault
 /// `Refused` where the line asks nothing of them, and `Memory` where there is none left for what it holds.
 #[tactic(auto, unfolding(crate::specs::ClientLines::client_line_in))]
 pub fn read_client_line(alloc: Global, text: &[u8]) -> Result<ClientLine, LineFault>
-    ensures { MatchResult result (λ line. client_line_in text.now ≡ Some line)
-        (λ fault. fault ≡ LineFault.Refused → client_line_in text.now ≡ None) }
+    ensures { Reads client_line_in text.now result }
 {
     let mut fields = Fields::of(text);
     let line = read_told(alloc, &mut fields)?;

@@ -8,13 +8,10 @@ mod client_answers;
 mod client_lines;
 mod client_table;
 mod machines;
-mod replies;
 mod server_answers;
 mod server_lines;
 mod server_stage;
-mod status;
 
 pub use client_table::ClientTable;
 pub use machines::Machines;
-pub use replies::push_reply;
 pub use server_stage::Stage;

@@ -2,58 +2,41 @@ ghost use Rattle.std.specs.Prelude.{◌≡◌, ◌++◌, OnOk};
 ghost use Rattle.std.specs.List.{flat_map};
 ghost use Rattle.std.specs.Option.{option_map};
 ghost use Rattle.std.specs.String.{string_bytes};
-ghost use Rattle.share_server.specs.declared.values.out.Out.TheVariants as out;
 ghost use Rattle.lease_lines.specs.ServerAnswers.{out_line, answer, done_word, yes_word, fid_words, bytes_words};
 
-use crate::replies::push_reply;
-use lease_state::{ClientNo, FileId, FileNo, Patch, Reply};
-use lease_texts::{digits_of, push_patch};
+use lease_state::FileId;
+use lease_texts::{Said, digits_of, push_line};
 use share_server::Out;
 use std::alloc::{AllocError, Global};
-
-fn push_sent(
-    alloc: Global,
-    text: &mut String,
-    client: ClientNo,
-    told: &Reply,
-) -> Result<(), AllocError>
-    ensures { OnOk result (string_bytes text.new ≡ string_bytes text.old ++ out_line (out.Sent client told.now)) }
-{
-    let client = client.0;
-    write!(text, "sent {client} ")?;
-    push_reply(alloc, text, told)?;
-    text.push_str("\n")
-}
-
-fn push_changed(
-    alloc: Global,
-    text: &mut String,
-    file: FileNo,
-    client: ClientNo,
-    number: u64,
-    patch: &Patch,
-) -> Result<(), AllocError>
-    ensures { OnOk result (string_bytes text.new
-        ≡ string_bytes text.old ++ out_line (out.Changed file client number patch.now)) }
-{
-    let (file, client) = (file.0, client.0);
-    write!(text, "changed {file} {client} {number} ")?;
-    push_patch(alloc, text, patch)?;
-    text.push_str("\n")
-}
 
 fn push_out(alloc: Global, text: &mut String, given: &Out) -> Result<(), AllocError>
     ensures { OnOk result (string_bytes text.new ≡ string_bytes text.old ++ out_line given.now) }
 {
     match given {
-        Out::Sent(client, told) => push_sent(alloc, text, *client, told),
-        Out::Opened(file, client) => {
-            let (file, client) = (file.0, client.0);
-            writeln!(text, "opened {file} {client}")
-        }
-        Out::Changed(file, client, number, patch) => {
-            push_changed(alloc, text, *file, *client, *number, patch)
-        }
+        Out::Sent(client, told) => push_line(
+            alloc,
+            text,
+            "sent",
+            &[Said::Client(*client), Said::Reply(told)],
+        ),
+        Out::Opened(file, client) => push_line(
+            alloc,
+            text,
+            "opened",
+            &[Said::File(*file), Said::Client(*client)],
+        ),
+        Out::Changed(file, client, number, patch) => push_line(
+            alloc,
+            text,
+            "changed",
+            &[
+                Said::File(*file),
+                Said::Client(*client),
+                Said::Number(*number),
+                Said::Offset(patch.offset),
+                Said::Bytes(patch.bytes.as_slice()),
+            ],
+        ),
     }
 }
 

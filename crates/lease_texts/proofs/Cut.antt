@@ -1,4 +1,5 @@
-use Rattle.std.proofs.Common.{◌≡◌, ◌≢◌, ℕ, zero, suc, ◌+◌, ◌≤◌, ◌<◌, List, [], ◌∷◌, length, take, drop, refl, sym, arith, add-one}
+use Rattle.std.proofs.Common.{◌≡◌, ◌≢◌, ℕ, zero, suc, ◌+◌, ◌≤◌, ◌<◌, List, [], ◌∷◌, ◌∙◌, ap, length, take, drop, refl, sym, arith}
+use Rattle.std.proofs.Common.{add-one}
 use Rattle.std.proofs.Common.{length-drop, ◌-◌, slice_index, ◌==◌, true, false, Bool, if◌then◌else◌}
 use Rattle.std.proofs.lemmas.Bool.Decides.{nat_tests}
 use Rattle.std.proofs.Common.{Option, Some, None, Result, Ok}
@@ -9,7 +10,9 @@ use Rattle.std.proofs.lemmas.List.{take_all}
 use Rattle.std.proofs.lemmas.List.Quantifiers.{position-Some}
 use Rattle.std.proofs.lemmas.List.Sums.{fails_before_first}
 use Rattle.std.specs.List.{position, position_or_len}
-use Rattle.lease_state.specs.State.{state_of_bits, bits_of_state}
+use Rattle.lease_state.specs.State.{State, state_of, state_of_bits, bits_of_state}
+use Rattle.lease_state.specs.declared.state.LeaseState.{LeaseState}
+use Rattle.lease_texts.specs.Fields.{state_of_wire}
 
 if_cases : {X : Type 0} (P : X → Type 0) (b : Bool) (x y : X) → (b ≡ true → P x) → (b ≡ false → P y) → P (if b then x else y)
 if_cases P true x y then_case else_case = then_case refl
@@ -94,6 +97,12 @@ bits_named (suc (suc (suc (suc (suc zero))))) small = refl
 bits_named (suc (suc (suc (suc (suc (suc zero)))))) small = refl
 bits_named (suc (suc (suc (suc (suc (suc (suc zero))))))) small = refl
 bits_named (suc (suc (suc (suc (suc (suc (suc (suc n)))))))) small = omega (arith, small)
+
+pub state_named : (state : LeaseState) (bits : ℕ) → bits ≤ 7 → state_of state ≡ state_of_bits bits
+    → bits_of_state (state_of state) ≡ state.0 → state ≡ state_of_wire bits
+state_named state bits small is named =
+    let same : state.0 ≡ bits = sym named ∙ ap (λ (s : State). bits_of_state s) is ∙ bits_named bits small in
+    ap (λ (n : ℕ). state_of_wire n) same
 
 -- A text that is not empty and has no line feed is one line.
 pub lines_whole : (bytes : List ℕ) → bytes ≢ [] → ((i : ℕ) → i < length bytes → slice_index bytes i ≢ 10)

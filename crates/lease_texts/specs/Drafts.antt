@@ -1,15 +1,9 @@
 -- Schedules of the code as the definitions see them, and how a refused line is told.
 use Rattle.std.specs.Prelude.{◌≡◌, ℕ, Result, Err}
-use Rattle.lease_texts.specs.Schedules.{Draft, Part}
+use Rattle.lease_texts.specs.Schedules.{Draft}
 use Rattle.lease_texts.specs.declared.fault.TextFault.{TextFault}
 use Rattle.lease_texts.specs.declared.fault.TextFault.TheVariants as fault
-use Rattle.lease_texts.specs.declared.schedules.reading.Part as code
-use Rattle.lease_texts.specs.declared.schedules.reading.Schedule.{Schedule}
-
-abbrev pub part_of : code.Part → Part
-part_of (code.TheVariants.File content) = Part.File content
-part_of (code.TheVariants.Client guid) = Part.Client guid
-part_of (code.TheVariants.Event event) = Part.Happens event
+use Rattle.lease_texts.specs.declared.schedule.Schedule.{Schedule}
 
 abbrev pub draft_of : Schedule → Draft
 draft_of schedule = record {

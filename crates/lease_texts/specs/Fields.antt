@@ -1,14 +1,16 @@
--- The fields of a line, and what a field says.
-use Rattle.std.specs.Prelude.{ℕ, ◌+◌, ◌-◌, ◌*◌, ◌^◌, ◌==◌, ◌&&◌, nat_le, nat_lt, List, [], ◌∷◌, length, codes, bytes_eq}
-use Rattle.std.specs.Prelude.{if◌then◌else◌, Option, Some, None}
+-- What the words of a line say.
+use Rattle.std.specs.Prelude.{ℕ, ◌+◌, ◌-◌, ◌*◌, ◌^◌, ◌==◌, ◌&&◌, Bool, true, false, nat_le, nat_lt, List, [], ◌∷◌, length, codes}
+use Rattle.std.specs.Prelude.{bytes_eq, if◌then◌else◌, Option, Some, None}
 use Rattle.std.specs.Result.{result_ok}
-use Rattle.hex.specs.Hex.{decode_of}
+use Rattle.hex.specs.Hex.{decode_of, decode_sized}
+use Rattle.lease_client.specs.declared.values.note.Settlement.{Settlement}
+use Rattle.lease_client.specs.declared.values.note.Settlement.TheVariants as settlement
 use Rattle.lease_state.specs.declared.access.Access.{Access}
 use Rattle.lease_state.specs.declared.access.Access.TheVariants as access
 use Rattle.lease_state.specs.declared.access.Share.{Share}
 use Rattle.lease_state.specs.declared.access.Share.TheVariants as share
 use Rattle.lease_state.specs.declared.content.TheConstants.{FILE_LIMIT}
-use Rattle.lease_state.specs.declared.patch.Patch.{Patch}
+use Rattle.lease_state.specs.declared.state.LeaseState.{LeaseState}
 
 -- a decimal number of 64 bits, without sign and without leading zeros
 abbrev pub digit_behind : ℕ → ℕ → Option ℕ
@@ -46,38 +48,39 @@ share_in field =
     else if bytes_eq field (codes "rw") then Some share.ReadWrite
     else None
 
--- the number of the wire for a state
-unfoldable pub state_in : List ℕ → Option ℕ
+-- the state of a number of the wire
+abbrev pub state_of_wire : ℕ → LeaseState
+state_of_wire bits = record { 0 = bits }
+
+unfoldable pub state_in : List ℕ → Option LeaseState
 state_in field =
-    if bytes_eq field (codes "none") then Some 0
-    else if bytes_eq field (codes "R") then Some 1
-    else if bytes_eq field (codes "H") then Some 2
-    else if bytes_eq field (codes "RH") then Some 3
-    else if bytes_eq field (codes "W") then Some 4
-    else if bytes_eq field (codes "RW") then Some 5
-    else if bytes_eq field (codes "WH") then Some 6
-    else if bytes_eq field (codes "RWH") then Some 7
+    if bytes_eq field (codes "none") then Some (state_of_wire 0)
+    else if bytes_eq field (codes "R") then Some (state_of_wire 1)
+    else if bytes_eq field (codes "H") then Some (state_of_wire 2)
+    else if bytes_eq field (codes "RH") then Some (state_of_wire 3)
+    else if bytes_eq field (codes "W") then Some (state_of_wire 4)
+    else if bytes_eq field (codes "RW") then Some (state_of_wire 5)
+    else if bytes_eq field (codes "WH") then Some (state_of_wire 6)
+    else if bytes_eq field (codes "RWH") then Some (state_of_wire 7)
     else None
 
--- A reader of fields gives what the first of them say, and the others.
-abbrev pub Words : Type 0
-Words = List (List ℕ)
+unfoldable pub way_in : List ℕ → Option Bool
+way_in field =
+    if bytes_eq field (codes "buffered") then Some true
+    else if bytes_eq field (codes "through") then Some false
+    else None
 
-abbrev pub Taking : Type 0 → Type 0
-Taking A = Words → Option (A × Words)
+unfoldable pub outcome_in : List ℕ → Option Settlement
+outcome_in field =
+    if bytes_eq field (codes "done") then Some settlement.Done
+    else if bytes_eq field (codes "failed") then Some settlement.Failed
+    else if bytes_eq field (codes "unknown") then Some settlement.Unknown
+    else if bytes_eq field (codes "lost") then Some settlement.Lost
+    else None
 
-abbrev pub and_then : {A B : Type 0} → Option (A × Words) → (A → Words → Option B) → Option B
-and_then None more = None
-and_then (Some taken) more = more taken.0 taken.1
-
-abbrev pub with_rest : {A : Type 0} → Option A → Words → Option (A × Words)
-with_rest None fields = None
-with_rest (Some value) fields = Some (value, fields)
-
--- one field, read so
-abbrev pub one : {A : Type 0} → (List ℕ → Option A) → Taking A
-one read [] = None
-one read (field ∷ fields) = with_rest (read field) fields
+-- as many bytes as a message has
+abbrev pub sized_in : ℕ → List ℕ → Option (List ℕ)
+sized_in size field = result_ok (decode_sized field size)
 
 -- the number of a client or of a file
 abbrev pub ordinal_of : Option ℕ → Option ℕ
@@ -101,17 +104,3 @@ content_of (Some bytes) = if nat_le (length bytes) FILE_LIMIT then Some bytes el
 
 abbrev pub content_in : List ℕ → Option (List ℕ)
 content_in field = content_of (bytes_in field)
-
--- an offset and bytes
-abbrev pub patch_in : Taking Patch
-patch_in words = and_then (one offset_in words) (λ offset words. and_then (one bytes_in words) (λ bytes words.
-    Some (record { offset = offset; bytes = bytes }, words)))
-
--- what is taken from a line, where no field is left
-abbrev pub last : {A : Type 0} → A → Words → Option A
-last value [] = Some value
-last value (field ∷ fields) = None
-
-abbrev pub whole : {A : Type 0} → Option (A × Words) → Option A
-whole None = None
-whole (Some taken) = last taken.0 taken.1

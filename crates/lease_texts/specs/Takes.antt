@@ -1,11 +1,14 @@
--- What a call takes from the fields of a line.
-use Rattle.std.specs.Prelude.{◌≡◌, Some, None, Result, MatchResult}
-use Rattle.lease_texts.specs.Fields.{Taking, Words}
+-- What a call takes from the words of a line.
+use Rattle.std.specs.Prelude.{◌≡◌, List, ℕ, Option, Some, None, Result, MatchResult}
+use Rattle.lease_texts.specs.Kinds.{Taking, Words}
 use Rattle.lease_texts.specs.declared.fault.LineFault.{LineFault}
 use Rattle.lease_texts.specs.declared.fault.LineFault.TheVariants.{Refused}
 
--- A call answers with what the fields say, and leaves the others; it refuses fields that say nothing. For want of
--- memory it may fail at any fields.
-abbrev pub Takes : {A B : Type 0} → (B → A) → Taking A → Words → Words → Result B LineFault → Type 0
-Takes view take old new answer = MatchResult answer (λ value. take old ≡ Some (view value, new))
-    (λ fault. fault ≡ Refused → take old ≡ None)
+-- A call answers with what the words say, and leaves the others; it refuses words that say nothing. For want of
+-- memory it may fail at any words.
+abbrev pub Takes : {A : Type 0} → Taking A → Words → Words → Result A LineFault → Type 0
+Takes take old new answer = MatchResult answer (λ value. take old ≡ Some (value, new)) (λ fault. fault ≡ Refused → take old ≡ None)
+
+-- the same of all the words of a line
+abbrev pub Reads : {A : Type 0} → (List ℕ → Option A) → List ℕ → Result A LineFault → Type 0
+Reads read line answer = MatchResult answer (λ value. read line ≡ Some value) (λ fault. fault ≡ Refused → read line ≡ None)

@@ -1,6 +1,13 @@
--- The words in which values are told.
-use Rattle.std.specs.Prelude.{ℕ, Bool, true, false, List, codes}
+-- The words that are written for values.
+use Rattle.std.specs.Prelude.{ℕ, Bool, true, false, List, [], ◌∷◌, codes}
+use Rattle.hex.specs.Hex.{encode_lower}
+use Rattle.lease_client.specs.declared.values.note.Settlement.{Settlement}
+use Rattle.lease_client.specs.declared.values.note.Settlement.TheVariants as settlement
 use Rattle.lease_state.specs.State.{State}
+use Rattle.lease_state.specs.declared.access.Access.{Access}
+use Rattle.lease_state.specs.declared.access.Access.TheVariants as access
+use Rattle.lease_state.specs.declared.access.Share.{Share}
+use Rattle.lease_state.specs.declared.access.Share.TheVariants as share
 
 -- the letters of a state in the order R, W, H, or "none"
 abbrev pub state_word : State → List ℕ
@@ -15,3 +22,30 @@ state_word s = word s.read s.write s.handle
     word true false true = codes "RH"
     word false true true = codes "WH"
     word true true true = codes "RWH"
+
+-- bytes in lower case digits, or a hyphen where there are none
+abbrev pub digits_word : List ℕ → List ℕ
+digits_word [] = codes "-"
+digits_word (byte ∷ bytes) = encode_lower (byte ∷ bytes)
+
+abbrev pub access_word : Access → List ℕ
+access_word access.Read = codes "r"
+access_word access.Write = codes "w"
+access_word access.ReadWrite = codes "rw"
+
+abbrev pub share_word : Share → List ℕ
+share_word share.Nothing = codes "-"
+share_word share.Read = codes "r"
+share_word share.Write = codes "w"
+share_word share.ReadWrite = codes "rw"
+
+abbrev pub outcome_word : Settlement → List ℕ
+outcome_word settlement.Done = codes "done"
+outcome_word settlement.Failed = codes "failed"
+outcome_word settlement.Unknown = codes "unknown"
+outcome_word settlement.Lost = codes "lost"
+
+-- the way of a write
+abbrev pub way_word : Bool → List ℕ
+way_word true = codes "buffered"
+way_word false = codes "through"

@@ -5,5 +5,5 @@ mod finding;
 mod telling;
 
 pub use expected::Expected;
-pub use finding::{Complaint, fact_complaint, part_complaint};
+pub use finding::{Complaint, complaint_about};
 pub use telling::push_complaint;

@@ -1,15 +1,20 @@
-ghost use Rattle.std.specs.Prelude.{◌≡◌, ◌≢◌, ◌+◌, ◌<◌, ◌^◌, ℕ, Some, None, Ok, [], ◌∷◌, IfOk, IfErr, MatchResult, MatchBool};
-ghost use Rattle.std.specs.Prelude.{◌≤◌, IsTrue, ◌↔◌, OnErr, IsSome};
-ghost use Rattle.std.specs.Option.{option_map};
+ghost use Rattle.std.specs.Prelude.{◌≡◌, ◌≢◌, ◌∷◌, [], MatchResult, MatchBool};
+ghost use Rattle.lease_texts.specs.Kinds.{word_read};
+ghost use Rattle.lease_texts.specs.Lines.{durable_in};
 ghost use Rattle.lease_texts.specs.Pieces.{fields_of};
-ghost use Rattle.lease_texts.specs.Fields.{one, number_in, number_after, digit_behind, ordinal_in, offset_in, bytes_in};
-ghost use Rattle.lease_texts.specs.Fields.{content_in, access_in, share_in, state_in, patch_in};
 ghost use Rattle.lease_texts.specs.Takes.{Takes};
+ghost use Rattle.lease_texts.specs.declared.kinds.Field.TheVariants as field;
 
 use crate::fault::LineFault;
 use crate::pieces::split_first;
-use hex::FromHexError;
-use lease_state::{Access, Bytes, ClientNo, Content, FILE_LIMIT, FileNo, LeaseState, Patch, Share};
+use crate::status::{GivenStatus, status_in};
+use crate::words::{
+    access_in, bytes_in, content_in, guid_in, key_in, message_in, notification_in, number_in,
+    offset_in, ordinal_in, outcome_in, share_in, state_in, way_in,
+};
+use lease_client::Settlement;
+use lease_facts::is;
+use lease_state::{Access, Bytes, ClientNo, Content, FileId, FileNo, LeaseKey, LeaseState, Share};
 use std::alloc::Global;
 use std::marker::Model;
 
@@ -74,63 +79,67 @@ impl<'a> Fields<'a> {
         }
     }
 
+    /// The number of a client, from 1 to 255.
+    pub fn client(&mut self) -> Result<ClientNo, LineFault>
+        ensures { Takes (word_read field.Client) self.old self.new result }
+    {
+        match ordinal_in(self.next()?) {
+            Some(number) => Ok(ClientNo(number)),
+            None => Err(LineFault::Refused),
+        }
+    }
+
+    /// The number of a file, from 1 to 255.
+    pub fn file(&mut self) -> Result<FileNo, LineFault>
+        ensures { Takes (word_read field.File) self.old self.new result }
+    {
+        match ordinal_in(self.next()?) {
+            Some(number) => Ok(FileNo(number)),
+            None => Err(LineFault::Refused),
+        }
+    }
+
+    /// A FileId, of at most 64 bits.
+    pub fn file_id(&mut self) -> Result<FileId, LineFault>
+        ensures { Takes (word_read field.FileId) self.old self.new result }
+    {
+        match number_in(self.next()?) {
+            Some(number) => Ok(FileId(number)),
+            None => Err(LineFault::Refused),
+        }
+    }
+
     /// A decimal number of at most 64 bits, without sign and without leading zeros.
     pub fn number(&mut self) -> Result<u64, LineFault>
-        ensures { Takes (λ n. n) (one number_in) self.old self.new result }
+        ensures { Takes (word_read field.Number) self.old self.new result }
     {
-        number(self.next()?).ok_or(LineFault::Refused)
+        number_in(self.next()?).ok_or(LineFault::Refused)
     }
 
     /// A number of at most 32 bits.
     pub fn offset(&mut self) -> Result<u32, LineFault>
-        ensures { Takes (λ n. n) (one offset_in) self.old self.new result }
+        ensures { Takes (word_read field.Offset) self.old self.new result }
     {
-        match u32::try_from(self.number()?) {
-            Ok(offset) => Ok(offset),
-            Err(_) => Err(LineFault::Refused),
-        }
-    }
-
-    // A number from 1 to 255.
-    fn ordinal(&mut self) -> Result<u8, LineFault>
-        ensures { Takes (λ n. n) (one ordinal_in) self.old self.new result }
-    {
-        ordinal(self.next()?).ok_or(LineFault::Refused)
-    }
-
-    pub fn client(&mut self) -> Result<ClientNo, LineFault>
-        ensures { Takes (λ client. client.0) (one ordinal_in) self.old self.new result }
-    {
-        Ok(ClientNo(self.ordinal()?))
-    }
-
-    pub fn file(&mut self) -> Result<FileNo, LineFault>
-        ensures { Takes (λ file. file.0) (one ordinal_in) self.old self.new result }
-    {
-        Ok(FileNo(self.ordinal()?))
+        offset_in(self.next()?).ok_or(LineFault::Refused)
     }
 
     /// Bytes as hexadecimal digits of either case, at least two, or a hyphen for none.
     pub fn bytes(&mut self, alloc: Global) -> Result<Bytes, LineFault>
-        ensures { Takes (λ bytes. bytes) (one bytes_in) self.old self.new result }
+        ensures { Takes (word_read field.Bytes) self.old self.new result }
     {
-        bytes_of(alloc, self.next()?)
+        bytes_in(alloc, self.next()?)
     }
 
     /// Such bytes, no more than a file holds.
     pub fn file_bytes(&mut self, alloc: Global) -> Result<Bytes, LineFault>
-        ensures { Takes (λ bytes. bytes) (one content_in) self.old self.new result }
+        ensures { Takes (word_read field.Content) self.old self.new result }
     {
-        let bytes = self.bytes(alloc)?;
-        if bytes.len() > FILE_LIMIT {
-            return Err(LineFault::Refused);
-        }
-        Ok(bytes)
+        content_in(alloc, self.next()?)
     }
 
     /// The content of a file.
     pub fn content(&mut self, alloc: Global) -> Result<Content, LineFault>
-        ensures { Takes (λ content. content) (one content_in) self.old self.new result }
+        ensures { Takes (word_read field.Content) self.old self.new result }
     {
         let bytes = self.file_bytes(alloc)?;
         match Content::new(bytes.into_vec()) {
@@ -139,156 +148,90 @@ impl<'a> Fields<'a> {
         }
     }
 
-    pub fn access(&mut self) -> Result<Access, LineFault>
-        ensures { Takes (λ access. access) (one access_in) self.old self.new result }
-    {
-        access_named(self.next()?).ok_or(LineFault::Refused)
-    }
-
-    pub fn share(&mut self) -> Result<Share, LineFault>
-        ensures { Takes (λ share. share) (one share_in) self.old self.new result }
-    {
-        share_named(self.next()?).ok_or(LineFault::Refused)
-    }
-
     /// The letters of a state in the order R, W, H, or `none`.
     pub fn state(&mut self) -> Result<LeaseState, LineFault>
-        ensures { Takes (λ state. state.0) (one state_in) self.old self.new result }
+        ensures { Takes (word_read field.State) self.old self.new result }
     {
-        state_named(self.next()?).ok_or(LineFault::Refused)
+        state_in(self.next()?).ok_or(LineFault::Refused)
     }
-}
 
-#[tactic(auto, unfolding(crate::specs::Fields::access_in))]
-pub(crate) fn access_named(field: &[u8]) -> Option<Access>
-    ensures { result ≡ access_in field.now }
-{
-    match field {
-        b"r" => Some(Access::Read),
-        b"w" => Some(Access::Write),
-        b"rw" => Some(Access::ReadWrite),
-        _ => None,
+    /// What an open may do: `r`, `w` or `rw`.
+    pub fn access(&mut self) -> Result<Access, LineFault>
+        ensures { Takes (word_read field.Access) self.old self.new result }
+    {
+        access_in(self.next()?).ok_or(LineFault::Refused)
     }
-}
 
-#[tactic(auto, unfolding(crate::specs::Fields::share_in))]
-pub(crate) fn share_named(field: &[u8]) -> Option<Share>
-    ensures { result ≡ share_in field.now }
-{
-    match field {
-        b"-" => Some(Share::Nothing),
-        b"r" => Some(Share::Read),
-        b"w" => Some(Share::Write),
-        b"rw" => Some(Share::ReadWrite),
-        _ => None,
+    /// What an open lets others do: `-`, `r`, `w` or `rw`.
+    pub fn share(&mut self) -> Result<Share, LineFault>
+        ensures { Takes (word_read field.Share) self.old self.new result }
+    {
+        share_in(self.next()?).ok_or(LineFault::Refused)
     }
-}
 
-// The state of a number up to 7.
-#[tactic(auto, using(crate::proofs::Cut::bits_named))]
-fn state_of(bits: u32) -> LeaseState
-    requires { bits ≤ 7 }
-    ensures { result.0 ≡ bits }
-{
-    LeaseState::from_wire(bits)
-}
-
-#[tactic(auto, unfolding(crate::specs::Fields::state_in))]
-pub(crate) fn state_named(field: &[u8]) -> Option<LeaseState>
-    ensures { option_map (λ state. state.0) result ≡ state_in field.now }
-{
-    match field {
-        b"none" => Some(state_of(0)),
-        b"R" => Some(state_of(1)),
-        b"H" => Some(state_of(2)),
-        b"RH" => Some(state_of(3)),
-        b"W" => Some(state_of(4)),
-        b"RW" => Some(state_of(5)),
-        b"WH" => Some(state_of(6)),
-        b"RWH" => Some(state_of(7)),
-        _ => None,
+    /// The way of a write: true where it is buffered.
+    pub fn way(&mut self) -> Result<bool, LineFault>
+        ensures { Takes (word_read field.Way) self.old self.new result }
+    {
+        way_in(self.next()?).ok_or(LineFault::Refused)
     }
-}
 
-// Bytes as digits, or a hyphen for none.
-#[tactic(auto, unfolding(crate::specs::Fields::bytes_in))]
-pub(crate) fn bytes_of(alloc: Global, digits: &[u8]) -> Result<Bytes, LineFault>
-    ensures { MatchResult result (λ bytes. bytes_in digits.now ≡ Some bytes)
-        (λ fault. fault ≡ LineFault.Refused → bytes_in digits.now ≡ None) }
-{
-    match digits {
-        [] => Err(LineFault::Refused),
-        [b'-'] => Ok(Bytes::new(Vec::new(alloc))),
-        _ => match hex::decode(alloc, digits) {
-            Ok(bytes) => Ok(Bytes::new(bytes)),
-            Err(FromHexError::OutOfMemory) => Err(LineFault::Memory),
-            Err(_) => Err(LineFault::Refused),
-        },
+    /// What became of a write.
+    pub fn outcome(&mut self) -> Result<Settlement, LineFault>
+        ensures { Takes (word_read field.Outcome) self.old self.new result }
+    {
+        outcome_in(self.next()?).ok_or(LineFault::Refused)
     }
-}
 
-// The number whose decimal digits these are.
-#[tactic(auto, unfolding(crate::specs::Fields::number_in))]
-pub(crate) fn number(digits: &[u8]) -> Option<u64>
-    ensures { result ≡ number_in digits.now }
-{
-    match digits {
-        [] | [b'0', _, ..] => None,
-        _ => number_of(digits),
+    /// A GUID as 32 digits, hyphenated, in braces or as a URN.
+    pub fn guid(&mut self) -> Result<[u8; 16], LineFault>
+        ensures { Takes (word_read field.Guid) self.old self.new result }
+    {
+        guid_in(self.next()?).ok_or(LineFault::Refused)
     }
-}
 
-// The number from 1 to 255 whose decimal digits these are. Most are of one digit.
-fn ordinal(digits: &[u8]) -> Option<u8>
-    ensures { result ≡ ordinal_in digits.now }
-{
-    match digits {
-        [digit] => ordinal_digit(*digit),
-        _ => match u8::try_from(number(digits)?) {
-            Ok(0) | Err(_) => None,
-            Ok(ordinal) => Some(ordinal),
-        },
+    /// An acknowledgment's 36 bytes.
+    pub fn message(&mut self) -> Result<[u8; 36], LineFault>
+        ensures { Takes (word_read field.Message) self.old self.new result }
+    {
+        message_in(self.next()?).ok_or(LineFault::Refused)
     }
-}
 
-#[tactic(auto, unfolding(crate::specs::Fields::number_in, crate::specs::Fields::number_after))]
-fn ordinal_digit(digit: u8) -> Option<u8>
-    ensures { result ≡ ordinal_in (digit ∷ []) }
-{
-    if digit.is_ascii_digit() && digit != b'0' {
-        Some(digit - b'0')
-    } else {
-        None
+    /// A lease key, as the 32 digits of its bytes.
+    pub fn key(&mut self) -> Result<LeaseKey, LineFault>
+        ensures { Takes (word_read field.Key) self.old self.new result }
+    {
+        match key_in(self.next()?) {
+            Some(key) => Ok(LeaseKey(key)),
+            None => Err(LineFault::Refused),
+        }
     }
-}
 
-#[tactic(auto, unfolding(crate::specs::Fields::number_after))]
-fn number_of(digits: &[u8]) -> Option<u64>
-    ensures { result ≡ number_after (Some 0) digits.now }
-{
-    let mut value = 0u64;
-    for digit in digits {
-        value = with_digit(value, *digit)?;
+    /// A lease break notification's 44 bytes.
+    pub fn notification(&mut self) -> Result<[u8; 44], LineFault>
+        ensures { Takes (word_read field.Notification) self.old self.new result }
+    {
+        notification_in(self.next()?).ok_or(LineFault::Refused)
     }
-    Some(value)
-}
 
-// The number with one more digit at its end.
-fn with_digit(value: u64, digit: u8) -> Option<u64>
-    ensures { result ≡ digit_behind value digit }
-{
-    if !digit.is_ascii_digit() {
-        return None;
+    /// A status, by its name or by the eight hexadecimal digits of its number.
+    pub fn status(&mut self) -> Result<GivenStatus, LineFault>
+        ensures { Takes (word_read field.Status) self.old self.new result }
+    {
+        status_in(self.next()?).ok_or(LineFault::Refused)
     }
-    value.checked_mul(10)?.checked_add(u64::from(digit - b'0'))
-}
 
-/// An offset and bytes.
-pub fn read_patch(alloc: Global, fields: &mut Fields) -> Result<Patch, LineFault>
-    ensures { Takes (λ patch. patch) patch_in fields.old fields.new result }
-{
-    Ok(Patch {
-        offset: fields.offset()?,
-        bytes: fields.bytes(alloc)?,
-    })
+    /// Whether the word of a durable open is there; no other word may stand in its place.
+    pub fn durable(&mut self) -> Result<bool, LineFault>
+        ensures { Takes durable_in self.old self.new result }
+    {
+        if self.is_done() {
+            return Ok(false);
+        }
+        if is(self.next()?, b"durable") {
+            Ok(true)
+        } else {
+            Err(LineFault::Refused)
+        }
+    }
 }

@@ -2,29 +2,43 @@
 //!
 //! `read_schedule` gives the setup and the events of a run, and `push_setup` and `push_event` write
 //! their lines. `read_fact` gives the fact that a line of a record is, and `push_fact` writes that
-//! line. A line is cut into `Fields`, which are read one after the other. docs/FORMATS.md has every
-//! line.
+//! line. A line is cut into `Fields`, which are read one after the other, as the row of its kind in
+//! a `Table` has them. docs/FORMATS.md has every line.
 #![tactic(auto)]
 
 mod complaints;
 mod fault;
 mod fields;
+mod kinds;
+mod laws;
 mod lines;
+mod parts;
 mod pieces;
 mod quoting;
 mod records;
-mod schedules;
+mod replies;
+mod requests;
+mod said;
+mod schedule;
+mod status;
 mod words;
 
-pub use complaints::{Complaint, Expected, fact_complaint, part_complaint, push_complaint};
+pub use complaints::{Complaint, Expected, complaint_about, push_complaint};
 pub use fault::{LineFault, TextFault};
-pub use fields::{Fields, read_patch};
+pub use fields::Fields;
+pub use kinds::{Field, Row, Table};
+pub use laws::{
+    lines_are_read_back, lines_tell_facts, lines_tell_parts, records_are_read_back,
+    schedules_are_read_back,
+};
 pub use lease_facts::is;
 pub use lines::{first_line, is_passed_over};
+pub use parts::{Part, push_event, read_part, read_part_of};
 pub use quoting::push_quoted;
-pub use records::{digits_of, push_fact, push_patch, read_fact};
-pub use schedules::{
-    Schedule, push_event, push_request, push_setup, read_event, read_guid, read_request,
-    read_schedule,
-};
-pub use words::state_letters;
+pub use records::{push_fact, read_fact};
+pub use replies::{Arrival, read_arrival};
+pub use requests::read_request;
+pub use said::{Said, push_line};
+pub use schedule::{Schedule, push_setup, read_schedule};
+pub use status::{GivenStatus, push_given, status_word};
+pub use words::{digits_of, outcome_word, state_letters};

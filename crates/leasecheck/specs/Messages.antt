@@ -1,21 +1,25 @@
 -- A record with the messages that it speaks of: before each `sent` and each `took` a comment line with what is in the message.
 use Rattle.std.specs.Prelude.{ℕ, ◌++◌, List, [], ◌∷◌, codes, drop}
-use Rattle.std.specs.Fmt.{decimal}
 use Rattle.lease_facts.specs.declared.fact.Fact.{Fact}
 use Rattle.lease_facts.specs.declared.fact.Fact.TheVariants as fact
-use Rattle.lease_lines.specs.Replies.{reply_words}
 use Rattle.lease_state.specs.declared.reply.Reply.{Reply}
+use Rattle.lease_state.specs.declared.number.ClientNo.{ClientNo}
+use Rattle.lease_texts.specs.Kinds.{line, say}
+use Rattle.lease_texts.specs.Lines.{line_text}
 use Rattle.lease_texts.specs.Records.{fact_line}
+use Rattle.lease_texts.specs.Replies.{plain}
+use Rattle.lease_texts.specs.declared.kinds.Field.TheVariants as field
 
 -- the line of the first of these messages, which begins with a sign that it is no fact
-abbrev pub message_line : List ℕ → ℕ → List Reply → List ℕ
+abbrev pub message_line : List ℕ → ClientNo → List Reply → List ℕ
 message_line begin client [] = []
-message_line begin client (message ∷ messages) = begin ++ decimal client ++ codes " " ++ reply_words message ++ 10 ∷ []
+message_line begin client (message ∷ messages) =
+    line_text (line begin (say field.Client client ∷ say field.Reply (plain message) ∷ []))
 
 -- the line of the message that a fact speaks of
 unfoldable pub message_before : Fact → List Reply → List ℕ
-message_before (fact.Sent client) messages = message_line (codes "# sent ") client.0 messages
-message_before (fact.Took client) messages = message_line (codes "# took ") client.0 messages
+message_before (fact.Sent client) messages = message_line (codes "# sent") client messages
+message_before (fact.Took client) messages = message_line (codes "# took") client messages
 message_before _ messages = []
 
 -- the messages of the facts that follow

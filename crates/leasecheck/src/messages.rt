@@ -4,9 +4,8 @@ ghost use Rattle.lease_texts.specs.Records.{fact_line};
 ghost use Rattle.leasecheck.specs.Messages.{message_line, message_before, messages_behind};
 
 use lease_facts::Fact;
-use lease_lines::push_reply;
 use lease_state::{ClientNo, Reply};
-use lease_texts::push_fact;
+use lease_texts::{Said, push_fact, push_line};
 use std::alloc::{AllocError, Global};
 
 // The line of the first of these messages; those after it are given.
@@ -17,16 +16,18 @@ fn push_message<'a>(
     client: ClientNo,
     messages: &'a [Reply],
 ) -> Result<&'a [Reply], AllocError>
-    ensures line { OnOk result (string_bytes text.new ≡ string_bytes text.old ++ message_line begin.now client.0 messages.now) }
+    ensures line { OnOk result (string_bytes text.new ≡ string_bytes text.old ++ message_line begin.now client messages.now) }
     ensures behind { IfOk result (λ behind. behind.now ≡ drop 1 messages.now) }
 {
     if messages.is_empty() {
         return Ok(messages);
     }
-    let number = client.0;
-    write!(text, "{begin}{number} ")?;
-    push_reply(alloc, text, &messages[0])?;
-    text.push('\n')?;
+    push_line(
+        alloc,
+        text,
+        begin,
+        &[Said::Client(client), Said::Reply(&messages[0])],
+    )?;
     Ok(&messages[1..])
 }
 
@@ -42,8 +43,8 @@ fn push_message_of<'a>(
     ensures behind { IfOk result (λ behind. behind.now ≡ messages_behind fact.now messages.now) }
 {
     match fact {
-        Fact::Sent(client) => push_message(alloc, text, "# sent ", *client, messages),
-        Fact::Took(client) => push_message(alloc, text, "# took ", *client, messages),
+        Fact::Sent(client) => push_message(alloc, text, "# sent", *client, messages),
+        Fact::Took(client) => push_message(alloc, text, "# took", *client, messages),
         _ => Ok(messages),
     }
 }

@@ -10,8 +10,7 @@ use Rattle.lease_facts.specs.declared.fact.Fact.TheVariants as fact
 use Rattle.lease_facts.specs.declared.fact.FactKind.{FactKind}
 use Rattle.lease_facts.specs.declared.fact.FactKind.TheVariants as kind
 use Rattle.lease_facts.specs.Facts.{client_deed, client_of, kind_of}
-use Rattle.lease_texts.specs.Records.{digits_word, outcome_word}
-use Rattle.lease_texts.specs.Words.{state_word}
+use Rattle.lease_texts.specs.Words.{digits_word, outcome_word, state_word}
 
 -- bytes as digits, at most 64 of them, and then how many there are
 unfoldable pub shown_bytes : List ℕ → List ℕ

@@ -1,6 +1,5 @@
 ghost use Rattle.std.specs.Prelude.{◌≡◌, ◌++◌, OnOk, ◌≤◌, length, take};
 ghost use Rattle.std.specs.String.{string_bytes};
-ghost use Rattle.lease_texts.specs.Records.{outcome_word};
 ghost use Rattle.reason_texts.specs.FactWords.{shown_bytes, shown_patch, changed_words, wrote_words, started_words, read_words};
 ghost use Rattle.reason_texts.specs.FactWords.{way_words, deed_words, fact_words};
 ghost use Rattle.lease_facts.specs.declared.fact.Fact.TheVariants as fact;
@@ -8,7 +7,7 @@ ghost use Rattle.lease_facts.specs.declared.fact.Fact.TheVariants as fact;
 use lease_client::Settlement;
 use lease_facts::{Fact, FactKind};
 use lease_state::{ClientNo, Patch};
-use lease_texts::{digits_of, state_letters};
+use lease_texts::{digits_of, outcome_word, state_letters};
 use std::alloc::{AllocError, Global};
 
 /// Adds words as they stand.
@@ -47,17 +46,6 @@ fn push_patch(alloc: Global, text: &mut String, patch: &Patch) -> Result<(), All
     push_bytes(alloc, text, patch.bytes.as_slice())?;
     let offset = patch.offset;
     write!(text, " at {offset}")
-}
-
-fn outcome_word(outcome: Settlement) -> &'static str
-    ensures { result.now ≡ outcome_word outcome }
-{
-    match outcome {
-        Settlement::Done => "done",
-        Settlement::Failed => "failed",
-        Settlement::Unknown => "unknown",
-        Settlement::Lost => "lost",
-    }
 }
 
 fn way_words(buffered: bool) -> &'static str

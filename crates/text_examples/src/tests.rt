@@ -1,8 +1,11 @@
 use lease_client::{Command, Settlement, SharedBytes};
-use lease_state::{Access, Bytes, ClientNo, FileId, FileNo, LeaseState, Patch, Request, Share};
+use lease_state::{
+    Access, Bytes, ClientNo, FileId, FileNo, LeaseState, Patch, Reply, Request, Share, Status,
+};
 use lease_texts::{
-    Complaint, LineFault, fact_complaint, part_complaint, push_complaint, push_event, push_fact,
-    push_quoted, push_setup, read_fact, read_schedule,
+    Arrival, Complaint, Field, Fields, LineFault, Part, Said, Table, complaint_about, outcome_word,
+    push_complaint, push_event, push_fact, push_line, push_quoted, push_setup, read_arrival,
+    read_fact, read_part, read_schedule,
 };
 use lease_world::{Event, Fact};
 use std::alloc::Global;
@@ -225,20 +228,23 @@ fn said(alloc: Global, complaint: Option<Complaint<'_>>) -> Result<String, Fail>
 #[test]
 fn refused_facts_are_complained_of(rt: HostRuntime) -> Result<(), Fail> {
     let alloc = rt.alloc();
-    let state = said(alloc, fact_complaint(alloc, b"believes 1 1 HR")?)?;
+    let state = said(
+        alloc,
+        complaint_about(alloc, Table::Facts, b"believes 1 1 HR")?,
+    )?;
     let wanted = "field 4: a state, which is none or letters of RWH in that order; it is \"HR\"";
     assert_eq!(rt; state.as_str(), wanted);
-    let short = said(alloc, fact_complaint(alloc, b"settled 1 7")?)?;
+    let short = said(alloc, complaint_about(alloc, Table::Facts, b"settled 1 7")?)?;
     let wanted =
         "field 4: an outcome, which is done, failed, unknown or lost; the line ends before it";
     assert_eq!(rt; short.as_str(), wanted);
-    let long = said(alloc, fact_complaint(alloc, b"sent 1 ")?)?;
+    let long = said(alloc, complaint_about(alloc, Table::Facts, b"sent 1 ")?)?;
     assert_eq!(rt;
         long.as_str(),
         "field 3: the line's end; the line ends with a space"
     );
     assert_eq!(rt;
-        said(alloc, fact_complaint(alloc, b"sent 1")?)?.as_str(),
+        said(alloc, complaint_about(alloc, Table::Facts, b"sent 1")?)?.as_str(),
         ""
     );
     Ok(())
@@ -247,13 +253,16 @@ fn refused_facts_are_complained_of(rt: HostRuntime) -> Result<(), Fail> {
 #[test]
 fn refused_parts_are_complained_of(rt: HostRuntime) -> Result<(), Fail> {
     let alloc = rt.alloc();
-    let word = said(alloc, part_complaint(alloc, b"open 1 1 r r none always")?)?;
+    let word = said(
+        alloc,
+        complaint_about(alloc, Table::Parts, b"open 1 1 r r none always")?,
+    )?;
     let wanted = "field 7: the word durable or the line's end; it is \"always\"";
     assert_eq!(rt; word.as_str(), wanted);
-    let asked = said(alloc, part_complaint(alloc, b"raw 1 ask")?)?;
+    let asked = said(alloc, complaint_about(alloc, Table::Parts, b"raw 1 ask")?)?;
     let wanted = "field 3: a request, which is create, read, close, write or ack; it is \"ask\"";
     assert_eq!(rt; asked.as_str(), wanted);
-    let open = part_complaint(alloc, b"open 1 1 r r none")?;
+    let open = complaint_about(alloc, Table::Parts, b"open 1 1 r r none")?;
     assert_eq!(rt; said(alloc, open)?.as_str(), "");
     Ok(())
 }
@@ -264,5 +273,65 @@ fn bytes_are_quoted(rt: HostRuntime) -> Result<(), Fail> {
     let mut text = String::new(alloc);
     push_quoted(alloc, &mut text, b"a\"\\\xff\n")?;
     assert_eq!(rt; text.as_str(), "\"a\\x22\\x5c\\xff\\x0a\"");
+    Ok(())
+}
+
+#[test]
+fn a_line_is_written_field_by_field(rt: HostRuntime) -> Result<(), Fail> {
+    let alloc = rt.alloc();
+    let mut text = String::new(alloc);
+    let told = Reply::CreateFailed {
+        file: FileNo(2),
+        status: Status::SharingViolation,
+    };
+    push_line(
+        alloc,
+        &mut text,
+        "sent",
+        &[Said::Client(ClientNo(1)), Said::Reply(&told)],
+    )?;
+    assert_eq!(rt;
+        text.as_str(),
+        "sent 1 createfailed 2 STATUS_SHARING_VIOLATION\n"
+    );
+    assert_eq!(rt; outcome_word(Settlement::Lost), "lost");
+    Ok(())
+}
+
+#[test]
+fn one_line_is_read(rt: HostRuntime) -> Result<(), Fail> {
+    let alloc = rt.alloc();
+    let Ok(Part::Happens(event)) = read_part(alloc, b"cut 2") else {
+        return Err("no event")?;
+    };
+    assert!(&rt; event == Event::Cut(ClientNo(2)));
+    let wanted = Arrival {
+        reply: Reply::CloseFailed {
+            fid: FileId(4),
+            status: Status::Unsuccessful,
+        },
+        other: Some(0xC000_0011),
+    };
+    let arrival = read_arrival(alloc, &mut Fields::of(b"closefailed 4 c0000011"));
+    assert!(&rt; arrival == Ok(wanted));
+    Ok(())
+}
+
+#[test]
+fn tables_have_the_lines_of_their_kinds(rt: HostRuntime) -> Result<(), Fail> {
+    let rows = Table::Requests.rows();
+    assert_eq!(rt; rows.len(), 5);
+    assert_eq!(rt; rows[1].0, "read");
+    assert_eq!(rt; rows[1].1, [Field::FileId].as_slice());
+    Ok(())
+}
+
+#[test]
+fn the_laws_of_lines_do_nothing(_rt: HostRuntime) -> Result<(), Fail> {
+    lease_texts::lines_tell_facts();
+    lease_texts::lines_tell_parts();
+    lease_texts::lines_are_read_back();
+    lease_texts::records_are_read_back();
+    lease_texts::schedules_are_read_back();
     Ok(())
 }

@@ -1,15 +1,3 @@
-pub mod Bytes
-pub mod Numbers
-pub mod Spoken
-pub mod Lines
-pub mod Texts
 pub mod Named
 pub mod Joined
 pub mod Runs
-pub mod Parts
-pub mod Schedules
-pub mod Grammar
-pub mod FactKinds
-pub mod Either
-pub mod PartKinds
-pub mod Apart

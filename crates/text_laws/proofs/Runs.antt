@@ -1,12 +1,13 @@
 -- The record of a run can be written as lines, and is read back as a record that is safe.
-use Rattle.lease_laws.proofs.Words.{◌&&◌, ◌++◌, ◌+◌, ◌==◌, ◌∙◌, ◌∷◌, ◌≡◌, ◌≤◌, Bool, EachFact, Event, List, Ok, Safe, Setup}
-use Rattle.lease_laws.proofs.Words.{State, Verdict, WellFormed, ℕ, ⊎_elim, [], after, ap, append-nil, append_assoc, arith, codes}
+use Rattle.lease_laws.proofs.Words.{◌&&◌, ◌++◌, ◌+◌, ◌<◌, ◌==◌, ◌∙◌, ◌∷◌, ◌≡◌, ◌≤◌, Bool, EachFact, Event, List, Ok, Safe, Setup}
+use Rattle.lease_laws.proofs.Words.{State, Verdict, WellFormed, ℕ, ⊎_elim, [], after, ap, append-nil, append_assoc, arith, codes, decimal}
 use Rattle.lease_laws.proofs.Words.{eqb-true, first_world, has_joined, is_allowed_setup, is_content, is_started, is_well_formed}
 use Rattle.lease_laws.proofs.Words.{length, list_all, map, nat_le, nat_tests, refl, reverse-reverse, reverse_aux, subst, sym}
 use Rattle.lease_laws.proofs.Words.{true, verdict}
 use Rattle.lease_model.specs.records.Facts as model
 use Rattle.lease_model.specs.world.Events.{recorded}
-use Rattle.lease_state.specs.State.{state_of_bits, bits_of_state}
+use Rattle.lease_state.specs.State.{bits_of_state, state_of, state_of_bits}
+use Rattle.lease_state.specs.declared.state.LeaseState.{LeaseState}
 use Rattle.lease_laws.proofs.records.VerdictLemmas.{safe-verdict}
 use Rattle.lease_laws.proofs.server.Lists.{and_parts, and_both, or_true}
 use Rattle.lease_coherence.specs.Parts.{EveryRunIsSafe}
@@ -14,14 +15,17 @@ use Rattle.lease_coherence.proofs.wellformed.WellFormed.{runs_are_well_formed}
 use Rattle.lease_facts.specs.Facts.{client_about, fact_of}
 use Rattle.lease_facts.specs.declared.fact.Fact.{Fact}
 use Rattle.lease_facts.specs.declared.fact.Fact.TheVariants as fact
+use Rattle.lease_texts.specs.Lines.{line_text}
 use Rattle.lease_texts.specs.Pieces.{pieces, longer, lines_of}
 use Rattle.lease_texts.specs.Reading.{reads_on}
-use Rattle.lease_texts.specs.Records.{with_line, record_text, record_in}
-use Rattle.text_laws.specs.Told.{CanBeNamed, Each, as_lettered}
+use Rattle.lease_texts.specs.Records.{fact_line, with_line, record_text, record_in}
+use Rattle.lease_texts.specs.Laws.{CanBeTold}
+use Rattle.lease_texts.specs.Tables.{Each}
+use Rattle.lease_texts.specs.Words.{state_word}
+use Rattle.lease_texts.proofs.Texts.{records_go_on}
 use Rattle.text_laws.specs.Runs.{IsTyped, AreOfRun, RunsAreReadBack, RunsAreJudgedSafe, ReplaysAreJudgedSafe}
 use Rattle.text_laws.proofs.Joined.{is_joined, Joined, run_joined}
 use Rattle.text_laws.proofs.Named.{is_named, is_numbered, run_named}
-use Rattle.text_laws.proofs.Texts.{reads_all}
 
 -- ---- clients and files of a run's facts are numbered from 1
 
@@ -104,22 +108,47 @@ at_least n e = grind (arith, nat_tests, e)
 fits : (bytes : List ℕ) → is_content bytes ≡ true → length bytes ≤ 1048576
 fits bytes e = grind (arith, nat_tests, e)
 
-can_be_named : (told : Fact) → is_placed (fact_of told) ≡ true → IsTyped told → CanBeNamed told
-unfolding is_placed
-can_be_named told is typed = grind arith
+-- A line tells no bits of a state but those with a letter.
+abbrev lettered : LeaseState → LeaseState
+lettered state = record { 0 = bits_of_state (state_of state) }
 
-all_can : (facts : List Fact) → list_all is_placed (map fact_of facts) ≡ true → Each IsTyped facts → Each CanBeNamed facts
+abbrev as_lettered : Fact → Fact
+as_lettered (fact.Believes client file state) = fact.Believes client file (lettered state)
+as_lettered other = other
+
+few_letters : (read write handle : Bool) → bits_of_state (record { read = read; write = write; handle = handle }) < 8
+few_letters read write handle = grind arith
+
+can_be_told : (told : Fact) → is_placed (fact_of told) ≡ true → IsTyped told → CanBeTold (as_lettered told)
+unfolding is_placed
+can_be_told (fact.Start file bytes) is (small, (are, _)) =
+    let parts = and_parts (nat_le 1 file.0) (is_content bytes) is in
+    ((at_least file.0 parts.0, small), ((are, fits bytes parts.1), tt))
+can_be_told (fact.Believes client file state) is (small, (fit, _)) =
+    let parts = and_parts (nat_le 1 client.0) (nat_le 1 file.0) is in
+    let letters = state_of state in (
+      (at_least client.0 parts.0, small),
+      (
+        (at_least file.0 parts.1, fit),
+        (few_letters letters.read letters.write letters.handle, tt),
+      ),
+    )
+can_be_told told is typed = grind arith
+
+all_can : (facts : List Fact) → list_all is_placed (map fact_of facts) ≡ true → Each IsTyped facts
+    → Each CanBeTold (map as_lettered facts)
 all_can [] all typed = tt
 all_can (told ∷ facts) all typed =
     let parts = and_parts (is_placed (fact_of told)) (list_all is_placed (map fact_of facts)) all in
-    (can_be_named told parts.0 typed.0, all_can facts parts.1 typed.1)
+    (can_be_told told parts.0 typed.0, all_can facts parts.1 typed.1)
 
-run_can : (setup : Setup) (events : List Event) (facts : List Fact) → AreOfRun setup events facts → Each CanBeNamed facts
+run_can : (setup : Setup) (events : List Event) (facts : List Fact) → AreOfRun setup events facts
+    → Each CanBeTold (map as_lettered facts)
 run_can setup events facts of =
     all_can facts (ap (λ (all : List model.Fact). list_all is_placed all) of.are_recorded ∙ run_placed setup events of.is_allowed)
     of.are_typed
 
--- ---- and what is read has the same states
+-- ---- and what is read has the same states, and the same lines
 
 letters_same : (read write handle : Bool)
     → state_of_bits (bits_of_state (record { read = read; write = write; handle = handle })) ≡ record {
@@ -129,24 +158,44 @@ letters_same : (read write handle : Bool)
     }
 letters_same read write handle = grind arith
 
+same_state : (state : LeaseState) → state_of (lettered state) ≡ state_of state
+same_state state = let s = state_of state in letters_same s.read s.write s.handle
+
 same_fact : (told : Fact) → fact_of (as_lettered told) ≡ fact_of told
 same_fact (fact.Believes client file state) =
-    let s = state_of_bits state.0 in
-    ap (λ (same : State). model.Fact.Believes client.0 file.0 same) (letters_same s.read s.write s.handle)
+    ap (λ (same : State). model.Fact.Believes client.0 file.0 same) (same_state state)
 same_fact told = refl
 
 same_facts : (facts : List Fact) → map fact_of (map as_lettered facts) ≡ map fact_of facts
 same_facts [] = refl
 same_facts (told ∷ facts) = rw (same_fact told, same_facts facts) refl
 
+same_line : (told : Fact) → fact_line (as_lettered told) ≡ fact_line told
+unfolding line_text
+same_line (fact.Believes client file state) = ap (λ (same : State). codes "believes"
+    ++ (32 ∷ decimal client.0 ++ ((32 ∷ decimal file.0) ++ ((32 ∷ state_word same) ++ []))) ++ 10 ∷ []) (same_state state)
+same_line told = refl
+
+same_text : (facts : List Fact) → record_text (map as_lettered facts) ≡ record_text facts
+same_text [] = refl
+same_text (told ∷ facts) = ap (λ (line : List ℕ). line ++ record_text (map as_lettered facts)) (same_line told)
+    ∙ ap (λ (text : List ℕ). fact_line told ++ text) (same_text facts)
+
 -- ---- the laws
+
+-- the record of a run is read with what stands behind it
+run_read : (setup : Setup) (events : List Event) (facts : List Fact) → AreOfRun setup events facts → (rest : List ℕ)
+    → record_in (record_text facts ++ rest)
+    ≡ reads_on with_line (1 + length (map as_lettered facts)) (map as_lettered facts) (lines_of rest)
+run_read setup events facts of rest =
+    ap (λ (text : List ℕ). record_in (text ++ rest)) (sym (same_text facts))
+    ∙ records_go_on [] (map as_lettered facts) (run_can setup events facts of) 1 rest
 
 pub runs_back : RunsAreReadBack
 unfolding reads_on pieces
 runs_back setup events facts of = (
   map as_lettered facts,
-  ap (λ (text : List ℕ). record_in text) (sym (append-nil (record_text facts)))
-      ∙ reads_all [] facts (run_can setup events facts of) 1 [],
+  ap (λ (text : List ℕ). record_in text) (sym (append-nil (record_text facts))) ∙ run_read setup events facts of [],
   same_facts facts ∙ of.are_recorded,
 )
 
@@ -173,7 +222,7 @@ pub replays_safe : EveryRunIsSafe → ReplaysAreJudgedSafe
 replays_safe safe setup events facts of = (
   map as_lettered facts,
   ap (λ (text : List ℕ). record_in text) (append_assoc (record_text facts) (codes "# safe") (10 ∷ []))
-      ∙ reads_all [] facts (run_can setup events facts of) 1 (codes "# safe" ++ 10 ∷ [])
-      ∙ passed_over (1 + length facts) (map as_lettered facts),
+      ∙ run_read setup events facts of (codes "# safe" ++ 10 ∷ [])
+      ∙ passed_over (1 + length (map as_lettered facts)) (map as_lettered facts),
   safe_record setup events facts of (safe setup events of.is_allowed),
 )

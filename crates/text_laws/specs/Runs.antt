@@ -1,32 +1,30 @@
 -- Records of runs as texts: what a run is printed as is read as its record, and judged to be safe.
-use Rattle.std.specs.Prelude.{◌≡◌, ◌++◌, ◌<◌, ◌^◌, ⊤, ℕ, Option, None, Some, true, map, List, [], ◌∷◌, codes, Ok}
+use Rattle.std.specs.Prelude.{◌≡◌, ◌++◌, ◌<◌, ◌^◌, ⊤, ℕ, true, map, List, [], ◌∷◌, codes, Ok}
 use Rattle.hex.specs.Hex.{IsBytes}
 use Rattle.lease_model.specs.records.Verdict.{Verdict, verdict}
 use Rattle.lease_model.specs.world.Allowed.{is_allowed_setup}
 use Rattle.lease_model.specs.world.Events.{Event, recorded}
 use Rattle.lease_model.specs.world.World.{Setup}
-use Rattle.lease_state.specs.declared.number.ClientNo.{ClientNo}
-use Rattle.lease_facts.specs.Facts.{client_of, fact_of}
+use Rattle.lease_facts.specs.Facts.{fact_of}
 use Rattle.lease_facts.specs.declared.fact.Fact.{Fact}
-use Rattle.lease_facts.specs.declared.fact.Fact.TheVariants as fact
-use Rattle.lease_texts.specs.Records.{record_text, record_in}
-use Rattle.text_laws.specs.Told.{Each, IsPatch}
-
-abbrev pub IsTypedClient : Option ClientNo → Type 0
-IsTypedClient None = ⊤
-IsTypedClient (Some client) = client.0 < 256
+use Rattle.lease_texts.specs.Kinds.{Value}
+use Rattle.lease_texts.specs.Records.{fact_said, record_text, record_in}
+use Rattle.lease_texts.specs.Tables.{Each}
+use Rattle.lease_texts.specs.declared.kinds.Field.{Field}
+use Rattle.lease_texts.specs.declared.kinds.Field.TheVariants as field
 
 -- What the types of a fact's parts give: clients and files are numbers of 8 bits, numbers of writes have 64, offsets 32, bytes 8.
+abbrev pub HasType : (field : Field) → Value field → Type 0
+HasType field.Client client = client.0 < 256
+HasType field.File file = file.0 < 256
+HasType field.Number number = number < 2 ^ 64
+HasType field.Offset offset = offset < 2 ^ 32
+HasType field.Bytes bytes = IsBytes bytes
+HasType field.Content bytes = IsBytes bytes
+HasType other value = ⊤
+
 abbrev pub IsTyped : Fact → Type 0
-IsTyped (fact.Start file bytes) = (file.0 < 256) × IsBytes bytes
-IsTyped (fact.Expired client file) = (client.0 < 256) × (file.0 < 256)
-IsTyped (fact.Opened file client) = (file.0 < 256) × (client.0 < 256)
-IsTyped (fact.Changed file client number patch) = (file.0 < 256) × (client.0 < 256) × (number < 2 ^ 64) × IsPatch patch
-IsTyped (fact.Wrote client file number patch buffered) = (client.0 < 256) × (file.0 < 256) × (number < 2 ^ 64) × IsPatch patch
-IsTyped (fact.Settled client number outcome) = (client.0 < 256) × (number < 2 ^ 64)
-IsTyped (fact.Believes client file state) = (client.0 < 256) × (file.0 < 256)
-IsTyped (fact.CachedRead client file bytes) = (client.0 < 256) × (file.0 < 256) × IsBytes bytes
-IsTyped other = IsTypedClient (client_of other)
+IsTyped told = Each (λ one. HasType one.field one.value) (fact_said told).spoken
 
 -- These facts are the record of the run of this setup by these events.
 pub record AreOfRun (setup : Setup) (events : List Event) (facts : List Fact) : Type 0 where

@@ -1,8 +1,7 @@
 ghost use Rattle.hex.specs.Hex.{IsBytes};
 ghost use Rattle.std.specs.Prelude.{◌<◌, ◌^◌};
-ghost use Rattle.lease_facts.specs.Facts.{client_of};
-ghost use Rattle.text_laws.specs.Runs.{IsTyped, IsTypedClient};
-ghost use Rattle.text_laws.specs.Told.{Each, IsPatch};
+ghost use Rattle.lease_texts.specs.Tables.{Each};
+ghost use Rattle.text_laws.specs.Runs.{IsTyped};
 
 use lease_state::{Bytes, ClientNo, FileNo, Patch};
 use lease_world::Fact;
@@ -18,7 +17,8 @@ fn bytes_are_typed(bytes: &Bytes)
 }
 
 fn patch_is_typed(patch: &Patch)
-    ensures { IsPatch patch.now }
+    ensures offset { patch.now.offset < 2 ^ 32 }
+    ensures bytes { IsBytes patch.now.bytes }
 {
     let _offset = patch.offset;
     bytes_are_typed(&patch.bytes);
@@ -27,20 +27,6 @@ fn patch_is_typed(patch: &Patch)
 fn client_is_typed(client: ClientNo)
     ensures { client.0 < 256 }
 {}
-
-fn any_client_is_typed(client: Option<ClientNo>)
-    ensures { IsTypedClient client }
-{
-    if let Some(client) = client {
-        client_is_typed(client);
-    }
-}
-
-fn told_client_is_typed(fact: &Fact)
-    ensures { IsTypedClient (client_of fact.now) }
-{
-    any_client_is_typed(fact.client());
-}
 
 fn file_is_typed(file: FileNo)
     ensures { file.0 < 256 }
@@ -58,30 +44,24 @@ fn fact_is_typed(fact: &Fact)
             file_is_typed(*file);
             bytes_are_typed(bytes);
         }
-        Fact::Expired(client, file) => {
+        Fact::Joined(client)
+        | Fact::Dropped(client)
+        | Fact::Sent(client)
+        | Fact::Took(client)
+        | Fact::Strayed(client) => client_is_typed(*client),
+        Fact::Expired(client, file)
+        | Fact::Opened(file, client)
+        | Fact::Believes(client, file, _) => {
             client_is_typed(*client);
             file_is_typed(*file);
         }
-        Fact::Believes(client, file, _) => {
-            client_is_typed(*client);
-            file_is_typed(*file);
-        }
-        Fact::Opened(file, client) => {
-            file_is_typed(*file);
-            client_is_typed(*client);
-        }
-        Fact::Changed(file, client, number, patch) => {
-            file_is_typed(*file);
-            client_is_typed(*client);
-            number_is_typed(*number);
-            patch_is_typed(patch);
-        }
-        Fact::Wrote(client, file, number, patch, _) => {
-            client_is_typed(*client);
-            file_is_typed(*file);
-            number_is_typed(*number);
-            patch_is_typed(patch);
-        }
+        Fact::Changed(file, client, number, patch) | Fact::Wrote(client, file, number, patch, _) =>
+            {
+                file_is_typed(*file);
+                client_is_typed(*client);
+                number_is_typed(*number);
+                patch_is_typed(patch);
+            }
         Fact::Settled(client, number, _) => {
             client_is_typed(*client);
             number_is_typed(*number);
@@ -91,7 +71,6 @@ fn fact_is_typed(fact: &Fact)
             file_is_typed(*file);
             are_bytes(bytes.as_slice());
         }
-        _ => told_client_is_typed(fact),
     }
 }
 

@@ -1,91 +1,118 @@
-ghost use Rattle.std.specs.Prelude.{◌≡◌};
+ghost use Rattle.std.specs.Prelude.{◌≡◌, ◌++◌, OnOk, map};
+ghost use Rattle.std.specs.String.{string_bytes};
+ghost use Rattle.lease_texts.specs.Complaints.{expected_words, field_words, listed, row_of, table_word, table_words};
 
-use lease_facts::{ClientEvent, FactKind};
-use std::fmt;
+use crate::kinds::{Field, Row, Table};
+use std::alloc::AllocError;
 
-/// What a field of a line is to hold.
+/// What is expected in a field of a line.
 #[derive(Clone, Copy, Debug, PartialEq, Eq)]
 pub enum Expected {
-    /// The word that a line of a record begins with.
-    FactKind,
-    /// The word that a line of a schedule begins with.
-    PartKind,
-    /// The word that says what is asked in a client's name.
-    Request,
-    Client,
-    File,
-    FileId,
-    Number,
-    Offset,
-    Bytes,
-    /// The first bytes of a file.
-    Content,
-    State,
-    Access,
-    Share,
-    Way,
-    Outcome,
-    Guid,
-    /// An acknowledgment's bytes.
-    Message,
-    /// The word after a durable open, which others lack.
-    Durable,
+    /// The word of a kind in a table.
+    Names(Table),
+    /// What the field holds.
+    Holds(Field),
     /// No more.
     End,
 }
 
-impl Expected {
-    ghost use Rattle.lease_texts.specs.Complaints.{expected_begin, expected_list};
-
-    fn begin(self) -> &'static str
-        ensures { result.now ≡ expected_begin self }
-    {
-        match self {
-            Expected::FactKind => "a kind of fact, which is ",
-            Expected::PartKind => "a kind of line, which is ",
-            Expected::Request => "a request, which is create, read, close, write or ack",
-            Expected::Client => "a client, which is a number from 1 to 255 without leading zeros",
-            Expected::File => "a file, which is a number from 1 to 255 without leading zeros",
-            Expected::FileId =>
-                "a FileId, which is a number of at most 64 bits without leading zeros",
-            Expected::Number => "the number of a write, of at most 64 bits without leading zeros",
-            Expected::Offset =>
-                "an offset, which is a number of at most 32 bits without leading zeros",
-            Expected::Bytes => "bytes, of two hexadecimal digits each, or - for none",
-            Expected::Content =>
-                "at most 1048576 bytes, of two hexadecimal digits each, or - for none",
-            Expected::State => "a state, which is none or letters of RWH in that order",
-            Expected::Access => "an access, which is r, w or rw",
-            Expected::Share => "what is shared, which is -, r, w or rw",
-            Expected::Way => "the way of a write, which is buffered or through",
-            Expected::Outcome => "an outcome, which is done, failed, unknown or lost",
-            Expected::Guid => "a GUID of 32 hexadecimal digits, hyphenated, in braces or as a URN",
-            Expected::Message => "an acknowledgment of 36 bytes, which are 72 hexadecimal digits",
-            Expected::Durable => "the word durable or the line's end",
-            Expected::End => "the line's end",
+// The names of rows, with the last behind "or".
+#[tactic(auto, unfolding(crate::specs::Complaints::listed))]
+fn push_listed(text: &mut String, rows: &[Row]) -> Result<(), AllocError>
+    ensures { OnOk result (string_bytes text.new
+        ≡ string_bytes text.old ++ listed (map (λ row. row.name) (map row_of rows.now))) }
+{
+    match rows {
+        [] => Ok(()),
+        [one] => text.push_str(one.0),
+        [one, last] => {
+            text.push_str(one.0)?;
+            text.push_str(" or ")?;
+            text.push_str(last.0)
         }
-    }
-
-    // The words of the kinds that are expected, where a kind is.
-    fn list(self) -> &'static str
-        ensures { result.now ≡ expected_list self }
-    {
-        match self {
-            Expected::FactKind => FactKind::listed(),
-            Expected::PartKind => ClientEvent::listed(),
-            _ => "",
+        [one, rest @ ..] => {
+            text.push_str(one.0)?;
+            text.push_str(", ")?;
+            push_listed(text, rest)
         }
     }
 }
 
-impl fmt::Display for Expected {
-    ghost use Rattle.std.specs.Prelude.{Some};
-    ghost use Rattle.lease_texts.specs.Complaints.{expected_words};
+fn table_word(table: Table) -> &'static str
+    ensures { result.now ≡ table_word table }
+{
+    match table {
+        Table::Facts => "a kind of fact",
+        Table::Parts => "a kind of line",
+        Table::Requests => "a request",
+        Table::Replies => "a message of the server",
+    }
+}
 
-    ghost output = { λ expected. Some (expected_words expected) };
+fn push_table(text: &mut String, table: Table) -> Result<(), AllocError>
+    ensures { OnOk result (string_bytes text.new ≡ string_bytes text.old ++ table_words table) }
+{
+    text.push_str(table_word(table))?;
+    text.push_str(", which is ")?;
+    push_listed(text, table.rows())
+}
 
-    fn fmt<W: fmt::Write>(&self, f: &mut fmt::Formatter<W>) -> fmt::Result {
-        f.write_str(self.begin())?;
-        f.write_str(self.list())
+fn push_held(text: &mut String, field: Field) -> Result<(), AllocError>
+    ensures { OnOk result (string_bytes text.new ≡ string_bytes text.old ++ field_words field) }
+{
+    match field {
+        Field::Client => text.push_str(
+            "a client, which is a number from 1 to 255 without leading zeros",
+        ),
+        Field::File => text.push_str(
+            "a file, which is a number from 1 to 255 without leading zeros",
+        ),
+        Field::FileId => text.push_str(
+            "a FileId, which is a number of at most 64 bits without leading zeros",
+        ),
+        Field::Number => text.push_str(
+            "the number of a write, of at most 64 bits without leading zeros",
+        ),
+        Field::Offset => text.push_str(
+            "an offset, which is a number of at most 32 bits without leading zeros",
+        ),
+        Field::Bytes => text.push_str("bytes, of two hexadecimal digits each, or - for none"),
+        Field::Content => text.push_str(
+            "at most 1048576 bytes, of two hexadecimal digits each, or - for none",
+        ),
+        Field::State => text.push_str("a state, which is none or letters of RWH in that order"),
+        Field::Access => text.push_str("an access, which is r, w or rw"),
+        Field::Share => text.push_str("what is shared, which is -, r, w or rw"),
+        Field::Way => text.push_str("the way of a write, which is buffered or through"),
+        Field::Outcome => text.push_str("an outcome, which is done, failed, unknown or lost"),
+        Field::Guid => text.push_str(
+            "a GUID of 32 hexadecimal digits, hyphenated, in braces or as a URN",
+        ),
+        Field::Message => text.push_str(
+            "an acknowledgment of 36 bytes, which are 72 hexadecimal digits",
+        ),
+        Field::Durable => text.push_str("the word durable or the line's end"),
+        Field::Key => text.push_str("a lease key of 16 bytes, which are 32 hexadecimal digits"),
+        Field::Notification => {
+            text.push_str("a notification of 44 bytes, which are 88 hexadecimal digits")
+        }
+        Field::Status => text.push_str(
+            "a status, which is a name that begins with STATUS_ or 8 hexadecimal digits",
+        ),
+        Field::Request => push_table(text, Table::Requests),
+        Field::Reply => push_table(text, Table::Replies),
+    }
+}
+
+impl Expected {
+    /// Adds what is expected, in words.
+    pub(crate) fn push(self, text: &mut String) -> Result<(), AllocError>
+        ensures { OnOk result (string_bytes text.new ≡ string_bytes text.old ++ expected_words self) }
+    {
+        match self {
+            Expected::Names(table) => push_table(text, table),
+            Expected::Holds(field) => push_held(text, field),
+            Expected::End => text.push_str("the line's end"),
+        }
     }
 }

@@ -1,17 +1,19 @@
-ghost use Rattle.std.specs.Prelude.{◌≡◌, IfOk, is_some};
+ghost use Rattle.std.specs.Prelude.{◌≡◌, ◌+◌, IfOk, MatchResult, is_some, true, false};
 ghost use Rattle.std.specs.Option.{option_map};
-ghost use Rattle.lease_texts.specs.Fields.{ordinal_in, offset_in, bytes_in, content_in};
-ghost use Rattle.lease_texts.specs.Pieces.{fields_of};
 ghost use Rattle.lease_texts.specs.Complaints as complaints;
-ghost use Rattle.lease_texts.specs.Complaining.{complaint_of};
+ghost use Rattle.lease_texts.specs.Complaints.{complaint_of, rows_in};
 
 use crate::complaints::Expected;
 use crate::fault::LineFault;
-use crate::fields::{Fields, access_named, bytes_of, number, share_named, state_named};
-use crate::records::{outcome_named, way_named};
-use crate::schedules::{guid_of, message_of};
-use lease_facts::{ClientEvent, ClientFact, is};
-use lease_state::FILE_LIMIT;
+use crate::fields::Fields;
+use crate::kinds::{Field, Table};
+use crate::status::status_in;
+use crate::words::{
+    access_in, bytes_in, content_in, guid_in, key_in, message_in, notification_in, number_in,
+    offset_in, ordinal_in, outcome_in, share_in, state_in, way_in,
+};
+use lease_facts::is;
+use lease_state::Bytes;
 use std::alloc::Global;
 
 /// What is wrong with a line: the first field that holds something else than was expected there.
@@ -26,255 +28,106 @@ pub struct Complaint<'a> {
     pub is_last: bool,
 }
 
-// ---- the table
-
-// The fields after the word for a kind of fact of more than a client.
+// The fields after the word of a kind in a table.
 #[tactic(auto, unfolding(crate::specs::Complaints::fields_behind))]
-fn other_fact_fields(word: &[u8]) -> Option<&'static [Expected]>
-    ensures { option_map (λ fields. fields.now) result ≡ complaints.fields_behind complaints.fact_rows word.now }
+fn fields_behind(table: Table, word: &[u8]) -> Option<&'static [Field]>
+    ensures { option_map (λ fields. fields.now) result ≡ complaints.fields_behind (rows_in table) word.now }
 {
-    if is(word, b"changed") {
-        Some(&[
-            Expected::File,
-            Expected::Client,
-            Expected::Number,
-            Expected::Offset,
-            Expected::Bytes,
-        ])
-    } else if is(word, b"wrote") {
-        Some(&[
-            Expected::Client,
-            Expected::File,
-            Expected::Number,
-            Expected::Offset,
-            Expected::Bytes,
-            Expected::Way,
-        ])
-    } else if is(word, b"settled") {
-        Some(&[Expected::Client, Expected::Number, Expected::Outcome])
-    } else if is(word, b"believes") {
-        Some(&[Expected::Client, Expected::File, Expected::State])
-    } else if is(word, b"opened") {
-        Some(&[Expected::File, Expected::Client])
-    } else if is(word, b"cachedread") {
-        Some(&[Expected::Client, Expected::File, Expected::Bytes])
-    } else if is(word, b"expired") {
-        Some(&[Expected::Client, Expected::File])
-    } else if is(word, b"start") {
-        Some(&[Expected::File, Expected::Content])
-    } else {
-        None
+    for row in table.rows() {
+        if is(word, row.0.as_bytes()) {
+            return Some(row.1);
+        }
     }
+    None
 }
 
-// The fields after the word for a kind of fact.
-fn fact_fields(word: &[u8]) -> Option<&'static [Expected]>
-    ensures { option_map (λ fields. fields.now) result ≡ complaints.fact_fields word.now }
+fn is_read(read: Result<Bytes, LineFault>) -> Result<bool, LineFault>
+    ensures { IfOk result (λ fit. MatchResult read (λ _. fit ≡ true) (λ fault. (fault ≡ LineFault.Refused) × (fit ≡ false))) }
 {
-    match ClientFact::named(word) {
-        Some(_) => Some(&[Expected::Client]),
-        None => other_fact_fields(word),
-    }
-}
-
-// The same for a kind of line of a schedule, but for events of a client alone.
-#[tactic(auto, unfolding(crate::specs::Complaints::fields_behind))]
-fn other_part_fields(word: &[u8]) -> Option<&'static [Expected]>
-    ensures { option_map (λ fields. fields.now) result ≡ complaints.fields_behind complaints.part_rows word.now }
-{
-    if is(word, b"file") {
-        Some(&[Expected::Content])
-    } else if is(word, b"client") {
-        Some(&[Expected::Guid])
-    } else if is(word, b"write") {
-        Some(&[
-            Expected::Client,
-            Expected::File,
-            Expected::Offset,
-            Expected::Bytes,
-        ])
-    } else if is(word, b"read") {
-        Some(&[Expected::Client, Expected::File])
-    } else if is(word, b"open") {
-        Some(&[
-            Expected::Client,
-            Expected::File,
-            Expected::Access,
-            Expected::Share,
-            Expected::State,
-            Expected::Durable,
-        ])
-    } else if is(word, b"close") {
-        Some(&[Expected::Client, Expected::File])
-    } else if is(word, b"flush") {
-        Some(&[Expected::Client, Expected::File])
-    } else if is(word, b"expire") {
-        Some(&[Expected::Client, Expected::File])
-    } else if is(word, b"scavenge") {
-        Some(&[Expected::Client, Expected::File])
-    } else if is(word, b"raw") {
-        Some(&[Expected::Client, Expected::Request])
-    } else {
-        None
-    }
-}
-
-// The same for a kind of line of a schedule.
-fn part_fields(word: &[u8]) -> Option<&'static [Expected]>
-    ensures { option_map (λ fields. fields.now) result ≡ complaints.part_fields word.now }
-{
-    match ClientEvent::named(word) {
-        Some(_) => Some(&[Expected::Client]),
-        None => other_part_fields(word),
-    }
-}
-
-// The same for what is asked in a client's name.
-#[tactic(auto, unfolding(crate::specs::Complaints::fields_behind))]
-fn request_fields(word: &[u8]) -> Option<&'static [Expected]>
-    ensures { option_map (λ fields. fields.now) result ≡ complaints.fields_behind complaints.request_rows word.now }
-{
-    if is(word, b"create") {
-        Some(&[
-            Expected::File,
-            Expected::Access,
-            Expected::Share,
-            Expected::Bytes,
-        ])
-    } else if is(word, b"read") {
-        Some(&[Expected::FileId])
-    } else if is(word, b"write") {
-        Some(&[
-            Expected::FileId,
-            Expected::Number,
-            Expected::Offset,
-            Expected::Bytes,
-        ])
-    } else if is(word, b"close") {
-        Some(&[Expected::FileId])
-    } else if is(word, b"ack") {
-        Some(&[Expected::Message])
-    } else {
-        None
-    }
-}
-
-// ---- what fits a field
-
-fn is_ordinal(word: &[u8]) -> bool
-    ensures { result ≡ is_some (ordinal_in word.now) }
-{
-    match number(word) {
-        None => false,
-        Some(value) => if value == 0 { false } else { value < 256 },
-    }
-}
-
-fn is_offset(word: &[u8]) -> bool
-    ensures { result ≡ is_some (offset_in word.now) }
-{
-    match number(word) {
-        None => false,
-        Some(value) => value < 4_294_967_296,
-    }
-}
-
-fn are_bytes(alloc: Global, word: &[u8]) -> Result<bool, LineFault>
-    ensures { IfOk result (λ fit. fit ≡ is_some (bytes_in word.now)) }
-{
-    match bytes_of(alloc, word) {
+    match read {
         Ok(_) => Ok(true),
         Err(LineFault::Refused) => Ok(false),
         Err(LineFault::Memory) => Err(LineFault::Memory),
     }
 }
 
-fn is_content(alloc: Global, word: &[u8]) -> Result<bool, LineFault>
-    ensures { IfOk result (λ fit. fit ≡ is_some (content_in word.now)) }
+// Whether a word says a value of a field that takes one.
+fn does_say(alloc: Global, field: Field, word: &[u8]) -> Result<bool, LineFault>
+    ensures { IfOk result (λ fit. fit ≡ complaints.says field word.now) }
 {
-    match bytes_of(alloc, word) {
-        Ok(bytes) => Ok(bytes.len() <= FILE_LIMIT),
-        Err(LineFault::Refused) => Ok(false),
-        Err(LineFault::Memory) => Err(LineFault::Memory),
+    match field {
+        Field::Client | Field::File => Ok(ordinal_in(word).is_some()),
+        Field::FileId | Field::Number => Ok(number_in(word).is_some()),
+        Field::Offset => Ok(offset_in(word).is_some()),
+        Field::Bytes => is_read(bytes_in(alloc, word)),
+        Field::Content => is_read(content_in(alloc, word)),
+        Field::State => Ok(state_in(word).is_some()),
+        Field::Access => Ok(access_in(word).is_some()),
+        Field::Share => Ok(share_in(word).is_some()),
+        Field::Way => Ok(way_in(word).is_some()),
+        Field::Outcome => Ok(outcome_in(word).is_some()),
+        Field::Guid => Ok(guid_in(word).is_some()),
+        Field::Message => Ok(message_in(word).is_some()),
+        Field::Key => Ok(key_in(word).is_some()),
+        Field::Notification => Ok(notification_in(word).is_some()),
+        Field::Status => Ok(status_in(word).is_some()),
+        Field::Durable | Field::Request | Field::Reply => Ok(false),
     }
 }
 
-// Whether a word is one that the field may hold.
-fn does_fit(alloc: Global, expected: Expected, word: &[u8]) -> Result<bool, LineFault>
-    ensures { IfOk result (λ fit. fit ≡ complaints.fits expected word.now) }
+fn if_fits(fits: bool, rest: &'static [Field]) -> Option<&'static [Field]>
+    ensures { option_map (λ fields. fields.now) result ≡ complaints.if_fits fits rest.now }
 {
-    match expected {
-        Expected::FactKind | Expected::PartKind | Expected::Request | Expected::End => Ok(false),
-        Expected::Client | Expected::File => Ok(is_ordinal(word)),
-        Expected::FileId | Expected::Number => Ok(number(word).is_some()),
-        Expected::Offset => Ok(is_offset(word)),
-        Expected::Bytes => are_bytes(alloc, word),
-        Expected::Content => is_content(alloc, word),
-        Expected::State => Ok(state_named(word).is_some()),
-        Expected::Access => Ok(access_named(word).is_some()),
-        Expected::Share => Ok(share_named(word).is_some()),
-        Expected::Way => Ok(way_named(word).is_some()),
-        Expected::Outcome => Ok(outcome_named(word).is_some()),
-        Expected::Guid => Ok(guid_of(word).is_some()),
-        Expected::Message => Ok(message_of(word).is_some()),
-        Expected::Durable => Ok(is(word, b"durable")),
-    }
+    if fits { Some(rest) } else { None }
 }
 
 // The fields that are expected after a word, where the word is one that was expected.
 fn behind(
     alloc: Global,
-    expected: Expected,
+    field: Field,
     word: &[u8],
-    rest: &'static [Expected],
-) -> Result<Option<&'static [Expected]>, LineFault>
-    ensures { IfOk result (λ more. option_map (λ fields. fields.now) more ≡ complaints.behind expected word.now rest.now) }
+    rest: &'static [Field],
+) -> Result<Option<&'static [Field]>, LineFault>
+    ensures { IfOk result (λ more. option_map (λ fields. fields.now) more ≡ complaints.behind field word.now rest.now) }
 {
-    match expected {
-        Expected::FactKind => Ok(fact_fields(word)),
-        Expected::PartKind => Ok(part_fields(word)),
-        Expected::Request => Ok(request_fields(word)),
-        _ => Ok(if does_fit(alloc, expected, word)? {
-            Some(rest)
-        } else {
-            None
-        }),
+    match field {
+        Field::Request => Ok(fields_behind(Table::Requests, word)),
+        Field::Reply => Ok(fields_behind(Table::Replies, word)),
+        Field::Durable => Ok(if_fits(is(word, b"durable"), rest)),
+        _ => Ok(if_fits(does_say(alloc, field, word)?, rest)),
     }
 }
 
-// ---- a line along the table
-
 // A line that ends before the field of a number.
-fn at_end<'a>(number: u64, fields: &'static [Expected]) -> Option<Complaint<'a>>
+fn at_end<'a>(number: u64, fields: &'static [Field]) -> Option<Complaint<'a>>
     ensures { option_map complaint_of result ≡ complaints.at_end number fields.now }
 {
     match fields {
-        [] | [Expected::Durable, ..] => None,
-        [expected, ..] => Some(Complaint {
+        [] | [Field::Durable, ..] => None,
+        [field, ..] => Some(Complaint {
             field: number,
-            expected: *expected,
+            expected: Expected::Holds(*field),
             found: None,
             is_last: true,
         }),
     }
 }
 
-// The first field at which a line leaves what is expected.
+// The first field, from the second on, at which the words after the first leave what is expected.
 #[tactic(auto, unfolding(crate::specs::Complaints::leaves))]
 fn leaves<'a>(
     alloc: Global,
-    first: &'static [Expected],
-    line: &'a [u8],
+    first: &'static [Field],
+    words: &mut Fields<'a>,
 ) -> Result<Option<Complaint<'a>>, LineFault>
-    ensures { IfOk result (λ complaint. option_map complaint_of complaint ≡ complaints.leaves 1 first.now (fields_of line.now)) }
+    ensures { IfOk result (λ complaint. option_map complaint_of complaint ≡ complaints.leaves 2 first.now words.old) }
 {
-    let mut fields = Fields::of(line);
     let mut expected = first;
-    for field in 1..u64::MAX {
-        let Ok(word) = fields.next() else {
+    for field in 2..u64::MAX {
+        let Ok(word) = words.next() else {
             return Ok(at_end(field, expected));
         };
-        let is_last = fields.is_done();
+        let is_last = words.is_done();
         let [one, rest @ ..] = expected else {
             return Ok(Some(Complaint {
                 field,
@@ -287,7 +140,7 @@ fn leaves<'a>(
             Some(more) => expected = more,
             None => return Ok(Some(Complaint {
                 field,
-                expected: *one,
+                expected: Expected::Holds(*one),
                 found: Some(word),
                 is_last,
             })),
@@ -296,24 +149,34 @@ fn leaves<'a>(
     Err(LineFault::Memory)
 }
 
-/// Why a line of a record is no fact, and none where it is one.
+/// Why a line is none of a table, and none where it is one.
 ///
 /// # Errors
 ///
 /// `Memory` where there is none for what the line holds.
-pub fn fact_complaint<'a>(alloc: Global, line: &'a [u8]) -> Result<Option<Complaint<'a>>, LineFault>
-    ensures { IfOk result (λ complaint. option_map complaint_of complaint ≡ complaints.fact_complaint line.now) }
+pub fn complaint_about<'a>(
+    alloc: Global,
+    table: Table,
+    line: &'a [u8],
+) -> Result<Option<Complaint<'a>>, LineFault>
+    ensures { IfOk result (λ complaint. option_map complaint_of complaint ≡ complaints.complaint table line.now) }
 {
-    leaves(alloc, &[Expected::FactKind], line)
-}
-
-/// Why a line is none of a schedule, and none where it is one.
-///
-/// # Errors
-///
-/// `Memory` where there is none for what the line holds.
-pub fn part_complaint<'a>(alloc: Global, line: &'a [u8]) -> Result<Option<Complaint<'a>>, LineFault>
-    ensures { IfOk result (λ complaint. option_map complaint_of complaint ≡ complaints.part_complaint line.now) }
-{
-    leaves(alloc, &[Expected::PartKind], line)
+    let mut words = Fields::of(line);
+    let Ok(word) = words.next() else {
+        return Ok(Some(Complaint {
+            field: 1,
+            expected: Expected::Names(table),
+            found: None,
+            is_last: true,
+        }));
+    };
+    match fields_behind(table, word) {
+        Some(fields) => leaves(alloc, fields, &mut words),
+        None => Ok(Some(Complaint {
+            field: 1,
+            expected: Expected::Names(table),
+            found: Some(word),
+            is_last: words.is_done(),
+        })),
+    }
 }

@@ -1,7 +1,7 @@
 ghost use Rattle.std.specs.Prelude.{◌≡◌, ◌++◌, ◌∷◌, [], bytes_eq, take, OnOk};
 ghost use Rattle.std.specs.String.{string_bytes};
 ghost use Rattle.lease_texts.specs.Complaints as complaints;
-ghost use Rattle.lease_texts.specs.Complaining.{complaint_of};
+ghost use Rattle.lease_texts.specs.Complaints.{complaint_of};
 
 use crate::complaints::{Complaint, Expected};
 use crate::quoting::push_quoted;
@@ -71,7 +71,9 @@ fn push_found(alloc: Global, text: &mut String, complaint: &Complaint<'_>) -> Re
 fn push_expected(text: &mut String, field: u64, expected: Expected) -> Result<(), AllocError>
     ensures { OnOk result (string_bytes text.new ≡ string_bytes text.old ++ complaints.expected_part field expected) }
 {
-    write!(text, "field {field}: {expected}; ")
+    write!(text, "field {field}: ")?;
+    expected.push(text)?;
+    text.push_str("; ")
 }
 
 /// Says what was expected in which field, and what stands there.

@@ -1,9 +1,9 @@
 ghost use Rattle.std.specs.Prelude.{◌≡◌, ◌++◌, Some, IfOk, IfSome, OnOk};
 ghost use Rattle.std.specs.String.{string_bytes};
-ghost use Rattle.lease_texts.specs.Complaining.{complaint_of};
+ghost use Rattle.lease_texts.specs.Complaints.{complaint_of};
 ghost use Rattle.leasecheck.specs.LineRemarks as remarks;
 
-use lease_texts::{Complaint, fact_complaint, first_line, part_complaint, push_complaint};
+use lease_texts::{Complaint, Table, complaint_about, first_line, push_complaint};
 use std::alloc::{AllocError, Global};
 
 #[tactic(auto, unfolding(crate::specs::LineRemarks::line_words))]
@@ -31,7 +31,7 @@ fn complaint_line(
 pub(crate) fn fact_remark(alloc: Global, number: u64, line: &[u8]) -> Option<String>
     ensures { IfSome result (λ text. remarks.fact_remark number line.now ≡ Some (string_bytes text)) }
 {
-    match fact_complaint(alloc, line) {
+    match complaint_about(alloc, Table::Facts, line) {
         Ok(Some(complaint)) => complaint_line(alloc, number, &complaint).ok(),
         _ => None,
     }
@@ -52,7 +52,7 @@ fn place_line(alloc: Global, number: u64) -> Result<String, AllocError>
 pub(crate) fn part_remark(alloc: Global, number: u64, line: &[u8]) -> Option<String>
     ensures { IfSome result (λ text. string_bytes text ≡ remarks.part_remark number line.now) }
 {
-    match part_complaint(alloc, line) {
+    match complaint_about(alloc, Table::Parts, line) {
         Ok(Some(complaint)) => complaint_line(alloc, number, &complaint).ok(),
         Ok(None) => place_line(alloc, number).ok(),
         Err(_) => None,

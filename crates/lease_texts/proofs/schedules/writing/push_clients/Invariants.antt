@@ -1,7 +1,0 @@
-use Rattle.std.proofs.Common.{◌≡◌, ◌++◌, flat_map, take}
-use Rattle.std.specs.String.{string_bytes}
-use Rattle.lease_texts.specs.Schedules.{client_line}
-use Rattle.lease_texts.proofs.schedules.writing.push_clients.Given as goal
-
-abbrev pub invariant-loop-guid : goal.invariant-loop-guid
-invariant-loop-guid l = string_bytes l.text ≡ string_bytes l.fn.text ++ flat_map client_line (take l.guid-index l.guids)

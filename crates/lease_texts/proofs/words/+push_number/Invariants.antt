@@ -1,0 +1,4 @@
+use Rattle.lease_texts.proofs.words.+push_number.Given as goal
+
+abbrev pub decreases-push_number : goal.decreases-push_number
+decreases-push_number l = l.number

@@ -1,0 +1,73 @@
+//! The tables of lines: what a field holds, and the fields of each kind.
+
+use crate::parts::PARTS;
+use crate::records::FACTS;
+use crate::replies::REPLIES;
+use crate::requests::REQUESTS;
+
+/// What a field of a line holds.
+#[derive(Clone, Copy, Debug, PartialEq, Eq)]
+pub enum Field {
+    Client,
+    File,
+    FileId,
+    /// The number of a write.
+    Number,
+    Offset,
+    Bytes,
+    /// The first bytes of a file.
+    Content,
+    State,
+    Access,
+    Share,
+    /// Whether a write was buffered or sent.
+    Way,
+    /// What became of a write.
+    Outcome,
+    Guid,
+    /// An acknowledgment's bytes.
+    Message,
+    Key,
+    /// A lease break notification's bytes.
+    Notification,
+    Status,
+    /// The word after a durable open, which others lack.
+    Durable,
+    /// A request in a client's name, which takes all that is left.
+    Request,
+    /// A message of the server, which takes all that is left.
+    Reply,
+}
+
+/// A kind of line: the word that it begins with, and the fields after it.
+#[derive(Clone, Copy, Debug)]
+pub struct Row(pub &'static str, pub &'static [Field]);
+
+/// A table of kinds, each of which has a name of its own.
+#[derive(Clone, Copy, Debug, PartialEq, Eq)]
+pub enum Table {
+    /// The lines of records.
+    Facts,
+    /// The lines of schedules.
+    Parts,
+    /// What is asked in a client's name.
+    Requests,
+    /// What a server sends.
+    Replies,
+}
+
+impl Table {
+    ghost use Rattle.std.specs.Prelude.{◌≡◌, map};
+    ghost use Rattle.lease_texts.specs.Complaints.{rows_in, row_of};
+
+    pub fn rows(self) -> &'static [Row]
+        ensures { map row_of result.now ≡ rows_in self }
+    {
+        match self {
+            Table::Facts => FACTS,
+            Table::Parts => PARTS,
+            Table::Requests => REQUESTS,
+            Table::Replies => REPLIES,
+        }
+    }
+}

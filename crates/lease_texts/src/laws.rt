@@ -1,0 +1,38 @@
+//! What is true of lines by their tables: public functions whose contracts carry the laws. They do
+//! nothing.
+
+ghost use Rattle.lease_texts.specs.Laws.{FactsAreReadBack, LinesTellFacts, LinesTellParts, PartsAreReadBack};
+ghost use Rattle.lease_texts.specs.Laws.{RecordsAreReadBack, SchedulesAreReadBack, TextsGoOn};
+
+/// A line is read as a fact exactly where it is the line of this fact by the table of kinds: where
+/// between single spaces stand the name of a kind of fact and the words of its fields. No line is
+/// that of two facts, or of one by two kinds, and a line is refused exactly where it is that of
+/// none. Does nothing.
+pub fn lines_tell_facts()
+    ensures facts { LinesTellFacts }
+{}
+
+/// The same of the lines of schedules: their files and clients, and what happens. Does nothing.
+pub fn lines_tell_parts()
+    ensures parts { LinesTellParts }
+{}
+
+/// The line of each fact that can be written is one line, counts for something, and is read as that
+/// fact; and so it is with the files, clients and events of schedules. Does nothing.
+pub fn lines_are_read_back()
+    ensures facts { FactsAreReadBack }
+    ensures parts { PartsAreReadBack }
+{}
+
+/// The text of each record whose facts can be written is read as that record, and what follows it
+/// in a text is read after it. Does nothing.
+pub fn records_are_read_back()
+    ensures records { RecordsAreReadBack }
+    ensures behind { TextsGoOn }
+{}
+
+/// The text of a schedule, its setup and its events, is read as that schedule, if lines can hold
+/// it. Does nothing.
+pub fn schedules_are_read_back()
+    ensures schedules { SchedulesAreReadBack }
+{}

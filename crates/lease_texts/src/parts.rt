@@ -1,0 +1,268 @@
+//! The lines of schedules: files, clients, and what happens.
+
+ghost use Rattle.std.specs.Prelude.{◌≡◌, ◌++◌, Some, None, MatchResult, OnOk, drop};
+ghost use Rattle.std.specs.String.{string_bytes};
+ghost use Rattle.lease_facts.specs.declared.setup.Event.TheVariants as event;
+ghost use Rattle.lease_texts.specs.Kinds.{by_name, named};
+ghost use Rattle.lease_texts.specs.Lines.{field_read};
+ghost use Rattle.lease_texts.specs.Schedules.{app, event_line, part_in, part_kinds, part_line};
+ghost use Rattle.lease_texts.specs.Takes.{Takes, Reads};
+
+use crate::fault::LineFault;
+use crate::fields::Fields;
+use crate::kinds::Field::{
+    Access, Bytes, Client, Content as Contents, Durable, File, Guid, Offset, Request, Share, State,
+};
+use crate::kinds::Row;
+use crate::requests::read_request;
+use crate::said::{Said, push_line};
+use lease_client::Command;
+use lease_facts::{Event, is};
+use lease_state::{ClientNo, Content, Patch};
+use std::alloc::{AllocError, Global};
+
+/// What one line adds to a schedule.
+#[derive(Debug, Drop)]
+pub enum Part {
+    /// A file with its first bytes.
+    File(Content),
+    /// A client with its ClientGuid.
+    Client([u8; 16]),
+    Happens(Event),
+}
+
+/// The kinds of lines of schedules.
+pub(crate) const PARTS: &[Row] = &[
+    Row("file", &[Contents]),
+    Row("client", &[Guid]),
+    Row("open", &[Client, File, Access, Share, State, Durable]),
+    Row("close", &[Client, File]),
+    Row("read", &[Client, File]),
+    Row("flush", &[Client, File]),
+    Row("write", &[Client, File, Offset, Bytes]),
+    Row("serve", &[Client]),
+    Row("take", &[Client]),
+    Row("cut", &[Client]),
+    Row("notice", &[Client]),
+    Row("connect", &[Client]),
+    Row("expire", &[Client, File]),
+    Row("scavenge", &[Client, File]),
+    Row("raw", &[Client, Request]),
+];
+
+// ---- reading
+
+fn app(client: ClientNo, command: Command) -> Part
+    ensures { result ≡ app client command }
+{
+    Part::Happens(Event::App(client, command))
+}
+
+#[tactic(auto, unfolding(crate::specs::Kinds::named, crate::specs::Kinds::taken))]
+fn read_event(alloc: Global, word: &[u8], fields: &mut Fields) -> Result<Part, LineFault>
+    ensures { Takes (named field_read (drop 7 part_kinds) word.now) fields.old fields.new result }
+{
+    if is(word, b"serve") {
+        Ok(Part::Happens(Event::ServerTakes(fields.client()?)))
+    } else if is(word, b"take") {
+        Ok(Part::Happens(Event::ClientTakes(fields.client()?)))
+    } else if is(word, b"cut") {
+        Ok(Part::Happens(Event::Cut(fields.client()?)))
+    } else if is(word, b"notice") {
+        Ok(Part::Happens(Event::Notice(fields.client()?)))
+    } else if is(word, b"connect") {
+        Ok(Part::Happens(Event::Connect(fields.client()?)))
+    } else if is(word, b"expire") {
+        Ok(Part::Happens(Event::Expire(fields.client()?, fields.file()?)))
+    } else if is(word, b"scavenge") {
+        Ok(Part::Happens(Event::Scavenge(fields.client()?, fields.file()?)))
+    } else if is(word, b"raw") {
+        Ok(Part::Happens(Event::Raw(fields.client()?, read_request(alloc, fields)?)))
+    } else {
+        Err(LineFault::Refused)
+    }
+}
+
+#[tactic(auto, unfolding(crate::specs::Kinds::named, crate::specs::Kinds::taken))]
+fn read_command(alloc: Global, word: &[u8], fields: &mut Fields) -> Result<Part, LineFault>
+    ensures { Takes (named field_read (drop 2 part_kinds) word.now) fields.old fields.new result }
+{
+    if is(word, b"open") {
+        let client = fields.client()?;
+        Ok(app(
+            client,
+            Command::Open {
+                file: fields.file()?,
+                access: fields.access()?,
+                share: fields.share()?,
+                want: fields.state()?,
+                durable: fields.durable()?,
+            },
+        ))
+    } else if is(word, b"close") {
+        Ok(app(
+            fields.client()?,
+            Command::Close {
+                file: fields.file()?,
+            },
+        ))
+    } else if is(word, b"read") {
+        Ok(app(
+            fields.client()?,
+            Command::Read {
+                file: fields.file()?,
+            },
+        ))
+    } else if is(word, b"flush") {
+        Ok(app(
+            fields.client()?,
+            Command::Flush {
+                file: fields.file()?,
+            },
+        ))
+    } else if is(word, b"write") {
+        let (client, file) = (fields.client()?, fields.file()?);
+        let patch = Patch {
+            offset: fields.offset()?,
+            bytes: fields.bytes(alloc)?,
+        };
+        Ok(app(client, Command::Write { file, patch }))
+    } else {
+        read_event(alloc, word, fields)
+    }
+}
+
+/// What a line of a kind adds to a schedule, by the fields after the word that names the kind.
+///
+/// # Errors
+///
+/// `Refused` where they are none of that kind, and `Memory` where there is none left for it.
+#[tactic(auto, unfolding(crate::specs::Kinds::named, crate::specs::Kinds::taken))]
+pub fn read_part_of(alloc: Global, word: &[u8], fields: &mut Fields) -> Result<Part, LineFault>
+    ensures { Takes (named field_read part_kinds word.now) fields.old fields.new result }
+{
+    if is(word, b"file") {
+        Ok(Part::File(fields.content(alloc)?))
+    } else if is(word, b"client") {
+        Ok(Part::Client(fields.guid()?))
+    } else {
+        read_command(alloc, word, fields)
+    }
+}
+
+fn read_fields(alloc: Global, fields: &mut Fields) -> Result<Part, LineFault>
+    ensures { Takes (by_name field_read part_kinds) fields.old fields.new result }
+{
+    let word = fields.next()?;
+    read_part_of(alloc, word, fields)
+}
+
+/// What a line adds to a schedule.
+///
+/// # Errors
+///
+/// `Refused` where the line adds nothing, and `Memory` where there is none left for what it holds.
+#[tactic(auto, unfolding(crate::specs::Schedules::part_in, crate::specs::Lines::told_in))]
+pub fn read_part(alloc: Global, line: &[u8]) -> Result<Part, LineFault>
+    ensures { Reads part_in line.now result }
+{
+    let mut fields = Fields::of(line);
+    let part = read_fields(alloc, &mut fields)?;
+    fields.end()?;
+    Ok(part)
+}
+
+// ---- writing
+
+// What an application asks of a client.
+fn push_command(
+    alloc: Global,
+    text: &mut String,
+    client: ClientNo,
+    command: &Command,
+) -> Result<(), AllocError>
+    ensures { OnOk result (string_bytes text.new ≡ string_bytes text.old ++ event_line (event.App client command.now)) }
+{
+    match command {
+        Command::Open {
+            file,
+            access,
+            share,
+            want,
+            durable,
+        } => push_line(
+            alloc,
+            text,
+            "open",
+            &[
+                Said::Client(client),
+                Said::File(*file),
+                Said::Access(*access),
+                Said::Share(*share),
+                Said::State(*want),
+                Said::Durable(*durable),
+            ],
+        ),
+        Command::Close { file } => push_line(
+            alloc,
+            text,
+            "close",
+            &[Said::Client(client), Said::File(*file)],
+        ),
+        Command::Read { file } => push_line(
+            alloc,
+            text,
+            "read",
+            &[Said::Client(client), Said::File(*file)],
+        ),
+        Command::Write { file, patch } => push_line(
+            alloc,
+            text,
+            "write",
+            &[
+                Said::Client(client),
+                Said::File(*file),
+                Said::Offset(patch.offset),
+                Said::Bytes(patch.bytes.as_slice()),
+            ],
+        ),
+        Command::Flush { file } => push_line(
+            alloc,
+            text,
+            "flush",
+            &[Said::Client(client), Said::File(*file)],
+        ),
+    }
+}
+
+/// Adds the line of an event.
+pub fn push_event(alloc: Global, text: &mut String, happening: &Event) -> Result<(), AllocError>
+    ensures { OnOk result (string_bytes text.new ≡ string_bytes text.old ++ event_line happening.now) }
+{
+    match happening {
+        Event::App(client, command) => push_command(alloc, text, *client, command),
+        Event::ServerTakes(client) => push_line(alloc, text, "serve", &[Said::Client(*client)]),
+        Event::ClientTakes(client) => push_line(alloc, text, "take", &[Said::Client(*client)]),
+        Event::Cut(client) => push_line(alloc, text, "cut", &[Said::Client(*client)]),
+        Event::Notice(client) => push_line(alloc, text, "notice", &[Said::Client(*client)]),
+        Event::Connect(client) => push_line(alloc, text, "connect", &[Said::Client(*client)]),
+        Event::Expire(client, file) => push_line(
+            alloc,
+            text,
+            "expire",
+            &[Said::Client(*client), Said::File(*file)],
+        ),
+        Event::Scavenge(client, file) => push_line(
+            alloc,
+            text,
+            "scavenge",
+            &[Said::Client(*client), Said::File(*file)],
+        ),
+        Event::Raw(client, asked) => push_line(
+            alloc,
+            text,
+            "raw",
+            &[Said::Client(*client), Said::Request(asked)],
+        ),
+    }
+}

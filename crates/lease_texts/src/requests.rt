@@ -1,0 +1,119 @@
+//! Requests in a client's name as words, after the client.
+
+ghost use Rattle.std.specs.Prelude.{◌≡◌, ◌++◌, Some, None, MatchResult, OnOk};
+ghost use Rattle.std.specs.String.{string_bytes};
+ghost use Rattle.lease_texts.specs.Kinds.{named, word_read};
+ghost use Rattle.lease_texts.specs.Requests.{plain_text, request_in, request_kinds, request_said};
+ghost use Rattle.lease_texts.specs.Takes.{Takes};
+
+use crate::fault::LineFault;
+use crate::fields::Fields;
+use crate::kinds::Field::{Access, Bytes, File, FileId, Message, Number, Offset, Share};
+use crate::kinds::Row;
+use crate::said::{Said, push_plain};
+use lease_facts::is;
+use lease_state::{Patch, Request};
+use std::alloc::{AllocError, Global};
+
+/// The kinds of requests.
+pub(crate) const REQUESTS: &[Row] = &[
+    Row("create", &[File, Access, Share, Bytes]),
+    Row("read", &[FileId]),
+    Row("close", &[FileId]),
+    Row("write", &[FileId, Number, Offset, Bytes]),
+    Row("ack", &[Message]),
+];
+
+#[tactic(auto, unfolding(crate::specs::Kinds::named, crate::specs::Kinds::taken))]
+fn read_named(alloc: Global, word: &[u8], fields: &mut Fields) -> Result<Request, LineFault>
+    ensures { Takes (named word_read request_kinds word.now) fields.old fields.new result }
+{
+    if is(word, b"create") {
+        Ok(Request::Create {
+            file: fields.file()?,
+            access: fields.access()?,
+            share: fields.share()?,
+            contexts: fields.bytes(alloc)?,
+        })
+    } else if is(word, b"read") {
+        Ok(Request::Read {
+            fid: fields.file_id()?,
+        })
+    } else if is(word, b"close") {
+        Ok(Request::Close {
+            fid: fields.file_id()?,
+        })
+    } else if is(word, b"write") {
+        Ok(Request::Write {
+            fid: fields.file_id()?,
+            number: fields.number()?,
+            patch: Patch {
+                offset: fields.offset()?,
+                bytes: fields.bytes(alloc)?,
+            },
+        })
+    } else if is(word, b"ack") {
+        Ok(Request::Ack(fields.message()?))
+    } else {
+        Err(LineFault::Refused)
+    }
+}
+
+/// A request, by its word and the fields after it.
+///
+/// # Errors
+///
+/// `Refused` where the next fields are none, and `Memory` where there is none left for it.
+pub fn read_request(alloc: Global, fields: &mut Fields) -> Result<Request, LineFault>
+    ensures { Takes request_in fields.old fields.new result }
+{
+    let word = fields.next()?;
+    read_named(alloc, word, fields)
+}
+
+// Adds a request, with a space before each of its words.
+pub(crate) fn push_request(
+    alloc: Global,
+    text: &mut String,
+    asked: &Request,
+) -> Result<(), AllocError>
+    ensures { OnOk result (string_bytes text.new ≡ string_bytes text.old ++ plain_text (request_said asked.now)) }
+{
+    match asked {
+        Request::Create {
+            file,
+            access,
+            share,
+            contexts,
+        } => push_plain(
+            alloc,
+            text,
+            "create",
+            &[
+                Said::File(*file),
+                Said::Access(*access),
+                Said::Share(*share),
+                Said::Bytes(contexts.as_slice()),
+            ],
+        ),
+        Request::Read { fid } => push_plain(alloc, text, "read", &[Said::FileId(*fid)]),
+        Request::Close { fid } => push_plain(alloc, text, "close", &[Said::FileId(*fid)]),
+        Request::Write { fid, number, patch } => push_plain(
+            alloc,
+            text,
+            "write",
+            &[
+                Said::FileId(*fid),
+                Said::Number(*number),
+                Said::Offset(patch.offset),
+                Said::Bytes(patch.bytes.as_slice()),
+            ],
+        ),
+        Request::Ack(message) => push_plain(
+            alloc,
+            text,
+            "ack",
+            &[Said::Message(message.as_slice())],
+        ),
+    }
+}

@@ -1,0 +1,181 @@
+//! Lines that are written: a word, and what is told in the fields after it.
+
+ghost use Rattle.std.specs.Prelude.{◌≡◌, ◌++◌, ◌∷◌, [], OnOk, map, codes};
+ghost use Rattle.std.specs.String.{string_bytes};
+ghost use Rattle.hex.specs.Hex.{encode_lower};
+ghost use Rattle.uuid.specs.Text.{hyphenated_text, lower};
+ghost use Rattle.lease_texts.specs.Kinds.{line};
+ghost use Rattle.lease_texts.specs.Lines.{line_text};
+ghost use Rattle.lease_texts.specs.Requests.{plain_text};
+ghost use Rattle.lease_texts.specs.Words.{digits_word};
+ghost use Rattle.lease_texts.specs.Written.{said_text, said_word, spoken_of, texts_behind, words_behind};
+
+use crate::replies::push_reply;
+use crate::requests::push_request;
+use crate::status::status_word;
+use crate::words::{access_word, digits_of, outcome_word, push_number, share_word, state_letters};
+use lease_client::Settlement;
+use lease_state::{
+    Access, ClientNo, FileId, FileNo, LeaseKey, LeaseState, Reply, Request, Share, Status,
+};
+use std::alloc::{AllocError, Global};
+use uuid::Uuid;
+
+/// A field with what is told in it.
+#[derive(Clone, Copy, Debug)]
+pub enum Said<'a> {
+    Client(ClientNo),
+    File(FileNo),
+    FileId(FileId),
+    Number(u64),
+    Offset(u32),
+    Bytes(&'a [u8]),
+    Content(&'a [u8]),
+    State(LeaseState),
+    Access(Access),
+    Share(Share),
+    Way(bool),
+    Outcome(Settlement),
+    Guid(&'a [u8; 16]),
+    Message(&'a [u8]),
+    Durable(bool),
+    Key(LeaseKey),
+    Notification(&'a [u8]),
+    Status(Status),
+    Request(&'a Request),
+    Reply(&'a Reply),
+}
+
+// The digits of bytes.
+fn push_bytes(alloc: Global, text: &mut String, bytes: &[u8]) -> Result<(), AllocError>
+    ensures { OnOk result (string_bytes text.new ≡ string_bytes text.old ++ digits_word bytes.now) }
+{
+    let digits = digits_of(alloc, bytes)?;
+    text.push_str(digits.as_str())
+}
+
+fn push_message(alloc: Global, text: &mut String, message: &[u8]) -> Result<(), AllocError>
+    ensures { OnOk result (string_bytes text.new ≡ string_bytes text.old ++ encode_lower message.now) }
+{
+    let digits = hex::encode(alloc, message)?;
+    text.push_str(digits.as_str())
+}
+
+fn push_guid(text: &mut String, guid: &[u8; 16]) -> Result<(), AllocError>
+    ensures { OnOk result (string_bytes text.new ≡ string_bytes text.old ++ hyphenated_text lower guid.now) }
+{
+    let mut buffer = [0; 36];
+    let digits = Uuid::from_bytes(*guid)
+        .hyphenated()
+        .encode_lower(&mut buffer);
+    text.push_str(digits)
+}
+
+// The word of a field that takes one.
+fn push_word(alloc: Global, text: &mut String, said: &Said<'_>) -> Result<(), AllocError>
+    ensures { OnOk result (string_bytes text.new ≡ string_bytes text.old ++ said_word said.now) }
+{
+    match said {
+        Said::Client(client) => push_number(text, u64::from(client.0)),
+        Said::File(file) => push_number(text, u64::from(file.0)),
+        Said::FileId(fid) => push_number(text, fid.0),
+        Said::Number(number) => push_number(text, *number),
+        Said::Offset(offset) => push_number(text, u64::from(*offset)),
+        Said::Bytes(bytes) | Said::Content(bytes) => push_bytes(alloc, text, bytes),
+        Said::State(state) => text.push_str(state_letters(*state)),
+        Said::Access(access) => text.push_str(access_word(*access)),
+        Said::Share(share) => text.push_str(share_word(*share)),
+        Said::Way(buffered) => text.push_str(if *buffered { "buffered" } else { "through" }),
+        Said::Outcome(outcome) => text.push_str(outcome_word(*outcome)),
+        Said::Guid(guid) => push_guid(text, guid),
+        Said::Key(key) => push_message(alloc, text, key.0.as_slice()),
+        Said::Message(message) | Said::Notification(message) => push_message(alloc, text, message),
+        Said::Status(status) => text.push_str(status_word(*status)),
+        Said::Durable(_) | Said::Request(_) | Said::Reply(_) => Ok(()),
+    }
+}
+
+fn push_plain_field(alloc: Global, text: &mut String, said: &Said<'_>) -> Result<(), AllocError>
+    ensures { OnOk result (string_bytes text.new ≡ string_bytes text.old ++ 32 ∷ said_word said.now) }
+{
+    text.push_str(" ")?;
+    push_word(alloc, text, said)
+}
+
+fn push_plain_fields(alloc: Global, text: &mut String, said: &[Said<'_>]) -> Result<(), AllocError>
+    ensures { OnOk result (string_bytes text.new ≡ string_bytes text.old ++ words_behind said.now) }
+{
+    for one in said {
+        push_plain_field(alloc, text, one)?;
+    }
+    Ok(())
+}
+
+/// Adds a word and fields of one word each, with a space before each of them.
+#[tactic(auto, using(crate::proofs::Written::plain_written))]
+pub(crate) fn push_plain(
+    alloc: Global,
+    text: &mut String,
+    name: &str,
+    said: &[Said<'_>],
+) -> Result<(), AllocError>
+    ensures { OnOk result (string_bytes text.new
+        ≡ string_bytes text.old ++ plain_text (line name.now (map spoken_of said.now))) }
+{
+    text.push_str(" ")?;
+    text.push_str(name)?;
+    push_plain_fields(alloc, text, said)
+}
+
+// A field with what stands before its words.
+fn push_field(alloc: Global, text: &mut String, said: &Said<'_>) -> Result<(), AllocError>
+    ensures { OnOk result (string_bytes text.new ≡ string_bytes text.old ++ said_text said.now) }
+{
+    match said {
+        Said::Durable(durable) => text.push_str(if *durable { " durable" } else { "" }),
+        Said::Request(asked) => push_request(alloc, text, asked),
+        Said::Reply(told) => push_reply(alloc, text, told),
+        Said::Client(_)
+        | Said::File(_)
+        | Said::FileId(_)
+        | Said::Number(_)
+        | Said::Offset(_)
+        | Said::Bytes(_)
+        | Said::Content(_)
+        | Said::State(_)
+        | Said::Access(_)
+        | Said::Share(_)
+        | Said::Way(_)
+        | Said::Outcome(_)
+        | Said::Guid(_)
+        | Said::Key(_)
+        | Said::Message(_)
+        | Said::Notification(_)
+        | Said::Status(_) => push_plain_field(alloc, text, said),
+    }
+}
+
+fn push_fields(alloc: Global, text: &mut String, said: &[Said<'_>]) -> Result<(), AllocError>
+    ensures { OnOk result (string_bytes text.new ≡ string_bytes text.old ++ texts_behind said.now) }
+{
+    for one in said {
+        push_field(alloc, text, one)?;
+    }
+    Ok(())
+}
+
+/// Adds a line: its first word, and what is told in the fields after it.
+#[tactic(auto, using(crate::proofs::Written::line_written))]
+pub fn push_line(
+    alloc: Global,
+    text: &mut String,
+    name: &str,
+    said: &[Said<'_>],
+) -> Result<(), AllocError>
+    ensures { OnOk result (string_bytes text.new
+        ≡ string_bytes text.old ++ line_text (line name.now (map spoken_of said.now))) }
+{
+    text.push_str(name)?;
+    push_fields(alloc, text, said)?;
+    text.push_str("\n")
+}
