@@ -3,28 +3,12 @@ from __future__ import annotations
 
 import re
 import subprocess
-from collections.abc import Iterator
 from pathlib import Path
 
-import pytest
-
 from tests import needs
-from tests.c.building import CC, Ended, made, run
+from tests.c.building import CC, Ended, pkg_config, run
 from tests.c.test_library import ACKNOWLEDGMENT, NOTIFICATION
 from tests.paths import TOP
-
-
-@pytest.fixture(scope="module")
-def prefix(tmp_path_factory: pytest.TempPathFactory) -> Iterator[Path]:
-    assert made().status == 0, made()
-    folder = tmp_path_factory.mktemp("prefix")
-    done = run("make", "install", f"PREFIX={folder}")
-    assert done.status == 0, done
-    yield folder
-
-
-def pkg_config(prefix: Path, *words: str) -> Ended:
-    return run("pkg-config", *words, "smblease", variables={"PKG_CONFIG_PATH": f"{prefix}/lib/pkgconfig"})
 
 
 def test_the_installed_program(prefix: Path) -> None:
