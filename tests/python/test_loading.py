@@ -16,6 +16,8 @@ from smblease import _library
 from tests.paths import TOP
 
 BUILT = f"{TOP}/out/c/libsmblease.so"
+REMEDY = (" To have it, run `make install` or `pip install --no-build-isolation .` at the top of the repository, or set"
+          " SMBLEASE_LIBRARY to the path of its libsmblease.so")
 
 
 def loaded(packages: Path = TOP / "python", **variables: str) -> tuple[int, str]:
@@ -36,8 +38,18 @@ def test_a_library_that_is_named() -> None:
     pytest.param("libc.so.6", "ImportError: libc.so.6 has no smblease_", id="another_one"),
 ])
 def test_a_library_that_is_refused(name: str, said: str) -> None:
+    """What is wrong is said, and what to do."""
     status, last = loaded(SMBLEASE_LIBRARY=name)
     assert (status, last[:len(said)]) == (1, said)
+    assert last.endswith(REMEDY)
+
+
+def test_a_library_that_is_nowhere(tmp_path: Path) -> None:
+    """The package stands in no repository, brings no library, and none is installed."""
+    shutil.copytree(TOP / "python/smblease", tmp_path / "smblease")
+    status, last = loaded(tmp_path)
+    assert (status, last.startswith("ImportError: libsmblease can't be loaded: libsmblease.so.0: ")) == (1, True)
+    assert last.endswith(REMEDY)
 
 
 def test_a_library_that_the_loader_finds(tmp_path: Path) -> None:
@@ -76,7 +88,7 @@ def test_a_version_that_fits(major: int, minor: int) -> None:
 
 @pytest.mark.parametrize("major, minor", [(0, 1), (1, 2)])
 def test_a_version_that_does_not_fit(major: int, minor: int) -> None:
-    with pytest.raises(ImportError, match=f"^one has version {major}.{minor}.0; 0.2 is needed$"):
+    with pytest.raises(ImportError, match=f"^one has version {major}.{minor}.0; 0.2 is needed. To have it, run `make install`"):
         check(major, minor)
 
 
