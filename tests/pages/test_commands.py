@@ -22,19 +22,8 @@ PLAIN = ("make", "export ", "cc ")
 OWN = "make check"
 # What is run in the folder as it is run at the top of the repository.
 LINKS = (
-    "Makefile",
-    "crates",
-    "crates.txt",
-    "dist",
-    "drive",
-    "examples",
-    "include",
-    "kit.txt",
-    "leasecheck",
-    "out",
-    "python",
-    "tests",
-     "tools")
+    "CHANGELOG.md", "COPYING.md", "Makefile", "SECURITY.md", "completion", "crates", "crates.txt", "dist", "docs", "drive",
+    "examples", "include", "kit.txt", "leasecheck", "man", "out", "python", "tests", "tools")
 PAGES = ("README.md", "docs/SESSIONS.md")
 # Commands that have these words need these programs.
 NEEDS = {"pkg-config": "pkg-config", "out/c/": "pkg-config", "drive/capture": "tshark"}
