@@ -75,7 +75,8 @@ class Session:
         kit.parent.mkdir()
         kit.write_text(f"#!/bin/sh\necho \"$*\" >>'{self.kit_called}'\nexit 1\n", encoding="utf-8")
         kit.chmod(0o755)
-        variables = {**os.environ, "HOME": str(folder), "PATH": f"{kit.parent}:{os.environ['PATH']}"}
+        variables = {**os.environ, "HOME": str(folder), "PATH": f"{kit.parent}:{os.environ['PATH']}", "PIP_NO_INDEX": "1",
+                     "PIP_DISABLE_PIP_VERSION_CHECK": "1"}
         self.shell = subprocess.Popen(["bash"], cwd=folder, env=variables, stdin=subprocess.PIPE, stdout=subprocess.PIPE,
                                       text=True)
         self.given = 0
