@@ -70,15 +70,20 @@ def test_the_library_of_the_repository() -> None:
 
 
 def test_a_library_that_several_programs_want_at_once(tmp_path: Path) -> None:
-    """In a fresh clone each of them has it linked, and finds a whole one."""
+    """In a fresh clone, whose path has a space, each of them has it linked, and finds a whole one."""
+    clone = tmp_path / "a clone"
+    clone.mkdir()
     for name in ("python", "include", "tools", "dist", "crates", "Makefile", "crates.txt", "kit.txt"):
         if (TOP / name).is_dir():
-            shutil.copytree(TOP / name, tmp_path / name, ignore=shutil.ignore_patterns("out", "__pycache__"))
+            shutil.copytree(TOP / name, clone / name, ignore=shutil.ignore_patterns("out", "__pycache__"))
         else:
-            shutil.copy2(TOP / name, tmp_path / name)
+            shutil.copy2(TOP / name, clone / name)
+    # (where dist/ is older than the sources, what was proved here serves)
+    if (TOP / "out/proved").is_dir():
+        shutil.copytree(TOP / "out/proved", clone / "out/proved")
     with ThreadPoolExecutor() as pool:
-        ended = list(pool.map(loaded, [tmp_path / "python"] * 6))
-    assert ended == [(0, str(tmp_path / "out/c/libsmblease.so"))] * 6
+        ended = list(pool.map(loaded, [clone / "python"] * 6))
+    assert ended == [(0, str(clone / "out/c/libsmblease.so"))] * 6
 
 
 @pytest.mark.parametrize("major, minor", [(0, 2), (0, 3)])
