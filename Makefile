@@ -1,10 +1,12 @@
 # The program leasecheck, and the library for C: libsmblease.a and libsmblease.so.
 #
 #   make                        has both at hand: from dist/ where that fits these sources and this machine, else proved and built here
-#   make install PREFIX=DIR     installs them, with the headers and smblease.pc (DESTDIR is put before DIR); make uninstall removes them
+#   make install PREFIX=DIR     installs them, with headers, smblease.pc, man pages, completion for bash and pages of docs/ (DESTDIR is put before DIR)
+#   make uninstall              removes all that; give it the same PREFIX
 #   make check                  runs the tests that need no kit, in some five minutes; tools/setup installs what they need
 #   make check-long             runs those of these tests that take longer
 #   make lint                   has mypy and pylint look at all Python
+#   make man                    writes the man pages anew, from --help, docs/C.md and the headers; needs pandoc
 #   make prove                  proves and builds both, whatever is in dist/; needs the Rattle kit
 #   make dist                   does that, and puts them into dist/
 #   make clean                  removes what was built here; what is proved stays
@@ -15,6 +17,10 @@ PREFIX ?= /usr/local
 BINDIR ?= $(PREFIX)/bin
 LIBDIR ?= $(PREFIX)/lib
 INCLUDEDIR ?= $(PREFIX)/include
+DATADIR ?= $(PREFIX)/share
+MANDIR ?= $(DATADIR)/man
+DOCDIR ?= $(DATADIR)/doc/smblease
+COMPLETIONDIR ?= $(DATADIR)/bash-completion/completions
 
 # The version stands in the header alone. The soname changes where a program that was linked before could no longer run.
 number = $(shell sed -n 's/^\#define SMBLEASE_VERSION_$(1) //p' include/smblease.h)
@@ -28,6 +34,9 @@ JOBS ?= auto
 OUT := out/c
 DIST := dist/x86_64-linux
 HEADERS := $(notdir $(wildcard include/*.h))
+# What is installed of the pages and examples: what a user reads, and COPYING.md on the licence.
+PAGES := CHANGELOG.md COPYING.md SECURITY.md $(patsubst %,docs/%.md,BUILDING C FORMATS MODEL PROFILE PROOF PYTHON REAL_SERVERS SESSIONS)
+EXAMPLES := $(patsubst examples/%,%,$(wildcard examples/*.txt examples/c/*.c examples/python/*.py))
 
 all: $(OUT)/libsmblease.so
 
@@ -57,11 +66,20 @@ install: all
 	sed -e 's|@PREFIX@|$(PREFIX)|' -e 's|@LIBDIR@|$(subst $(PREFIX)/,$${prefix}/,$(LIBDIR))|' \
 	    -e 's|@INCLUDEDIR@|$(subst $(PREFIX)/,$${prefix}/,$(INCLUDEDIR))|' -e 's|@VERSION@|$(VERSION)|' include/smblease.pc.in \
 	    > "$(DESTDIR)$(LIBDIR)/pkgconfig/smblease.pc"
+	install -D -m 644 man/leasecheck.1 "$(DESTDIR)$(MANDIR)/man1/leasecheck.1"
+	install -D -m 644 man/smblease.3 "$(DESTDIR)$(MANDIR)/man3/smblease.3"
+	install -D -m 644 completion/leasecheck "$(DESTDIR)$(COMPLETIONDIR)/leasecheck"
+	for page in $(PAGES); do install -D -m 644 $$page "$(DESTDIR)$(DOCDIR)/$${page##*/}" || exit 1; done
+	for name in $(EXAMPLES); do install -D -m 644 examples/$$name "$(DESTDIR)$(DOCDIR)/examples/$$name" || exit 1; done
 
 uninstall:
-	rm -f "$(DESTDIR)$(BINDIR)/leasecheck" "$(DESTDIR)$(LIBDIR)/pkgconfig/smblease.pc"
+	rm -f "$(DESTDIR)$(BINDIR)/leasecheck" "$(DESTDIR)$(LIBDIR)/pkgconfig/smblease.pc" "$(DESTDIR)$(COMPLETIONDIR)/leasecheck"
+	rm -f "$(DESTDIR)$(MANDIR)/man1/leasecheck.1" "$(DESTDIR)$(MANDIR)/man3/smblease.3"
 	for name in libsmblease.a libsmblease.so $(SONAME) $(SHARED); do rm -f "$(DESTDIR)$(LIBDIR)/$$name"; done
 	for header in $(HEADERS); do rm -f "$(DESTDIR)$(INCLUDEDIR)/$$header"; done
+	for page in $(PAGES); do rm -f "$(DESTDIR)$(DOCDIR)/$${page##*/}"; done
+	for name in $(EXAMPLES); do rm -f "$(DESTDIR)$(DOCDIR)/examples/$$name"; done
+	for folder in /examples/c /examples/python /examples ''; do rmdir "$(DESTDIR)$(DOCDIR)$$folder" 2>/dev/null || :; done
 
 check: all
 	$(PYTHON) -m pytest -n $(JOBS) --dist loadgroup -q -m "not long" $(TESTS)
@@ -71,6 +89,9 @@ check-long: all
 
 lint:
 	tools/lint
+
+man:
+	tools/manual man
 
 prove:
 	tools/prove
@@ -86,4 +107,4 @@ clean:
 
 FORCE:
 
-.PHONY: all install uninstall check check-long lint prove dist clean FORCE
+.PHONY: all install uninstall check check-long lint man prove dist clean FORCE

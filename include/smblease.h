@@ -1,9 +1,9 @@
 /*
  * libsmblease reads and writes the messages of SMB 2.1 leases (MS-SMB2), without the SMB2 header: create
  * contexts, and the lease break notification, acknowledgment and response. It also makes the decisions of
- * a server on leases. What each function does is proved, for all bytes and all values; docs/FORMATS.md has
- * the layouts, docs/PROOF.md what is trusted. "(profile)" marks a choice of this library where MS-SMB2
- * leaves room.
+ * a server on leases. What each function does is proved, for all bytes and all values; docs/C.md is where to
+ * start, docs/FORMATS.md has the layouts, docs/PROOF.md what is trusted. "(profile)" marks a choice of this
+ * library where MS-SMB2 leaves room.
  *
  * Leases are those of dialect 2.1, of version 1. A lease context of version 2, as SMB 3 clients send it
  * (RqLs with 52 bytes of data), isn't read: has_lease is 0 then, and has_other_lease is 1. A server that

@@ -12,6 +12,8 @@ from smblease import _functions
 # no lower.
 MAJOR, MINOR = 0, 2
 VARIABLE = "SMBLEASE_LIBRARY"
+REMEDY = ("To have it, run `make install` or `pip install --no-build-isolation .` at the top of the repository, or set"
+          f" {VARIABLE} to the path of its libsmblease.so")
 SONAME = f"libsmblease.so.{MAJOR}"
 HERE = os.path.dirname(os.path.realpath(__file__))
 # What an installed package brings, and where the package stands in the repository.
@@ -52,14 +54,13 @@ def _opened() -> tuple[str, ctypes.CDLL]:
             return place, ctypes.CDLL(place)
         except OSError as error:
             said.append(str(error))
-    how = f"`make install` and `pip install` bring it; {VARIABLE} names another"
-    raise ImportError(f"libsmblease can't be loaded: {'; '.join(said)} ({how})")
+    raise ImportError(f"libsmblease can't be loaded: {'; '.join(said)}. {REMEDY}")
 
 
 def _check_version(place: str, library: ctypes.CDLL) -> None:
     has = library.smblease_version()
     if has.major != MAJOR or has.minor < MINOR:
-        raise ImportError(f"{place} has version {has.major}.{has.minor}.{has.patch}; {MAJOR}.{MINOR} is needed")
+        raise ImportError(f"{place} has version {has.major}.{has.minor}.{has.patch}; {MAJOR}.{MINOR} is needed. {REMEDY}")
 
 
 def _declared(place: str, library: ctypes.CDLL) -> ctypes.CDLL:
@@ -67,7 +68,7 @@ def _declared(place: str, library: ctypes.CDLL) -> ctypes.CDLL:
         try:
             function = getattr(library, f"smblease_{name}")
         except AttributeError:
-            raise ImportError(f"{place} has no smblease_{name}") from None
+            raise ImportError(f"{place} has no smblease_{name}; libsmblease is needed. {REMEDY}") from None
         function.restype, function.argtypes = result, arguments
     _check_version(place, library)
     return library

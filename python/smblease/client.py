@@ -117,6 +117,22 @@ class Client(Handle[structs.Client]):
                                   bool(durable))
         return self._step(library.smblease_client_open, ctypes.byref(terms))
 
+    def close(self, *file: object) -> None:
+        """Frees the client, with all that it knows. Closing twice is no fault; any other call raises ValueError from then on.
+
+        >>> client = Client(uuid.UUID(int=1), 1)
+        >>> client.close(1)
+        Traceback (most recent call last):
+        ...
+        TypeError: close frees the client and takes no file: close_file(1) closes a file
+        >>> client.close()
+        >>> client.closed
+        True
+        """
+        if file:
+            raise TypeError(f"close frees the client and takes no file: close_file({', '.join(map(repr, file))}) closes a file")
+        super().close()
+
     def close_file(self, file: int) -> steps.Step:
         """The application closes a file.
 

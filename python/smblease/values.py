@@ -25,6 +25,8 @@ class LeaseState(enum.Flag):
         # Some versions of Python would drop the bits that name nothing.
         if isinstance(value, int) and not 0 <= value <= 7:
             raise ValueError(f"{value} is no LeaseState")
+        if isinstance(value, str):
+            raise ValueError(f"a LeaseState is needed, as LeaseState.of({str(cls.of(value))!r}), and not a text")
         found: LeaseState = super()._missing_(value)
         return found
 

@@ -36,6 +36,11 @@ def run(*words: str | Path, variables: dict[str, str] | None = None) -> Ended:
     return Ended(done.returncode, done.stdout.decode(errors="replace"), done.stderr.decode(errors="replace"))
 
 
+def pkg_config(prefix: Path, *words: str) -> Ended:
+    """What pkg-config says of the library that was installed below a prefix."""
+    return run("pkg-config", *words, "smblease", variables={"PKG_CONFIG_PATH": f"{prefix}/lib/pkgconfig"})
+
+
 def has(tool: str) -> bool:
     return shutil.which(tool) is not None
 

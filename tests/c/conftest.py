@@ -17,6 +17,16 @@ def work_folder(tmp_path_factory: pytest.TempPathFactory) -> Path:
 
 
 @pytest.fixture(scope="session")
+def prefix(tmp_path_factory: pytest.TempPathFactory) -> Path:
+    """Where `make install` has put all that it installs."""
+    assert building.made().status == 0, building.made()
+    folder = tmp_path_factory.mktemp("prefix")
+    done = building.run("make", "install", f"PREFIX={folder}")
+    assert done.status == 0, done
+    return folder
+
+
+@pytest.fixture(scope="session")
 def ack(folder: Path) -> Path:
     return building.program(folder, "examples/c/ack.c")
 

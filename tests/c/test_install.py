@@ -3,28 +3,14 @@ from __future__ import annotations
 
 import re
 import subprocess
-from collections.abc import Iterator
 from pathlib import Path
 
 import pytest
 
 from tests import needs
-from tests.c.building import CC, Ended, made, run
+from tests.c.building import CC, Ended, pkg_config, run
 from tests.c.test_library import ACKNOWLEDGMENT, NOTIFICATION
 from tests.paths import TOP
-
-
-@pytest.fixture(scope="module")
-def prefix(tmp_path_factory: pytest.TempPathFactory) -> Iterator[Path]:
-    assert made().status == 0, made()
-    folder = tmp_path_factory.mktemp("prefix")
-    done = run("make", "install", f"PREFIX={folder}")
-    assert done.status == 0, done
-    yield folder
-
-
-def pkg_config(prefix: Path, *words: str) -> Ended:
-    return run("pkg-config", *words, "smblease", variables={"PKG_CONFIG_PATH": f"{prefix}/lib/pkgconfig"})
 
 
 def test_the_installed_program(prefix: Path) -> None:
@@ -65,8 +51,34 @@ def test_no_other_names_are_given_out(prefix: Path) -> None:
     assert not [name for name in names if not name.startswith(("smblease_", "SMBLEASE_"))]
 
 
-def test_uninstall_leaves_nothing(tmp_path: Path) -> None:
+@needs.program("man")
+@pytest.mark.parametrize("page, name", [("leasecheck", "leasecheck - "), ("smblease", "smblease - ")])
+def test_man_finds_the_pages(prefix: Path, page: str, name: str) -> None:
+    shown = run("man", page, variables={"MANPATH": f"{prefix}/share/man", "MANWIDTH": "100", "LC_ALL": "C.UTF-8"})
+    assert shown.status == 0 and name in shown.output
+
+
+@needs.program("bash")
+def test_completion_is_found_by_its_program(prefix: Path) -> None:
+    """bash-completion loads the file of a program's name from this folder at its first use."""
+    file = prefix / "share/bash-completion/completions/leasecheck"
+    assert run("bash", "-c", f". '{file}'; complete -p leasecheck") == Ended(0, "complete -F _leasecheck leasecheck\n")
+
+
+def test_pages_for_users(prefix: Path) -> None:
+    """Each page that the man pages name is there, and what may be passed on."""
+    folder = prefix / "share/doc/smblease"
+    named = {name for page in (TOP / "man").iterdir()
+             for name in re.findall(r"docs/([A-Z_]{2,}\.md)", page.read_text(encoding="utf-8")) if name != "NAME.md"}
+    assert len(named) > 5 and named <= {it.name for it in folder.iterdir()}
+    assert "Nobody may pass this software on" in (folder / "COPYING.md").read_text(encoding="utf-8")
+    assert (folder / "examples/c/ack.c").read_bytes() == (TOP / "examples/c/ack.c").read_bytes()
+
+
+@pytest.mark.parametrize("folder", ["prefix", "a prefix"])
+def test_uninstall_leaves_nothing(tmp_path: Path, folder: str) -> None:
     for target in ("install", "uninstall"):
-        assert run("make", target, f"PREFIX={tmp_path}").status == 0
+        assert run("make", target, f"PREFIX=/{folder}", f"DESTDIR={tmp_path}/{folder}").status == 0
         files = subprocess.run(["find", tmp_path, "!", "-type", "d"], capture_output=True, text=True, check=True).stdout
         assert bool(files) == (target == "install"), files
+    assert not (tmp_path / folder / folder / "share/doc/smblease").exists()

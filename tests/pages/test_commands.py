@@ -2,7 +2,7 @@
 
 In an indented block a line `$ COMMAND` is a command, and the lines after it are what it prints, to the letter. A block of lines
 that each begin with make, export or cc is run too, and has to end well. All is run by one shell, in a folder of its own, with a
-home of its own.
+home of its own, where the kit's command `rt` does nothing but note that it was called.
 """
 from __future__ import annotations
 
@@ -22,22 +22,15 @@ PLAIN = ("make", "export ", "cc ")
 OWN = "make check"
 # What is run in the folder as it is run at the top of the repository.
 LINKS = (
-    "Makefile",
-    "crates",
-    "crates.txt",
-    "dist",
-    "drive",
-    "examples",
-    "include",
-    "kit.txt",
-    "leasecheck",
-    "out",
-    "python",
-    "tests",
-     "tools")
+    "CHANGELOG.md", "COPYING.md", "Makefile", "SECURITY.md", "completion", "crates", "crates.txt", "dist", "docs", "drive",
+    "examples", "include", "kit.txt", "leasecheck", "man", "out", "pyproject.toml", "python", "serve", "setup.py", "tests",
+    "tools")
 PAGES = ("README.md", "docs/SESSIONS.md")
 # Commands that have these words need these programs.
-NEEDS = {"pkg-config": "pkg-config", "out/c/": "pkg-config", "drive/capture": "tshark"}
+NEEDS = {"pkg-config": "pkg-config", "out/c/": "pkg-config", "./lend": "pkg-config", "drive/capture": "tshark",
+         "man leasecheck": "man"}
+# And these need these packages of /usr/bin/python3.
+PACKAGES = {"environment": ("ensurepip", "setuptools", "wheel")}
 MOST_LINES = 150
 MARK = "-- the end of what the command printed:"
 
@@ -77,13 +70,23 @@ class Session:
         (TOP / "out").mkdir(exist_ok=True)
         for name in LINKS:
             (folder / name).symlink_to(TOP / name)
-        self.shell = subprocess.Popen(["bash"], cwd=folder, env={**os.environ, "HOME": str(folder)}, stdin=subprocess.PIPE,
-                                      stdout=subprocess.PIPE, text=True)
+        self.kit_called = folder / "rt-was-called"
+        kit = folder / "no-kit" / "rt"
+        kit.parent.mkdir()
+        kit.write_text(f"#!/bin/sh\necho \"$*\" >>'{self.kit_called}'\nexit 1\n", encoding="utf-8")
+        kit.chmod(0o755)
+        variables = {**os.environ, "HOME": str(folder), "PATH": f"{kit.parent}:{os.environ['PATH']}", "PIP_NO_INDEX": "1",
+                     "PIP_DISABLE_PIP_VERSION_CHECK": "1"}
+        self.shell = subprocess.Popen(["bash"], cwd=folder, env=variables, stdin=subprocess.PIPE, stdout=subprocess.PIPE,
+                                      text=True)
         self.given = 0
 
-    def result_of(self, number: int) -> tuple[str, int]:
+    def run_before(self, number: int) -> None:
         while self.given < number:
             self._run(COMMANDS[self.given])
+
+    def result_of(self, number: int) -> tuple[str, int]:
+        self.run_before(number)
         return self._run(COMMANDS[number])
 
     def _run(self, command: Command) -> tuple[str, int]:
@@ -109,6 +112,7 @@ def session(tmp_path_factory: pytest.TempPathFactory) -> Iterator[Session]:
 
 def case(number: int, command: Command) -> object:
     missing = [needs.program(it) for word, it in NEEDS.items() if word in command.text and not shutil.which(it)]
+    missing += [needs.package(it) for word, names in PACKAGES.items() if word in command.text for it in names]
     return pytest.param(number, id=command.text[:60], marks=missing)
 
 
@@ -121,6 +125,12 @@ def test_command(session: Session, number: int) -> None:
         assert status == 0, printed
     else:
         assert printed == wanted
+
+
+@pytest.mark.xdist_group("pages")
+def test_no_command_takes_the_kit(session: Session) -> None:
+    session.run_before(len(COMMANDS))
+    assert not session.kit_called.exists()
 
 
 def test_readme_is_short() -> None:

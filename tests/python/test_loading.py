@@ -16,6 +16,8 @@ from smblease import _library
 from tests.paths import TOP
 
 BUILT = f"{TOP}/out/c/libsmblease.so"
+REMEDY = (" To have it, run `make install` or `pip install --no-build-isolation .` at the top of the repository, or set"
+          " SMBLEASE_LIBRARY to the path of its libsmblease.so")
 
 
 def loaded(packages: Path = TOP / "python", **variables: str) -> tuple[int, str]:
@@ -36,8 +38,18 @@ def test_a_library_that_is_named() -> None:
     pytest.param("libc.so.6", "ImportError: libc.so.6 has no smblease_", id="another_one"),
 ])
 def test_a_library_that_is_refused(name: str, said: str) -> None:
+    """What is wrong is said, and what to do."""
     status, last = loaded(SMBLEASE_LIBRARY=name)
     assert (status, last[:len(said)]) == (1, said)
+    assert last.endswith(REMEDY)
+
+
+def test_a_library_that_is_nowhere(tmp_path: Path) -> None:
+    """The package stands in no repository, brings no library, and none is installed."""
+    shutil.copytree(TOP / "python/smblease", tmp_path / "smblease")
+    status, last = loaded(tmp_path)
+    assert (status, last.startswith("ImportError: libsmblease can't be loaded: libsmblease.so.0: ")) == (1, True)
+    assert last.endswith(REMEDY)
 
 
 def test_a_library_that_the_loader_finds(tmp_path: Path) -> None:
@@ -58,15 +70,20 @@ def test_the_library_of_the_repository() -> None:
 
 
 def test_a_library_that_several_programs_want_at_once(tmp_path: Path) -> None:
-    """In a fresh clone each of them has it linked, and finds a whole one."""
+    """In a fresh clone, whose path has a space, each of them has it linked, and finds a whole one."""
+    clone = tmp_path / "a clone"
+    clone.mkdir()
     for name in ("python", "include", "tools", "dist", "crates", "Makefile", "crates.txt", "kit.txt"):
         if (TOP / name).is_dir():
-            shutil.copytree(TOP / name, tmp_path / name, ignore=shutil.ignore_patterns("out", "__pycache__"))
+            shutil.copytree(TOP / name, clone / name, ignore=shutil.ignore_patterns("out", "__pycache__"))
         else:
-            shutil.copy2(TOP / name, tmp_path / name)
+            shutil.copy2(TOP / name, clone / name)
+    # (where dist/ is older than the sources, what was proved here serves)
+    if (TOP / "out/proved").is_dir():
+        shutil.copytree(TOP / "out/proved", clone / "out/proved")
     with ThreadPoolExecutor() as pool:
-        ended = list(pool.map(loaded, [tmp_path / "python"] * 6))
-    assert ended == [(0, str(tmp_path / "out/c/libsmblease.so"))] * 6
+        ended = list(pool.map(loaded, [clone / "python"] * 6))
+    assert ended == [(0, str(clone / "out/c/libsmblease.so"))] * 6
 
 
 @pytest.mark.parametrize("major, minor", [(0, 2), (0, 3)])
@@ -76,7 +93,7 @@ def test_a_version_that_fits(major: int, minor: int) -> None:
 
 @pytest.mark.parametrize("major, minor", [(0, 1), (1, 2)])
 def test_a_version_that_does_not_fit(major: int, minor: int) -> None:
-    with pytest.raises(ImportError, match=f"^one has version {major}.{minor}.0; 0.2 is needed$"):
+    with pytest.raises(ImportError, match=f"^one has version {major}.{minor}.0; 0.2 is needed. To have it, run `make install`"):
         check(major, minor)
 
 

@@ -1,0 +1,98 @@
+"""What bash completes of a command line of the program, by the file that `make install` installs."""
+from __future__ import annotations
+
+import os
+import pty
+import re
+import subprocess
+from pathlib import Path
+
+import pytest
+
+from tests import needs
+from tests.paths import TOP
+
+pytestmark = needs.program("bash")
+COMPLETION = TOP / "completion" / "leasecheck"
+# A function in the place of the program, which prints its arguments.
+ECHO = "leasecheck() { printf '<%s>' \"$@\"; echo; }"
+COMMAND = re.compile(r"^  (\w+)  +\S", re.M)
+OPTION = re.compile(r"(?<![\w-])--?[a-zA-Z]\w*")
+
+
+def help_of(program: str, *command: str) -> str:
+    return subprocess.run([program, *command, "--help"], stdout=subprocess.PIPE, check=True, text=True).stdout
+
+
+def part_of(text: str, heading: str) -> str:
+    found = re.search(rf"^{heading}:\n((?:[ ].*\n|\n)+)", text, re.M)
+    assert found
+    return found[1]
+
+
+def offered(*words: str) -> set[str]:
+    """What is offered for the last of these words, by the function itself."""
+    asked = 'COMP_WORDS=("$@") COMP_CWORD=$(($# - 1)); _leasecheck leasecheck "${@: -1}"; printf "%s\\n" "${COMPREPLY[@]}"'
+    done = subprocess.run(["bash", "--norc", "-c", f". {COMPLETION}; {asked}", "bash", "leasecheck", *words],
+                          stdout=subprocess.PIPE, check=True, text=True)
+    return set(done.stdout.split("\n")) - {""}
+
+
+def typed(line: str, folder: Path) -> str:
+    """What a line gives its program when it is typed into bash, with its tabs."""
+    keyboard, terminal = pty.openpty()
+    shell = subprocess.Popen(["bash", "--norc", "--noprofile", "-i"], stdin=terminal, stdout=subprocess.PIPE, stderr=terminal,
+                             cwd=folder, start_new_session=True, text=True, env={"PATH": os.environ["PATH"], "TERM": "dumb",
+                                                                                 "INPUTRC": "/dev/null", "HOME": str(folder)})
+    os.close(terminal)
+    os.write(keyboard, f". {COMPLETION}; {ECHO}\n{line}\nexit\n".encode())
+    try:
+        return shell.communicate(timeout=60)[0]
+    finally:
+        shell.kill()
+        os.close(keyboard)
+
+
+@pytest.fixture(name="folder")
+def folder_of_files(tmp_path: Path) -> Path:
+    for name in ("shared.txt", "two words.txt"):
+        (tmp_path / name).touch()
+    (tmp_path / "records").mkdir()
+    (tmp_path / "records" / "first").touch()
+    return tmp_path
+
+
+def test_each_command_is_known(program: str) -> None:
+    assert offered("") == set(COMMAND.findall(part_of(help_of(program), "Commands"))) != set()
+
+
+def test_the_options_of_the_program_are_known(program: str) -> None:
+    assert offered("-") == set(OPTION.findall(re.sub(r"(?m)^ {10,}.*$", "", part_of(help_of(program), "Options"))))
+
+
+def test_each_option_of_a_command_is_known(program: str) -> None:
+    for command in COMMAND.findall(part_of(help_of(program), "Commands")):
+        has = set(OPTION.findall(re.sub(r"(?m)^ {10,}.*$", "", part_of(help_of(program, command), "Options"))))
+        assert {"-h", "--help"} <= has
+        assert offered(command, "-") == has, command
+
+
+def test_each_kind_is_known(program: str) -> None:
+    kinds = re.search(r"\[possible values: (.*)\]", help_of(program, "show"))
+    assert kinds and offered("show", "") == set(kinds[1].split(", "))
+
+
+@pytest.mark.parametrize("line, given", [
+    pytest.param("leasecheck jud\tsh\t", "<judge><shared.txt>", id="a command and a file"),
+    pytest.param("leasecheck judge --ex\tsh\t", "<judge><--explain><shared.txt>", id="an option before the file"),
+    pytest.param("leasecheck show rep\t00", "<show><reply><00>", id="a kind"),
+    pytest.param("leasecheck replay tw\t", "<replay><two words.txt>", id="a file with a space"),
+    pytest.param("leasecheck draw rec\tfi\t", "<draw><records/first>", id="a file in a folder"),
+    pytest.param("leasecheck show break @sh\t", "<show><break><@shared.txt>", id="a file of bytes"),
+    pytest.param("leasecheck ack @rec\tfi\t", "<ack><@records/first>", id="a file of bytes in a folder"),
+    pytest.param("leasecheck ack sh\t", "<ack><sh>", id="bytes are no file"),
+    pytest.param("leasecheck replay shared.txt tw\t", "<replay><shared.txt><tw>", id="no second file"),
+    pytest.param("leasecheck other sh\t", "<other><sh>", id="no such command"),
+])
+def test_what_is_typed(folder: Path, line: str, given: str) -> None:
+    assert typed(line, folder) == f"{given}\n"
