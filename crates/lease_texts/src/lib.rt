@@ -21,7 +21,7 @@ pub use fault::{LineFault, TextFault};
 pub use fields::{Fields, read_patch};
 pub use lease_facts::is;
 pub use lines::{first_line, is_passed_over};
-pub use quoting::push_quoted;
+pub use quoting::{push_all_escaped, push_quoted};
 pub use records::{digits_of, push_fact, push_patch, read_fact};
 pub use schedules::{
     Schedule, push_event, push_request, push_setup, read_event, read_guid, read_request,
