@@ -13,14 +13,22 @@ SAFE = b"safe\n"
 FAULT = re.compile(rb"fault (hex|file|memory|output|line [1-9][0-9]*|run (1 BadSetup|2 TooMany)|[1-7] \w+ at [0-9]+)\n")
 VERDICT = re.compile(rb"(?:safe|unsafe ([1-9][0-9]*) [1-4]|malformed ([1-9][0-9]*))\n")
 # Faults that a second line says more of, and that line.
-EXPLAINED = re.compile(rb"fault (hex|line|run|[1-7])")
+EXPLAINED = re.compile(rb"fault (hex|file|line|run|[1-7])")
 SECOND = re.compile(rb"[ -~]{10,500}\n")
+
+
+UNREADABLE = "it can't be read"
 
 
 class Ended(NamedTuple):
     status: int
     out: bytes = b""
     faults: bytes = b""
+
+
+def unread(path: object, why: str = UNREADABLE) -> Ended:
+    """A run that couldn't read this file."""
+    return Ended(1, b"", f'fault file\nFILE, "{path}": {why}\n'.encode())
 
 
 def run(words: Sequence[object], given: bytes = b"", env: Optional[Mapping[str, str]] = None, program: str = "") -> Ended:

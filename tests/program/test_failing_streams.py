@@ -8,19 +8,25 @@ from pathlib import Path
 import pytest
 
 from tests.paths import TESTS, built_program
-from tests.program.ran import BREAK, SAFE, Ended, answered, run
+from tests.program.ran import BREAK, SAFE, Ended, answered, run, unread
 from tests.shims import shim
 
 # How many bytes of a record gather before they are written, and are read at once.
 BLOCK = 65_536
 # An environment of no variables.
 EMPTY: dict[str, str] = {}
-READ, WRITTEN = b"fault file\n", b"fault output\n"
+WRITTEN = b"fault output\n"
+
+
+def on_file(command: str, path: Path) -> tuple[list[str], tuple[bytes, ...]]:
+    """A command that reads a file, and how it may fail."""
+    return [command, str(path)], (unread(path).faults, WRITTEN)
+
+
 SHORT: dict[str, tuple[list[str], tuple[bytes, ...]]] = {
     "help": (["--help"], (b"",)), "show": (["show", "ask", ""], (WRITTEN,)), "ack": (["ack", BREAK + "aa"], (WRITTEN,)),
-    **{f"replay {name}": (["replay", str(TESTS / "schedules" / name)], (READ, WRITTEN))
-       for name in ("break_answered", "raw_requests")},
-    **{f"judge {name}": (["judge", str(TESTS / "records" / name)], (READ, WRITTEN))
+    **{f"replay {name}": on_file("replay", TESTS / "schedules" / name) for name in ("break_answered", "raw_requests")},
+    **{f"judge {name}": on_file("judge", TESTS / "records" / name)
        for name in ("every_fact_safe", "two_caches_one_writes", "taken_without_a_message")},
 }
 
@@ -61,8 +67,8 @@ def test_failing_reads_of_a_record_of_several_blocks(tmp_path: Path) -> None:
     safe, reads = Ended(0, SAFE), 0
     for call in range(1, 100):
         ended = run(["judge", record], env={"LD_PRELOAD": shim("streams"), "FAILING_CALL": str(call)})
-        assert ended in (safe, Ended(1, b"", READ), Ended(1, b"", WRITTEN)), call
-        reads += ended.faults == READ
+        assert ended in (safe, unread(record), Ended(1, b"", WRITTEN)), call
+        reads += ended == unread(record)
         if ended == safe:
             break
     assert reads >= record.stat().st_size // BLOCK
@@ -100,7 +106,7 @@ def test_failing_writes_of_a_long_record(long_schedule: Path, task: list[str]) -
         ended = run(words, env={"LD_PRELOAD": shim("streams"), "FAILING_CALL": str(call)})
         if ended == whole:
             break
-        assert ended == Ended(1, b"", READ) or ended == Ended(1, whole.out[:len(ended.out)], WRITTEN), call
+        assert ended in (unread(long_schedule), Ended(1, whole.out[:len(ended.out)], WRITTEN)), call
         cut += len(ended.out) >= BLOCK
     assert cut >= 4
 

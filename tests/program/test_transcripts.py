@@ -21,6 +21,7 @@ from tests.program.ran import run
 # What a second line says, by what the first one begins with.
 SECOND = {
     "fault hex": r'HEX(, character \d+: a hexadecimal digit; it is ".+"|: two digits for each byte; there are \d+ digits)',
+    "fault file": r'FILE, ".*": (there is no (such file|right to read it)|it is a folder|it can\'t be read|its (name|path) .+)',
     "fault line": r'line \d+(, field \d+: [^;]+; (it is ".+".*|the line .+|two spaces .+)'
                   r"|: files and clients stand before the first event)",
     "fault run 1": r"at most (8 files|16 clients); there are \d+|no two clients with one GUID; clients \d+ and \d+ have one",

@@ -13,27 +13,38 @@ import pytest
 
 from tests import needs
 from tests.paths import built_program
-from tests.program.ran import Ended, answered
+from tests.program.ran import Ended, answered, run, unread
 
 NOBODY = 65534
 LAST = {"replay": b"# safe\n", "judge": b"safe\n"}
 TEXT = b"# " + b"x" * 200_000 + b"\n"
-FILE, OUTPUT = Ended(1, b"", b"fault file\n"), Ended(1, b"", b"fault output\n")
+OUTPUT = Ended(1, b"", b"fault output\n")
+MISSING, FOLDER = "there is no such file", "it is a folder"
 COMMANDS = pytest.mark.parametrize("command", LAST)
 
 
 @COMMANDS
-@pytest.mark.parametrize("path", ["", "/", "a" * 5000, "."], ids=["no name", "the root", "a long name", "a folder"])
-def test_no_file(command: str, path: str) -> None:
-    assert answered([command, path]) == FILE
+@pytest.mark.parametrize(("path", "why"), [
+    ("", MISSING), ("/", FOLDER), ("a" * 5000, "its name is too long"), (".", FOLDER), ("/nosuch", MISSING),
+], ids=["no name", "the root", "a long name", "a folder", "none"])
+def test_no_file(command: str, path: str, why: str) -> None:
+    assert run([command, path]) == unread(path, why)
+
+
+def test_name_that_is_quoted() -> None:
+    name = 'no "file"\n\u00e9\\'
+    assert run(["judge", name]) == unread(r"no \x22file\x22\x0a\xc3\xa9\x5c", MISSING)
 
 
 @COMMANDS
 def test_missing_file(command: str, tmp_path: Path) -> None:
     there = tmp_path / "there"
     there.write_bytes(b"start 1 61\n")
-    assert answered([command, tmp_path / "none"]) == FILE
-    assert answered([command, there / "below"]) == FILE
+    assert run([command, tmp_path / "none"]) == unread(tmp_path / "none", MISSING)
+    assert run([command, there / "below"]) == unread(there / "below", "its path leads through something that is no folder")
+    circle = tmp_path / "circle"
+    circle.symlink_to(circle)
+    assert run([command, circle]) == unread(circle, "its path leads through too many symbolic links")
 
 
 @needs.ROOT
@@ -47,7 +58,7 @@ def test_file_without_the_right_to_read_it(command: str) -> None:
             path.chmod(mode)
         ended = subprocess.run([program, command, closed], capture_output=True,
                                user=NOBODY, group=NOBODY, extra_groups=[], check=False)
-    assert Ended(ended.returncode, ended.stdout, ended.stderr) == FILE
+    assert Ended(ended.returncode, ended.stdout, ended.stderr) == unread(closed, "there is no right to read it")
 
 
 @COMMANDS
@@ -72,7 +83,7 @@ def test_named_pipe(command: str, tmp_path: Path) -> None:
 
 
 @COMMANDS
-@pytest.mark.parametrize(("redirected", "fault"), [("<&-", FILE), (">&-", OUTPUT), (">/dev/full", OUTPUT), ("2>&-", None)])
+@pytest.mark.parametrize(("redirected", "fault"), [("<&-", unread("-")), (">&-", OUTPUT), (">/dev/full", OUTPUT), ("2>&-", None)])
 def test_stream_that_is_closed_or_full(command: str, redirected: str, fault: Optional[Ended]) -> None:
     words = ["sh", "-c", f'exec "$0" "$@" {redirected}', built_program(), command, "-"]
     ended = subprocess.run(words, input=b"", capture_output=True, check=False)

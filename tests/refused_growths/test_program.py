@@ -1,6 +1,6 @@
 """The program with each of its growths refused.
 
-A run gives the whole answer, or prints nothing and ends with status 1 and `fault memory` (`fault file` while a file is read), or
+A run gives the whole answer, or prints nothing and ends with status 1 and `fault memory`, or
 says what is refused without its second line; while the command line is read it ends with status 1 or 2 and any message. A record
 of several blocks may have been begun: then a beginning of it is printed, and the fault is `fault output`. Machines that speak
 lines write what they answered before.
@@ -61,7 +61,7 @@ def fits_program(early: int, faults: Sequence[bytes]) -> Fits:
 
 def check_reading(folder: Path, task: list[str], path: object, status: int) -> None:
     """A command that reads a file."""
-    fits = fits_program(growths_of(folder, [*task, MISSING]), (b"fault memory\n", b"fault file\n"))
+    fits = fits_program(growths_of(folder, [*task, MISSING]), (b"fault memory\n",))
     Refusing(folder, [built_program(), *task, str(path)]).check(status, fits)
 
 
@@ -103,7 +103,7 @@ def test_replay_of_several_blocks(tmp_path: Path, task: list[str]) -> None:
              "take 1", "read 1 1", "serve 1", "take 1"]
     ended = ["write 1 1 100000 62", "read 1 1", "read 1 1"]
     path.write_text("\n".join([*begun, *["read 1 1"] * 20, *ended, ""]), encoding="ascii")
-    fits_whole = fits_program(growths_of(tmp_path, [*task, MISSING]), (b"fault memory\n", b"fault file\n"))
+    fits_whole = fits_program(growths_of(tmp_path, [*task, MISSING]), (b"fault memory\n",))
 
     def fits(whole: Ended, ended: Ended, number: int) -> bool:
         is_begun = bool(ended.out) and ended == Ended(1, whole.out[:len(ended.out)], b"fault output\n")

@@ -34,7 +34,7 @@ pub use laws::{
 pub use lease_facts::is;
 pub use lines::{first_line, is_passed_over};
 pub use parts::{Part, push_event, read_part, read_part_of};
-pub use quoting::push_quoted;
+pub use quoting::{push_all_escaped, push_quoted};
 pub use records::{push_fact, read_fact};
 pub use replies::{Arrival, read_arrival};
 pub use requests::read_request;

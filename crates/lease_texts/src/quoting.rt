@@ -23,7 +23,12 @@ fn push_escaped(alloc: Global, text: &mut String, byte: u8) -> Result<(), AllocE
     }
 }
 
-fn push_all_escaped(alloc: Global, text: &mut String, bytes: &[u8]) -> Result<(), AllocError>
+/// Appends bytes as they are quoted: those that aren't printable ASCII, quotation marks and backslashes as `\xHH`.
+///
+/// # Errors
+///
+/// `AllocError` where there is no memory for them.
+pub fn push_all_escaped(alloc: Global, text: &mut String, bytes: &[u8]) -> Result<(), AllocError>
     ensures { OnOk result (string_bytes text.new ≡ string_bytes text.old ++ flat_map escaped bytes.now) }
 {
     for byte in bytes {

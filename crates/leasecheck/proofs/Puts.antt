@@ -1,8 +1,10 @@
 -- Texts of which a beginning was written.
 use Rattle.lease_laws.proofs.Words.{◌++◌, ◌-◌, ◌∙◌, ◌≡◌, ◌⊎◌, Appends, Err, IfSome, List, None, Ok, Option, Result, Some, ℕ, []}
 use Rattle.lease_laws.proofs.Words.{ap, append-nil, append_assoc, arith, drop, inl, inr, length, length-drop, option_map, refl}
-use Rattle.lease_laws.proofs.Words.{string_bytes, sym, take, take_all, unwrap_or}
+use Rattle.lease_laws.proofs.Words.{string_bytes, subst, sym, take, take_all, unwrap_or}
 use Rattle.std.proofs.lemmas.List.{take-append-drop}
+use Rattle.leasecheck.specs.FileFaults.{IsUnreadRemark}
+use Rattle.leasecheck.specs.Paths.{path_of}
 use Rattle.leasecheck.specs.Remarks.{IsRemark, Says, second_of}
 use Rattle.leasecheck.specs.Refusals.{Begins, Puts, IsSecond}
 use Rattle.leasecheck.specs.declared.failure.Failure.{Failure}
@@ -46,10 +48,21 @@ of_second : {X : Type 0} (bytes : X → List ℕ) (P : List ℕ → Type 0) (sec
 of_second bytes P None says = inl refl
 of_second bytes P (Some line) says = inr says
 
-pub is_second : (asked : Task) (file : Option (List ℕ)) (refusal : Refusal) → Says refusal (IsRemark asked file)
-    → IsSecond asked file refusal.failure (second_of refusal)
-is_second asked file refusal says =
-    of_second (λ line. string_bytes line) (IsRemark asked file refusal.failure) refusal.second says
+-- A second line that is the old one, or says this, says this or what the old one says.
+either_said : {X : Type 0} (P Q : X → Type 0) (old new : Option X) → IfSome new (λ x. (old ≡ Some x) ⊎ P x) → IfSome old Q
+    → IfSome new (λ x. P x ⊎ Q x)
+either_said P Q old None said says = tt
+either_said P Q old (Some line) (inl same) says = inr (subst (λ second. IfSome second Q) same says)
+either_said P Q old (Some line) (inr unread) says = inl unread
+
+-- what is said of a task's file that can't be read, or else of its input
+pub is_second : (asked : Task) (file : Option (List ℕ)) (old new : Refusal)
+    → IfSome new.second (λ line. (old.second ≡ Some line) ⊎ IsUnreadRemark (path_of asked) old.failure (string_bytes line))
+    → Says old (IsRemark asked file) → IsSecond asked file old.failure (second_of new)
+is_second asked file old new said says = of_second (λ line. string_bytes line)
+    (λ line. IsUnreadRemark (path_of asked) old.failure line ⊎ IsRemark asked file old.failure line) new.second
+    (either_said (λ line. IsUnreadRemark (path_of asked) old.failure (string_bytes line))
+    (λ line. IsRemark asked file old.failure (string_bytes line)) old.second new.second said says)
 
 of_more : {X : Type 0} (bytes : X → List ℕ) (P Q : List ℕ → Type 0) (second : Option X) → ((line : List ℕ) → P line → Q line)
     → IfSome second (λ x. P (bytes x)) → IfSome second (λ x. Q (bytes x))

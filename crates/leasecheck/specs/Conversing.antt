@@ -5,9 +5,10 @@ use Rattle.std.specs.Io.KnownBytes.{Appends}
 use Rattle.lease_lines.specs.ClientTables.{Told}
 use Rattle.lease_lines.specs.Machines.{Machines, transcript}
 use Rattle.lease_texts.specs.Pieces.{lines_of}
+use Rattle.leasecheck.specs.FileFaults.{FailsReading}
 use Rattle.leasecheck.specs.Refusals.{Begins}
 use Rattle.leasecheck.specs.declared.failure.Failure.{Failure}
-use Rattle.leasecheck.specs.declared.failure.Failure.TheVariants.{Memory, File, Lines, Output}
+use Rattle.leasecheck.specs.declared.failure.Failure.TheVariants.{Memory, Lines, Output}
 
 -- All that the machines answer to these lines was written, or a beginning of it where something failed.
 abbrev pub Answers : {T : Type 0} → Machines → List (List ℕ) → Option (List ℕ) → Option (List ℕ) → Result T Failure → Type 0
@@ -19,13 +20,9 @@ abbrev pub Converses : {T : Type 0} → Machines → Option (List ℕ) → Optio
 Converses machines None old new answer = (lines : List (List ℕ)) × Answers machines lines old new answer
 Converses machines (Some text) old new answer = Answers machines (lines_of text) old new answer
 
--- no line more can be read
-abbrev pub EndsReading : Failure → Type 0
-EndsReading failure = (failure ≡ Memory) ⊎ (failure ≡ File)
-
 -- what ends machines before their input does
 abbrev pub EndsSpeaking : Failure → Type 0
-EndsSpeaking failure = (failure ≡ Memory) ⊎ (failure ≡ File) ⊎ (failure ≡ Output) ⊎ (failure ≡ Lines)
+EndsSpeaking failure = (failure ≡ Memory) ⊎ FailsReading failure ⊎ (failure ≡ Output) ⊎ (failure ≡ Lines)
 
 -- a reader gave a line with its line feed, or nothing at its end
 abbrev pub GivesLine : Option (List ℕ) → Option (List ℕ) → List ℕ → Type 0

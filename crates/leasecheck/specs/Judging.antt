@@ -2,6 +2,7 @@
 use Rattle.std.specs.Prelude.{◌≡◌, ◌⊎◌, ◌++◌, ◌+◌, ◌^◌, ◌≤◌, ℕ, map, List, [], ◌∷◌, length, Option, Some, None, Result, Ok, Err}
 use Rattle.std.specs.Prelude.{MatchResult, IfErr, IfSome}
 use Rattle.std.specs.String.{string_bytes}
+use Rattle.std.specs.declared.io.ErrorKind.{ErrorKind}
 use Rattle.lease_model.specs.records.Verdict as model
 use Rattle.lease_facts.specs.Facts.{fact_of}
 use Rattle.lease_world.specs.Verdicts.{verdict_of}
@@ -11,6 +12,7 @@ use Rattle.lease_world.specs.judge.Judged.{Judging, HasJudged}
 use Rattle.lease_texts.specs.Pieces.{lines_of}
 use Rattle.lease_texts.specs.Reading.{reads_on}
 use Rattle.lease_texts.specs.Records.{with_line, record_in}
+use Rattle.leasecheck.specs.FileFaults.{reading_failure}
 use Rattle.leasecheck.specs.declared.failure.Failure.{Failure}
 use Rattle.leasecheck.specs.declared.failure.Failure.TheVariants as failure
 use Rattle.leasecheck.specs.declared.judging.Progress.{Progress}
@@ -27,6 +29,10 @@ IsVerdictOn text verdict =
 -- a failure of which nothing more is said
 abbrev pub bare : Failure → Refusal
 bare failure = record { failure = failure; second = None }
+
+-- a read failed, of which nothing more is said yet
+abbrev pub IsUnread : Refusal → Type 0
+IsUnread told = (why : ErrorKind) × (told ≡ bare (reading_failure why))
 
 -- what is said of a line is said, or nothing
 abbrev pub SaysLine : ℕ → List ℕ → Refusal → Type 0
@@ -46,13 +52,13 @@ RunsOut count told = (told ≡ bare failure.Lines) × (2 ^ 64 ≤ count + 2)
 -- or there are more lines than numbers.
 abbrev pub JudgesText : List ℕ → Result Verdict Refusal → Type 0
 JudgesText text answer = MatchResult answer (λ verdict. IsVerdictOn text verdict)
-    (λ told. (told ≡ bare failure.Memory) ⊎ (told ≡ bare failure.File) ⊎ RunsOut (length text) told
+    (λ told. (told ≡ bare failure.Memory) ⊎ IsUnread told ⊎ RunsOut (length text) told
     ⊎ RefusesLine (lines_of text) told)
 
 -- The same of a reader's text, where that is known.
 abbrev pub Judges : Option (List ℕ) → Result Verdict Refusal → Type 0
 Judges None answer = IfErr answer
-    (λ told. (told ≡ bare failure.Memory) ⊎ (told ≡ bare failure.File) ⊎ (told ≡ bare failure.Lines)
+    (λ told. (told ≡ bare failure.Memory) ⊎ IsUnread told ⊎ (told ≡ bare failure.Lines)
     ⊎ ((text : List ℕ) × RefusesLine (lines_of text) told))
 Judges (Some text) answer = JudgesText text answer
 

@@ -1,5 +1,7 @@
 pub mod Arguments
 pub mod HexRemarks
+pub mod FileFaults
+pub mod Paths
 pub mod SetupRemarks
 pub mod LineRemarks
 pub mod WireRemarks

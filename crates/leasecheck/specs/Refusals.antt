@@ -16,6 +16,8 @@ use Rattle.lease_wire.specs.declared.fault.WireFault.{WireFault}
 use Rattle.lease_texts.specs.Records.{record_in}
 use Rattle.leasecheck.specs.Arguments.{argument_bytes}
 use Rattle.leasecheck.specs.Drawing.{draw_refusal}
+use Rattle.leasecheck.specs.FileFaults.{FailsReading, IsUnreadRemark}
+use Rattle.leasecheck.specs.Paths.{path_of}
 use Rattle.leasecheck.specs.Printed.{IsTextOf, Prints}
 use Rattle.leasecheck.specs.Remarks.{IsRemark, Says}
 use Rattle.leasecheck.specs.Replayed.{replay_refusal}
@@ -117,13 +119,13 @@ RunsOutOf (Some text) failure = (failure ≡ Lines) × (2 ^ 64 ≤ length text +
 
 -- What may end a replay, a drawing or a judging: its file is refused, or there was no memory, or a read failed.
 abbrev pub MayEndReplay : Option (List ℕ) → Failure → Type 0
-MayEndReplay file failure = (failure ≡ Memory) ⊎ (failure ≡ File) ⊎ IsScheduleRefusal file failure
+MayEndReplay file failure = (failure ≡ Memory) ⊎ FailsReading failure ⊎ IsScheduleRefusal file failure
 
 abbrev pub MayEndDrawing : Option (List ℕ) → Failure → Type 0
-MayEndDrawing file failure = (failure ≡ Memory) ⊎ (failure ≡ File) ⊎ IsDrawingRefusal file failure
+MayEndDrawing file failure = (failure ≡ Memory) ⊎ FailsReading failure ⊎ IsDrawingRefusal file failure
 
 abbrev pub MayEndJudging : Option (List ℕ) → Failure → Type 0
-MayEndJudging file failure = (failure ≡ Memory) ⊎ (failure ≡ File) ⊎ RunsOutOf file failure ⊎ IsRecordRefusal file failure
+MayEndJudging file failure = (failure ≡ Memory) ⊎ FailsReading failure ⊎ RunsOutOf file failure ⊎ IsRecordRefusal file failure
 
 -- What may end a task: its argument or its file is refused, or there was no memory, or a read of its file failed.
 abbrev pub MayEnd : Task → Option (List ℕ) → Failure → Type 0
@@ -167,7 +169,7 @@ EndsWith asked file old new failure =
 abbrev pub failure_text : Failure → List ℕ
 failure_text Hex = codes "fault hex"
 failure_text (Wire fault) = codes "fault " ++ fault_text fault
-failure_text File = codes "fault file"
+failure_text (File fault) = codes "fault file"
 failure_text Lines = codes "fault file"
 failure_text (Line number) = codes "fault line " ++ decimal number
 failure_text (Run run.BadSetup) = codes "fault run 1 BadSetup"
@@ -180,9 +182,10 @@ failure_text Output = codes "fault output"
 abbrev pub failure_line : Failure → List ℕ
 failure_line failure = failure_text failure ++ 10 ∷ []
 
--- nothing, or what is said after this failure of the task
+-- nothing, or what is said after this failure of the task: why its file can't be read, or else what is said of its input
 abbrev pub IsSecond : Task → Option (List ℕ) → Failure → List ℕ → Type 0
-IsSecond asked file failure second = (second ≡ []) ⊎ IsRemark asked file failure second
+IsSecond asked file failure second =
+    (second ≡ []) ⊎ (IsUnreadRemark (path_of asked) failure second ⊎ IsRemark asked file failure second)
 
 -- How a task ends with status 1: it prints what tells so, as that a record is malformed; or it has a failure, whose line is told
 -- on the other stream, and after it nothing or the second line about that failure; or a beginning of this.

@@ -1,7 +1,8 @@
 ghost use Rattle.std.specs.Prelude.{◌≡◌, ◌⊎◌, [], IfOk, IfErr, MatchResult};
 ghost use Rattle.lease_lines.specs.Machines.{answered};
 ghost use Rattle.lease_lines.specs.Tables.{machines_of};
-ghost use Rattle.leasecheck.specs.Conversing.{Converses, EndsReading, EndsSpeaking, GivesLine, HasSpoken};
+ghost use Rattle.leasecheck.specs.Conversing.{Converses, EndsSpeaking, GivesLine, HasSpoken};
+ghost use Rattle.leasecheck.specs.FileFaults.{FailsReading};
 ghost use Rattle.leasecheck.specs.Refusals.{Begins};
 
 use crate::failure::Failure;
@@ -9,18 +10,17 @@ use crate::printing::print_text;
 use lease_lines::Machines;
 use lease_texts::first_line;
 use std::alloc::Global;
-use std::io::{BufRead, ErrorKind, Write};
+use std::io::{BufRead, Write};
 
 // The bytes of the next line, with its line feed; none at the end.
 fn next_bytes<I: BufRead>(alloc: Global, input: &mut I) -> Result<Vec<u8>, Failure>
     ensures given { IfOk result (λ bytes. GivesLine (I.remaining input.old) (I.remaining input.new) bytes.items) }
-    ensures failed { IfErr result EndsReading }
+    ensures failed { IfErr result FailsReading }
 {
     let mut bytes = Vec::new(alloc);
     match input.read_until(b'\n', &mut bytes) {
         Ok(_) => Ok(bytes),
-        Err(error) if error.kind() == ErrorKind::OutOfMemory => Err(Failure::Memory),
-        Err(_) => Err(Failure::File),
+        Err(error) => Err(Failure::of_reading(error.kind())),
     }
 }
 

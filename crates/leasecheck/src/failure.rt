@@ -1,11 +1,14 @@
 ghost use Rattle.std.specs.Prelude.{◌≡◌};
+ghost use Rattle.leasecheck.specs.FileFaults.{FailsReading, failure_by, reading_failure};
 ghost use Rattle.leasecheck.specs.declared.failure.Failure.TheVariants.{Wire, Run, Memory};
 
+use crate::file_fault::FileFault;
 use lease_state::Memory;
 use lease_wire::WireFault;
 use lease_world::RunFault;
 use std::alloc::{AllocError, AllocFailed};
 use std::fmt;
+use std::io::ErrorKind;
 
 /// Why a task is refused. As text it is the line that standard error gets, without its line feed.
 #[derive(Clone, Copy, Debug, PartialEq, Eq)]
@@ -14,8 +17,8 @@ pub enum Failure {
     Hex,
     /// The bytes are refused.
     Wire(WireFault),
-    /// The file can't be read.
-    File,
+    /// The file can't be opened or read.
+    File(FileFault),
     /// The file has more lines than there are numbers of 64 bits.
     Lines,
     /// The line of this number, from 1, is refused.
@@ -30,6 +33,25 @@ pub enum Failure {
     Output,
 }
 
+fn failure_by(fault: Option<FileFault>) -> Failure
+    ensures { result ≡ failure_by fault }
+{
+    match fault {
+        Some(fault) => Failure::File(fault),
+        None => Failure::Memory,
+    }
+}
+
+impl Failure {
+    /// What a read, or the opening of a file, fails as whose error is of this kind.
+    pub fn of_reading(kind: ErrorKind) -> Failure
+        ensures exact { result ≡ reading_failure kind }
+        ensures fails { FailsReading result }
+    {
+        failure_by(FileFault::of(kind))
+    }
+}
+
 impl fmt::Display for Failure {
     ghost use Rattle.std.specs.Prelude.{Some};
     ghost use Rattle.leasecheck.specs.Refusals.{failure_text};
@@ -40,7 +62,7 @@ impl fmt::Display for Failure {
         match self {
             Failure::Hex => f.write_str("fault hex"),
             Failure::Wire(fault) => write!(f, "fault {fault}"),
-            Failure::File | Failure::Lines => f.write_str("fault file"),
+            Failure::File(_) | Failure::Lines => f.write_str("fault file"),
             Failure::Line(number) => write!(f, "fault line {number}"),
             Failure::Run(RunFault::BadSetup) => f.write_str("fault run 1 BadSetup"),
             Failure::Run(RunFault::TooMany) => f.write_str("fault run 2 TooMany"),

@@ -6,7 +6,7 @@ ghost use Rattle.lease_facts.specs.declared.fact.Fact.{Fact};
 ghost use Rattle.lease_world.specs.judge.Judged.{HasJudged};
 ghost use Rattle.lease_texts.specs.Pieces.{lines_of};
 ghost use Rattle.leasecheck.specs.Judging.{changed_to, HasRead, HasReadText, TakesLine, ReadsMore, ReadsBlock, JudgesText};
-ghost use Rattle.leasecheck.specs.Judging.{Judges};
+ghost use Rattle.leasecheck.specs.Judging.{IsUnread, Judges};
 ghost use Rattle.leasecheck.specs.Replayed.{verdict_line, status_of};
 
 use crate::failure::Failure;
@@ -152,25 +152,35 @@ fn take_fact(alloc: Global, judge: &mut Judge, line: &[u8], number: u64) -> Resu
     }
 }
 
+// What is refused where a read fails.
+fn unread(kind: ErrorKind) -> Refusal
+    ensures { IsUnread result }
+{
+    Refusal {
+        failure: Failure::of_reading(kind),
+        second: None,
+    }
+}
+
 // Reads into the block, and gives how many bytes there are; none is the end. A read that was interrupted is tried again.
-fn read_block<I: Read>(input: &mut I, block: &mut [u8]) -> Result<usize, Failure>
+fn read_block<I: Read>(input: &mut I, block: &mut [u8]) -> Result<usize, Refusal>
     requires { 0 < length block.old }
     ensures fits { IfOk result (λ count. count ≤ length block.new) }
     ensures bytes { IfOk result (λ count. Consumes (I.remaining input.old) (I.remaining input.new) (take count block.new)) }
     ensures end { IfOk result (λ count. count ≡ 0 → IsAtEnd (I.remaining input.new)) }
-    ensures failed { IfErr result (λ failure. failure ≡ Failure.File) }
+    ensures failed { IfErr result IsUnread }
 {
     for _turn in 0..u64::MAX {
         match input.read(block) {
             Ok(count) => return Ok(count),
             Err(error) => {
                 if error.kind() != ErrorKind::Interrupted {
-                    return Err(Failure::File);
+                    return Err(unread(error.kind()));
                 }
             }
         }
     }
-    Err(Failure::File)
+    Err(unread(ErrorKind::Interrupted))
 }
 
 // Judges what a reader gives, block by block.

@@ -27,6 +27,7 @@ use crate::explaining::explain_text;
 use crate::failure::Failure;
 use crate::hexadecimal;
 use crate::judging::{judge_text, push_verdict, status_of};
+use crate::reading::read_all;
 use crate::recording::{Record, write_record};
 use crate::refusal::Refusal;
 use crate::replaying::replay;
@@ -88,10 +89,7 @@ fn replayed<I: Read>(alloc: Global, telling: Telling, input: &mut I) -> Result<R
         (λ refusal. MayEndReplay (I.remaining input.old) refusal.failure) }
     ensures said { IfErr result (λ refusal. Says refusal (IsFileRemark schedule_remark (I.remaining input.old))) }
 {
-    let mut bytes = Vec::new(alloc);
-    let Ok(_) = input.read_to_end(&mut bytes) else {
-        return Err(Refusal::bare(Failure::File));
-    };
+    let bytes = read_all(alloc, input)?;
     match replay(alloc, telling, bytes.as_slice()) {
         Ok(ran) => Ok(ran),
         Err(refusal) => Err(refusal),
@@ -107,10 +105,7 @@ fn explained<I: Read>(alloc: Global, input: &mut I) -> Result<Printed, Refusal>
     ensures refused { IfErr result (λ refusal. MayEndJudging (I.remaining input.old) refusal.failure) }
     ensures said { IfErr result (λ refusal. Says refusal (IsFileRemark record_remark (I.remaining input.old))) }
 {
-    let mut bytes = Vec::new(alloc);
-    let Ok(_) = input.read_to_end(&mut bytes) else {
-        return Err(Refusal::bare(Failure::File));
-    };
+    let bytes = read_all(alloc, input)?;
     match explain_text(alloc, bytes.as_slice()) {
         Ok((text, verdict)) => Ok(Printed {
             text,
@@ -128,10 +123,7 @@ fn drawn<I: Read>(alloc: Global, input: &mut I) -> Result<Printed, Refusal>
         (λ refusal. MayEndDrawing (I.remaining input.old) refusal.failure) }
     ensures said { IfErr result (λ refusal. Says refusal (IsDrawingRemark (I.remaining input.old))) }
 {
-    let mut bytes = Vec::new(alloc);
-    let Ok(_) = input.read_to_end(&mut bytes) else {
-        return Err(Refusal::bare(Failure::File));
-    };
+    let bytes = read_all(alloc, input)?;
     match draw_text(alloc, bytes.as_slice()) {
         Ok(text) => Ok(Printed { text, status: 0 }),
         Err(refusal) => Err(refusal),
@@ -296,7 +288,7 @@ fn second_bytes(refusal: &Refusal) -> &[u8]
 }
 
 // The line of a failure, and the second line where there is one.
-fn tell_refusal<F: Write>(refusal: &Refusal, faults: &mut F) -> Result<(), Failure>
+pub(crate) fn tell_refusal<F: Write>(refusal: &Refusal, faults: &mut F) -> Result<(), Failure>
     ensures { Begins (F.contents faults.old) (F.contents faults.new) (failure_line refusal.now.failure ++ second_of refusal.now) }
 {
     tell_failure(refusal.failure, faults)?;
@@ -333,6 +325,7 @@ pub fn perform<I: Read, O: Write, F: Write>(
     match print_task(alloc, task, input, out) {
         Ok(status) => status,
         Err(refusal) => {
+            let refusal = refusal.of_task(alloc, task);
             let _ = tell_refusal(&refusal, faults);
             1
         }

@@ -3,9 +3,9 @@ ghost use Rattle.std.specs.Prelude.{◌≡◌, Some, None, MatchResult};
 use crate::failure::Failure;
 use crate::remarks::{
     bare_remark, events_remark, fact_remark, facts_remark, hex_remark, line_at, part_remark,
-    setup_remark, shown_remark,
+    setup_remark, shown_remark, unread_line,
 };
-use crate::tasks::Kind;
+use crate::tasks::{Kind, Task};
 use lease_state::Memory;
 use lease_texts::Schedule;
 use lease_world::RunFault;
@@ -40,15 +40,17 @@ fn some_of(text: Result<Option<String>, AllocError>) -> Option<String>
 }
 
 impl Refusal {
-    ghost use Rattle.std.specs.Prelude.{List, ℕ, Ok, IfSome};
+    ghost use Rattle.std.specs.Prelude.{◌⊎◌, List, ℕ, Ok, IfSome};
     ghost use Rattle.std.specs.String.{string_bytes};
     ghost use Rattle.lease_texts.specs.Drafts.{draft_of};
     ghost use Rattle.lease_wire.specs.declared.fault.WireFault.{WireFault};
     ghost use Rattle.leasecheck.specs.Arguments.{argument_bytes};
     ghost use Rattle.leasecheck.specs.Drawing.{facts_line, picture_failure};
+    ghost use Rattle.leasecheck.specs.FileFaults.{IsUnreadRemark};
     ghost use Rattle.leasecheck.specs.Judging.{SaysLine};
     ghost use Rattle.record_pictures.specs.declared.fault.PictureFault.TheVariants as picture_fault;
     ghost use Rattle.leasecheck.specs.LineRemarks.{line_at, part_remark};
+    ghost use Rattle.leasecheck.specs.Paths.{path_of};
     ghost use Rattle.leasecheck.specs.Remarks.{Says, IsArgumentRemark, run_remark};
     ghost use Rattle.leasecheck.specs.WireRemarks.{bare_remark, shown_remark};
     ghost use Rattle.leasecheck.specs.declared.tasks.Kind.TheVariants as kind;
@@ -61,6 +63,21 @@ impl Refusal {
         Refusal {
             failure,
             second: None,
+        }
+    }
+
+    /// The same of a task, of whose file is said why it can't be opened or read where that is the failure.
+    pub fn of_task(self, alloc: Global, task: &Task) -> Refusal
+        ensures failure { result.failure ≡ self.failure }
+        ensures said { IfSome result.second (λ line. (self.second ≡ Some line)
+            ⊎ IsUnreadRemark (path_of task.now) self.failure (string_bytes line)) }
+    {
+        match (self.failure, task.path()) {
+            (Failure::File(fault), Some(path)) => Refusal {
+                failure: self.failure,
+                second: some(unread_line(alloc, path, fault)),
+            },
+            _ => self,
         }
     }
 

@@ -10,7 +10,8 @@ ghost use Rattle.leasecheck.specs.Running.{Does};
 use crate::command_line::asked;
 use crate::conversing::converse;
 use crate::failure::Failure;
-use crate::printing::{perform, tell_failure};
+use crate::printing::{perform, tell_failure, tell_refusal};
+use crate::refusal::Refusal;
 use crate::tasks::{Asked, Task, Usage};
 use lease_lines::Machines;
 use std::alloc::{AllocError, Global};
@@ -71,8 +72,9 @@ fn perform_on_file<R: Files + Input + AllocGlobal, O: Write, F: Write>(
         Some("-") => perform(alloc, asked, &mut rt.reader(), out, faults),
         Some(path) => match fs::open(rt, path) {
             Ok(mut file) => perform(alloc, asked, &mut file, out, faults),
-            Err(_) => {
-                let _ = tell_failure(Failure::File, faults);
+            Err(error) => {
+                let refusal = Refusal::bare(Failure::of_reading(error.kind()));
+                let _ = tell_refusal(&refusal.of_task(alloc, asked), faults);
                 1
             }
         },

@@ -55,8 +55,13 @@ pub enum Asked {
 pub const VERSION: &str = "leasecheck 0.3.0\nrattle-kit-13f logic dac8208d650f15bf\n";
 
 impl Task {
+    ghost use Rattle.std.specs.Prelude.{◌≡◌, option_map};
+    ghost use Rattle.leasecheck.specs.Paths.{path_of};
+
     /// The file that it reads; a hyphen stands for standard input.
-    pub fn path(&self) -> Option<&str> {
+    pub fn path(&self) -> Option<&str>
+        ensures { option_map (λ path. path.now) result ≡ path_of self.now }
+    {
         match self {
             Task::Ack(_) | Task::Show(_, _) | Task::Version => None,
             Task::Replay(path, _) | Task::Judge(path) | Task::Explain(path) | Task::Draw(path) =>

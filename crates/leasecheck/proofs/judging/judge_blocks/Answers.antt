@@ -1,6 +1,8 @@
 use Rattle.lease_laws.proofs.Words.{◌++◌, ℕ, arith, length-take, subst, take}
 use Rattle.std.specs.Io.KnownBytes.{Consumes}
 use Rattle.leasecheck.specs.Judging.{JudgesText}
+use Rattle.std.proofs.lemmas.Result.{err_from_is_err_and}
+use Rattle.leasecheck.proofs.Judged.{unread_ends}
 use Rattle.leasecheck.proofs.Rounds.{begins, goes_on, stops, ends, runs_out}
 use Rattle.leasecheck.proofs.judging.judge_blocks.Goals as goal
 
@@ -34,3 +36,9 @@ returns-then-count-eq0 g c =
 pub returns : goal.returns
 returns g c = runs_out (g.I.Read.remaining c.args.input.now) _ c.loop-round.progress c.loop-round.begun.items c.loop-round._round
     c.loop-round.invariant (omega (arith, c.loop-round-test.false))
+
+pub returns-in_err-count : goal.returns-in_err-count
+returns-in_err-count g c =
+    let told = err_from_is_err_and c.from_residual.result c.from_residual.ensures.1 in
+    rw (told.1, told.2)
+    (unread_ends (g.I.Read.remaining c.args.input.now) c.in_err-count.field-0.0 c.in_err-count.ensures.failed)

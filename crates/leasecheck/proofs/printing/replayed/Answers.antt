@@ -8,28 +8,28 @@ use Rattle.leasecheck.specs.declared.failure.Failure.TheVariants.{Memory}
 use Rattle.leasecheck.proofs.printing.replayed.Goals as goal
 
 -- What a text is refused as is what the known bytes are that were read as it.
-of_known : (known : Option (List ℕ)) (text items start : List ℕ) (failure : Failure) → text ≡ items → start ≡ []
-    → IfSome known (λ bytes. items ≡ start ++ bytes)
+of_known : (known : Option (List ℕ)) (text items : List ℕ) (failure : Failure) → text ≡ items
+    → IfSome known (λ bytes. items ≡ bytes)
     → (failure ≡ Memory) ⊎ (replay_refusal text ≡ Some failure) → MayEndReplay known failure
-of_known known text items start failure is none same (inl memory) = inl memory
-of_known None text items start failure is none same (inr refused) = inr (inr (text, refused))
-of_known (Some bytes) text items start failure is none same (inr refused) =
-    inr (inr (subst (λ t. replay_refusal t ≡ Some failure) (is ∙ (same ∙ ap (λ s. s ++ bytes) none)) refused))
+of_known known text items failure is same (inl memory) = inl memory
+of_known None text items failure is same (inr refused) = inr (inr (text, refused))
+of_known (Some bytes) text items failure is same (inr refused) =
+    inr (inr (subst (λ t. replay_refusal t ≡ Some failure) (is ∙ same) refused))
 
-said_of_known : (known : Option (List ℕ)) (text items start : List ℕ) (failure : Failure) (line : List ℕ) → text ≡ items
-    → start ≡ [] → IfSome known (λ bytes. items ≡ start ++ bytes)
+said_of_known : (known : Option (List ℕ)) (text items : List ℕ) (failure : Failure) (line : List ℕ) → text ≡ items
+    → IfSome known (λ bytes. items ≡ bytes)
     → schedule_remark text failure ≡ Some line → IsFileRemark schedule_remark known failure line
-said_of_known None text items start failure line is none same said = (text, said)
-said_of_known (Some bytes) text items start failure line is none same said =
-    subst (λ t. schedule_remark t failure ≡ Some line) (is ∙ (same ∙ ap (λ s. s ++ bytes) none)) said
+said_of_known None text items failure line is same said = (text, said)
+said_of_known (Some bytes) text items failure line is same said =
+    subst (λ t. schedule_remark t failure ≡ Some line) (is ∙ same) said
 
 pub returns-clause-said : goal.returns-clause-said
 returns-clause-said g c = says_more c.in-Err.refusal (λ failure line. schedule_remark c.as_slice.result.now failure ≡ Some line)
     (IsFileRemark schedule_remark (g.I.Read.remaining c.args.input.now))
-    (λ line. said_of_known _ c.as_slice.result.now _ _ c.in-Err.refusal.failure line c.as_slice.ensures.value
-    c.new-bytes.ensures.items c.in-Ok.ensures.bytes) c.in-Err.ensures.said
+    (λ line. said_of_known _ c.as_slice.result.now _ c.in-Err.refusal.failure line c.as_slice.ensures.value
+    c.in_ok-bytes.ensures.read) c.in-Err.ensures.said
 
 pub returns-clause-refused : goal.returns-clause-refused
 returns-clause-refused g c =
-    of_known _ c.as_slice.result.now _ _ c.in-Err.refusal.failure c.as_slice.ensures.value c.new-bytes.ensures.items
-    c.in-Ok.ensures.bytes c.in-Err.ensures.refused
+    of_known _ c.as_slice.result.now _ c.in-Err.refusal.failure c.as_slice.ensures.value
+    c.in_ok-bytes.ensures.read c.in-Err.ensures.refused
