@@ -25,9 +25,6 @@
  * - A handle is {0} or what a function left there. One call at a time uses it. Handles share nothing, so
  *   threads may use different handles at once. A handle may go to another thread where a lock, or the start
  *   or the end of a thread, orders the calls.
- * - A function whose handle is `const` only looks: the machine, what it gave out and the handle are then as
- *   they were. During the call it does write the handle, which so is no constant itself, lies in no memory
- *   that can't be written, and is used by no other call meanwhile, be it one that only looks.
  * - A pointer is to as many bytes as the length after it says, or to one struct, aligned as C aligns it,
  *   that has been given some value before (as by = {0}), also where the call writes it. A room of bytes
  *   has been given some value too: fresh memory of malloc is to be set first. A pointer is null only
@@ -247,19 +244,19 @@ uint32_t smblease_client_take_ack_failed(struct smblease_client *client, uint32_
 /* What the last call gave out. The bytes are written to the front of the room where they fit, and else
    nothing is written there; the struct's `length` says how many there are. Allocate nothing. DONE or NONE; of
    request_at and note_at also NO_SUCH, where nothing has the index. Unless DONE nothing is written. */
-uint32_t smblease_client_answer(const struct smblease_client *client, struct smblease_answer *answer,
+uint32_t smblease_client_answer(struct smblease_client *client, struct smblease_answer *answer,
                                 uint8_t *room, size_t room_length);
-uint32_t smblease_client_request_at(const struct smblease_client *client, size_t index,
+uint32_t smblease_client_request_at(struct smblease_client *client, size_t index,
                                     struct smblease_client_request *request, uint8_t *room, size_t room_length);
-uint32_t smblease_client_note_at(const struct smblease_client *client, size_t index, struct smblease_note *note,
+uint32_t smblease_client_note_at(struct smblease_client *client, size_t index, struct smblease_note *note,
                                  uint8_t *room, size_t room_length);
 /* How many there are; 0 where there is no machine. Allocate nothing. */
-size_t smblease_client_request_count(const struct smblease_client *client);
-size_t smblease_client_note_count(const struct smblease_client *client);
+size_t smblease_client_request_count(struct smblease_client *client);
+size_t smblease_client_note_count(struct smblease_client *client);
 
 /* What the client believes of the lease of a file: the bits of LeaseState; 0 where it isn't open, or there is
    no machine. Allocates nothing. */
-uint32_t smblease_client_belief(const struct smblease_client *client, uint8_t file);
+uint32_t smblease_client_belief(struct smblease_client *client, uint8_t file);
 /* The lease key under which the client of a ClientGuid opens a file (3.2.4.3.8). Allocates nothing. */
 void smblease_client_key(const struct smblease_guid *guid, uint8_t file, struct smblease_key *key);
 
@@ -339,27 +336,27 @@ uint32_t smblease_server_receive_ack(struct smblease_server *server, uint8_t cli
                                      const struct smblease_ack_message *message);
 
 /* What the last call gave out, as of a client. Allocate nothing. */
-size_t smblease_server_out_count(const struct smblease_server *server);
-uint32_t smblease_server_out_at(const struct smblease_server *server, size_t index, struct smblease_server_out *out,
+size_t smblease_server_out_count(struct smblease_server *server);
+uint32_t smblease_server_out_at(struct smblease_server *server, size_t index, struct smblease_server_out *out,
                                 uint8_t *room, size_t room_length);
 
 /* Questions; nothing changes, and the outs stay. Allocate nothing. Where there is no machine, allowed,
    connected, breaking and left_behind return 0. */
 
 /* What may be granted of the state that is wanted: the bits of LeaseState. */
-uint32_t smblease_server_allowed(const struct smblease_server *server, uint8_t client, const struct smblease_maybe_key *key,
+uint32_t smblease_server_allowed(struct smblease_server *server, uint8_t client, const struct smblease_maybe_key *key,
                                  uint8_t file, uint32_t want);
 /* 1 where it is so, and else 0: the client is connected; a break of its lease waits for an acknowledgment; an
    open of this FileId waits for its client to connect again. */
-uint32_t smblease_server_connected(const struct smblease_server *server, uint8_t client);
-uint32_t smblease_server_breaking(const struct smblease_server *server, uint8_t client, const struct smblease_key *key);
-uint32_t smblease_server_left_behind(const struct smblease_server *server, uint64_t file_id);
+uint32_t smblease_server_connected(struct smblease_server *server, uint8_t client);
+uint32_t smblease_server_breaking(struct smblease_server *server, uint8_t client, const struct smblease_key *key);
+uint32_t smblease_server_left_behind(struct smblease_server *server, uint64_t file_id);
 /* The client's oldest durable open on the file that waits for it. DONE, NONE, or NO_SUCH where there is none;
    unless DONE nothing is written. */
-uint32_t smblease_server_kept(const struct smblease_server *server, uint8_t client, uint8_t file, uint64_t *file_id);
+uint32_t smblease_server_kept(struct smblease_server *server, uint8_t client, uint8_t file, uint64_t *file_id);
 /* The bytes of a file, as those of an out; `count` says how many there are. DONE, NONE, or NO_SUCH where the
    server has no such file; unless DONE nothing is written. */
-uint32_t smblease_server_content(const struct smblease_server *server, uint8_t file, uint64_t *count,
+uint32_t smblease_server_content(struct smblease_server *server, uint8_t file, uint64_t *count,
                                  uint8_t *room, size_t room_length);
 
 #ifdef __cplusplus

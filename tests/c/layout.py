@@ -28,9 +28,6 @@ NAMES = {
 FIELDS = {"at": "state"}
 DECLARED = re.compile(r"((?:^///.*\n)*)^#\[repr\(C\)\]\n(?:#\[.*\]\n)*pub struct (\w+) \{\n((?:.*\n)*?)\}", re.M)
 NAMED = re.compile(r"`struct (smblease_\w+)`")
-EXPORT = re.compile(r'^pub extern "C" fn (smblease_\w+)\(.*?^\{$', re.M | re.S)
-KEPT = re.compile(r"^ +ensures same \{ (running )?(client|server)\.new\.held ≡ (running )?\2\.old\.held \}$", re.M)
-CONSTANT = re.compile(r"^\w+ (smblease_\w+)\(const struct smblease_(?:client|server) \*", re.M)
 FIELD = re.compile(r"(?:pub )?(\w+): (?:\[(\w+); (\d+)\]|(\w+|\*mut u8)),")
 
 
@@ -76,16 +73,6 @@ def structs() -> dict[str, list[Field]]:
         if found.setdefault(name_in_c(comment, name), has) != has:
             raise ValueError(f"{name} isn't declared as another struct of this name in C")
     return found
-
-
-def exports_that_look() -> set[str]:
-    """The functions of the machines whose contracts say that what the handle holds is as it was."""
-    return {export[1] for text in sources() for export in EXPORT.finditer(text) if KEPT.search(export[0])}
-
-
-def constant_handles(headers: Sequence[Path]) -> set[str]:
-    """The functions that the headers declare with a handle that is const."""
-    return {name for it in headers for name in CONSTANT.findall(it.read_text(encoding="utf-8"))}
 
 
 def places(fields_of_one: list[Field]) -> tuple[list[int], int]:

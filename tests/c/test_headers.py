@@ -39,8 +39,3 @@ def test_structs_are_laid_out_as_the_library_has_them(tmp_path: Path) -> None:
     source = tmp_path / "layout.c"
     source.write_text(layout.assertions(HEADERS), encoding="utf-8")
     assert run(CC, "-std=c99", *STRICT, "-Iinclude", "-fsyntax-only", source) == Ended(0, "")
-
-
-def test_a_handle_is_const_where_the_contract_says_that_it_stays() -> None:
-    assert len(layout.exports_that_look()) == 14
-    assert layout.constant_handles(HEADERS) == layout.exports_that_look()
