@@ -88,8 +88,6 @@ def test_each_kind_is_known(program: str) -> None:
     pytest.param("leasecheck show rep\t00", "<show><reply><00>", id="a kind"),
     pytest.param("leasecheck replay tw\t", "<replay><two words.txt>", id="a file with a space"),
     pytest.param("leasecheck draw rec\tfi\t", "<draw><records/first>", id="a file in a folder"),
-    pytest.param("leasecheck show break @sh\t", "<show><break><@shared.txt>", id="a file of bytes"),
-    pytest.param("leasecheck ack @rec\tfi\t", "<ack><@records/first>", id="a file of bytes in a folder"),
     pytest.param("leasecheck ack sh\t", "<ack><sh>", id="bytes are no file"),
     pytest.param("leasecheck replay shared.txt tw\t", "<replay><shared.txt><tw>", id="no second file"),
     pytest.param("leasecheck other sh\t", "<other><sh>", id="no such command"),
