@@ -1,4 +1,4 @@
-//! Lines that are written: a word, and what is told in the fields after it.
+//! Lines that are written: a word, and what the fields after it hold.
 
 ghost use Rattle.std.specs.Prelude.{◌≡◌, ◌++◌, ◌∷◌, [], OnOk, map, codes};
 ghost use Rattle.std.specs.String.{string_bytes};
@@ -21,7 +21,7 @@ use lease_state::{
 use std::alloc::{AllocError, Global};
 use uuid::Uuid;
 
-/// A field with what is told in it.
+/// A field with what it holds.
 #[derive(Clone, Copy, Debug)]
 pub enum Said<'a> {
     Client(ClientNo),
@@ -164,7 +164,7 @@ fn push_fields(alloc: Global, text: &mut String, said: &[Said<'_>]) -> Result<()
     Ok(())
 }
 
-/// Adds a line: its first word, and what is told in the fields after it.
+/// Adds a line: its first word, and what the fields after it hold.
 #[tactic(auto, using(crate::proofs::Written::line_written))]
 pub fn push_line(
     alloc: Global,
