@@ -2,7 +2,6 @@
 where rustc is there."""
 from __future__ import annotations
 
-import functools
 import random
 import shutil
 import subprocess
@@ -19,13 +18,14 @@ pytestmark = pytest.mark.long
 AT_ONCE = 25
 
 
-@functools.lru_cache(maxsize=None)
-def plain_judge() -> Optional[Path]:
-    made = TOP / "out" / "plain_judge"
-    if not made.exists() and shutil.which("rustc"):
-        made.parent.mkdir(exist_ok=True)
-        subprocess.run(["rustc", "--edition", "2021", "-O", "-o", made, TOP / "bench" / "judge.rs"], check=True)
-    return made if made.exists() else None
+@pytest.fixture(scope="module", name="plain_judge")
+def build_plain_judge(tmp_path_factory: pytest.TempPathFactory) -> Optional[Path]:
+    """The judge in plain Rust, which each process that runs tests builds for itself; None where there is no rustc."""
+    if not shutil.which("rustc"):
+        return None
+    made = tmp_path_factory.mktemp("plain") / "judge"
+    subprocess.run(["rustc", "--edition", "2021", "-O", "-o", made, TOP / "bench" / "judge.rs"], check=True)
+    return made
 
 
 def reads_after_straying(record: str) -> bool:
@@ -40,16 +40,16 @@ def reads_after_straying(record: str) -> bool:
 
 
 @pytest.mark.parametrize("number", range(40))
-def test_records_are_safe(number: int, chooser: random.Random, tmp_path: Path) -> None:
+def test_records_are_safe(number: int, chooser: random.Random, tmp_path: Path, plain_judge: Optional[Path]) -> None:
     seen = 0
     for _ in range(AT_ONCE):
         text = StrayingSchedule(chooser).text()
         record = run(["replay", "-"], text.encode())
         assert (record.status, record.faults) == (0, b"") and record.out.endswith(b"# safe\n"), text
         assert run(["judge", "-"], record.out) == Ended(0, SAFE), text
-        judge, path = plain_judge(), tmp_path / f"{number}.record"
-        if judge:
+        if plain_judge:
+            path = tmp_path / f"{number}.record"
             path.write_bytes(record.out)
-            assert subprocess.run([judge, path], stdout=subprocess.PIPE, check=False).stdout == SAFE, text
+            assert subprocess.run([plain_judge, path], stdout=subprocess.PIPE, check=False).stdout == SAFE, text
         seen += reads_after_straying(record.out.decode())
     assert seen, "no good client read from its cache after a request that strayed"
