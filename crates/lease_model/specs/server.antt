@@ -12,4 +12,5 @@ pub mod Progress
 pub mod Queries
 pub mod Ready
 pub mod State
+pub mod Lanes
 pub mod Wants

@@ -15,6 +15,7 @@ pub mod ServerBreaks
 pub mod ServerCalls
 pub mod ServerDurable
 pub mod ServerRefusals
+pub mod ServerRules
 pub mod ServerWords
 pub mod Setups
 pub mod ValueWords

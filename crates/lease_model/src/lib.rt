@@ -3,6 +3,7 @@
 #![tactic(auto)]
 
 mod worked_client;
+mod worked_rules;
 mod worked_runs_of_asking;
 mod worked_runs_of_breaks;
 mod worked_runs_of_cuts;
@@ -17,6 +18,7 @@ pub use worked_client::{
     client_asks_for_more, client_never_connected, client_of_one_file,
     client_passes_long_reads_over, client_refusals, client_takes_replies,
 };
+pub use worked_rules::{orders_of_servers, rises_of_servers};
 pub use worked_runs_of_asking::runs_of_asking;
 pub use worked_runs_of_breaks::runs_of_breaks;
 pub use worked_runs_of_cuts::runs_of_cuts;

@@ -25,6 +25,7 @@ mod number;
 mod patch;
 mod reply;
 mod request;
+mod rules;
 mod state;
 mod status;
 
@@ -38,6 +39,7 @@ pub use number::{ClientNo, FileId, FileNo};
 pub use patch::Patch;
 pub use reply::Reply;
 pub use request::Request;
+pub use rules::{Order, Rise, Rules};
 pub use state::LeaseState;
 pub use status::Status;
 

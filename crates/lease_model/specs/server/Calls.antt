@@ -8,10 +8,11 @@ use Rattle.lease_model.specs.server.Answers.{concluded}
 use Rattle.lease_model.specs.server.Attempt.{Outcome, tried}
 use Rattle.lease_model.specs.values.Keys.{Key}
 use Rattle.lease_model.specs.values.Lists.{without}
-use Rattle.lease_model.specs.server.Passes.{all_passes, is_behind}
+use Rattle.lease_model.specs.server.Passes.{all_passes}
 use Rattle.lease_model.specs.server.Progress.{Progress, begun, stepped, opens_dropped, request_held, refused}
 use Rattle.lease_model.specs.messages.Requests.{FileRequest, Request, CreateAsk}
 use Rattle.lease_model.specs.server.State.{Server, Open, Held, has_file, has_key, is_breaking}
+use Rattle.lease_model.specs.server.Lanes.{as_held, is_behind}
 use Rattle.lease_model.specs.values.Tables.{put, put_key}
 use Rattle.lease_model.specs.server.Findings.{connected_open}
 use Rattle.lease_model.specs.server.Naming.{lease_of_open}
@@ -32,22 +33,21 @@ file_asked server client (FileRequest.Write file_id number patch) =
     file_of_open (connected_open server client file_id)
 file_asked server client (FileRequest.Close file_id) = file_of_open (connected_open server client file_id)
 
-abbrev pub held_of : ℕ → FileRequest → Held
-held_of client request = record { client = client; request = request }
+abbrev pub after_first_try : ℕ → Held → Progress → Outcome → Progress
+after_first_try file one progress Outcome.Waits = request_held file one progress
+after_first_try file one progress outcome = concluded one.client one.request progress outcome
 
-abbrev pub after_first_try : ℕ → ℕ → FileRequest → Progress → Outcome → Progress
-after_first_try client file request progress Outcome.Waits =
-    request_held file (held_of client request) progress
-after_first_try client file request progress outcome = concluded client request progress outcome
+-- A request waits after an earlier one that it waits behind (profile), and else is tried.
+abbrev pub arrived_before : Held → Progress → Result ℕ Status → Progress
+arrived_before one progress (Err status) = refused one.client one.request status progress
+arrived_before one progress (Ok file) =
+    if is_behind progress.server.rules one (progress.server.held file)
+    then request_held file one progress
+    else after_first_try file one
+    (tried one.client one.request progress).progress (tried one.client one.request progress).outcome
 
--- A request waits after an earlier one of its client and file (profile), and else is tried.
 abbrev pub arrived_on : ℕ → FileRequest → Progress → Result ℕ Status → Progress
-arrived_on client request progress (Err status) = refused client request status progress
-arrived_on client request progress (Ok file) =
-    if is_behind client (progress.server.held file)
-    then request_held file (held_of client request) progress
-    else after_first_try client file request
-    (tried client request progress).progress (tried client request progress).outcome
+arrived_on client request progress asked = arrived_before (as_held progress.server client request) progress asked
 
 abbrev pub first_tried : ℕ → FileRequest → Progress → Progress
 first_tried client request progress =

@@ -1,5 +1,6 @@
 -- A create that is ready: a new open, or a durable open connected again.
-use Rattle.std.specs.Prelude.{ℕ, ◌+◌, Bool, true, false, Option, Some, None, List, [], ◌∷◌, ◌++◌, map, if◌then◌else◌, ◌==◌, ◌&&◌}
+use Rattle.std.specs.Prelude.{ℕ, ◌+◌, Bool, true, false, Option, Some, None, List, [], ◌∷◌, ◌++◌, map, if◌then◌else◌, ◌==◌, ◌&&◌, ◌||◌, not}
+use Rattle.lease_state.specs.Rules.{is_as_free}
 use Rattle.lease_state.specs.State.{State, nothing_cached, granted_form_of, is_state_within}
 use Rattle.lease_state.specs.declared.access.Access.{Access}
 use Rattle.lease_state.specs.declared.access.Share.{Share}
@@ -10,7 +11,7 @@ use Rattle.lease_model.specs.values.Limits.{last_file_id}
 use Rattle.lease_model.specs.server.Progress.{Progress, stepped, with_lease, replied}
 use Rattle.lease_model.specs.messages.Replies.{Reply, Out, LeaseGiven}
 use Rattle.lease_model.specs.messages.Requests.{LeaseOf}
-use Rattle.lease_model.specs.server.State.{Server, Open, Lease, no_lease, is_breaking}
+use Rattle.lease_model.specs.server.State.{Server, Open, Lease, no_lease, has_lease, is_breaking}
 use Rattle.lease_model.specs.server.Naming.{key_of}
 
 -- what a key is offered: nothing where its timer ran out (profile)
@@ -18,12 +19,18 @@ abbrev pub offered : Server → Key → ℕ → State → State
 offered server key file want =
     if server.expired key then nothing_cached else allowed server (Some key) file want
 
+-- A lease becomes what it is offered (as free), or does so only where it is new or all of the want is offered
+-- (whole).
+abbrev pub may_rise : Server → Key → ℕ → State → Bool
+may_rise server key file want = is_as_free server.rules.rise || not (has_lease server key)
+    || is_state_within (granted_form_of want) (offered server key file want)
+
 -- The lease after a grant (profile): one that is breaking stays; one within the granted form of the
--- want becomes what is offered, as a new one does; any other stays.
+-- want, a new one too, becomes what is offered where it may; any other stays.
 abbrev pub lease_granted : Server → Key → ℕ → State → Lease
 lease_granted server key file want =
     if is_breaking (server.leases key) then server.leases key
-    else (if is_state_within (server.leases key).state (granted_form_of want)
+    else (if is_state_within (server.leases key).state (granted_form_of want) && may_rise server key file want
     then record { state = offered server key file want; broken_to = None }
     else server.leases key)
 

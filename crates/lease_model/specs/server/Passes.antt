@@ -1,16 +1,12 @@
 -- Held requests are tried again (profile): files in number order, and on each file passes over what
 -- is held there, in order of arrival, until a pass answers nothing.
-use Rattle.std.specs.Prelude.{ℕ, ◌+◌, zero, suc, Bool, true, false, List, [], ◌∷◌, ◌++◌, length, if◌then◌else◌, ◌==◌}
-use Rattle.std.specs.List.{list_any}
+use Rattle.std.specs.Prelude.{ℕ, ◌+◌, zero, suc, Bool, true, false, List, [], ◌∷◌, ◌++◌, length, if◌then◌else◌}
 use Rattle.lease_model.specs.server.Answers.{concluded}
 use Rattle.lease_model.specs.server.Attempt.{Outcome, Tried, tried}
 use Rattle.lease_model.specs.values.Lists.{numbers_to}
 use Rattle.lease_model.specs.server.Progress.{Progress, held_left}
 use Rattle.lease_model.specs.server.State.{Held}
-
--- a request of this client is among the held ones
-abbrev pub is_behind : ℕ → List Held → Bool
-is_behind client held = list_any (λ one. one.client == client) held
+use Rattle.lease_model.specs.server.Lanes.{is_behind}
 
 -- a pass under way: the requests that it passed over and that still wait, the call so far, and
 -- whether the pass answered any
@@ -35,11 +31,11 @@ after_try file one waiting pass progress Outcome.Waits = left_waiting one pass p
 after_try file one waiting pass progress outcome =
     pass_answered file one waiting pass (record { progress = progress; outcome = outcome })
 
--- One held request is tried again, unless an earlier one of its client still waits; `waiting` are
+-- One held request is tried again, unless an earlier one that it waits behind is still held; `waiting` are
 -- those after it.
 unfoldable pub tried_again : ℕ → Held → List Held → Pass → Pass
 tried_again file one waiting pass =
-    if is_behind one.client pass.passed then left_waiting one pass pass.progress
+    if is_behind pass.progress.server.rules one pass.passed then left_waiting one pass pass.progress
     else after_try file one waiting pass
     (tried one.client one.request pass.progress).progress
     (tried one.client one.request pass.progress).outcome

@@ -1,9 +1,11 @@
 -- What a server knows (MS-SMB2 3.3.1.4, 3.3.1.10, 3.3.1.12, in the profile's terms).
 use Rattle.std.specs.Prelude.{ℕ, Bool, false, Option, Some, None, List, [], length, take, nat_le, ◌&&◌, ◌==◌, is_some, bytes_eq}
 use Rattle.std.specs.List.{list_any}
+use Rattle.lease_state.specs.Rules.{profile_rules}
 use Rattle.lease_state.specs.State.{State, nothing_cached}
 use Rattle.lease_state.specs.declared.access.Access.{Access}
 use Rattle.lease_state.specs.declared.access.Share.{Share}
+use Rattle.lease_state.specs.declared.rules.Rules.{Rules}
 use Rattle.lease_model.specs.values.Keys.{Key}
 use Rattle.lease_model.specs.values.Limits.{last_file_number}
 use Rattle.lease_model.specs.values.Tables.{numbered}
@@ -33,15 +35,29 @@ is_breaking lease = is_some lease.broken_to
 abbrev pub no_lease : Lease
 no_lease = record { state = nothing_cached; broken_to = None }
 
--- a request that waits for a lease break, with its client
+-- Requests of one client on a file under one lease key are of one lane, and so are those by the FileId of an open
+-- without a key. A create without a key is alone.
+pub data Lane : Type 0 where
+  Leased : (key : List ℕ) → Lane
+  Opened : (file_id : ℕ) → Lane
+  Alone : Lane
+
+abbrev pub same_lane : Lane → Lane → Bool
+same_lane (Lane.Leased key) (Lane.Leased other) = bytes_eq key other
+same_lane (Lane.Opened file_id) (Lane.Opened other) = file_id == other
+same_lane _ _ = false
+
+-- a request that waits for a lease break, with its client, and its lane as it was when the request came
 pub record Held : Type 0 where
   pub client : ℕ
   pub request : FileRequest
+  pub lane : Lane
 
--- Files are those from 1 to `files`. `held` has for each file the requests that wait there, in order of
+-- `rules` are those that the server was given, and stay. Files are those from 1 to `files`. `held` has for each file the requests that wait there, in order of
 -- arrival; `present` are the clients whose connection the server has; `expired` are the keys whose break
 -- timer ran out since their client joined; `last_id` is the FileId given last.
 pub record Server : Type 0 where
+  pub rules : Rules
   pub files : ℕ
   pub contents : ℕ → List ℕ
   pub opens : List Open
@@ -55,9 +71,10 @@ pub record Server : Type 0 where
 abbrev pub with_number : List (List ℕ) → List (List ℕ)
 with_number contents = take last_file_number contents
 
--- A server with these contents, numbered from 1. A file that isn't there has no bytes.
-unfoldable pub new_server : List (List ℕ) → Server
-new_server contents = record {
+-- A server of these rules with these contents, numbered from 1. A file that isn't there has no bytes.
+unfoldable pub new_server_under : Rules → List (List ℕ) → Server
+new_server_under rules contents = record {
+  rules = rules;
   files = length (with_number contents);
   contents = numbered [] (with_number contents);
   opens = [];
@@ -67,6 +84,10 @@ new_server contents = record {
   expired = λ key. false;
   last_id = 0;
 }
+
+-- one of the profile's rules
+abbrev pub new_server : List (List ℕ) → Server
+new_server contents = new_server_under profile_rules contents
 
 abbrev pub has_file : Server → ℕ → Bool
 has_file server file = nat_le 1 file && nat_le file server.files

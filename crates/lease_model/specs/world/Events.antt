@@ -1,5 +1,7 @@
 -- What can happen in a world, and the record of a run (profile).
 use Rattle.std.specs.Prelude.{ℕ, Option, Some, None, List, [], ◌∷◌, reverse, if◌then◌else◌}
+use Rattle.lease_state.specs.Rules.{profile_rules}
+use Rattle.lease_state.specs.declared.rules.Rules.{Rules}
 use Rattle.lease_model.specs.server.Calls.{receive, join, cut, expire, scavenge}
 use Rattle.lease_model.specs.client.Commanded.{commanded}
 use Rattle.lease_model.specs.client.Connection.{noticed, connection_made}
@@ -16,7 +18,7 @@ use Rattle.lease_model.specs.messages.Requests.{Request}
 use Rattle.lease_model.specs.server.State.{has_file}
 use Rattle.lease_model.specs.values.Tables.{put}
 use Rattle.lease_model.specs.server.Naming.{key_of}
-use Rattle.lease_model.specs.world.World.{World, Setup, Link, has_client, happened, first_world, all_delivered, requests_sent}
+use Rattle.lease_model.specs.world.World.{World, Setup, Link, has_client, happened, first_world_under, all_delivered, requests_sent}
 use Rattle.lease_model.specs.world.World.{noted}
 
 -- App: a client's application gives a command. ServerTakes, ClientTakes: the server or a client
@@ -151,5 +153,9 @@ after world [] = world
 after world (event ∷ events) = after (happens world event) events
 
 -- The record of a run: the starts of the files, then the facts of the events, in order.
+abbrev pub recorded_under : Rules → Setup → List Event → List Fact
+recorded_under rules setup events = reverse (after (first_world_under rules setup) events).past
+
+-- the same with the profile's rules
 abbrev pub recorded : Setup → List Event → List Fact
-recorded setup events = reverse (after (first_world setup) events).past
+recorded setup events = recorded_under profile_rules setup events

@@ -1,11 +1,13 @@
 -- Clients, a server, and what lies between them: for each client a link and two queues (profile).
 use Rattle.std.specs.Prelude.{ℕ, ◌+◌, Bool, List, [], ◌∷◌, ◌++◌, length, reverse, nat_le, ◌&&◌}
+use Rattle.lease_state.specs.Rules.{profile_rules}
+use Rattle.lease_state.specs.declared.rules.Rules.{Rules}
 use Rattle.lease_model.specs.client.State.{Client, new_client}
 use Rattle.lease_model.specs.client.Commands.{Note}
 use Rattle.lease_model.specs.records.Facts.{Fact}
 use Rattle.lease_model.specs.messages.Replies.{Reply, Out}
 use Rattle.lease_model.specs.messages.Requests.{Request}
-use Rattle.lease_model.specs.server.State.{Server, new_server}
+use Rattle.lease_model.specs.server.State.{Server, new_server_under}
 use Rattle.lease_model.specs.values.Tables.{put, numbered}
 
 -- A link is down, up, or cut: the server has lost it, and the client hasn't noticed yet.
@@ -38,17 +40,21 @@ unfoldable pub starts_from : ℕ → List (List ℕ) → List Fact
 starts_from file [] = []
 starts_from file (bytes ∷ files) = Fact.Start file bytes ∷ starts_from (file + 1) files
 
--- where a run begins: every link is down, and the files have been started
-unfoldable pub first_world : Setup → World
-first_world setup = record {
+-- where a run of a server of these rules begins: every link is down, and the files have been started
+unfoldable pub first_world_under : Rules → Setup → World
+first_world_under rules setup = record {
   count = length setup.clients;
   clients = λ client. new_client (numbered [] setup.clients client) (length setup.files);
-  server = new_server setup.files;
+  server = new_server_under rules setup.files;
   links = λ client. Link.Down;
   requests = λ client. [];
   replies = λ client. [];
   past = reverse (starts_from 1 setup.files);
 }
+
+-- the same with the profile's rules
+abbrev pub first_world : Setup → World
+first_world setup = first_world_under profile_rules setup
 
 abbrev pub has_client : World → ℕ → Bool
 has_client world client = nat_le 1 client && nat_le client world.count
