@@ -4,6 +4,7 @@ pub mod covered
 pub mod creates
 pub mod fresh
 pub mod late
+pub mod layers
 pub mod moves
 pub mod names
 pub mod order

@@ -8,6 +8,7 @@ pub mod Forms
 pub mod Given
 pub mod Grants
 pub mod Leases
+pub mod OneFile
 pub mod OneLease
 pub mod Sent
 pub mod Steps

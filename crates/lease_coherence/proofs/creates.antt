@@ -1,3 +1,4 @@
 pub mod Counts
 pub mod Creates
+pub mod CreatesStayCounted
 pub mod Steps

@@ -1,4 +1,2 @@
-pub mod AllRuns
-pub mod Known
 pub mod Later
 pub mod Once

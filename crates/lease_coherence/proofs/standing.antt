@@ -1,7 +1,5 @@
-pub mod AllRuns
 pub mod Clients
 pub mod OpensStayStanding
 pub mod Servers
 pub mod Standing
 pub mod StandingOpens
-pub mod Structure

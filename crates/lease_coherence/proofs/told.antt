@@ -1,8 +1,6 @@
-pub mod AllRuns
 pub mod BreaksMet
 pub mod BreaksStayTold
 pub mod Clients
-pub mod Leases
 pub mod Lone
 pub mod Meets
 pub mod Moves

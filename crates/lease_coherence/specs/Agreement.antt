@@ -2,6 +2,7 @@
 use Rattle.std.specs.Prelude.{◌≡◌, ◌≢◌, ◌⊎◌, ℕ, ◌≤◌, Bool, true, false, not, Some, None, List, [], ◌∷◌, ◌++◌, ◌==◌, ◌&&◌, ◌||◌}
 use Rattle.lease_state.specs.State.{State, nothing_cached, is_state_within}
 use Rattle.lease_state.specs.declared.patch.Patch.{Patch}
+use Rattle.lease_state.specs.declared.rules.Rules.{Rules}
 use Rattle.lease_model.specs.client.Calls.{ClientCall, client_called}
 use Rattle.lease_model.specs.client.State.{Client, LiveEntry, Parted, Phase, belief, lease_key}
 use Rattle.lease_model.specs.client.Taken.{taken}
@@ -13,7 +14,7 @@ use Rattle.lease_model.specs.server.Findings.{connected_open}
 use Rattle.lease_model.specs.server.State.{Open, Held, Lease, is_breaking, has_key}
 use Rattle.lease_model.specs.world.Allowed.{is_allowed_setup}
 use Rattle.lease_model.specs.world.Events.{Event, after, machine_key}
-use Rattle.lease_model.specs.world.World.{World, Setup, first_world}
+use Rattle.lease_model.specs.world.World.{World, Setup, first_world_under}
 use Rattle.lease_laws.specs.client.Laws.{unsent_in}
 use Rattle.lease_laws.specs.server.Laws.{Among}
 use Rattle.lease_laws.specs.world.Links.{is_up}
@@ -33,8 +34,8 @@ pub record IsTimely (world : World) (client : ℕ) : Type 0 where
 
 -- A good client is one, with all its files.
 abbrev pub GoodClientsAreTimely : Type 0
-GoodClientsAreTimely = (setup : Setup) (events : List Event) (client : ℕ)
-    → is_good client (after (first_world setup) events).past ≡ true → IsTimely (after (first_world setup) events) client
+GoodClientsAreTimely = (rules : Rules) (setup : Setup) (events : List Event) (client : ℕ)
+    → is_good client (after (first_world_under rules setup) events).past ≡ true → IsTimely (after (first_world_under rules setup) events) client
 
 -- ---- one client and one file
 
@@ -183,17 +184,17 @@ HeldWritesAreThrough world client file =
 
 -- at every point of a run of an allowed setup
 abbrev pub OfAllowedRuns : (World → ℕ → Type 0) → Type 0
-OfAllowedRuns A = (setup : Setup) (events : List Event) (client : ℕ) → is_allowed_setup setup ≡ true
-    → has_strayed client (after (first_world setup) events).past ≡ false → A (after (first_world setup) events) client
+OfAllowedRuns A = (rules : Rules) (setup : Setup) (events : List Event) (client : ℕ) → is_allowed_setup setup ≡ true
+    → has_strayed client (after (first_world_under rules setup) events).past ≡ false → A (after (first_world_under rules setup) events) client
 
 -- ---- over any link
 
 -- An open that is gone never comes back: no later write under its FileId finds one, so none is accepted.
 abbrev pub ClosedOpensStayClosed : Type 0
-ClosedOpensStayClosed = (setup : Setup) (events more : List Event) (client file_id : ℕ)
-    → file_id ≤ (after (first_world setup) events).server.last_id
-    → ((one : Open) → Among one (after (first_world setup) events).server.opens → one.file_id ≢ file_id)
-    → connected_open (after (after (first_world setup) events) more).server client file_id ≡ None
+ClosedOpensStayClosed = (rules : Rules) (setup : Setup) (events more : List Event) (client file_id : ℕ)
+    → file_id ≤ (after (first_world_under rules setup) events).server.last_id
+    → ((one : Open) → Among one (after (first_world_under rules setup) events).server.opens → one.file_id ≢ file_id)
+    → connected_open (after (after (first_world_under rules setup) events) more).server client file_id ≡ None
 
 -- another client opened or changed the file since the client's connection was lost last
 unfoldable pub touched_since_lost : ℕ → ℕ → List Fact → Bool

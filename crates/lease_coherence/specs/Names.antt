@@ -7,7 +7,7 @@ use Rattle.lease_model.specs.messages.Replies.{Reply}
 use Rattle.lease_model.specs.messages.Requests.{FileRequest, Request, CreateAsk, LeaseOf}
 use Rattle.lease_model.specs.records.Facts.{Fact}
 use Rattle.lease_model.specs.records.Past.{has_strayed, has_written, is_accepted}
-use Rattle.lease_model.specs.server.State.{Open, Held}
+use Rattle.lease_model.specs.server.State.{Open, Held, Lane}
 use Rattle.lease_model.specs.world.World.{World}
 use Rattle.lease_laws.specs.server.Laws.{Among}
 use Rattle.lease_laws.specs.world.FileIds.{was_opened}
@@ -43,6 +43,11 @@ IsNamedOnFile client guid past (FileRequest.Read file_id) = WasOpenedOn client f
 IsNamedOnFile client guid past (FileRequest.Write file_id number patch) =
     WasWrittenOn client file_id number patch past
 IsNamedOnFile client guid past (FileRequest.Close file_id) = WasOpenedOn client file_id past
+
+-- a request that is held on a file, with its lane, which is the file's key
+pub record IsNamedHeld (client : ℕ) (guid : List ℕ) (past : List Fact) (file : ℕ) (one : Held) : Type 0 where
+  pub named : IsNamedOnFile client guid past one.request
+  pub lane : one.lane ≡ Lane.Leased (lease_key guid file)
 
 abbrev pub IsNamedRequest : ℕ → List ℕ → List Fact → Request → Type 0
 IsNamedRequest client guid past (Request.OnFile request) = IsNamedOnFile client guid past request
@@ -80,7 +85,7 @@ IsOwnOpen guid one = one.lease_key ≡ Some (lease_key guid one.file)
 pub record IsNamedAt (world : World) (client : ℕ) : Type 0 where
   pub requests : Each (IsNamedRequest client (world.clients client).guid world.past) (world.requests client)
   pub held : (file : ℕ) (one : Held) → Among one (world.server.held file) → one.client ≡ client
-      → IsNamedOnFile client (world.clients client).guid world.past one.request
+      → IsNamedHeld client (world.clients client).guid world.past file one
   pub opens : (one : Open) → Among one world.server.opens → one.client ≡ client
       → IsOwnOpen (world.clients client).guid one
   pub replies : Each (IsNamedReply client world.past) (world.replies client)

@@ -39,6 +39,7 @@ pub use Rattle.lease_state.specs.declared.number.FileId.{FileId}
 pub use Rattle.lease_state.specs.declared.number.FileNo.{FileNo}
 pub use Rattle.lease_state.specs.declared.patch.Patch.{Patch}
 pub use Rattle.lease_state.specs.declared.status.Status.{Status}
+pub use Rattle.lease_state.specs.declared.rules.Rules.{Rules}
 pub use Rattle.lease_model.specs.client.Calls.{ClientCall, client_called}
 pub use Rattle.lease_model.specs.client.Commands.{Answer, Command, Note, OpenTerms, Refusal, Settlement}
 pub use Rattle.lease_model.specs.client.State.{Asked, Client, Entry, LiveEntry, Parted, Pending, Phase, belief, belief_in}
@@ -100,8 +101,8 @@ unfoldable pub use Rattle.lease_model.specs.server.Answers.{answered}
 pub use Rattle.lease_model.specs.server.Attempt.{Outcome, Tried, after_breaks, after_finding, ended, is_left_open, must_wait}
 pub use Rattle.lease_model.specs.server.Attempt.{tried, want_met}
 unfoldable pub use Rattle.lease_model.specs.server.Attempt.{lease_broken, tried_for, wants_met}
-pub use Rattle.lease_model.specs.server.Calls.{Call, after_first_try, arrived_on, called, client_forgotten, disconnected}
-pub use Rattle.lease_model.specs.server.Calls.{file_asked, file_of_create, file_of_open, file_request_arrived, held_of}
+pub use Rattle.lease_model.specs.server.Calls.{Call, after_first_try, arrived_before, arrived_on, called, client_forgotten}
+pub use Rattle.lease_model.specs.server.Calls.{disconnected, file_asked, file_of_create, file_of_open, file_request_arrived}
 pub use Rattle.lease_model.specs.server.Calls.{is_left_behind, is_lost, joined, key_expired, opens_disconnected}
 pub use Rattle.lease_model.specs.server.Calls.{outlives_connection}
 unfoldable pub use Rattle.lease_model.specs.server.Calls.{arrived, cut, expire, join, receive, scavenge}
@@ -110,11 +111,11 @@ pub use Rattle.lease_model.specs.server.Findings.{create_finding, is_leased_else
 pub use Rattle.lease_model.specs.server.Findings.{write_finding}
 unfoldable pub use Rattle.lease_model.specs.server.Findings.{finding}
 pub use Rattle.lease_model.specs.server.Grant.{asked_key, connected_again, granted, granted_with, lease_after, lease_given}
-pub use Rattle.lease_model.specs.server.Grant.{lease_granted, lease_put, new_open, offered, reconnected, standing_lease}
+pub use Rattle.lease_model.specs.server.Grant.{lease_granted, lease_put, may_rise, new_open, offered, reconnected, standing_lease}
 pub use Rattle.lease_model.specs.server.KeyOrder.{open_key_added}
 unfoldable pub use Rattle.lease_model.specs.server.KeyOrder.{key_added, keys_of}
 pub use Rattle.lease_model.specs.server.Naming.{key_of, key_of_open, key_under, lease_by, lease_of_open, own_key}
-pub use Rattle.lease_model.specs.server.Passes.{Pass, after_try, is_behind, left_waiting, one_pass, pass_answered, passes}
+pub use Rattle.lease_model.specs.server.Passes.{Pass, after_try, left_waiting, one_pass, pass_answered, passes}
 unfoldable pub use Rattle.lease_model.specs.server.Passes.{all_passes, pass_over, passes_for, passes_over, tried_again}
 pub use Rattle.lease_model.specs.server.Progress.{Progress, begun, break_begun, break_notice, held_left, lease_lowered}
 pub use Rattle.lease_model.specs.server.Progress.{opens_dropped, refusal_of, refused, replied, request_held, with_lease}
@@ -123,8 +124,9 @@ pub use Rattle.lease_model.specs.server.Queries.{breaking, kept}
 pub use Rattle.lease_model.specs.server.Ready.{breaks_to_none, breaks_to_some, is_ready, leaves_nothing, leaves_something}
 pub use Rattle.lease_model.specs.server.Ready.{waits_for}
 pub use Rattle.lease_model.specs.server.State.{Held, Lease, Open, Server, has_file, has_key, has_lease, has_own_key, is_breaking}
-pub use Rattle.lease_model.specs.server.State.{is_key, no_lease, with_number}
-unfoldable pub use Rattle.lease_model.specs.server.State.{new_server}
+pub use Rattle.lease_model.specs.server.State.{Lane, is_key, no_lease, same_lane, with_number}
+unfoldable pub use Rattle.lease_model.specs.server.State.{new_server_under}
+pub use Rattle.lease_model.specs.server.Lanes.{as_held, held_of, is_behind, lane_of, lane_of_open, waits_behind}
 pub use Rattle.lease_model.specs.server.Wants.{Want, all_wants, handle_wants, wants_where, write_wants}
 pub use Rattle.lease_model.specs.values.Keys.{Key}
 unfoldable pub use Rattle.lease_model.specs.values.Keys.{bytes_before, key_before, key_eq}
@@ -143,7 +145,7 @@ pub use Rattle.lease_model.specs.world.Events.{served, server_takes, stepped_in,
 unfoldable pub use Rattle.lease_model.specs.world.Events.{after}
 pub use Rattle.lease_model.specs.world.World.{Link, Setup, World, delivered, fact_of, happened, has_client, requests_sent}
 pub use Rattle.lease_model.specs.world.World.{sent_over}
-unfoldable pub use Rattle.lease_model.specs.world.World.{all_delivered, first_world, noted, starts_from}
+unfoldable pub use Rattle.lease_model.specs.world.World.{all_delivered, first_world_under, noted, starts_from}
 pub use Rattle.lease_laws.specs.client.Laws.{HaveOwnNumbers, IsSoundClient, IsSoundEntry, IsSoundLive, IsSoundPhase, TellNumbers}
 pub use Rattle.lease_laws.specs.client.Laws.{are_buffered, are_rising, believed_after, unanswered_in, unsent_in}
 unfoldable pub use Rattle.lease_laws.specs.client.Laws.{has_number}

@@ -1,4 +1,5 @@
 ghost use Rattle.std.specs.Prelude.{true, List, ℕ, ◌≡◌, Some, None};
+ghost use Rattle.lease_state.specs.declared.rules.Rules.{Rules};
 ghost use Rattle.lease_model.specs.server.Answers.{concluded};
 ghost use Rattle.lease_model.specs.server.Attempt.{Outcome, tried};
 ghost use Rattle.lease_model.specs.server.Calls.{Call, called, receive};
@@ -9,14 +10,14 @@ ghost use Rattle.lease_model.specs.messages.Requests.{FileRequest, Request};
 ghost use Rattle.lease_laws.specs.server.Laws.{Among, IsSound, IsBlocked, HasToWait};
 ghost use Rattle.lease_laws.specs.server.Outs.{EachOut, IsFlaggedRightly, ArePaired, IsBreak, IsNoBreak, GoOn, AreBreaksFirst};
 ghost use Rattle.lease_laws.specs.server.Outs.{IsAlone, CachesAlone};
-ghost use Rattle.lease_model.specs.server.State.{Server, Open, new_server, has_key};
+ghost use Rattle.lease_model.specs.server.State.{Server, Open, new_server_under, has_key};
 ghost use Rattle.lease_laws.specs.server.Waiting.{WaitsWell, WritersDontWait};
 ghost use Rattle.lease_laws.specs.server.Wanted.{WantsAreExact};
 ghost use Rattle.lease_model.specs.server.Findings.{connected_open};
 
 /// The laws of every server hold of the first one, and every call keeps them.
 pub fn laws_of_servers()
-    ensures first { (contents : List (List ℕ)) → IsSound (new_server contents) }
+    ensures first { (rules : Rules) (contents : List (List ℕ)) → IsSound (new_server_under rules contents) }
     ensures kept { (server : Server) (call : Call) → IsSound server → IsSound (called server call).server }
 {}
 
@@ -25,7 +26,7 @@ pub fn laws_of_servers()
 /// another key, a write for one that leaves something. So where a key that holds W has an open, no first
 /// held request of a client stands under it.
 pub fn waiting_of_servers()
-    ensures first { (contents : List (List ℕ)) → WaitsWell (new_server contents) }
+    ensures first { (rules : Rules) (contents : List (List ℕ)) → WaitsWell (new_server_under rules contents) }
     ensures kept { (server : Server) (call : Call) → IsSound server → WaitsWell server → WaitsWell (called server call).server }
     ensures writers { WritersDontWait }
 {}

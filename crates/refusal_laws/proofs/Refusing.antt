@@ -4,7 +4,7 @@ use Rattle.lease_laws.proofs.Words.{Option, Out, Outcome, Progress, Reply, Serve
 use Rattle.lease_laws.proofs.Words.{None, Some, Want, ℕ, ⊎_elim, [], acknowledged, all_passes}
 use Rattle.lease_laws.proofs.Words.{ap, arith, arrived_on, begun, concluded}
 use Rattle.lease_laws.proofs.Words.{false, file_asked, has_key}
-use Rattle.lease_laws.proofs.Words.{inl, inr, is_behind, is_left_open}
+use Rattle.lease_laws.proofs.Words.{as_held, inl, inr, is_behind, is_left_open}
 use Rattle.lease_laws.proofs.Words.{lease_broken, must_wait}
 use Rattle.lease_laws.proofs.Words.{not, opens_dropped, refl, refusal_of, replied, subst, suc, sym, tried}
 use Rattle.lease_laws.proofs.Words.{LeaseOf, file_request_arrived, tried_for, true, want_met, wants_met}
@@ -221,13 +221,15 @@ calls_of_refused_acknowledgments server client given status up is = judges serve
     (replied client (Reply.AckFailed status) (begun server)) (refused_acknowledgments client given (begun server) status is) is)
 
 tried_so : (client file : ℕ) (request : FileRequest) (progress : Progress) (status : Status)
-    → file_asked progress.server client request ≡ Ok file → is_behind client (progress.server.held file) ≡ false
+    → file_asked progress.server client request ≡ Ok file
+    → is_behind progress.server.rules (as_held progress.server client request) (progress.server.held file) ≡ false
     → (tried client request progress).outcome ≡ Outcome.Refused status → first_tried client request progress
     ≡ concluded client request (tried client request progress).progress (Outcome.Refused status)
 tried_so client file request progress status asked first is = grind arith
 
 calls_alone : (client file : ℕ) (request : FileRequest) (server : Server) (status : Status)
-    → file_asked server client request ≡ Ok file → is_behind client (server.held file) ≡ false
+    → file_asked server client request ≡ Ok file
+    → is_behind server.rules (as_held server client request) (server.held file) ≡ false
     → (tried client request (begun server)).outcome ≡ Outcome.Refused status
     → IsLeftAlone (IsClosedByBreak client request (begun server)) server
     (file_request_arrived client request (begun server)).server

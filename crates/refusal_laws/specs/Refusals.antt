@@ -7,7 +7,8 @@ use Rattle.lease_model.specs.server.Answers.{concluded}
 use Rattle.lease_model.specs.server.Attempt.{Outcome, must_wait, tried, wants_met}
 use Rattle.lease_model.specs.server.Calls.{file_asked, first_tried, receive}
 use Rattle.lease_model.specs.server.Findings.{Finding, connected_open, finding}
-use Rattle.lease_model.specs.server.Passes.{all_passes, is_behind}
+use Rattle.lease_model.specs.server.Lanes.{as_held, is_behind}
+use Rattle.lease_model.specs.server.Passes.{all_passes}
 use Rattle.lease_model.specs.server.Progress.{Progress, begun, refusal_of, replied}
 use Rattle.lease_model.specs.server.Ready.{is_ready}
 use Rattle.lease_model.specs.server.State.{Server, Open, Held, has_key}
@@ -102,7 +103,7 @@ CallsOfRefusedAcknowledgments = (server : Server) (client : ℕ) (given : Option
 abbrev pub CallsRefusedOnceTried : Type 0
 CallsRefusedOnceTried = (server : Server) (client file : ℕ) (request : FileRequest) (status : Status)
     → server.present client ≡ true → file_asked server client request ≡ Ok file
-    → is_behind client (server.held file) ≡ false
+    → is_behind server.rules (as_held server client request) (server.held file) ≡ false
     → (tried client request (begun server)).outcome ≡ Outcome.Refused status
     → IsLeftAlone (IsClosedByBreak client request (begun server)) server
     (receive server client (Request.OnFile request)).server

@@ -1,23 +1,23 @@
 -- What is on its way while a lease is breaking, and what beliefs are held.
 use Rattle.lease_laws.proofs.Words.{◌+◌, ◌||◌, ◌∷◌, ◌≡◌, Among, Bool, FileRequest, List, None, Option, Request, Some, State}
-use Rattle.lease_laws.proofs.Words.{World, ℕ, ⊎_elim, [], after, ap, arith, bytes_eq, bytes_eq-Decides, false, first_world}
+use Rattle.lease_laws.proofs.Words.{World, ℕ, [], ⊎_elim, after, ap, arith, bytes_eq, bytes_eq-Decides, false, first_world_under}
 use Rattle.lease_laws.proofs.Words.{has_strayed, inl, inr, is_good, is_served, is_some, is_state_within, machine_key, not, refl}
 use Rattle.lease_laws.proofs.Words.{subst, sym, true, true≢false}
-use Rattle.lease_laws.proofs.server.Lists.{either, clash, and_parts, and_both, not_parts}
-use Rattle.lease_coherence.specs.Agreement.{Timely, GoodClientsAreTimely, lease_of_client, acknowledgment_of, asked_of}
-use Rattle.lease_coherence.specs.Agreement.{BreakingIsAnswered, IsDue, AcknowledgmentsAreDue, BeliefsAreHeld}
+use Rattle.lease_laws.proofs.server.Lists.{and_both, and_parts, clash, either, not_parts}
+use Rattle.lease_coherence.specs.Agreement.{AcknowledgmentsAreDue, BeliefsAreHeld, BreakingIsAnswered, GoodClientsAreTimely}
+use Rattle.lease_coherence.specs.Agreement.{IsDue, Timely, acknowledgment_of, asked_of, lease_of_client}
 use Rattle.lease_coherence.specs.Creates.{one_if}
 use Rattle.lease_coherence.specs.Names.{Each}
 use Rattle.lease_coherence.specs.Parts.{OfRuns}
-use Rattle.lease_coherence.proofs.beliefs.Trust.{file_key}
 use Rattle.lease_coherence.proofs.beliefs.OneLease.{acks}
+use Rattle.lease_coherence.proofs.beliefs.Trust.{file_key}
 use Rattle.lease_coherence.proofs.covered.CoveredOpens.{ClosedBefore}
 use Rattle.lease_coherence.proofs.fresh.Reads.{timely}
+use Rattle.lease_coherence.proofs.layers.AllRuns.{run_layers}
 use Rattle.lease_coherence.proofs.told.Lone.{run_lones}
 use Rattle.lease_coherence.proofs.told.Meets.{is_told}
 use Rattle.lease_coherence.proofs.told.Moves.{breaking_open}
 use Rattle.lease_coherence.proofs.within.BeliefsWithin.{AckFit, IsAckFit}
-use Rattle.lease_coherence.proofs.told.AllRuns.{run_leases}
 
 -- ---- what counts say stands in the queue
 
@@ -64,16 +64,16 @@ some_state None e = absurd (true≢false (sym e))
 some_state (Some lowered) e = (lowered, refl)
 
 pub breaking_is_answered : OfRuns (Timely BreakingIsAnswered)
-breaking_is_answered setup events client good up file fresh breaks =
-    let world = after (first_world setup) events in
-    let v = run_leases setup events in
+breaking_is_answered rules setup events client good up file fresh breaks =
+    let world = after (first_world_under rules setup) events in
+    let v = run_layers rules setup events in
     let key = file_key world client file in
     ⊎_elim
     (λ some. let a = acked key (world.requests client) some in inr (inl (record { state = a.0; sent = a.1 })))
     (λ x. ⊎_elim
     (λ met. let l = some_state (lease_of_client world client file).broken_to breaks in
-    inl (is_told world client file l.0 (run_lones setup events) good up fresh l.1 met))
-    (λ closed. let y = breaking_open world.server (machine_key world client file) v.structure.ground.fine.sound breaks in
+    inl (is_told world client file l.0 (run_lones rules setup events) good up fresh l.1 met))
+    (λ closed. let y = breaking_open world.server (machine_key world client file) v.ground.fine.sound breaks in
     inr (inr (record {
       one = y.0;
       there = y.1;
@@ -87,9 +87,9 @@ each_one P [] x each there = absurd there
 each_one P (y ∷ ys) x each there = ⊎_elim (λ same. subst P (sym same) each.0) (λ later. each_one P ys x each.1 later) there
 
 pub acknowledgments_are_due : OfRuns (Timely AcknowledgmentsAreDue)
-acknowledgments_are_due setup events client good up file fresh state sent =
-    let world = after (first_world setup) events in
-    let w = ((run_leases setup events).within client good up).files file fresh in
+acknowledgments_are_due rules setup events client good up file fresh state sent =
+    let world = after (first_world_under rules setup) events in
+    let w = (((run_layers rules setup events).beliefs client good up).files file fresh).explained.within in
     let key = file_key world client file in
     let phase = ((world.clients client).entries file).phase in
     let fit : AckFit key (lease_of_client world client file) phase (acknowledgment_of key state) =
@@ -115,11 +115,11 @@ within_of one other reads writes handles = and_both _ _
     (implied one.handle other.handle handles)
 
 pub beliefs_are_held : OfRuns (Timely BeliefsAreHeld)
-beliefs_are_held setup events client good up file fresh live is =
-    let world = after (first_world setup) events in
-    let v = run_leases setup events in
-    let w = ((v.within client good up).files file fresh).own live is in
-    let b = ((v.beliefs client good up).files file fresh).believed in
+beliefs_are_held rules setup events client good up file fresh live is =
+    let world = after (first_world_under rules setup) events in
+    let v = run_layers rules setup events in
+    let w = ((v.beliefs client good up).files file fresh).explained.within.own live is in
+    let b = ((v.beliefs client good up).files file fresh).explained.believed in
     let state = (lease_of_client world client file).state in
     let whole : (live.belief.read ≡ true → state.read ≡ true) → is_state_within live.belief state ≡ true =
     λ reads. within_of live.belief state reads (λ x. (b.own live is x).1) (λ h. (w.0 h).1) in
@@ -131,10 +131,10 @@ beliefs_are_held setup events client good up file fresh live is =
 
 pub good_clients_are_timely : GoodClientsAreTimely
 unfolding is_good
-good_clients_are_timely setup events client good =
-    let world = after (first_world setup) events in
+good_clients_are_timely rules setup events client good =
+    let world = after (first_world_under rules setup) events in
     let parts = and_parts (not (has_strayed client world.past)) (is_served client world.past) good in record {
       honest = not_parts (has_strayed client world.past) parts.0;
-      up = (((run_leases setup events).structure.ground).tied client).served parts.1;
-      timers = λ file. timely setup events client file parts.1;
+      up = (((run_layers rules setup events).ground).tied client).served parts.1;
+      timers = λ file. timely rules setup events client file parts.1;
     }

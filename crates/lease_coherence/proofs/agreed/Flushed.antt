@@ -1,32 +1,31 @@
 -- Buffered writes go before what gives them up, and what was kept is untouched.
 use Rattle.lease_laws.proofs.Words.{◌++◌, ◌+◌, ◌==◌, ◌∙◌, ◌∷◌, ◌≡◌, ◌⊎◌, Among, FileRequest, Held, IsSoundPhase, Link, List}
-use Rattle.lease_laws.proofs.Words.{LiveEntry, None, Patch, Phase, Request, Some, State, World, ℕ, ⊎_elim, [], after, ap, arith}
-use Rattle.lease_laws.proofs.Words.{bytes_eq, bytes_eq-Decides, eqb-true, false, first_world, has_buffered, has_strayed, inl, inr}
-use Rattle.lease_laws.proofs.Words.{is_down, is_up, machine_key, not, refl, subst, sym, true, true≢false, unsent_in}
-use Rattle.lease_laws.proofs.server.Lists.{clash, among_append, among_behind, among_filter, either, not_true}
-use Rattle.lease_coherence.specs.Agreement.{OfAllowedRuns, Timely, acknowledgment_of, as_requests, asked_of, NoneBuffered}
-use Rattle.lease_coherence.specs.Agreement.{FlushedBeforeAcknowledgments, FlushedBeforeCloses, touched_since_lost}
-use Rattle.lease_coherence.specs.Agreement.{KeptIsUntouched}
+use Rattle.lease_laws.proofs.Words.{LiveEntry, None, Patch, Phase, Request, Some, State, World, ℕ, [], ⊎_elim, after, ap, arith}
+use Rattle.lease_laws.proofs.Words.{bytes_eq, bytes_eq-Decides, eqb-true, false, first_world_under, has_buffered, has_strayed, inl}
+use Rattle.lease_laws.proofs.Words.{inr, is_down, is_up, machine_key, not, refl, subst, sym, true, true≢false, unsent_in}
+use Rattle.lease_laws.proofs.server.Lists.{among_append, among_behind, among_filter, clash, either, not_true}
+use Rattle.lease_coherence.specs.Agreement.{FlushedBeforeAcknowledgments, FlushedBeforeCloses, KeptIsUntouched, NoneBuffered}
+use Rattle.lease_coherence.specs.Agreement.{OfAllowedRuns, Timely, acknowledgment_of, as_requests, asked_of, touched_since_lost}
 use Rattle.lease_coherence.specs.Creates.{held_by, one_if}
 use Rattle.lease_coherence.specs.Names.{Each, IsNamedAt, IsNamedRequest, WasWrittenOn}
 use Rattle.lease_coherence.specs.Parts.{OfRuns}
 use Rattle.lease_coherence.specs.Standing.{IsNoClose, IsOpenFor, NotClosed, PhaseStands}
 use Rattle.lease_coherence.proofs.agreed.Breaks.{each_one}
-use Rattle.lease_coherence.proofs.beliefs.Trust.{file_key}
 use Rattle.lease_coherence.proofs.beliefs.OneLease.{AckKeeps, acks}
+use Rattle.lease_coherence.proofs.beliefs.Trust.{file_key}
 use Rattle.lease_coherence.proofs.fresh.Clients.{sound_live}
 use Rattle.lease_coherence.proofs.late.Facts.{run_late}
+use Rattle.lease_coherence.proofs.late.SafeWrites.{AcksKeep, NotBuffered}
 use Rattle.lease_coherence.proofs.late.WritesStaySafe.{ground_in}
-use Rattle.lease_coherence.proofs.late.SafeWrites.{NotBuffered, AcksKeep}
+use Rattle.lease_coherence.proofs.layers.Layers.{HasRecord}
 use Rattle.lease_coherence.proofs.names.NamedInRecord.{opened_once}
-use Rattle.lease_coherence.proofs.order.OrderedRequests.{IsInOrder, IsNoWrite, AreOrdered, ordered_behind, WriteStands}
-use Rattle.lease_coherence.proofs.order.OrderedRequests.{WriteStandsOn}
+use Rattle.lease_coherence.proofs.order.OrderedRequests.{AreOrdered, IsInOrder, IsNoWrite, WriteStands, WriteStandsOn}
+use Rattle.lease_coherence.proofs.order.OrderedRequests.{ordered_behind}
 use Rattle.lease_coherence.proofs.parted.FilesStayUntouched.{run_parted}
 use Rattle.lease_coherence.proofs.parted.UntouchedFiles.{PhaseUntouched}
 use Rattle.lease_coherence.proofs.records.Once.{buffered_written, written_once}
 use Rattle.lease_coherence.proofs.wellformed.WellFormed.{IsWell}
 use Rattle.lease_coherence.proofs.writes.Answered.{names_of}
-use Rattle.lease_coherence.proofs.records.Known.{HasRecord}
 
 -- ---- writes on their way
 
@@ -111,7 +110,7 @@ none_unsent world v c file state before behind good up fresh is gives (Phase.Ope
 none_unsent world v c file state before behind good up fresh is gives (Phase.Live live) at =
     let key = file_key world c file in
     let sound = sound_live (world.clients c) file live ((ground_in world v).clients c) at in
-    let b = ((v.leases.beliefs c good up).files file fresh).believed in
+    let b = ((v.layers.beliefs c good up).files file fresh).explained.believed in
     either live.belief.write
     (λ writes. ⊎_elim
     (λ zero. absurd (never_zero key state before behind (ap (acks key) (sym is) ∙ zero)))
@@ -131,9 +130,9 @@ none_unsent world v c file state before behind good up fresh is gives (Phase.Rec
     (ap (acks (file_key world c file)) (sym is) ∙ ((v.late c good).up up).again file parted at))
 
 pub flushed_before_acknowledgments : OfAllowedRuns (Timely FlushedBeforeAcknowledgments)
-flushed_before_acknowledgments setup events c allowed good up file fresh state before behind is gives =
-    let world = after (first_world setup) events in
-    let v = (run_late setup events allowed).0 in
+flushed_before_acknowledgments rules setup events c allowed good up file fresh state before behind is gives =
+    let world = after (first_world_under rules setup) events in
+    let v = (run_late rules setup events allowed).0 in
     let key = file_key world c file in
     let a = ((v.late c good).up up).acks_keep in
     let first : AcksKeep world c (acknowledgment_of key state ∷ behind) = keeps_behind world c before
@@ -177,15 +176,15 @@ never_asked world c file id n there = ⊎_elim
     held no_close = no_close refl
 
 pub flushed_before_closes : OfAllowedRuns (Timely FlushedBeforeCloses)
-flushed_before_closes setup events c allowed good up file fresh id before behind is =
-    let world = after (first_world setup) events in
-    let v = (run_late setup events allowed).0 in
+flushed_before_closes rules setup events c allowed good up file fresh id before behind is =
+    let world = after (first_world_under rules setup) events in
+    let v = (run_late rules setup events allowed).0 in
     let o : AreOrdered (Request.OnFile (FileRequest.Close id) ∷ behind) = ordered_behind before
     (Request.OnFile (FileRequest.Close id) ∷ behind) (subst AreOrdered is ((v.order c good up).ordered file)) in record {
       sent = λ number patch there. written number patch
           (each_one (IsNoWrite id) behind (Request.OnFile (FileRequest.Write id number patch)) o.0 there);
       unsent = λ live at same. never_asked world c file id (subst (NotClosed world c) same (not_closed world c file live
-          (subst (PhaseStands world c file) at ((v.leases.structure.opens c good up).phases file))))
+          (subst (PhaseStands world c file) at ((v.layers.opens c good up).phases file))))
           (subst (Among (Request.OnFile (FileRequest.Close id))) (sym is)
           (among_behind (Request.OnFile (FileRequest.Close id)) before (Request.OnFile (FileRequest.Close id) ∷ behind)
           (inl refl)));
@@ -201,15 +200,15 @@ flushed_before_closes setup events c allowed good up file fresh id before behind
 -- ---- what was kept
 
 pub kept_is_untouched : OfRuns KeptIsUntouched
-kept_is_untouched setup events c good file parted is one there by same writes =
-    let world = after (first_world setup) events in
-    let p = (run_parted setup events).1 c good file in
+kept_is_untouched rules setup events c good file parted is one there by same writes =
+    let world = after (first_world_under rules setup) events in
+    let p = (run_parted rules setup events).1 c good file in
     ⊎_elim (λ e. offline (subst (PhaseUntouched world c file) e p)) (λ e. again (subst (PhaseUntouched world c file) e p)) is
   where
-    offline : PhaseUntouched (after (first_world setup) events) c file (Phase.Offline parted)
-        → touched_since_lost c file (after (first_world setup) events).past ≡ false
+    offline : PhaseUntouched (after (first_world_under rules setup) events) c file (Phase.Offline parted)
+        → touched_since_lost c file (after (first_world_under rules setup) events).past ≡ false
     offline p = p one there by same writes
 
-    again : PhaseUntouched (after (first_world setup) events) c file (Phase.Reconnecting parted)
-        → touched_since_lost c file (after (first_world setup) events).past ≡ false
+    again : PhaseUntouched (after (first_world_under rules setup) events) c file (Phase.Reconnecting parted)
+        → touched_since_lost c file (after (first_world_under rules setup) events).past ≡ false
     again p = p one there by same writes

@@ -1,20 +1,19 @@
 -- An open that is gone never comes back: FileIds are never given again.
-use Rattle.lease_laws.proofs.Words.{◌++◌, ◌+◌, ◌==◌, ◌∙◌, ◌∷◌, ◌≡◌, ◌≢◌, ◌≤◌, Among, Bool, List, None, Open, Option, Server, Some}
-use Rattle.lease_laws.proofs.Words.{Step, World, ℕ, ⊎_elim, [], after, ap, arith, commanded, connected_again}
-use Rattle.lease_laws.proofs.Words.{connected_open, connection_made, disconnected, false, first_world, has_key, is_left_behind}
-use Rattle.lease_laws.proofs.Words.{is_lost, lease_after, machine_key, map, new_open, not, noticed}
-use Rattle.lease_laws.proofs.Words.{refl, stepped_in, subst, sym, taken, true}
-use Rattle.lease_laws.proofs.Words.{with_opens, without}
-use Rattle.lease_laws.proofs.server.Lists.{if_cases, among_append, among_filter, among_map}
+use Rattle.lease_laws.proofs.Words.{◌++◌, ◌+◌, ◌==◌, ◌∙◌, ◌∷◌, ◌≡◌, ◌≢◌, ◌≤◌, Among, Bool, List, None, Open, Option, Server}
+use Rattle.lease_laws.proofs.Words.{Some, Step, World, ℕ, [], ⊎_elim, after, ap, arith, commanded, connected_again}
+use Rattle.lease_laws.proofs.Words.{connected_open, connection_made, disconnected, false, first_world_under, has_key, is_left_behind}
+use Rattle.lease_laws.proofs.Words.{is_lost, lease_after, machine_key, map, new_open, not, noticed, refl, stepped_in, subst}
+use Rattle.lease_laws.proofs.Words.{sym, taken, true, with_opens, without}
+use Rattle.lease_laws.proofs.server.Lists.{among_append, among_filter, among_map, if_cases}
+use Rattle.lease_laws.proofs.server.cases.Ends.{found_open}
 use Rattle.lease_laws.proofs.world.FileIds.{run_counted}
 use Rattle.lease_laws.proofs.world.Runs.{stepped_server}
 use Rattle.lease_coherence.specs.Agreement.{ClosedOpensStayClosed}
+use Rattle.lease_coherence.proofs.layers.AllRuns.{layers_carried, run_layers}
+use Rattle.lease_coherence.proofs.layers.Layers.{HasLayers}
 use Rattle.lease_coherence.proofs.moves.Deeds.{HasDeeds, IsSource, step_deed}
-use Rattle.lease_coherence.proofs.moves.Events.{IsMoved, Both, carried_both, after_moves, come_back, reply_gone, Move}
+use Rattle.lease_coherence.proofs.moves.Events.{Both, IsMoved, Move, after_moves, carried_both, come_back, reply_gone}
 use Rattle.lease_coherence.proofs.moves.Frames.{from_source, lease_put_rest}
-use Rattle.lease_coherence.proofs.told.AllRuns.{leases_carried, run_leases}
-use Rattle.lease_coherence.proofs.told.Leases.{HasLeases}
-use Rattle.lease_laws.proofs.server.cases.Ends.{found_open}
 
 -- no open has a FileId that was given
 pub record IsGoneFrom (id : ℕ) (server : Server) : Type 0 where
@@ -96,7 +95,7 @@ deeds_gone id world g = record {
 stepped_gone : (id : ℕ) (world : World) (c : ℕ) (step : Step) → IsGone id world → IsGone id (stepped_in world c step)
 stepped_gone id world c step g = subst (IsGoneFrom id) (sym (stepped_server world c step)) g
 
-gone_moves : (id : ℕ) → IsMoved HasLeases (IsGone id)
+gone_moves : (id : ℕ) → IsMoved HasLayers (IsGone id)
 gone_moves id world (Move.Told c fact) is v g = g
 gone_moves id world (Move.Step step) next v g = step_deed world (IsGone id) (deeds_gone id world g) step next
 gone_moves id world (Move.Cut c) up v g = let left = fewer_gone id world.server (is_lost world.server c) g in
@@ -115,11 +114,11 @@ gone_moves id world (Move.Notice c) cut v g = stepped_gone id _ c (noticed (worl
 gone_moves id world (Move.Stray c request) up v g = g
 
 pub closed_opens_stay_closed : ClosedOpensStayClosed
-closed_opens_stay_closed setup events more client id given none =
-    let world = after (first_world setup) events in
-    let g = (after_moves (Both HasLeases (IsGone id)) (λ w v. v.0.structure.ground)
-    (carried_both HasLeases (IsGone id) leases_carried (gone_moves id)) world more (run_counted setup events)
-    (run_leases setup events, record { given = given; none = none })).1 in
+closed_opens_stay_closed rules setup events more client id given none =
+    let world = after (first_world_under rules setup) events in
+    let g = (after_moves (Both HasLayers (IsGone id)) (λ w v. v.0.ground)
+    (carried_both HasLayers (IsGone id) layers_carried (gone_moves id)) world more (run_counted rules setup events)
+    (run_layers rules setup events, record { given = given; none = none })).1 in
     by_found (after world more).server g (connected_open (after world more).server client id) refl
   where
     by_found : (server : Server) → IsGoneFrom id server → (found : Option Open) → connected_open server client id ≡ found

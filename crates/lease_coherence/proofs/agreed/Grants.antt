@@ -1,19 +1,17 @@
 -- A client's belief rises by a grant alone, while no break is in progress.
-use Rattle.lease_laws.proofs.Words.{◌&&◌, ◌||◌, ◌≡◌, ◌⊎◌, Asked, Bool, Client, ClientCall, CreateAnswer, Entry, LeaseGiven, List}
-use Rattle.lease_laws.proofs.Words.{LiveEntry, None, Option, Pending, Phase, Reply, Some, State, Step, ℕ, belief}
-use Rattle.lease_laws.proofs.Words.{Turn, belief_in, belief_of, bytes_eq, connect_turn}
-use Rattle.lease_laws.proofs.Words.{false, given_state, inl, inr, is_state_within, lease_key}
-use Rattle.lease_laws.proofs.Words.{meet, not, nothing_cached, phase_with}
-use Rattle.lease_laws.proofs.Words.{promoted_belief, put, refl, sent_without, subst}
-use Rattle.lease_laws.proofs.Words.{sym, true, turned, without_open}
-use Rattle.lease_laws.proofs.client.Thin.{put_same, put_other}
-use Rattle.lease_laws.proofs.server.Lists.{if_cases, either, clash, and_parts, not_parts}
-use Rattle.lease_laws.proofs.world.Links.{by_client}
-use Rattle.lease_coherence.specs.Agreement.{IsGranted, BeliefsRiseByGrants}
+use Rattle.lease_laws.proofs.Words.{◌&&◌, ◌||◌, ◌≡◌, ◌⊎◌, Asked, Bool, Client, ClientCall, CreateAnswer, Entry, LeaseGiven}
+use Rattle.lease_laws.proofs.Words.{List, LiveEntry, None, Option, Pending, Phase, Reply, Some, State, Step, Turn, ℕ, belief}
+use Rattle.lease_laws.proofs.Words.{belief_in, belief_of, bytes_eq, connect_turn, false, given_state, inl, inr, is_state_within}
+use Rattle.lease_laws.proofs.Words.{lease_key, meet, not, nothing_cached, phase_with, promoted_belief, put, refl, sent_without}
+use Rattle.lease_laws.proofs.Words.{subst, sym, true, turned, without_open}
+use Rattle.lease_laws.proofs.client.Thin.{put_other, put_same}
 use Rattle.lease_laws.proofs.client.cases.Commands.{HasCommands, any_command, sent_of}
-use Rattle.lease_laws.proofs.client.cases.Replies.{HasTakes, any_reply}
 use Rattle.lease_laws.proofs.client.cases.Links.{HasNotices, any_notice}
+use Rattle.lease_laws.proofs.client.cases.Replies.{HasTakes, any_reply}
 use Rattle.lease_laws.proofs.client.cases.Turns.{by_turn}
+use Rattle.lease_laws.proofs.server.Lists.{and_parts, clash, either, if_cases, not_parts}
+use Rattle.lease_laws.proofs.world.Links.{by_client}
+use Rattle.lease_coherence.specs.Agreement.{BeliefsRiseByGrants, IsGranted}
 
 -- ---- states
 

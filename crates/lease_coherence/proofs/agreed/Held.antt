@@ -1,23 +1,26 @@
 -- Where a client's lease holds writes, nothing that it asks of the file is held; and no write that is held was buffered.
 use Rattle.lease_laws.proofs.Words.{◌==◌, ◌∙◌, ◌≡◌, Among, FileRequest, Held, IsSound, Lease, Open, Patch, Request, WaitsWell}
-use Rattle.lease_laws.proofs.Words.{World, ℕ, [], after, ap, eqb-true, first_world, has_buffered, has_key, is_behind, list_any}
+use Rattle.lease_laws.proofs.Words.{World, ℕ, [], after, ap, eqb-true, first_world_under, has_buffered, has_key, list_any}
 use Rattle.lease_laws.proofs.Words.{machine_key, subst, sym, true}
-use Rattle.lease_laws.proofs.server.Lists.{any_has, among_filter, clash, either, find_has, not_true}
+use Rattle.lease_laws.proofs.Words.{HasToWait}
+use Rattle.lease_laws.proofs.server.Lists.{among_filter, any_has, clash, either, not_true}
+use Rattle.lease_laws.proofs.server.Lists.{has_any}
 use Rattle.lease_laws.proofs.world.Runs.{servers_of_runs}
-use Rattle.lease_coherence.specs.Agreement.{OfAllowedRuns, Timely, lease_of_client, WritersAreNotHeld, BelieversAreNotHeld}
-use Rattle.lease_coherence.specs.Agreement.{HeldWritesAreThrough}
+use Rattle.lease_coherence.specs.Agreement.{BelieversAreNotHeld, HeldWritesAreThrough, OfAllowedRuns, Timely, WritersAreNotHeld}
+use Rattle.lease_coherence.specs.Agreement.{lease_of_client}
 use Rattle.lease_coherence.specs.Creates.{held_by}
 use Rattle.lease_coherence.specs.Names.{IsNamedAt, IsNamedOnFile, WasWrittenOn}
 use Rattle.lease_coherence.specs.Parts.{OfRuns}
 use Rattle.lease_coherence.specs.Standing.{IsOpenFor}
 use Rattle.lease_coherence.proofs.agreed.Flushed.{buffered_open, of_held}
 use Rattle.lease_coherence.proofs.late.Facts.{run_late}
-use Rattle.lease_coherence.proofs.late.Held.{about_asks, first_of, none_waits}
+use Rattle.lease_coherence.proofs.late.Held.{about_asks, none_waits}
 use Rattle.lease_coherence.proofs.late.SafeWrites.{HeldPlain}
-use Rattle.lease_coherence.proofs.order.OrderedRequests.{none_behind, WriteStands, WriteStandsOn}
+use Rattle.lease_coherence.proofs.names.NamedInRecord.{none_pass}
+use Rattle.lease_coherence.proofs.layers.AllRuns.{run_layers}
+use Rattle.lease_coherence.proofs.order.OrderedRequests.{WriteStands, WriteStandsOn, first_among, first_of, first_waits_behind_none}
 use Rattle.lease_coherence.proofs.told.Moves.{open_place}
 use Rattle.lease_coherence.proofs.writes.Answered.{names_of}
-use Rattle.lease_coherence.proofs.told.AllRuns.{run_leases}
 
 -- a lease that holds writes has an open
 writing_open : (server : _) (key : _) → IsSound server → (server.leases key).state.write ≡ true
@@ -28,43 +31,44 @@ writing_open server key sound writes = either (list_any (has_key key) server.ope
 
 none_held : (world : World) (c file : ℕ) → IsSound world.server → WaitsWell world.server → IsNamedAt world c
     → (lease_of_client world c file).state.write ≡ true → held_by c (world.server.held file) ≡ []
-none_held world c file sound waits names writes = either (is_behind c (world.server.held file))
-    (λ some. absurd (never some)) (λ none. none_behind c (world.server.held file) none)
+none_held world c file sound waits names writes = none_pass (λ x. x.client == c) (world.server.held file)
+    (λ x a. not_true (x.client == c) (λ own. never (has_any (λ (y : Held). y.client == c) x (world.server.held file) a own)))
   where
-    never : is_behind c (world.server.held file) ≡ true → ⊥
+    never : list_any (λ (x : Held). x.client == c) (world.server.held file) ≡ true → ⊥
     never some =
         let x = writing_open world.server (machine_key world c file) sound writes in
         let place = open_place world c file x.0 (names.opens x.0 x.1) x.2 in
-        let first = first_of (λ (one : Held). one.client == c) (world.server.held file) some in
-        let y = first.0 in
-        let there = find_has (λ (one : Held). one.client == c) y (world.server.held file) first.1 in
-        let by = eqb-true y.client c there.1 in
-        none_waits world c sound names file x.0 x.1 place.0 place.1 writes y.request (names.held file y there.0 by)
-        (about_asks world file y.request (waits.is_orderly.held_about file y there.0)) (waits.all_wait file c y first.1)
+        let first = first_of c (world.server.held file) some in
+        let y = first.one in
+        let there = first_among c (world.server.held file) first in
+        none_waits world c sound names file x.0 x.1 place.0 place.1 writes y.request (names.held file y there first.own).named
+        (about_asks world file y.request (waits.is_orderly.held_about file y there))
+        (subst (λ d. HasToWait world.server d y.request) first.own (waits.all_wait file first.before y first.behind first.split
+        (first_waits_behind_none world.server.rules c (world.server.held file) first)))
 
 pub writers_are_not_held : OfRuns WritersAreNotHeld
-writers_are_not_held setup events c good file writes =
-    let world = after (first_world setup) events in
-    let v = run_leases setup events in
-    let s = servers_of_runs setup events in
-    none_held world c file s.0 s.1 (v.structure.named c good) writes
+writers_are_not_held rules setup events c good file writes =
+    let world = after (first_world_under rules setup) events in
+    let v = run_layers rules setup events in
+    let s = servers_of_runs rules setup events in
+    none_held world c file s.0 s.1 (v.named c good) writes
 
 pub believers_are_not_held : OfRuns (Timely BelieversAreNotHeld)
-believers_are_not_held setup events c good up file fresh live is writes =
-    let b = (((run_leases setup events).beliefs c good up).files file fresh).believed in
-    writers_are_not_held setup events c good file (b.own live is writes).1
+believers_are_not_held rules setup events c good up file fresh live is writes =
+    let b = (((run_layers rules setup events).beliefs c good up).files file fresh).explained.believed in
+    writers_are_not_held rules setup events c good file (b.own live is writes).1
 
 pub held_writes_are_through : OfAllowedRuns (Timely HeldWritesAreThrough)
-held_writes_are_through setup events c allowed good up file fresh id number patch there =
-    let world = after (first_world setup) events in
-    let v = (run_late setup events allowed).0 in
+held_writes_are_through rules setup events c allowed good up file fresh id number patch there =
+    let world = after (first_world_under rules setup) events in
+    let v = (run_late rules setup events allowed).0 in
     let names = names_of world v c good in
     let held = of_held (FileRequest.Write id number patch) (held_by c (world.server.held file)) there in
     let one = held.0 in
     let in_held = among_filter (λ (x : Held). x.client == c) one (world.server.held file) held.1 in
     let by = eqb-true one.client c in_held.1 in
     let named : WasWrittenOn c id number patch world.past =
-    subst (IsNamedOnFile c (world.clients c).guid world.past) held.2 (names.held file one in_held.0 by) in
+    subst (IsNamedOnFile c (world.clients c).guid world.past) held.2 (names.held file one in_held.0 by).named in
     let stands : WriteStandsOn world c id = subst (λ r. WriteStands world c (Request.OnFile r)) held.2
     ((v.order c good up).stands.held file one in_held.0 by) in
     let plain : HeldPlain world c (Request.OnFile (FileRequest.Write id number patch)) =

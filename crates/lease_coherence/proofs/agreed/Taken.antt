@@ -1,24 +1,24 @@
 -- What holds of a client at every point of a run holds of it once it has taken its whole queue; so the bases that it then
 -- holds are current.
 use Rattle.lease_laws.proofs.Words.{◌∙◌, ◌∷◌, ◌≡◌, Bool, Client, Fact, Link, List, LiveEntry, None, Note, Reply, Server, Some}
-use Rattle.lease_laws.proofs.Words.{World, ℕ, [], after, ap, belief_in, content_of, false, first_world, has_strayed, is_up}
+use Rattle.lease_laws.proofs.Words.{World, ℕ, [], after, ap, belief_in, content_of, false, first_world_under, has_strayed, is_up}
 use Rattle.lease_laws.proofs.Words.{key_of, lease_key, machine_key, refl, subst, sym, taken, true}
 use Rattle.lease_laws.proofs.client.Forms.{taken-stays}
 use Rattle.lease_laws.proofs.client.Thin.{put_same}
 use Rattle.lease_laws.proofs.server.Lists.{not_false}
 use Rattle.lease_laws.proofs.world.Links.{stepped_links}
 use Rattle.lease_laws.proofs.world.Runs.{stepped_server}
-use Rattle.lease_coherence.specs.Agreement.{OfAllowedRuns, Timely, taken_all, IsLive, BasesAreCurrent}
+use Rattle.lease_coherence.specs.Agreement.{BasesAreCurrent, IsLive, OfAllowedRuns, Timely, taken_all}
 use Rattle.lease_coherence.proofs.beliefs.Trust.{file_key}
 use Rattle.lease_coherence.proofs.creates.Creates.{stepped_machine}
 use Rattle.lease_coherence.proofs.fresh.Clients.{sound_live}
 use Rattle.lease_coherence.proofs.fresh.FreshBytes.{IsRelayed, places_of}
-use Rattle.lease_coherence.proofs.moves.Events.{IsCarried, reply_gone, reply_taken, Move}
+use Rattle.lease_coherence.proofs.layers.AllRuns.{record_carried, run_record}
+use Rattle.lease_coherence.proofs.layers.Layers.{HasRecord}
+use Rattle.lease_coherence.proofs.moves.Events.{IsCarried, Move, reply_gone, reply_taken}
 use Rattle.lease_coherence.proofs.moves.Frames.{stepped_past, stepped_replies}
 use Rattle.lease_coherence.proofs.records.Later.{past_noted}
 use Rattle.lease_coherence.proofs.writes.Answered.{ground_of}
-use Rattle.lease_coherence.proofs.records.Known.{HasRecord}
-use Rattle.lease_coherence.proofs.records.AllRuns.{record_carried, run_record}
 
 -- ---- taking replies
 
@@ -127,9 +127,9 @@ resting_base world v c file good up fresh empty live at bytes has =
     (content_of file world.past)) empty f.relay) (ap (λ p. (belief_in p).read) at ∙ reads)) ∙ sym (v.contents file)
 
 pub bases_are_current : OfAllowedRuns (Timely BasesAreCurrent)
-bases_are_current setup events c allowed good up file fresh live at bytes has =
-    let world = after (first_world setup) events in
-    let t = all_taken HasRecord record_carried c (world.replies c) world (run_record setup events allowed) refl in
+bases_are_current rules setup events c allowed good up file fresh live at bytes has =
+    let world = after (first_world_under rules setup) events in
+    let t = all_taken HasRecord record_carried c (world.replies c) world (run_record rules setup events allowed) refl in
     resting_base t.new t.known c file (t.is.strayed ∙ good) (ap (λ (l : ℕ → Link). is_up (l c)) t.is.links ∙ up)
     (still_fresh world t.new c (world.replies c) t.is file fresh) t.empty live
     (ap (λ (m : Client). (m.entries file).phase) t.is.machine ∙ at) bytes has ∙ ap (λ (s : Server). s.contents file) t.is.server

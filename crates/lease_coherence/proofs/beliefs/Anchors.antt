@@ -1,17 +1,17 @@
 -- Which steps of a client send an acknowledgment, and what stands before it.
 use Rattle.lease_laws.proofs.Words.{◌==◌, ◌∙◌, ◌∷◌, ◌≡◌, ◌⊎◌, BreakNotice, Client, Command, List, LiveEntry, Phase, Reply}
 use Rattle.lease_laws.proofs.Words.{Request, Some, State, Step, Turn, ℕ, [], acknowledgment, ap, belief_lowered, bytes_eq}
-use Rattle.lease_laws.proofs.Words.{commanded, eq-eqb, eqb-true, flushed, inl, inr, is_key_of, lease_key, meet, refl, taken, true}
-use Rattle.lease_laws.proofs.Words.{turned}
-use Rattle.lease_laws.proofs.server.Lists.{if_cases, either, clash}
-use Rattle.lease_coherence.specs.Names.{Each}
-use Rattle.lease_laws.proofs.client.cases.Commands.{sent_of, any_command}
+use Rattle.lease_laws.proofs.Words.{commanded, eq-eqb, eqb-true, flushed, inl, inr, is_key_of, lease_key, meet, refl, taken}
+use Rattle.lease_laws.proofs.Words.{true, turned}
+use Rattle.lease_laws.proofs.client.cases.Commands.{any_command, sent_of}
 use Rattle.lease_laws.proofs.client.cases.Replies.{any_reply}
-use Rattle.lease_coherence.proofs.standing.Clients.{writes_close}
-use Rattle.lease_coherence.proofs.beliefs.Forms.{IsAboutFile, file_no_acks, lowered_elsewhere, HasBeliefTakes, parked_still}
-use Rattle.lease_coherence.proofs.beliefs.Forms.{IsStill, takes_by_belief, commands_still}
-use Rattle.lease_coherence.proofs.beliefs.OneLease.{acks, OpenTillAck, open_before}
 use Rattle.lease_laws.proofs.client.cases.Turns.{by_turn}
+use Rattle.lease_laws.proofs.server.Lists.{clash, either, if_cases}
+use Rattle.lease_coherence.specs.Names.{Each}
+use Rattle.lease_coherence.proofs.beliefs.Forms.{HasBeliefTakes, IsAboutFile, IsStill, commands_still, file_no_acks}
+use Rattle.lease_coherence.proofs.beliefs.Forms.{lowered_elsewhere, parked_still, takes_by_belief}
+use Rattle.lease_coherence.proofs.beliefs.OneLease.{OpenTillAck, acks, open_before}
+use Rattle.lease_coherence.proofs.standing.Clients.{writes_close}
 
 -- a step sends none of the file's key, or one behind no Close of the live open
 pub record AnchorsLive (machine : Client) (file : ℕ) (step : Step) : Type 0 where

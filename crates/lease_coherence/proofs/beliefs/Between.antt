@@ -2,30 +2,31 @@
 -- the event is over, so that of each file all is believed that was believed before it, or all that is believed after it.
 use Rattle.lease_laws.proofs.Words.{◌&&◌, ◌==◌, ◌||◌, ◌∙◌, ◌∷◌, ◌≡◌, ◌≢◌, ◌⊎◌, Bool, Call, Client, ClientCall, EachBeginning}
 use Rattle.lease_laws.proofs.Words.{Fact, IsSoundClient, IsSoundPhase, Link, List, Note, OneWriteCache, Out, Phase, Progress}
-use Rattle.lease_laws.proofs.Words.{Setup, State, World, ℕ, ⊎_elim, ⊤, [], after, ap, arith, belief, belief_in, believed}
-use Rattle.lease_laws.proofs.Words.{client_called, cut, eq-eqb, eqb-true, expire, fact_of, false, first_world, happened}
+use Rattle.lease_laws.proofs.Words.{Setup, State, World, ℕ, [], ⊎_elim, ⊤, after, ap, arith, belief, belief_in, believed}
+use Rattle.lease_laws.proofs.Words.{client_called, cut, eq-eqb, eqb-true, expire, fact_of, false, first_world_under, happened}
 use Rattle.lease_laws.proofs.Words.{has_strayed, if◌then◌else◌, inl, inr, is_down, is_good, is_served, is_start, join, list_all}
-use Rattle.lease_laws.proofs.Words.{machine_key, not, nothing_cached, put, receive, refl, reverse, reverse-reverse}
-use Rattle.lease_laws.proofs.Words.{scavenge, served, starts_from, stepped_in, subst, sym, true, true≢false}
+use Rattle.lease_laws.proofs.Words.{machine_key, not, nothing_cached, put, receive, refl, reverse, reverse-reverse, scavenge}
+use Rattle.lease_laws.proofs.Words.{served, starts_from, stepped_in, subst, sym, true, true≢false}
+use Rattle.lease_laws.proofs.Words.{Rules}
 use Rattle.lease_laws.proofs.client.Thin.{put_same}
-use Rattle.lease_laws.proofs.records.Runs.{all_starts, all_reversed}
-use Rattle.lease_laws.proofs.server.Lists.{either, clash, and_parts, and_both}
+use Rattle.lease_laws.proofs.records.Runs.{all_reversed, all_starts}
+use Rattle.lease_laws.proofs.server.Lists.{and_both, and_parts, clash, either}
 use Rattle.lease_laws.proofs.world.Beliefs.{Agrees, agrees_kept, first_agrees}
-use Rattle.lease_laws.proofs.world.FileIds.{IsCountedWorld, fact_told, first_counted, told, all_delivered_past}
-use Rattle.lease_laws.proofs.world.Kept.{served-clients, kept_forms}
+use Rattle.lease_laws.proofs.world.FileIds.{IsCountedWorld, all_delivered_past, fact_told, first_counted, told}
+use Rattle.lease_laws.proofs.world.Kept.{kept_forms, served-clients}
 use Rattle.lease_laws.proofs.world.Links.{by_client}
 use Rattle.lease_laws.proofs.world.Runs.{stepped_clients}
-use Rattle.lease_laws.proofs.world.Timers.{IsTimely, timely_forms, first_timely}
-use Rattle.lease_laws.proofs.world.cases.Events.{Both, HasForms, IsTold, Keeps, KeepsWhere, both_forms, call_served, call_stepped}
-use Rattle.lease_laws.proofs.world.cases.Events.{kept_by_run, link_lost, link_made, reply_off, two_forms}
+use Rattle.lease_laws.proofs.world.Timers.{IsTimely, first_timely, timely_forms}
+use Rattle.lease_laws.proofs.world.cases.Events.{Both, HasForms, IsTold, Keeps, KeepsWhere, both_forms, call_served}
+use Rattle.lease_laws.proofs.world.cases.Events.{call_stepped, kept_by_run, link_lost, link_made, reply_off, two_forms}
 use Rattle.lease_coherence.specs.Parts.{RunsHaveOneWriteCache}
 use Rattle.lease_coherence.proofs.beliefs.WriteCaches.{one_write_cache}
+use Rattle.lease_coherence.proofs.layers.AllRuns.{first_layers, layers_carried}
+use Rattle.lease_coherence.proofs.layers.Layers.{HasLayers}
 use Rattle.lease_coherence.proofs.moves.Events.{carried_forms}
 use Rattle.lease_coherence.proofs.moves.Frames.{stepped_past}
 use Rattle.lease_coherence.proofs.records.Later.{past_noted}
 use Rattle.lease_coherence.proofs.wellformed.Notes.{EachNote, IsFineNote, call_fine}
-use Rattle.lease_coherence.proofs.told.AllRuns.{leases_carried, first_leases}
-use Rattle.lease_coherence.proofs.told.Leases.{HasLeases}
 
 -- ---- facts that say nothing of beliefs, and make no client good
 
@@ -252,18 +253,18 @@ down_nothing client s off file = by_phase (client.entries file).phase (s.entries
 
 -- what is known of the world of every run, and follows from that
 abbrev IsReached : World → Type 0
-IsReached world = Both (Both IsCountedWorld HasLeases) (Both IsTimely Agrees) world
+IsReached world = Both (Both IsCountedWorld HasLayers) (Both IsTimely Agrees) world
 
 reached_forms : HasForms (Keeps IsReached)
-reached_forms = two_forms (Both IsCountedWorld HasLeases) (Both IsTimely Agrees)
-    (carried_forms HasLeases (λ world v. v.structure.ground) leases_carried)
+reached_forms = two_forms (Both IsCountedWorld HasLayers) (Both IsTimely Agrees)
+    (carried_forms HasLayers (λ world v. v.ground) layers_carried)
     (two_forms IsTimely Agrees timely_forms (kept_forms Agrees agrees_kept))
 
-first_reached : (setup : Setup) → IsReached (first_world setup)
-first_reached setup = ((first_counted setup, first_leases setup), (first_timely setup, first_agrees setup))
+first_reached : (rules : Rules) (setup : Setup) → IsReached (first_world_under rules setup)
+first_reached rules setup = ((first_counted rules setup, first_layers rules setup), (first_timely rules setup, first_agrees rules setup))
 
 sound_in : (world : World) → IsReached world → (c : ℕ) → IsSoundClient (world.clients c)
-sound_in world r = (r.0).1.structure.ground.clients
+sound_in world r = (r.0).1.ground.clients
 
 cache_in : (world : World) → IsReached world → OneWriteCache world.past
 cache_in world r = one_write_cache world (r.0).1 (r.1).0 (r.1).1
@@ -288,7 +289,7 @@ connect_always world client down r n a =
     let next : World = stepped_in joins client (client_called (world.clients client) ClientCall.Connected) in
     let nothing : (file : ℕ) → believed client file world.past ≡ nothing_cached =
     λ file. agrees_in world r client file ∙ down_nothing (world.clients client) (sound_in world r client)
-    ((r.0).1.structure.ground.online client ∙ ap (λ l. not (is_down l)) down) file in
+    ((r.0).1.ground.online client ∙ ap (λ l. not (is_down l)) down) file in
     let same : joins.clients ≡ world.clients = served-clients back (join world.server client) in
     subst (λ (m : Client). Always (stepped_in joins client (client_called m ClientCall.Connected)).past)
     (ap (λ (t : ℕ → Client). t client) same) (stepped_always joins client ClientCall.Connected
@@ -330,13 +331,13 @@ always_forms = record {
 
 -- ---- runs
 
-first_always : (setup : Setup) → Always (first_world setup).past
-unfolding first_world
-first_always setup = starts_always (reverse (starts_from 1 setup.files))
+first_always : (rules : Rules) (setup : Setup) → Always (first_world_under rules setup).past
+unfolding first_world_under
+first_always rules setup = starts_always (reverse (starts_from 1 setup.files))
     (all_reversed (starts_from 1 setup.files) [] (all_starts 1 setup.files) refl)
 
 pub runs_have_one_write_cache : RunsHaveOneWriteCache
-runs_have_one_write_cache setup events = subst (EachBeginning OneWriteCache)
-    (sym (reverse-reverse (after (first_world setup) events).past))
-    (kept_by_run (Both IsReached AlwaysIn) (both_forms IsReached AlwaysIn reached_forms always_forms) (first_world setup) events
-    (first_reached setup, first_always setup)).1
+runs_have_one_write_cache rules setup events = subst (EachBeginning OneWriteCache)
+    (sym (reverse-reverse (after (first_world_under rules setup) events).past))
+    (kept_by_run (Both IsReached AlwaysIn) (both_forms IsReached AlwaysIn reached_forms always_forms) (first_world_under rules setup) events
+    (first_reached rules setup, first_always rules setup)).1

@@ -1,22 +1,22 @@
 -- Opens that are closed take no trust away: a lease that stays is as it was, and of one that goes nothing is believed.
-use Rattle.lease_laws.proofs.Words.{◌++◌, ◌==◌, ◌∙◌, ◌∷◌, ◌≡◌, ◌⊎◌, Among, Bool, Fact, FileRequest, Key, Lease, List, Open, Reply}
-use Rattle.lease_laws.proofs.Words.{Server, World, ℕ, ⊎_elim, [], ap, false, has_key, inl, inr, key_eq, list_any}
-use Rattle.lease_laws.proofs.Words.{machine_key, no_lease, not, put, put_key, refl, subst, sym, true, true≢false}
-use Rattle.lease_laws.proofs.Words.{with_opens, without}
+use Rattle.lease_laws.proofs.Words.{◌++◌, ◌==◌, ◌∙◌, ◌∷◌, ◌≡◌, ◌⊎◌, Among, Bool, Fact, FileRequest, Key, Lease, List, Open}
+use Rattle.lease_laws.proofs.Words.{Reply, Server, World, ℕ, [], ⊎_elim, ap, false, has_key, inl, inr, key_eq, list_any}
+use Rattle.lease_laws.proofs.Words.{machine_key, no_lease, not, put, put_key, refl, subst, sym, true, true≢false, with_opens}
+use Rattle.lease_laws.proofs.Words.{without}
 use Rattle.lease_laws.proofs.client.Thin.{put_same}
-use Rattle.lease_laws.proofs.server.Keys.{put_key-cases, is_key-one, key_eq-refl}
-use Rattle.lease_laws.proofs.server.Lists.{if_cases, either, clash, not_true, has_any, among_filter, among_filtered}
+use Rattle.lease_laws.proofs.server.Keys.{is_key-one, key_eq-refl, put_key-cases}
+use Rattle.lease_laws.proofs.server.Lists.{among_filter, among_filtered, clash, either, has_any, if_cases, not_true}
 use Rattle.lease_coherence.specs.Names.{Each, IsOwnOpen}
 use Rattle.lease_coherence.specs.Standing.{IsStandingAt}
+use Rattle.lease_coherence.proofs.beliefs.OneFile.{IsExplained, gone_explained, plain_explained}
+use Rattle.lease_coherence.proofs.beliefs.OneLease.{LowersWell, acks}
+use Rattle.lease_coherence.proofs.beliefs.Sent.{off_fresh, off_trust}
+use Rattle.lease_coherence.proofs.beliefs.Trust.{HasTrust, IsAnchored, IsTrustedFor, file_key, nothing_stands, off_anchors}
+use Rattle.lease_coherence.proofs.beliefs.Trust.{open_has_key}
 use Rattle.lease_coherence.proofs.moves.Deeds.{IsSource, told_to, without_opens}
 use Rattle.lease_coherence.proofs.moves.Events.{timed_out}
 use Rattle.lease_coherence.proofs.moves.Foreign.{apart, false_not}
 use Rattle.lease_coherence.proofs.names.NamedInRecord.{each_append}
-use Rattle.lease_coherence.proofs.beliefs.Leases.{plain_sent, lease_gone}
-use Rattle.lease_coherence.proofs.beliefs.Sent.{off_fresh, off_trust}
-use Rattle.lease_coherence.proofs.beliefs.Trust.{file_key, IsAnchored, IsTrustedFor, HasTrust, nothing_stands, off_anchors}
-use Rattle.lease_coherence.proofs.beliefs.Trust.{open_has_key}
-use Rattle.lease_coherence.proofs.beliefs.OneLease.{acks, LowersWell, IsBelieved}
 
 -- ---- a world with another server, and replies that tell of no lease
 
@@ -32,9 +32,9 @@ pub record IsFewer (world : World) (server : Server) (replies : ℕ → List Rep
     pub leases : (file : ℕ) → list_any (has_key (machine_key world c file)) server.opens ≡ true
         → server.leases (machine_key world c file) ≡ world.server.leases (machine_key world c file)
     pub sends : (file : ℕ) (lease : Lease)
-        → IsBelieved (file_key world c file) file lease ((world.clients c).entries file).phase (world.requests c)
+        → IsExplained (file_key world c file) file lease ((world.clients c).entries file).phase (world.requests c)
         (world.replies c)
-        → IsBelieved (file_key world c file) file lease ((world.clients c).entries file).phase (world.requests c) (replies c)
+        → IsExplained (file_key world c file) file lease ((world.clients c).entries file).phase (world.requests c) (replies c)
     pub anchors : (file : ℕ) → server.expired (machine_key world c file) ≡ false → IsTrustedFor world c file
         → (acks (file_key world c file) (world.requests c) ≡ 0) ⊎ IsAnchored (served_by world server replies past) c file
 
@@ -46,12 +46,12 @@ fewer_trusted world server replies past c f s own t = record {
   lowered = f.lowered;
   files = λ file fresh. let was = t.files file (f.fresh file fresh) in
       let anchor = f.anchors file fresh was in record {
-        believed = either (list_any (has_key (machine_key world c file)) server.opens)
-            (λ some. subst (λ (l : Lease). IsBelieved (file_key world c file) file l
+        explained = either (list_any (has_key (machine_key world c file)) server.opens)
+            (λ some. subst (λ (l : Lease). IsExplained (file_key world c file) file l
             ((world.clients c).entries file).phase (world.requests c) (replies c)) (sym (f.leases file some))
-            (f.sends file (world.server.leases (machine_key world c file)) was.believed))
+            (f.sends file (world.server.leases (machine_key world c file)) was.explained))
             (λ none. let gone = nothing_stands (served_by world server replies past) c file s own fresh none in
-            lease_gone (file_key world c file) file (server.leases (machine_key world c file))
+            gone_explained (file_key world c file) file (server.leases (machine_key world c file))
             ((world.clients c).entries file).phase (world.requests c) (replies c) gone.0 gone.1
             (⊎_elim (λ zero. zero) (λ a. clash (list_any (has_key (machine_key world c file)) server.opens)
             (has_any (has_key (machine_key world c file)) a.opened.one server.opens a.opened.there
@@ -123,9 +123,9 @@ closed_trusted world off c file_id source s own t =
       lowered = subst (Each LowersWell) (sym sent)
           (each_append LowersWell (off.replies c) (Reply.Closed file_id ∷ []) there.lowered (tt, tt));
       leases = λ file some. lease_stays off.server (without test off.server.opens) (machine_key off c file) some;
-      sends = λ file lease b. subst (IsBelieved (file_key off c file) file lease ((off.clients c).entries file).phase
+      sends = λ file lease b. subst (IsExplained (file_key off c file) file lease ((off.clients c).entries file).phase
           (off.requests c)) (sym sent)
-          (plain_sent (file_key off c file) file lease ((off.clients c).entries file).phase (off.requests c)
+          (plain_explained (file_key off c file) file lease ((off.clients c).entries file).phase (off.requests c)
           (off.replies c) (Reply.Closed file_id) tt (λ breaks. tt) refl b);
       anchors = λ file fresh was. ⊎_elim (λ zero. inl zero)
           (λ a. let one = a.anchored.opened.one in

@@ -1,14 +1,15 @@
 -- What a client does keeps what is believed of each file's lease.
-use Rattle.lease_laws.proofs.Words.{◌&&◌, ◌++◌, ◌+◌, ◌==◌, ◌||◌, ◌∙◌, ◌∷◌, ◌≡◌, ◌⊎◌, Bool, BreakNotice, CreateAnswer, Lease, List}
-use Rattle.lease_laws.proofs.Words.{LiveEntry, None, Phase, Reply, Request, Some, State, ℕ, ⊎_elim, [], ap, ap₂, arith, bytes_eq}
-use Rattle.lease_laws.proofs.Words.{eq-eqb, false, given_state, inl, inr, is_breaking, meet, refl, subst, sym, true, true≢false}
-use Rattle.lease_laws.proofs.server.Lists.{clash, and_parts, and_both}
+use Rattle.lease_laws.proofs.Words.{◌&&◌, ◌++◌, ◌+◌, ◌==◌, ◌||◌, ◌∙◌, ◌∷◌, ◌≡◌, ◌⊎◌, Bool, BreakNotice, CreateAnswer, Lease}
+use Rattle.lease_laws.proofs.Words.{List, LiveEntry, None, Phase, Reply, Request, Some, State, ℕ, [], ⊎_elim, ap, ap₂, arith}
+use Rattle.lease_laws.proofs.Words.{bytes_eq, eq-eqb, false, given_state, inl, inr, is_breaking, meet, refl, subst, sym, true}
+use Rattle.lease_laws.proofs.Words.{true≢false}
+use Rattle.lease_laws.proofs.client.cases.Replies.{is_live}
+use Rattle.lease_laws.proofs.server.Lists.{and_both, and_parts, clash}
 use Rattle.lease_coherence.specs.Creates.{one_if}
 use Rattle.lease_coherence.specs.Names.{Each}
-use Rattle.lease_laws.proofs.client.cases.Replies.{is_live}
+use Rattle.lease_coherence.proofs.beliefs.OneLease.{AckKeeps, IsAnswering, IsBelieved, LowersWell, acks, acks_append}
+use Rattle.lease_coherence.proofs.beliefs.OneLease.{is_created, met_fewer, met_mapped, met_none}
 use Rattle.lease_coherence.proofs.names.NamedInRecord.{each_append}
-use Rattle.lease_coherence.proofs.beliefs.OneLease.{acks, acks_append, is_created, LowersWell, AckKeeps, met_fewer, met_mapped}
-use Rattle.lease_coherence.proofs.beliefs.OneLease.{met_none, IsAnswering, IsBelieved}
 
 -- ---- requests that are no acknowledgments
 
@@ -35,18 +36,21 @@ same_count a b e = omega (arith, e)
 
 -- ---- one file
 
--- an entry that is live was, and believes no more of writes
+-- an entry that is live was, and believes no more; while it believes what it did of reads, they come with the rest
 pub record WasLive (phase : Phase) (belief : State) : Type 0 where
   pub live : LiveEntry
   pub was : phase ≡ Phase.Live live
-  pub less : belief.write ≡ true → live.belief.write ≡ true
-  pub reads : belief.write ≡ true → live.belief.read ≡ true → belief.read ≡ true
+  pub writes : belief.write ≡ true → live.belief.write ≡ true
+  pub reads : belief.read ≡ true → live.belief.read ≡ true
+  pub handles : belief.handle ≡ true → live.belief.handle ≡ true
+  pub writes_read : belief.write ≡ true → live.belief.read ≡ true → belief.read ≡ true
+  pub handles_read : belief.handle ≡ true → live.belief.read ≡ true → belief.read ≡ true
 
 live_phase : (phase : Phase) (P : Type 0) → is_live phase ≡ true → ((live : LiveEntry) → phase ≡ Phase.Live live → P) → P
 live_phase (Phase.Live live) P e k = k live refl
 live_phase phase P e k = absurd (true≢false (sym e))
 
-was_live : (old new : Phase) → ((live : LiveEntry) → new ≡ Phase.Live live → WasLive old live.belief)
+pub was_live : (old new : Phase) → ((live : LiveEntry) → new ≡ Phase.Live live → WasLive old live.belief)
     → is_live new ≡ true → is_live old ≡ true
 was_live old new less e = live_phase new (is_live old ≡ true) e (λ live is. ap is_live (less live is).was)
 
@@ -57,7 +61,7 @@ pub step_kept : (key : List ℕ) (file : ℕ) (lease : Lease) (old new : Phase) 
 step_kept key file lease old new asked more queue less none b =
     let same : acks key (asked ++ more) ≡ acks key asked =
     acks_append key asked more ∙ same_count (acks key asked) (acks key more) none in record {
-      own = λ live is w. let x = less live is in let h = b.own x.live x.was (x.less w) in (x.reads w h.0, h.1);
+      own = λ live is w. let x = less live is in let h = b.own x.live x.was (x.writes w) in (x.writes_read w h.0, h.1);
       given = b.given;
       breaks = met_mapped key file (is_breaking lease) (is_breaking lease) (acks key asked) (acks key (asked ++ more))
           (is_live new) queue
@@ -72,7 +76,7 @@ step_kept key file lease old new asked more queue less none b =
         one = same ∙ a.one;
         breaking = a.breaking;
         bounds = λ live is w. let x = less live is in each_append (AckKeeps key) asked more
-            (a.bounds x.live x.was (x.less w)) (no_acks_keep key more none);
+            (a.bounds x.live x.was (x.writes w)) (no_acks_keep key more none);
         no_grant = a.no_grant;
       })) b.answers;
     }
@@ -134,14 +138,14 @@ created_kept key file file_id answer lease old new asked more queue from none b 
     own_new w = ⊎_elim
         (λ given. let h = (b.given.0) refl (ap (λ (s : State). s.write) (sym given) ∙ w) in
         (ap (λ (s : State). s.read) given ∙ h.0, h.1))
-        (λ x. let h = b.own x.live x.was (x.less w) in (x.reads w h.0, h.1)) (from w)
+        (λ x. let h = b.own x.live x.was (x.writes w) in (x.writes_read w h.0, h.1)) (from w)
 
     bound_new : IsAnswering key file lease old asked (Reply.Created file file_id (Some answer) ∷ queue)
         → new.belief.write ≡ true → Each (AckKeeps key) asked
     bound_new a w = ⊎_elim
         (λ given. clash (given_state key answer.lease).write (ap (λ (s : State). s.write) (sym given) ∙ w)
         ((a.no_grant.0) refl).0)
-        (λ x. a.bounds x.live x.was (x.less w)) (from w)
+        (λ x. a.bounds x.live x.was (x.writes w)) (from w)
 
 -- a break that asks for an acknowledgment, which is sent with what is then believed
 pub break_kept : (key : List ℕ) (file : ℕ) (notice : BreakNotice) (lease : Lease) (old new : LiveEntry)
@@ -190,4 +194,4 @@ break_kept key file notice lease old new asked writes queue required own_it form
 
     reads_new : new.belief.write ≡ true → new.belief.read ≡ true
     reads_new w = ap (λ (s : State). s.read) believes ∙ and_both old.belief.read notice.lowered.read
-        (b.own old refl (was_written w)).0 (formed (and_parts old.belief.write notice.lowered.write (written w)).1)
+        (b.own old refl (was_written w)).0 (formed.0 (and_parts old.belief.write notice.lowered.write (written w)).1)

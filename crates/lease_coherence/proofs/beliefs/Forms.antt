@@ -1,24 +1,22 @@
 -- What commands and replies make of the beliefs of a client's entries, once for all that is said of beliefs: but for a
 -- grant and a break, no entry is live with another belief than it had, and nothing is acknowledged.
 use Rattle.lease_laws.proofs.Words.{◌++◌, ◌+◌, ◌∙◌, ◌∷◌, ◌≡◌, ◌≢◌, ◌⊎◌, Answer, Asked, BreakNotice, Client, CreateAnswer, Entry}
-use Rattle.lease_laws.proofs.Words.{FileRequest, LeaseGiven, List, LiveEntry, None, Option, Pending, Phase, Reply, Request, Some}
-use Rattle.lease_laws.proofs.Words.{State, Step, Turn, ℕ, ⊤, [], acknowledgment, ap, ap₂, arith, belief_lowered, bytes_eq}
-use Rattle.lease_laws.proofs.Words.{bytes_eq-Decides, create_request, false}
-use Rattle.lease_laws.proofs.Words.{flushed, given_state, inl, inr, is_key_of, lease_key, meet, next_write}
-use Rattle.lease_laws.proofs.Words.{parked_closed, phase_with, promoted_belief, put, quiet_step}
-use Rattle.lease_laws.proofs.Words.{refl, subst, sym, take, true, turned, without_open}
-use Rattle.lease_laws.proofs.Words.{write_requests, wrote_step}
-use Rattle.lease_laws.proofs.client.Thin.{put_same, put_other}
-use Rattle.lease_laws.proofs.server.Lists.{if_cases, either, clash, not_true}
-use Rattle.lease_laws.proofs.world.Links.{by_client}
+use Rattle.lease_laws.proofs.Words.{FileRequest, LeaseGiven, List, LiveEntry, None, Option, Pending, Phase, Reply, Request}
+use Rattle.lease_laws.proofs.Words.{Some, State, Step, Turn, ℕ, [], ⊤, acknowledgment, ap, ap₂, arith, belief_lowered, bytes_eq}
+use Rattle.lease_laws.proofs.Words.{bytes_eq-Decides, create_request, false, flushed, given_state, inl, inr, is_key_of}
+use Rattle.lease_laws.proofs.Words.{lease_key, meet, next_write, parked_closed, phase_with, promoted_belief, put, quiet_step}
+use Rattle.lease_laws.proofs.Words.{refl, subst, sym, take, true, turned, without_open, write_requests, wrote_step}
+use Rattle.lease_laws.proofs.client.Thin.{put_other, put_same}
 use Rattle.lease_laws.proofs.client.cases.Commands.{HasCommands, sent_of}
-use Rattle.lease_laws.proofs.client.cases.Replies.{HasTakes, is_live, PassesOver}
 use Rattle.lease_laws.proofs.client.cases.Files.{found_so}
+use Rattle.lease_laws.proofs.client.cases.Replies.{HasTakes, PassesOver, is_live}
+use Rattle.lease_laws.proofs.client.cases.Turns.{by_turn}
+use Rattle.lease_laws.proofs.server.Lists.{clash, either, if_cases, not_true}
+use Rattle.lease_laws.proofs.world.Links.{by_client}
 use Rattle.lease_coherence.specs.Creates.{one_if}
 use Rattle.lease_coherence.specs.Names.{Each}
-use Rattle.lease_coherence.proofs.names.NamedInRecord.{each_append}
 use Rattle.lease_coherence.proofs.beliefs.OneLease.{acks, acks_append}
-use Rattle.lease_laws.proofs.client.cases.Turns.{by_turn}
+use Rattle.lease_coherence.proofs.names.NamedInRecord.{each_append}
 
 -- ---- requests about files
 

@@ -1,13 +1,13 @@
 -- What the server does to one file's lease, and sends to its client, keeps what is believed of it.
 use Rattle.lease_laws.proofs.Words.{◌++◌, ◌+◌, ◌==◌, ◌∙◌, ◌∷◌, ◌≡◌, Lease, LeaseOf, List, Phase, Reply, Request, Some, State, ℕ}
-use Rattle.lease_laws.proofs.Words.{⊎_elim, [], ap, arith, bytes_eq, eq-eqb, false, inl, inr, is_breaking, sym, true}
+use Rattle.lease_laws.proofs.Words.{[], ⊎_elim, ap, arith, bytes_eq, eq-eqb, false, inl, inr, is_breaking, sym, true}
+use Rattle.lease_laws.proofs.client.cases.Replies.{is_live}
 use Rattle.lease_laws.proofs.server.Lists.{clash}
 use Rattle.lease_coherence.specs.Creates.{one_if}
 use Rattle.lease_coherence.specs.Names.{Each}
-use Rattle.lease_laws.proofs.client.cases.Replies.{is_live}
+use Rattle.lease_coherence.proofs.beliefs.OneLease.{AckKeeps, GivesNothing, HoldsWrites, IsBelieved, OnGiven, acks}
+use Rattle.lease_coherence.proofs.beliefs.OneLease.{is_ack_break, is_created, met_last, met_mapped, met_nowhere}
 use Rattle.lease_coherence.proofs.names.NamedInRecord.{each_append, each_weaker}
-use Rattle.lease_coherence.proofs.beliefs.OneLease.{acks, is_created, is_ack_break, OnGiven, GivesNothing, HoldsWrites, AckKeeps}
-use Rattle.lease_coherence.proofs.beliefs.OneLease.{met_mapped, met_last, met_nowhere, IsBelieved}
 
 each_last : {X : Type 0} (P : X → Type 0) (xs : List X) (x : X) → Each P xs → P x → Each P (xs ++ x ∷ [])
 each_last P xs x each last = each_append P xs (x ∷ []) each (last, tt)

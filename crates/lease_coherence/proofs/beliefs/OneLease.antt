@@ -1,12 +1,12 @@
 -- What a client believes it may do with writes, against its lease: in words of one file's lease, entry and queues.
 use Rattle.lease_laws.proofs.Words.{◌&&◌, ◌++◌, ◌+◌, ◌==◌, ◌||◌, ◌∙◌, ◌∷◌, ◌≡◌, ◌⊎◌, Bool, Lease, List, LiveEntry, None, Phase}
-use Rattle.lease_laws.proofs.Words.{Reply, Request, Some, State, ℕ, ⊎_elim, ⊤, [], ap, arith, bytes_eq, false, given_state}
+use Rattle.lease_laws.proofs.Words.{Reply, Request, Some, State, ℕ, [], ⊎_elim, ⊤, ap, arith, bytes_eq, false, given_state}
 use Rattle.lease_laws.proofs.Words.{is_breaking, refl, sym, true}
+use Rattle.lease_laws.proofs.client.cases.Replies.{is_live}
 use Rattle.lease_laws.proofs.server.Lists.{clash, or_true}
 use Rattle.lease_coherence.specs.Creates.{one_if}
 use Rattle.lease_coherence.specs.Names.{Each}
 use Rattle.lease_coherence.specs.Standing.{IsNoClose}
-use Rattle.lease_laws.proofs.client.cases.Replies.{is_live}
 
 -- ---- messages of one file
 
@@ -39,8 +39,12 @@ GivesNothing state = (state.write ≡ false) × (state.read ≡ false)
 abbrev pub HoldsWrites : State → State → Type 0
 HoldsWrites lease state = state.write ≡ true → (state.read ≡ true) × (lease.write ≡ true)
 
+-- what a state has of writes and of handles comes with reads
+abbrev pub IsFormed : State → Type 0
+IsFormed state = (state.write ≡ true → state.read ≡ true) × (state.handle ≡ true → state.read ≡ true)
+
 abbrev pub LowersWell : Reply → Type 0
-LowersWell (Reply.Break (Some notice)) = notice.lowered.write ≡ true → notice.lowered.read ≡ true
+LowersWell (Reply.Break (Some notice)) = IsFormed notice.lowered
 LowersWell reply = ⊤
 
 -- an acknowledgment of the key keeps writes

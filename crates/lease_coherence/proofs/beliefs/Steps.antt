@@ -1,33 +1,31 @@
 -- What a client does keeps its trust.
 use Rattle.lease_laws.proofs.Words.{◌++◌, ◌+◌, ◌∙◌, ◌≡◌, ◌⊎◌, Among, Client, FileRequest, Held, IsSoundPhase, Link, List}
-use Rattle.lease_laws.proofs.Words.{LiveEntry, Pending, Phase, Reply, Request, Server, Step, World, ℕ, ⊎_elim, ⊤, []}
-use Rattle.lease_laws.proofs.Words.{ap, ap₂, arith, connect_turn, connection_made, false, flat_map, inl, inr, is_down, is_up}
-use Rattle.lease_laws.proofs.Words.{key_of, lease_key, machine_key, not, numbers_to, refl, sent_over, stepped_in, subst}
-use Rattle.lease_laws.proofs.Words.{sym, true}
+use Rattle.lease_laws.proofs.Words.{LiveEntry, Pending, Phase, Reply, Request, Server, Step, World, ℕ, [], ⊎_elim, ⊤, ap, ap₂}
+use Rattle.lease_laws.proofs.Words.{arith, connect_turn, connection_made, false, flat_map, inl, inr, is_down, is_up, key_of}
+use Rattle.lease_laws.proofs.Words.{lease_key, machine_key, not, numbers_to, refl, sent_over, stepped_in, subst, sym, true}
 use Rattle.lease_laws.proofs.client.Thin.{put_same}
+use Rattle.lease_laws.proofs.client.cases.Replies.{is_live}
 use Rattle.lease_laws.proofs.server.Lists.{clash}
 use Rattle.lease_laws.proofs.world.Runs.{stepped_server}
 use Rattle.lease_coherence.specs.Creates.{held_by}
 use Rattle.lease_coherence.specs.Names.{Each}
 use Rattle.lease_coherence.specs.Standing.{IsNoClose, IsOpenFor, IsStandingAt, PhaseStands}
-use Rattle.lease_laws.proofs.client.cases.Replies.{is_live}
-use Rattle.lease_coherence.proofs.creates.Creates.{stepped_machine, none_held}
+use Rattle.lease_coherence.proofs.beliefs.Anchors.{AnchorsLive, AnchorsOn}
+use Rattle.lease_coherence.proofs.beliefs.Forms.{IsAboutFile, file_no_acks}
+use Rattle.lease_coherence.proofs.beliefs.OneFile.{IsExplained, gone_explained}
+use Rattle.lease_coherence.proofs.beliefs.OneLease.{LowersWell, OpenTillAck, acks, acks_append, open_before, open_behind}
+use Rattle.lease_coherence.proofs.beliefs.Trust.{HasTrust, IsAnchored, file_key}
+use Rattle.lease_coherence.proofs.creates.Creates.{none_held, stepped_machine}
 use Rattle.lease_coherence.proofs.moves.Events.{Ground, come_back, connected}
-use Rattle.lease_coherence.proofs.moves.Frames.{stepped_requests, stepped_replies}
+use Rattle.lease_coherence.proofs.moves.Frames.{stepped_replies, stepped_requests}
 use Rattle.lease_coherence.proofs.standing.OpensStayStanding.{each_flat}
 use Rattle.lease_coherence.proofs.standing.Standing.{IsStepped, step_of}
-use Rattle.lease_coherence.proofs.beliefs.Anchors.{AnchorsOn, AnchorsLive}
-use Rattle.lease_coherence.proofs.beliefs.Forms.{IsAboutFile, file_no_acks}
-use Rattle.lease_coherence.proofs.beliefs.Leases.{lease_gone}
-use Rattle.lease_coherence.proofs.beliefs.Trust.{file_key, IsAnchored, HasTrust}
-use Rattle.lease_coherence.proofs.beliefs.OneLease.{acks, acks_append, LowersWell, OpenTillAck, open_behind, open_before}
-use Rattle.lease_coherence.proofs.beliefs.OneLease.{IsBelieved}
 
 -- ---- a step
 
 -- what is known of a file before it, with the replies that were there
 pub record IsKnown (world : World) (c file : ℕ) (before : List Reply) : Type 0 where
-  pub believed : IsBelieved (file_key world c file) file (world.server.leases (machine_key world c file))
+  pub explained : IsExplained (file_key world c file) file (world.server.leases (machine_key world c file))
       ((world.clients c).entries file).phase (world.requests c) before
   pub anchor : (acks (file_key world c file) (world.requests c) ≡ 0) ⊎ IsAnchored world c file
 
@@ -83,13 +81,13 @@ step_anchor world new c file machine step is on s fresh before known =
     fresh s l.till)) (on file))
     (λ a. ⊎_elim (λ zero. absurd (omega (arith, zero, a.one)))
     (λ (x : IsAnchored world c file). inr (anchored_in world new c file machine step.requests is x.file_id x.opened
-    (open_behind key x.file_id (world.requests c) step.requests a.one x.till) x.held)) known.anchor) known.believed.answers
+    (open_behind key x.file_id (world.requests c) step.requests a.one x.till) x.held)) known.anchor) known.explained.believed.answers
 
 pub step_trusted : (world : World) (c : ℕ) (step : Step) (before : List Reply) → is_up (world.links c) ≡ true
     → step.client.guid ≡ (world.clients c).guid → AnchorsOn (world.clients c) step
-    → ((file : ℕ) → IsBelieved (file_key world c file) file (world.server.leases (machine_key world c file))
+    → ((file : ℕ) → IsExplained (file_key world c file) file (world.server.leases (machine_key world c file))
     ((world.clients c).entries file).phase (world.requests c) before
-    → IsBelieved (file_key world c file) file (world.server.leases (machine_key world c file))
+    → IsExplained (file_key world c file) file (world.server.leases (machine_key world c file))
     (step.client.entries file).phase (world.requests c ++ step.requests) (world.replies c)) → Each LowersWell (world.replies c)
     → ((file : ℕ) → world.server.expired (machine_key world c file) ≡ false → IsKnown world c file before)
     → IsStandingAt world c → HasTrust (stepped_in world c step) c
@@ -97,7 +95,7 @@ step_trusted world c step before up guid on believes lowered files s = record {
   lowered = subst (λ (r : ℕ → List Reply). Each LowersWell (r c)) (sym (stepped_replies world c step)) lowered;
   files = λ file fresh. let was = was_fresh file fresh in
       let known = files file was in record {
-        believed = believed_after file (believes file known.believed);
+        explained = explained_after file (believes file known.explained);
         anchor = step_anchor world (stepped_in world c step) c file step.client step is on s was before known;
       };
 }
@@ -111,23 +109,23 @@ step_trusted world c step before up guid on believes lowered files s = record {
         ∙ ap₂ (λ (x : Server) (m : Client). x.expired (key_of c (lease_key m.guid file)))
         (sym (step_of world c step up guid).server) (sym (step_of world c step up guid).clients) ∙ fresh
 
-    believed_after : (file : ℕ) → IsBelieved (file_key world c file) file (world.server.leases (machine_key world c file))
+    explained_after : (file : ℕ) → IsExplained (file_key world c file) file (world.server.leases (machine_key world c file))
         (step.client.entries file).phase (world.requests c ++ step.requests) (world.replies c)
-        → IsBelieved (file_key (stepped_in world c step) c file) file
+        → IsExplained (file_key (stepped_in world c step) c file) file
         ((stepped_in world c step).server.leases (machine_key (stepped_in world c step) c file))
         (((stepped_in world c step).clients c).entries file).phase ((stepped_in world c step).requests c)
         ((stepped_in world c step).replies c)
-    believed_after file b = let new = stepped_in world c step in
+    explained_after file b = let new = stepped_in world c step in
         let so = step_of world c step up guid in
-        subst (λ (m : Client). IsBelieved (lease_key m.guid file) file (new.server.leases (key_of c (lease_key m.guid file)))
+        subst (λ (m : Client). IsExplained (lease_key m.guid file) file (new.server.leases (key_of c (lease_key m.guid file)))
         (m.entries file).phase (new.requests c) (new.replies c)) (sym so.clients)
-        (subst (λ g. IsBelieved (lease_key g file) file (new.server.leases (key_of c (lease_key g file)))
+        (subst (λ g. IsExplained (lease_key g file) file (new.server.leases (key_of c (lease_key g file)))
         (step.client.entries file).phase (new.requests c) (new.replies c)) (sym so.guid)
-        (subst (λ (x : Server). IsBelieved (file_key world c file) file (x.leases (machine_key world c file))
+        (subst (λ (x : Server). IsExplained (file_key world c file) file (x.leases (machine_key world c file))
         (step.client.entries file).phase (new.requests c) (new.replies c)) (sym so.server)
-        (subst (λ q. IsBelieved (file_key world c file) file (world.server.leases (machine_key world c file))
+        (subst (λ q. IsExplained (file_key world c file) file (world.server.leases (machine_key world c file))
         (step.client.entries file).phase q (new.replies c)) (sym so.queued)
-        (subst (λ (r : ℕ → List Reply). IsBelieved (file_key world c file) file
+        (subst (λ (r : ℕ → List Reply). IsExplained (file_key world c file) file
         (world.server.leases (machine_key world c file)) (step.client.entries file).phase
         (world.requests c ++ step.requests) (r c)) (sym (stepped_replies world c step)) b))))
 
@@ -193,9 +191,9 @@ connect_trusted world c g down =
     let idle = connect_idle world c g down in record {
       lowered = subst (Each LowersWell) (sym idle.replies) tt;
       files = λ file fresh. record {
-        believed = subst (λ r. IsBelieved (file_key new c file) file (new.server.leases (machine_key new c file))
+        explained = subst (λ r. IsExplained (file_key new c file) file (new.server.leases (machine_key new c file))
             ((new.clients c).entries file).phase (new.requests c) r) (sym idle.replies)
-            (lease_gone (file_key new c file) file (new.server.leases (machine_key new c file))
+            (gone_explained (file_key new c file) file (new.server.leases (machine_key new c file))
             ((new.clients c).entries file).phase (new.requests c) [] (idle.phases file) tt (idle.acks (file_key new c file)));
         anchor = inl (idle.acks (file_key new c file));
       };

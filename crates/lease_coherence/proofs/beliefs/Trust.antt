@@ -1,22 +1,22 @@
 -- While a client's link is up, what it believes it may do with writes its lease holds, of each file whose timer didn't run
 -- out.
 use Rattle.lease_laws.proofs.Words.{◌++◌, ◌==◌, ◌∙◌, ◌∷◌, ◌≡◌, ◌⊎◌, Among, Client, FileRequest, Held, List, Open, Phase, Reply}
-use Rattle.lease_laws.proofs.Words.{Request, Some, World, ℕ, ⊎_elim, [], ap, ap₂, arith, eqb-true, false, has_key, held_of, inl}
+use Rattle.lease_laws.proofs.Words.{Request, Some, World, ℕ, ⊎_elim, ap, ap₂, arith, eqb-true, false, has_key, held_of, inl}
 use Rattle.lease_laws.proofs.Words.{inr, is_key, is_up, key_of, lease_key, list_any, machine_key, refl, subst, sym, true}
+use Rattle.lease_laws.proofs.Words.{Lane}
 use Rattle.lease_laws.proofs.client.Thin.{put_same}
-use Rattle.lease_laws.proofs.server.Keys.{is_key-refl}
-use Rattle.lease_laws.proofs.server.Lists.{clash, not_true, has_any}
-use Rattle.lease_coherence.specs.Names.{Each, IsOwnOpen}
-use Rattle.lease_coherence.specs.Standing.{IsOpenFor, Stands, IsNoClose, GivenWell, PhaseStands, IsStandingAt}
 use Rattle.lease_laws.proofs.client.cases.Replies.{is_live}
+use Rattle.lease_laws.proofs.server.Keys.{is_key-refl}
+use Rattle.lease_laws.proofs.server.Lists.{among_behind, clash, has_any, not_true}
+use Rattle.lease_laws.proofs.server.PassWaits.{among_more}
+use Rattle.lease_coherence.specs.Names.{Each, IsOwnOpen}
+use Rattle.lease_coherence.specs.Standing.{GivenWell, IsNoClose, IsOpenFor, IsStandingAt, PhaseStands, Stands}
+use Rattle.lease_coherence.proofs.beliefs.OneFile.{IsExplained, less_explained}
+use Rattle.lease_coherence.proofs.beliefs.OneLease.{LowersWell, OpenTillAck, acks, is_created}
 use Rattle.lease_coherence.proofs.moves.Deeds.{IsSource, with_held}
 use Rattle.lease_coherence.proofs.moves.Ground.{among_put}
-use Rattle.lease_coherence.proofs.moves.Moves.{IsOldest, rest_of, popped}
-use Rattle.lease_coherence.proofs.names.NamedInRecord.{each_weaker}
-use Rattle.lease_laws.proofs.server.PassWaits.{among_more}
-use Rattle.lease_laws.proofs.server.Lists.{among_behind}
-use Rattle.lease_coherence.proofs.beliefs.Leases.{asked_less}
-use Rattle.lease_coherence.proofs.beliefs.OneLease.{acks, is_created, LowersWell, AckKeeps, OpenTillAck, IsBelieved}
+use Rattle.lease_coherence.proofs.moves.Moves.{IsOldest, popped, rest_of}
+use Rattle.lease_coherence.proofs.names.NamedInRecord.{each_rest, each_weaker}
 
 abbrev pub file_key : World → ℕ → ℕ → List ℕ
 file_key world client file = lease_key (world.clients client).guid file
@@ -30,7 +30,7 @@ pub record IsAnchored (world : World) (client file : ℕ) : Type 0 where
       → IsNoClose file_id (Request.OnFile one.request)
 
 pub record IsTrustedFor (world : World) (client file : ℕ) : Type 0 where
-  pub believed : IsBelieved (file_key world client file) file (world.server.leases (machine_key world client file))
+  pub explained : IsExplained (file_key world client file) file (world.server.leases (machine_key world client file))
       ((world.clients client).entries file).phase (world.requests client) (world.replies client)
   pub anchor : (acks (file_key world client file) (world.requests client) ≡ 0) ⊎ IsAnchored world client file
 
@@ -90,10 +90,6 @@ pub file_acks : (key : List ℕ) (queue rest : List Request) (request : FileRequ
     → acks key (rest_of queue) ≡ acks key queue
 file_acks key queue rest request e = subst (λ q. acks key (rest_of q) ≡ acks key q) (sym e) (omega arith)
 
-rest_keeps : (key : List ℕ) (queue : List Request) → Each (AckKeeps key) queue → Each (AckKeeps key) (rest_of queue)
-rest_keeps key [] each = tt
-rest_keeps key (request ∷ queue) each = each.1
-
 -- what it asks closes no anchor
 first_open : (world : World) (c file : ℕ) (request : FileRequest) → IsOldest world c (Request.OnFile request)
     → (a : IsAnchored world c file) → IsNoClose a.file_id (Request.OnFile request)
@@ -139,19 +135,19 @@ popped_trusted world c file request oldest t =
     let queue = world.requests c in
     let left : (popped world c).requests c ≡ rest_of queue = put_same world.requests c (rest_of queue) in
     let same = file_acks key queue oldest.queue request oldest.is_first in record {
-      believed = subst (λ q. IsBelieved key file (world.server.leases (machine_key world c file))
+      explained = subst (λ q. IsExplained key file (world.server.leases (machine_key world c file))
           ((world.clients c).entries file).phase q (world.replies c)) (sym left)
-          (asked_less key file (world.server.leases (machine_key world c file)) ((world.clients c).entries file).phase
-          queue (rest_of queue) (world.replies c) same (rest_keeps key queue) t.believed);
+          (less_explained key file (world.server.leases (machine_key world c file)) ((world.clients c).entries file).phase
+          queue (rest_of queue) (world.replies c) same (λ P each. each_rest P queue each) t.explained);
       anchor = ⊎_elim (λ zero. inl (ap (acks key) left ∙ same ∙ zero))
           (λ a. inr ((popped_anchor world c file request oldest a).anchored)) t.anchor;
     }
 
 -- one that was held
 left_anchor : (world : World) (c file at : ℕ) (before behind : List Held) (request : FileRequest)
-    → world.server.held at ≡ before ++ held_of c request ∷ behind → IsAnchored world c file
+    (lane : Lane) → world.server.held at ≡ before ++ held_of c request lane ∷ behind → IsAnchored world c file
     → IsAnchoredBut (with_held world at (before ++ behind)) c file request
-left_anchor world c file at before behind request held a = record {
+left_anchor world c file at before behind request lane held a = record {
   anchored = record {
     file_id = a.file_id;
     opened = record {
@@ -165,19 +161,19 @@ left_anchor world c file at before behind request held a = record {
     till = a.till;
     held = λ f x b own. ⊎_elim (λ old. a.held f x old own)
         (λ left. a.held at x (subst (λ (l : List Held). Among x l) (sym held)
-        (among_more x (held_of c request) before behind left.1)) own) (among_put world.server.held at (before ++ behind) f x b);
+        (among_more x (held_of c request lane) before behind left.1)) own) (among_put world.server.held at (before ++ behind) f x b);
   };
-  stays = a.held at (held_of c request) (subst (λ (l : List Held). Among (held_of c request) l) (sym held)
-      (among_behind (held_of c request) before (held_of c request ∷ behind) (inl refl))) refl;
+  stays = a.held at (held_of c request lane) (subst (λ (l : List Held). Among (held_of c request lane) l) (sym held)
+      (among_behind (held_of c request lane) before (held_of c request lane ∷ behind) (inl refl))) refl;
 }
 
 left_trusted : (world : World) (c file at : ℕ) (before behind : List Held) (request : FileRequest)
-    → world.server.held at ≡ before ++ held_of c request ∷ behind → IsTrustedFor world c file
+    (lane : Lane) → world.server.held at ≡ before ++ held_of c request lane ∷ behind → IsTrustedFor world c file
     → IsTrustedFor (with_held world at (before ++ behind)) c file
-left_trusted world c file at before behind request held t = record {
-  believed = t.believed;
+left_trusted world c file at before behind request lane held t = record {
+  explained = t.explained;
   anchor = ⊎_elim (λ zero. inl zero)
-      (λ a. inr ((left_anchor world c file at before behind request held a).anchored)) t.anchor;
+      (λ a. inr ((left_anchor world c file at before behind request lane held a).anchored)) t.anchor;
 }
 
 pub off_anchors : (world off : World) (c file : ℕ) (request : FileRequest) → IsSource world off c request
@@ -188,14 +184,14 @@ off_anchors world off c file request source t = ⊎_elim
     ∙ file_acks (file_key world c file) (world.requests c) x.oldest.queue request x.oldest.is_first ∙ zero))
     (λ a. inr (popped_anchor world c file request x.oldest a)) t.anchor))
     (λ h. subst (λ o. (acks (file_key o c file) (o.requests c) ≡ 0) ⊎ IsAnchoredBut o c file request) (sym h.is_off)
-    (⊎_elim (λ zero. inl zero) (λ a. inr (left_anchor world c file h.file h.before h.behind request h.held a)) t.anchor))
+    (⊎_elim (λ zero. inl zero) (λ a. inr (left_anchor world c file h.file h.before h.behind request h.lane h.held a)) t.anchor))
     source.from
 
 pub off_trusted : (world off : World) (c file : ℕ) (request : FileRequest) → IsSource world off c request
     → IsTrustedFor world c file → IsTrustedFor off c file
 off_trusted world off c file request source t = ⊎_elim
     (λ a. subst (λ o. IsTrustedFor o c file) (sym a.is_off) (popped_trusted world c file request a.oldest t))
-    (λ h. subst (λ o. IsTrustedFor o c file) (sym h.is_off) (left_trusted world c file h.file h.before h.behind request h.held t))
+    (λ h. subst (λ o. IsTrustedFor o c file) (sym h.is_off) (left_trusted world c file h.file h.before h.behind request h.lane h.held t))
     source.from
 
 -- ---- what is sent
@@ -224,14 +220,14 @@ anchor_same world new c file clients requests held kept a = record {
 pub trusted_by : (world new : World) (c file : ℕ) → new.clients c ≡ world.clients c
     → new.requests c ≡ world.requests c → new.server.held ≡ world.server.held
     → ((one : Open) → one.client ≡ c → one.connected ≡ true → Among one world.server.opens → Among one new.server.opens)
-    → IsBelieved (file_key world c file) file (new.server.leases (machine_key world c file))
+    → IsExplained (file_key world c file) file (new.server.leases (machine_key world c file))
     ((world.clients c).entries file).phase (world.requests c) (new.replies c)
     → IsTrustedFor world c file → IsTrustedFor new c file
-trusted_by world new c file clients requests held kept believed t = record {
-  believed = subst (λ (m : Client). IsBelieved (lease_key m.guid file) file
+trusted_by world new c file clients requests held kept explained t = record {
+  explained = subst (λ (m : Client). IsExplained (lease_key m.guid file) file
       (new.server.leases (key_of c (lease_key m.guid file))) (m.entries file).phase (new.requests c) (new.replies c))
-      (sym clients) (subst (λ q. IsBelieved (file_key world c file) file (new.server.leases (machine_key world c file))
-      ((world.clients c).entries file).phase q (new.replies c)) (sym requests) believed);
+      (sym clients) (subst (λ q. IsExplained (file_key world c file) file (new.server.leases (machine_key world c file))
+      ((world.clients c).entries file).phase q (new.replies c)) (sym requests) explained);
   anchor = ⊎_elim
       (λ zero. inl (ap₂ (λ (m : Client) q. acks (lease_key m.guid file) q) clients requests ∙ zero))
       (λ a. inr (anchor_same world new c file clients requests held kept a)) t.anchor;

@@ -1,17 +1,18 @@
 -- What a client asks about a file, where one of its requests leaves its place.
-use Rattle.lease_laws.proofs.Words.{◌&&◌, ◌++◌, ◌==◌, ◌∙◌, ◌∷◌, ◌≡◌, ◌≢◌, Among, FileRequest, Held, List, None, Ok, Open, Request}
-use Rattle.lease_laws.proofs.Words.{Server, World, ℕ, ⊎_elim, [], ap, ap₂, connected_open, eq-eqb, eqb-true, file_asked, held_of}
-use Rattle.lease_laws.proofs.Words.{put, refl, subst, sym, true}
-use Rattle.lease_laws.proofs.client.Thin.{put_same, put_other}
-use Rattle.lease_laws.proofs.server.Lists.{either, clash, and_both}
+use Rattle.lease_laws.proofs.Words.{◌&&◌, ◌++◌, ◌==◌, ◌∙◌, ◌∷◌, ◌≡◌, ◌≢◌, Among, FileRequest, Held, List, None, Ok, Open}
+use Rattle.lease_laws.proofs.Words.{Request, Server, World, ℕ, [], ⊎_elim, ap, ap₂, connected_open, eq-eqb, eqb-true}
+use Rattle.lease_laws.proofs.Words.{file_asked, held_of, put, refl, subst, sym, true}
+use Rattle.lease_laws.proofs.client.Thin.{put_other, put_same}
+use Rattle.lease_laws.proofs.client.cases.Files.{find_absent}
+use Rattle.lease_laws.proofs.server.Lists.{and_both, clash, either}
+use Rattle.lease_coherence.specs.Names.{IsNamedAt}
+use Rattle.lease_coherence.specs.Agreement.{as_requests, asked_of}
 use Rattle.lease_coherence.specs.Creates.{held_by}
 use Rattle.lease_coherence.specs.Standing.{IsNoClose}
-use Rattle.lease_laws.proofs.client.cases.Files.{find_absent}
 use Rattle.lease_coherence.proofs.covered.CoveredOpens.{ClosedBefore, closed_less}
-use Rattle.lease_coherence.proofs.moves.Deeds.{IsSource, WasHeld, with_held, held_in}
-use Rattle.lease_coherence.proofs.moves.Moves.{IsOldest, rest_of, popped}
-use Rattle.lease_coherence.specs.Agreement.{as_requests, asked_of}
-use Rattle.lease_coherence.proofs.order.OrderedRequests.{asked_among, asked_left, none_behind}
+use Rattle.lease_coherence.proofs.moves.Deeds.{IsSource, WasHeld, held_in, with_held}
+use Rattle.lease_coherence.proofs.moves.Moves.{IsOldest, popped, rest_of}
+use Rattle.lease_coherence.proofs.order.OrderedRequests.{asked_among, asked_left, none_before, none_there}
 
 -- ---- one that leaves
 
@@ -49,7 +50,7 @@ off_closed world off c request source file file_id none closed = ⊎_elim
     (λ a. subst (λ x. ClosedBefore file file_id (asked_of x c file)) (sym a.is_off)
     (popped_closed world c (Request.OnFile request) a.oldest file file_id none closed))
     (λ h. subst (λ x. ClosedBefore file file_id (asked_of x c file)) (sym h.is_off)
-    (left_closed world c h.file h.before h.behind (held_of c request) (eq-eqb c c refl) h.held file file_id none closed))
+    (left_closed world c h.file h.before h.behind (held_of c request h.lane) (eq-eqb c c refl) h.held file file_id none closed))
     source.from
 
 -- one that is held stands where it stood, of its file
@@ -78,22 +79,22 @@ held_closed world at one oldest file file_id none closed =
 -- ---- a request in its turn is the first of its file
 
 -- nothing of the client's is held before it
-pub first_asked : (world off : World) (c file : ℕ) (request : FileRequest) → IsSource world off c request
+pub first_asked : (world off : World) (c file : ℕ) (request : FileRequest) → IsNamedAt world c → IsSource world off c request
     → file_asked world.server c request ≡ Ok file → ((h : WasHeld world off c request) → h.file ≡ file)
     → (rest : List Request) × (asked_of world c file ≡ Request.OnFile request ∷ rest)
-first_asked world off c file request source asked on_file = ⊎_elim
+first_asked world off c file request n source asked on_file = ⊎_elim
     (λ a. (
       a.oldest.queue,
       ap₂ (λ (h : List Held) q. as_requests h ++ q)
-          (none_behind c (world.server.held file) (a.in_turn file asked)) a.oldest.is_first,
+          (none_there world off c file request n a asked) a.oldest.is_first,
     ))
     (λ h. (
       as_requests (held_by c h.behind) ++ world.requests c,
       ap (λ n. as_requests (held_by c (world.server.held n)) ++ world.requests c) (sym (on_file h))
           ∙ ap (λ l. as_requests (held_by c l) ++ world.requests c) h.held
-          ∙ asked_among c h.before h.behind (held_of c request) (world.requests c) (eq-eqb c c refl)
+          ∙ asked_among c h.before h.behind (held_of c request h.lane) (world.requests c) (eq-eqb c c refl)
           ∙ ap (λ (l : List Held). as_requests l ++ Request.OnFile request ∷
-          (as_requests (held_by c h.behind) ++ world.requests c)) (none_behind c h.before h.in_turn),
+          (as_requests (held_by c h.behind) ++ world.requests c)) (none_before world off c request n h),
     )) source.from
 
 -- ---- opens that are found

@@ -1,24 +1,22 @@
 -- Every step of a client keeps its opens covered, and reads and writes under the open of a live entry.
 use Rattle.lease_laws.proofs.Words.{◌++◌, ◌+◌, ◌==◌, ◌∙◌, ◌∷◌, ◌≡◌, ◌≢◌, ◌≤◌, Answer, Asked, Client, CreateAnswer, Entry}
 use Rattle.lease_laws.proofs.Words.{FileRequest, IsSoundClient, List, LiveEntry, None, Option, Pending, Phase, Reply, Request}
-use Rattle.lease_laws.proofs.Words.{Some, Status, Step, Turn, ℕ, ⊎_elim, [], ap, arith}
-use Rattle.lease_laws.proofs.Words.{create_request, eq-eqb, eqb-true, false, inl, inr, is_asking}
-use Rattle.lease_laws.proofs.Words.{is_file_closed, is_some, next_write, phase_with}
-use Rattle.lease_laws.proofs.Words.{put, quiet_step, refl, subst, sym, true}
-use Rattle.lease_laws.proofs.Words.{true≢false, turned, write_requests, wrote_step}
-use Rattle.lease_laws.proofs.client.Thin.{put_same, put_other}
-use Rattle.lease_laws.proofs.server.Lists.{either, and_parts}
-use Rattle.lease_laws.proofs.world.Links.{by_client}
-use Rattle.lease_coherence.specs.Creates.{answers, creates, asked_by, one_if, has_asked}
-use Rattle.lease_coherence.specs.Standing.{FitsPhase}
+use Rattle.lease_laws.proofs.Words.{Some, Status, Step, Turn, ℕ, [], ⊎_elim, ap, arith, create_request, eq-eqb, eqb-true, false}
+use Rattle.lease_laws.proofs.Words.{inl, inr, is_asking, is_file_closed, is_some, next_write, phase_with, put, quiet_step, refl}
+use Rattle.lease_laws.proofs.Words.{subst, sym, true, true≢false, turned, write_requests, wrote_step}
+use Rattle.lease_laws.proofs.client.Thin.{put_other, put_same}
 use Rattle.lease_laws.proofs.client.cases.Commands.{HasCommands}
 use Rattle.lease_laws.proofs.client.cases.Replies.{HasTakes, PassesOver}
+use Rattle.lease_laws.proofs.client.cases.Turns.{by_turn}
+use Rattle.lease_laws.proofs.server.Lists.{and_parts, either}
+use Rattle.lease_laws.proofs.world.Links.{by_client}
+use Rattle.lease_coherence.specs.Creates.{answers, asked_by, creates, has_asked, one_if}
+use Rattle.lease_coherence.specs.Standing.{FitsPhase}
+use Rattle.lease_coherence.proofs.covered.CoveredOpens.{ClosedBefore, IsCovered, IsGrantOf, IsLiveUnder, NotFailed}
+use Rattle.lease_coherence.proofs.covered.CoveredOpens.{closed_behind, closed_behind_writes, closed_more, cover_by}
+use Rattle.lease_coherence.proofs.creates.Counts.{none_asked}
 use Rattle.lease_coherence.proofs.fresh.Clients.{sound_live}
 use Rattle.lease_coherence.proofs.standing.Clients.{FitsGiven}
-use Rattle.lease_coherence.proofs.covered.CoveredOpens.{ClosedBefore, closed_more, closed_behind, closed_behind_writes, IsGrantOf}
-use Rattle.lease_coherence.proofs.covered.CoveredOpens.{IsLiveUnder, IsCovered, cover_by, NotFailed}
-use Rattle.lease_coherence.proofs.creates.Counts.{none_asked}
-use Rattle.lease_laws.proofs.client.cases.Turns.{by_turn}
 
 -- ---- commands
 

@@ -1,11 +1,11 @@
 -- Each connected open of a client is its entry's, or a Close of it is asked, or it is granted by a reply on its way: in
 -- words of one file, its entry and its queues.
 use Rattle.lease_laws.proofs.Words.{◌++◌, ◌+◌, ◌==◌, ◌∷◌, ◌≡◌, ◌≢◌, ◌⊎◌, FileRequest, Held, List, LiveEntry, Pending, Phase}
-use Rattle.lease_laws.proofs.Words.{Reply, Request, Some, Status, ℕ, ⊎_elim, ⊤, [], ap, arith, eq-eqb, inl, inr, refl}
+use Rattle.lease_laws.proofs.Words.{Reply, Request, Some, Status, ℕ, [], ⊎_elim, ⊤, ap, arith, eq-eqb, inl, inr, refl}
 use Rattle.lease_laws.proofs.Words.{write_requests}
+use Rattle.lease_coherence.specs.Agreement.{as_requests}
 use Rattle.lease_coherence.specs.Creates.{answer_of, answers, create_of, creates, held_creates, one_if}
 use Rattle.lease_coherence.specs.Standing.{IsNoClose}
-use Rattle.lease_coherence.specs.Agreement.{as_requests}
 
 -- ---- closes
 

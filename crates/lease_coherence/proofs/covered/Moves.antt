@@ -1,23 +1,23 @@
 -- What the server does leaves each connected open of a client covered, what it uses connected, and what fails gone.
 use Rattle.lease_laws.proofs.Words.{◌++◌, ◌+◌, ◌==◌, ◌∙◌, ◌∷◌, ◌≡◌, Access, Among, Client, CreateAsk, Fact, FileRequest, Key}
 use Rattle.lease_laws.proofs.Words.{Lease, List, MayRefuse, None, Open, Patch, Reply, Request, Share, Some, Status, World, ℕ}
-use Rattle.lease_laws.proofs.Words.{⊎_elim, ⊤, [], ap, arith, connected_again, connected_open, eqb-true, false, inl, inr, is_up}
+use Rattle.lease_laws.proofs.Words.{[], ⊎_elim, ⊤, ap, arith, connected_again, connected_open, eqb-true, false, inl, inr, is_up}
 use Rattle.lease_laws.proofs.Words.{machine_key, new_open, put, refl, refusal_of, subst, sym, true, was_opened}
 use Rattle.lease_laws.proofs.client.Thin.{put_same}
-use Rattle.lease_laws.proofs.server.Lists.{if_cases, either, among_append, among_map}
+use Rattle.lease_laws.proofs.server.Lists.{among_append, among_map, either, if_cases}
+use Rattle.lease_coherence.specs.Agreement.{asked_of}
 use Rattle.lease_coherence.specs.Names.{Each, WasOpenedOn}
 use Rattle.lease_coherence.specs.Standing.{AllAsked, IsNoClose}
-use Rattle.lease_coherence.proofs.covered.Asked.{off_closed, never_lost}
-use Rattle.lease_coherence.proofs.covered.CoveredOpens.{ClosedBefore, HasGrant, grant_more, grant_last, IsCovered, cover_by}
+use Rattle.lease_coherence.proofs.covered.Asked.{never_lost, off_closed}
+use Rattle.lease_coherence.proofs.covered.CoveredOpens.{ClosedBefore, HasGrant, IsCovered, cover_by, grant_last, grant_more}
 use Rattle.lease_coherence.proofs.creates.Creates.{off_rest}
 use Rattle.lease_coherence.proofs.late.SafeWrites.{KnowsIds}
-use Rattle.lease_coherence.proofs.moves.Deeds.{IsSource, told_to, granted_in, granted_reply, reconnected_in, reconnected_reply}
-use Rattle.lease_coherence.proofs.moves.Deeds.{changed_in}
+use Rattle.lease_coherence.proofs.moves.Deeds.{IsSource, changed_in, granted_in, granted_reply, reconnected_in}
+use Rattle.lease_coherence.proofs.moves.Deeds.{reconnected_reply, told_to}
 use Rattle.lease_coherence.proofs.moves.Frames.{from_source, lease_put_rest}
 use Rattle.lease_coherence.proofs.names.NamedInRecord.{each_append, each_weaker}
-use Rattle.lease_coherence.specs.Agreement.{asked_of}
-use Rattle.lease_coherence.proofs.records.Later.{IsLater, later_same, later_fact, later_two}
-use Rattle.lease_coherence.proofs.standing.StandingOpens.{asked_weaker, asked_off}
+use Rattle.lease_coherence.proofs.records.Later.{IsLater, later_fact, later_same, later_two}
+use Rattle.lease_coherence.proofs.standing.StandingOpens.{asked_off, asked_weaker}
 
 -- ---- opens in another world
 

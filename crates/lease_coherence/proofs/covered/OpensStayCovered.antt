@@ -1,52 +1,50 @@
 -- Every move leaves the connected opens of each client that hasn't strayed covered, while its link is up.
 use Rattle.lease_laws.proofs.Words.{◌++◌, ◌+◌, ◌==◌, ◌∙◌, ◌∷◌, ◌≡◌, ◌≢◌, Among, Client, Fact, FileRequest, Held, IsInTurn, Key}
-use Rattle.lease_laws.proofs.Words.{Lease, LeaseOf, Link, List, None, Ok, Open, Option, Phase, Reply, Request, Server, SmallStep}
-use Rattle.lease_laws.proofs.Words.{Some, Status, Step, World, ℕ, ⊎_elim, [], ap, ap₂, arith, break_notice, commanded}
-use Rattle.lease_laws.proofs.Words.{connected_open, connection_made, eq-eqb, false, file_asked, file_of_open, has_key}
-use Rattle.lease_laws.proofs.Words.{has_strayed, is_up, key_of, lease_key, machine_key, not, noticed}
-use Rattle.lease_laws.proofs.Words.{put, refl, refusal_of, stepped_in, subst, sym, taken, true, true≢false}
-use Rattle.lease_laws.proofs.Words.{was_opened}
+use Rattle.lease_laws.proofs.Words.{Lease, LeaseOf, Link, List, None, Ok, Open, Option, Phase, Reply, Request, Server}
+use Rattle.lease_laws.proofs.Words.{SmallStep, Some, Status, Step, World, ℕ, [], ⊎_elim, ap, ap₂, arith, break_notice}
+use Rattle.lease_laws.proofs.Words.{commanded, connected_open, connection_made, eq-eqb, false, file_asked, file_of_open}
+use Rattle.lease_laws.proofs.Words.{has_key, has_strayed, is_up, key_of, lease_key, machine_key, not, refl, refusal_of}
+use Rattle.lease_laws.proofs.Words.{stepped_in, subst, sym, taken, true, true≢false, was_opened}
 use Rattle.lease_laws.proofs.client.Forms.{commanded-stays, taken-stays}
 use Rattle.lease_laws.proofs.client.Thin.{put_same}
-use Rattle.lease_laws.proofs.server.Goes.{one_id}
-use Rattle.lease_laws.proofs.server.Keys.{put_key-cases}
-use Rattle.lease_laws.proofs.server.Lists.{clash, among_filter, among_filtered, not_parts}
-use Rattle.lease_laws.proofs.world.Links.{stepped_links}
-use Rattle.lease_laws.proofs.world.Runs.{stepped_server}
-use Rattle.lease_coherence.specs.Creates.{answers, asked_by, creates, held_by, held_creates, one_if, under_way}
-use Rattle.lease_coherence.specs.Names.{Each, IsNamedAt, IsNamedPhase}
-use Rattle.lease_coherence.specs.Standing.{AllAsked, IsNoClose, IsStandingAt, GivenWell, PhaseStands}
-use Rattle.lease_coherence.proofs.beliefs.Closed.{left_there}
-use Rattle.lease_coherence.proofs.beliefs.Steps.{AsksCreate, connect_idle}
 use Rattle.lease_laws.proofs.client.cases.Commands.{any_command}
 use Rattle.lease_laws.proofs.client.cases.Replies.{any_reply}
-use Rattle.lease_coherence.proofs.covered.Asked.{popped_closed, held_closed}
-use Rattle.lease_coherence.proofs.covered.Clients.{IsQuiet, StepCovers, commands_cover, IsMetWith, TakeCovers, takes_cover}
-use Rattle.lease_coherence.proofs.covered.Moves.{itself, KeepsOpens, IsUsed, UsesUp, uses_in, FailsGone, fails_in, HasCovered}
-use Rattle.lease_coherence.proofs.covered.Moves.{IsUpCovered, covered_in, IsLeftCovered, off_covered, told_covered, refusal_gone}
-use Rattle.lease_coherence.proofs.covered.Moves.{refusal_closes, changed_covered, granted_covered, reconnected_covered}
-use Rattle.lease_coherence.proofs.covered.Uses.{UsesLive, StepUses, commands_use, takes_use}
-use Rattle.lease_coherence.proofs.covered.CoveredOpens.{ClosedBefore, creates_asked, HasGrant, grant_more, IsCovered, NotFailed}
+use Rattle.lease_laws.proofs.server.Goes.{one_id}
+use Rattle.lease_laws.proofs.server.Keys.{put_key-cases}
+use Rattle.lease_laws.proofs.server.Lists.{among_filter, among_filtered, clash, not_parts}
+use Rattle.lease_laws.proofs.server.cases.Ends.{found_open}
+use Rattle.lease_laws.proofs.world.Runs.{stepped_server}
+use Rattle.lease_coherence.specs.Agreement.{as_requests, asked_of}
+use Rattle.lease_coherence.specs.Creates.{answers, asked_by, creates, held_by, held_creates, one_if, under_way}
+use Rattle.lease_coherence.specs.Names.{Each, IsNamedAt, IsNamedPhase}
+use Rattle.lease_coherence.specs.Standing.{AllAsked, GivenWell, IsNoClose, IsStandingAt, PhaseStands}
+use Rattle.lease_coherence.proofs.beliefs.Closed.{left_there}
+use Rattle.lease_coherence.proofs.beliefs.Steps.{AsksCreate, connect_idle}
+use Rattle.lease_coherence.proofs.covered.Asked.{held_closed, popped_closed}
+use Rattle.lease_coherence.proofs.covered.Clients.{IsMetWith, IsQuiet, StepCovers, TakeCovers, commands_cover, takes_cover}
+use Rattle.lease_coherence.proofs.covered.CoveredOpens.{ClosedBefore, HasGrant, IsCovered, NotFailed, creates_asked, grant_more}
+use Rattle.lease_coherence.proofs.covered.Moves.{FailsGone, HasCovered, IsLeftCovered, IsUsed, KeepsOpens, UsesUp}
+use Rattle.lease_coherence.proofs.covered.Moves.{changed_covered, covered_in, fails_in, granted_covered, itself, off_covered}
+use Rattle.lease_coherence.proofs.covered.Moves.{reconnected_covered, refusal_closes, refusal_gone, told_covered, uses_in}
+use Rattle.lease_coherence.proofs.covered.Uses.{StepUses, UsesLive, commands_use, takes_use}
 use Rattle.lease_coherence.proofs.creates.Counts.{creates_append}
 use Rattle.lease_coherence.proofs.late.Likes.{ids_of}
 use Rattle.lease_coherence.proofs.late.SafeWrites.{KnowsIds}
-use Rattle.lease_coherence.proofs.moves.Deeds.{IsSource, told_to, held_in, leased_in, without_opens, done_reply}
-use Rattle.lease_coherence.proofs.moves.Events.{Ground, timed_out, come_back, connected, reply_gone, reply_taken}
+use Rattle.lease_coherence.proofs.layers.Layers.{HasLayers}
+use Rattle.lease_coherence.proofs.moves.Deeds.{IsSource, done_reply, held_in, leased_in, told_to, without_opens}
+use Rattle.lease_coherence.proofs.moves.Events.{Ground, come_back, connected, reply_gone, reply_taken, timed_out}
 use Rattle.lease_coherence.proofs.moves.Foreign.{IsUnmoved}
 use Rattle.lease_coherence.proofs.moves.Frames.{stepped_past, stepped_replies}
 use Rattle.lease_coherence.proofs.moves.Moves.{IsOldest, popped}
-use Rattle.lease_coherence.proofs.moves.Own.{IsOwnMoved}
-use Rattle.lease_coherence.proofs.names.Names.{off_named, off_counted}
+use Rattle.lease_coherence.proofs.moves.Own.{IsOwnMoved, IsToldOf, IsUp}
 use Rattle.lease_coherence.proofs.names.NamedInRecord.{each_append, each_weaker}
-use Rattle.lease_coherence.proofs.order.Sends.{IsUnderLive}
-use Rattle.lease_coherence.specs.Agreement.{as_requests, asked_of}
+use Rattle.lease_coherence.proofs.names.Names.{off_counted, off_named}
 use Rattle.lease_coherence.proofs.order.OrderedRequests.{append_three}
-use Rattle.lease_coherence.proofs.records.Later.{IsLater, later_same, later_then, later_fact, later_noted}
-use Rattle.lease_coherence.proofs.standing.OpensStayStanding.{link_of, fits_of, was_up}
+use Rattle.lease_coherence.proofs.order.Sends.{IsUnderLive}
+use Rattle.lease_coherence.proofs.records.Later.{IsLater, later_fact, later_noted, later_same, later_then}
+use Rattle.lease_coherence.proofs.standing.OpensStayStanding.{fits_of}
 use Rattle.lease_coherence.proofs.standing.Standing.{IsStepped, step_of}
-use Rattle.lease_coherence.proofs.standing.StandingOpens.{asked_weaker, asked_popped, asked_held, asked_unmoved}
-use Rattle.lease_coherence.proofs.told.Leases.{HasLeases}
-use Rattle.lease_laws.proofs.server.cases.Ends.{found_open}
+use Rattle.lease_coherence.proofs.standing.StandingOpens.{asked_held, asked_popped, asked_unmoved, asked_weaker}
 
 -- ---- what others do
 
@@ -157,7 +155,7 @@ held_covered world at one oldest turn g h =
     } in record {
       covers = λ x there by up fresh. covered_in world new c x refl (held_closed world at one oldest x.file x.file_id
           (λ ne. own_place world.server c at one.request x
-          (λ a b p q e. one_id world.server.opens a b g.fine.sound.in_order p q e) there turn ne))
+          (λ a b p q e. one_id world.server.opens a b g.fine.sound.in_order p q e) there turn.0 ne))
           (λ x. x) (h.covers x there by up fresh);
       uses = asked_weaker (UsesUp world c) (UsesUp new c) new c (uses_in world new c k)
           (asked_held (UsesUp world c) world at one oldest h.uses);
@@ -228,7 +226,7 @@ timer_covered world c file h =
 
 -- ---- a client connects: none of its opens is connected
 
-connect_covered : (world : World) (c : ℕ) → Ground world → world.links c ≡ Link.Down → HasCovered (connected world c) c
+pub connect_covered : (world : World) (c : ℕ) → Ground world → world.links c ≡ Link.Down → HasCovered (connected world c) c
 connect_covered world c g down =
     let idle = connect_idle world c g down in
     let same : (connected world c).server.opens ≡ world.server.opens =
@@ -399,81 +397,72 @@ take_covered world c reply queue first up counted k h =
 
 -- ---- all moves
 
-pub known_for : (world : World) → HasLeases world → (c : ℕ) → has_strayed c world.past ≡ false
+pub known_for : (world : World) → HasLayers world → (c : ℕ) → has_strayed c world.past ≡ false
     → is_up (world.links c) ≡ true → IsKnownFor world c
 known_for world v c good up = record {
-  ground = v.structure.ground;
-  names = v.structure.named c good;
-  ids = ids_of world c (record { last = v.structure.ground.counted.last; opens = v.structure.ground.counted.opens });
-  stands = v.structure.opens c good up;
+  ground = v.ground;
+  names = v.named c good;
+  ids = ids_of world c (record { last = v.ground.counted.last; opens = v.ground.counted.opens });
+  stands = v.opens c good up;
 }
 
-off_left : (world off : World) → HasLeases world → (c : ℕ) (request : FileRequest) → IsSource world off c request
-    → IsUpCovered world c → is_up (off.links c) ≡ true → IsLeftCovered off c (Request.OnFile request)
-off_left world off v c request source a up = off_covered world off c request source (a (link_of world off c request source up))
-
-off_known : (world off : World) → HasLeases world → (c : ℕ) (request : FileRequest) → IsSource world off c request
+off_known : (world off : World) → HasLayers world → (c : ℕ) (request : FileRequest) → IsSource world off c request
     → KnowsIds off c
-off_known world off v c request source = ids_of off c (off_counted world off c request source v.structure.ground)
+off_known world off v c request source = ids_of off c (off_counted world off c request source v.ground)
 
-pub covered_moves : IsOwnMoved HasLeases IsUpCovered
+-- a request that is answered, where nothing else changes
+answer_covered : (off : World) (c : ℕ) (request : FileRequest) (reply : Reply) → IsToldOf off c request reply
+    → IsLeftCovered off c (Request.OnFile request) → HasCovered (told_to off c reply) c
+answer_covered off c request reply (IsToldOf.Refused asked status may) h = told_covered off c (Request.OnFile asked)
+    (refusal_of asked status) (refusal_gone off c asked status may h.used) (refusal_closes off c asked status may) h
+answer_covered off c request reply (IsToldOf.Full file access share ask) h = told_covered off c
+    (Request.OnFile (FileRequest.Create file access share (Some ask)))
+    (Reply.CreateFailed file Status.InsufficientResources) tt (λ x there by on. tt) h
+answer_covered off c request reply (IsToldOf.Read file_id one found may) h = told_covered off c
+    (Request.OnFile (FileRequest.Read file_id)) (Reply.ReadDone file_id (off.server.contents one.file)) tt
+    (λ x there by on. tt) h
+
+pub covered_moves : IsOwnMoved HasLayers IsUp HasCovered
 covered_moves = record {
-  unmoved = λ world new c v good u a up. unmoved_covered world new c u (a (ap is_up (sym u.link) ∙ up));
-  refused = λ world off c request status v good source may a up. let h = off_left world off v c request source a up in
-      told_covered off c (Request.OnFile request) (refusal_of request status)
-      (refusal_gone off c request status may h.used) (refusal_closes off c request status may) h;
-  full = λ world off c file access share ask v good source a up.
+  unmoved = λ world new c k u a. unmoved_covered world new c u a;
+  told = λ world off c request reply k source is a.
+      answer_covered off c request reply is (off_covered world off c request source a);
+  granted = λ world off c file access share ask k source none on free a.
       let request = FileRequest.Create file access share (Some ask) in
-      told_covered off c (Request.OnFile request) (Reply.CreateFailed file Status.InsufficientResources) tt
-      (λ x there by on. tt) (off_left world off v c request source a up);
-  granted = λ world off c file access share ask v good source none on free a up.
+      granted_covered off c file access share ask _ (off_known world off k.all c request source)
+      (off_covered world off c request source a);
+  reconnected = λ world off c file access share ask file_id k source again on waits a.
       let request = FileRequest.Create file access share (Some ask) in
-      granted_covered off c file access share ask _ (off_known world off v c request source)
-      (off_left world off v c request source a up);
-  reconnected = λ world off c file access share ask file_id v good source again on waits a up.
-      let request = FileRequest.Create file access share (Some ask) in
-      let own = (off_named world off c request c source (v.structure.named c good)).1 refl in
-      reconnected_covered off c file access share ask file_id (off_known world off v c request source)
-      (own.again file_id again) (off_left world off v c request source a up);
-  read = λ world off c file_id one v good source found may a up.
-      let request = FileRequest.Read file_id in
-      told_covered off c (Request.OnFile request) (Reply.ReadDone file_id (off.server.contents one.file)) tt
-      (λ x there by on. tt) (off_left world off v c request source a up);
-  changed = λ world off c file_id number patch one v good source found may a up.
+      let own = (off_named world off c request c source (k.all.named c k.good)).1 refl in
+      reconnected_covered off c file access share ask file_id (off_known world off k.all c request source)
+      (own.again file_id again) (off_covered world off c request source a);
+  changed = λ world off c file_id number patch one k source found may a.
       let request = FileRequest.Write file_id number patch in
-      changed_covered off c one.file file_id number patch (off_left world off v c request source a up);
-  closed = λ world off c file_id one v good source found a up.
+      changed_covered off c one.file file_id number patch (off_covered world off c request source a);
+  closed = λ world off c file_id one k source found a.
       let request = FileRequest.Close file_id in
-      closed_covered off c file_id (off_left world off v c request source a up);
-  ack_failed = λ world c given status v good oldest why a up.
+      closed_covered off c file_id (off_covered world off c request source a);
+  ack_failed = λ world c given status k oldest why a.
       told_covered (popped world c) c (Request.Acknowledge given) (Reply.AckFailed status) tt (λ x there by on. tt)
-      (ack_left world c given oldest (a up));
-  ack_done = λ world c given lowered v good oldest there breaks within a up.
+      (ack_left world c given oldest a);
+  ack_done = λ world c given lowered k oldest there breaks within a.
       leased_covered (popped world c) (key_of c given.key) _ (Request.Acknowledge (Some given)) (done_reply given)
-      (λ x. tt) tt (ack_left world c (Some given) oldest (a up));
-  hold = λ world file one v good oldest may turn a up. held_covered world file one oldest turn v.structure.ground (a up);
-  dropped = λ world c test v good away a up. dropped_covered world c test (a up);
-  lower = λ world key lowered v good may light a up. leased_covered world key _ (Request.Acknowledge None)
-      (break_notice key (world.server.leases key).state lowered) (λ x. tt) tt (all_left world key.client (a up));
-  begin = λ world key lowered v good may heavy a up. leased_covered world key _ (Request.Acknowledge None)
-      (break_notice key (world.server.leases key).state lowered) (λ x. tt) tt (all_left world key.client (a up));
-  cut = λ world c v good up a on. absurd (true≢false (sym on ∙ ap is_up (put_same world.links c Link.Cut)));
-  timer = λ world c file v good on breaks a up. timer_covered world c file (a up);
-  connect = λ world c v good down a up. connect_covered world c v.structure.ground down;
-  command = λ world c command v good a up.
+      (λ x. tt) tt (ack_left world c (Some given) oldest a);
+  hold = λ world file one k oldest may turn a. held_covered world file one oldest turn k.all.ground a;
+  dropped = λ world c test k away a. dropped_covered world c test a;
+  lower = λ world key lowered k may light a. leased_covered world key _ (Request.Acknowledge None)
+      (break_notice key (world.server.leases key).state lowered) (λ x. tt) tt (all_left world key.client a);
+  begin = λ world key lowered k may heavy a. leased_covered world key _ (Request.Acknowledge None)
+      (break_notice key (world.server.leases key).state lowered) (λ x. tt) tt (all_left world key.client a);
+  timer = λ world c file k on breaks a. timer_covered world c file a;
+  command = λ world c command k a.
       let machine = world.clients c in
-      let was = was_up world c (commanded machine command) up in
-      let h = a was in
-      step_covered world world c (commanded machine command) was (commanded-stays machine command).guid refl refl refl
+      step_covered world world c (commanded machine command) k.when (commanded-stays machine command).guid refl refl refl
       (later_same world.past) (any_command machine (StepUses machine) (commands_use machine) command)
-      (known_for world v c good was) h.uses h.fails
+      (known_for world k.all c k.good k.when) a.uses a.fails
       (λ x there by on fresh. any_command machine (StepCovers machine) (commands_cover machine) command x.file x.file_id
-      (asked_of world c x.file) (world.replies c) (quiet_of world c x.file (v.structure.creates c good was x.file))
-      (h.covers x there by on fresh));
-  take = λ world c reply queue v good first a up.
-      let was : is_up (world.links c) ≡ true = was_up (reply_gone world c queue) c (taken (world.clients c) reply) up in
-      take_covered world c reply queue first was (v.structure.creates c good was) (known_for world v c good was) (a was);
-  notice = λ world c v good cut a on. absurd (true≢false (sym on
-      ∙ ap (λ (l : ℕ → Link). is_up (l c)) (stepped_links (record world { links = put world.links c Link.Down }) c
-      (noticed (world.clients c))) ∙ ap is_up (put_same world.links c Link.Down)));
+      (asked_of world c x.file) (world.replies c) (quiet_of world c x.file (k.all.creates c k.good k.when x.file))
+      (a.covers x there by on fresh));
+  take = λ world c reply queue k first a.
+      take_covered world c reply queue first k.when (k.all.creates c k.good k.when) (known_for world k.all c k.good k.when) a;
 }

@@ -1,14 +1,12 @@
 -- Reads and writes are sent under the open of a live entry.
-use Rattle.lease_laws.proofs.Words.{◌++◌, ◌∷◌, ◌≡◌, Client, FileRequest, List, LiveEntry, Pending, Phase, Request, Step, ℕ, ⊤, []}
-use Rattle.lease_laws.proofs.Words.{acknowledgment, flushed, meet}
-use Rattle.lease_laws.proofs.Words.{refl}
-use Rattle.lease_laws.proofs.Words.{Turn, turned, write_requests}
-use Rattle.lease_laws.proofs.server.Lists.{if_cases}
-use Rattle.lease_coherence.specs.Names.{Each}
+use Rattle.lease_laws.proofs.Words.{◌++◌, ◌∷◌, ◌≡◌, Client, FileRequest, List, LiveEntry, Pending, Phase, Request, Step, Turn}
+use Rattle.lease_laws.proofs.Words.{ℕ, [], ⊤, acknowledgment, flushed, meet, refl, turned, write_requests}
 use Rattle.lease_laws.proofs.client.cases.Commands.{HasCommands}
 use Rattle.lease_laws.proofs.client.cases.Replies.{HasTakes}
-use Rattle.lease_coherence.proofs.order.Sends.{IsUnderLive}
 use Rattle.lease_laws.proofs.client.cases.Turns.{by_turn}
+use Rattle.lease_laws.proofs.server.Lists.{if_cases}
+use Rattle.lease_coherence.specs.Names.{Each}
+use Rattle.lease_coherence.proofs.order.Sends.{IsUnderLive}
 
 abbrev pub UsesLive : Client → Request → Type 0
 UsesLive client (Request.OnFile (FileRequest.Read file_id)) = IsUnderLive client file_id

@@ -3,8 +3,8 @@ use Rattle.lease_laws.proofs.Words.{◌++◌, ◌+◌, ◌==◌, ◌∙◌, ◌�
 use Rattle.lease_laws.proofs.Words.{Status, ℕ, [], ap, arith, false, refl, refusal_of, sym, true, true≢false, write_requests}
 use Rattle.lease_laws.proofs.client.cases.Replies.{AwaitsNone}
 use Rattle.lease_laws.proofs.server.Lists.{if_cases}
-use Rattle.lease_coherence.proofs.moves.Events.{chosen, not_chosen}
 use Rattle.lease_coherence.specs.Creates.{answer_of, answers, create_of, creates, has_asked, held_by, held_creates}
+use Rattle.lease_coherence.proofs.moves.Events.{chosen, not_chosen}
 
 -- an entry that waits for no answer to a create has asked for none
 pub none_asked : (phase : Phase) → AwaitsNone phase → has_asked phase ≡ false

@@ -1,39 +1,32 @@
 -- While a client's link is up, a create of a file is under way exactly where its entry has asked for one.
 use Rattle.lease_laws.proofs.Words.{◌&&◌, ◌++◌, ◌+◌, ◌==◌, ◌∙◌, ◌∷◌, ◌≡◌, ◌≢◌, Among, Bool, Client, CreateAsk, Entry, Err, Fact}
 use Rattle.lease_laws.proofs.Words.{FileRequest, Held, IsAbout, IsInTurn, IsSoundEntry, IsSoundPhase, LeaseOf, Link, List}
-use Rattle.lease_laws.proofs.Words.{LiveEntry, None, Ok, Option, Pending, Phase, Reply, Request, Result, Server, SmallStep, Some}
-use Rattle.lease_laws.proofs.Words.{Status, Step, World, ℕ, ⊎_elim, [], ap, ap₂, arith, break_notice, commanded}
-use Rattle.lease_laws.proofs.Words.{connect_turn, connection_made, eq-eqb, eqb-true, false, file_asked, file_of_create, filter}
-use Rattle.lease_laws.proofs.Words.{flat_map, flat_map-append, granted_form_of, has_file, held_of, if◌then◌else◌, inl, inr}
-use Rattle.lease_laws.proofs.Words.{is_asking, is_down, is_up, key_of, knows_file, lease_after, nat_le, not}
-use Rattle.lease_laws.proofs.Words.{noticed, numbers_to, put, refl, refusal_of, sent_over, stepped_in, subst, suc}
-use Rattle.lease_laws.proofs.Words.{sym, taken, true, true≢false, zero}
-use Rattle.lease_laws.proofs.client.Thin.{put_same, put_other}
-use Rattle.lease_laws.proofs.server.Lists.{if_cases, either, clash, not_true, among_behind}
-use Rattle.lease_laws.proofs.world.Links.{stepped_links}
-use Rattle.lease_laws.proofs.world.Runs.{stepped_server, stepped_clients}
-use Rattle.lease_coherence.specs.Creates.{IsCountedAt, answer_of, answers, asked_by, create_of, creates, held_by, held_creates}
-use Rattle.lease_coherence.specs.Creates.{one_if, under_way, has_asked}
-use Rattle.lease_coherence.specs.Names.{Each, IsNamedReply}
-use Rattle.lease_laws.proofs.client.cases.Commands.{any_command}
+use Rattle.lease_laws.proofs.Words.{LiveEntry, None, Ok, Option, Pending, Phase, Reply, Request, Result, Server, SmallStep}
+use Rattle.lease_laws.proofs.Words.{Some, Status, Step, World, ℕ, [], ⊎_elim, ap, ap₂, arith, connect_turn, connection_made}
+use Rattle.lease_laws.proofs.Words.{eq-eqb, eqb-true, false, file_asked, file_of_create, flat_map, flat_map-append}
+use Rattle.lease_laws.proofs.Words.{has_file, held_of, if◌then◌else◌, inl, is_asking, is_down, is_up, knows_file, nat_le}
+use Rattle.lease_laws.proofs.Words.{not, numbers_to, put, refl, sent_over, stepped_in, subst, suc, sym, taken, true, true≢false}
+use Rattle.lease_laws.proofs.Words.{zero}
+use Rattle.lease_laws.proofs.client.Thin.{put_other, put_same}
 use Rattle.lease_laws.proofs.client.cases.Replies.{any_reply}
-use Rattle.lease_coherence.proofs.creates.Counts.{creates_append, answers_last, held_among, refusal_answers}
-use Rattle.lease_coherence.proofs.creates.Steps.{none_answered, IsCountedStep, IsCountedTake, commands_count, takes_count}
-use Rattle.lease_coherence.proofs.moves.Deeds.{IsSource, HasArrived, WasHeld, with_held, told_to, held_in, granted_in}
-use Rattle.lease_coherence.proofs.moves.Deeds.{reconnected_in, changed_in, without_opens, leased_in, granted_reply}
-use Rattle.lease_coherence.proofs.moves.Deeds.{reconnected_reply, done_reply}
-use Rattle.lease_coherence.proofs.moves.Events.{Ground, timed_out, come_back, connected, reply_gone, reply_taken}
+use Rattle.lease_laws.proofs.server.Lists.{among_behind, clash, either, not_true}
+use Rattle.lease_laws.proofs.world.Links.{stepped_links}
+use Rattle.lease_laws.proofs.world.Runs.{stepped_clients, stepped_server}
+use Rattle.lease_coherence.proofs.names.NamedInRecord.{none_pass}
+use Rattle.lease_coherence.specs.Creates.{IsCountedAt, answer_of, answers, asked_by, create_of, creates, has_asked, held_by}
+use Rattle.lease_coherence.specs.Creates.{held_creates, one_if, under_way}
+use Rattle.lease_coherence.specs.Names.{IsNamedReply}
+use Rattle.lease_coherence.proofs.creates.Counts.{answers_last, creates_append, held_among}
+use Rattle.lease_coherence.proofs.creates.Steps.{IsCountedStep, IsCountedTake, none_answered, takes_count}
+use Rattle.lease_coherence.proofs.moves.Deeds.{HasArrived, IsSource, WasHeld, held_in, with_held}
+use Rattle.lease_coherence.proofs.moves.Events.{Ground, come_back, connected, reply_gone, reply_taken}
 use Rattle.lease_coherence.proofs.moves.Foreign.{IsUnmoved}
-use Rattle.lease_coherence.proofs.moves.Frames.{lease_put_rest, stepped_requests, stepped_replies}
-use Rattle.lease_coherence.proofs.moves.Moves.{IsOldest, rest_of, popped}
-use Rattle.lease_coherence.proofs.moves.Own.{IsOwnMoved}
+use Rattle.lease_coherence.proofs.moves.Frames.{stepped_replies, stepped_requests}
+use Rattle.lease_coherence.proofs.moves.Moves.{IsOldest, popped, rest_of}
 use Rattle.lease_coherence.proofs.moves.Shift.{append_none}
-use Rattle.lease_coherence.proofs.names.NamedInRecord.{reply_later}
-use Rattle.lease_coherence.proofs.records.Later.{later_fact}
-use Rattle.lease_coherence.proofs.standing.Structure.{HasStructure}
 
 -- the same queues and the same entries
-same_counts : (world new : World) (c : ℕ) → new.links c ≡ world.links c → new.clients c ≡ world.clients c
+pub same_counts : (world new : World) (c : ℕ) → new.links c ≡ world.links c → new.clients c ≡ world.clients c
     → ((file : ℕ) → under_way new c file ≡ under_way world c file) → IsCountedAt world c → IsCountedAt new c
 same_counts world new c links clients same a up file = same file ∙ a (ap is_up (sym links) ∙ up) file
     ∙ ap (λ (m : Client). asked_by m file) (sym clients)
@@ -92,7 +85,7 @@ source_counts world off c request g source file = ⊎_elim
           arith,
           ap (λ n. held_creates file (held_by c (world.server.held n))) same ∙ ap
               (λ (l : List Held). held_creates file (held_by c l)) h.held ∙ held_among file c h.before h.behind
-              (held_of c request)
+              (held_of c request h.lane)
               (eq-eqb c c refl) ∙ ap (λ (l : List Held). create_of file request + held_creates file (held_by c l))
               (sym (put_same world.server.held h.file (h.before ++ h.behind))) ∙ ap
               (λ n. create_of file request + held_creates file
@@ -102,9 +95,9 @@ source_counts world off c request g source file = ⊎_elim
         (λ there. let ne : file ≢ h.file = λ e. clash (file == h.file) (eq-eqb file h.file e) there in
         (omega (
           arith,
-          create_here world.server h.file file request (g.fine.orderly.held_about h.file (held_of c request)
-              (subst (λ (l : List Held). Among (held_of c request) l) (sym h.held)
-              (among_behind (held_of c request) h.before (held_of c request ∷ h.behind) (inl refl)))) (λ e. ne (sym e)),
+          create_here world.server h.file file request (g.fine.orderly.held_about h.file (held_of c request h.lane)
+              (subst (λ (l : List Held). Among (held_of c request h.lane) l) (sym h.held)
+              (among_behind (held_of c request h.lane) h.before (held_of c request h.lane ∷ h.behind) (inl refl)))) (λ e. ne (sym e)),
           ap
               (λ (l : List Held). creates file (world.requests c) + held_creates file (held_by c l))
               (sym (put_other world.server.held h.file (h.before ++ h.behind) file ne)),
@@ -140,7 +133,7 @@ off_rest world off client request source = ⊎_elim
     (λ h. subst (λ o. IsSameRest o world) (sym h.is_off) (record { clients = refl; links = refl; replies = refl })) source.from
 
 -- a reply to it
-replied_at : (world off new : World) (c : ℕ) (request : FileRequest) (reply : Reply) → Ground world
+pub replied_at : (world off new : World) (c : ℕ) (request : FileRequest) (reply : Reply) → Ground world
     → IsSource world off c request → new.links ≡ off.links → new.clients ≡ off.clients
     → new.requests c ≡ off.requests c → new.server.held ≡ off.server.held
     → new.replies ≡ put off.replies c (off.replies c ++ reply ∷ [])
@@ -152,7 +145,7 @@ replied_at world off new c request reply g source links clients requests held re
     ∙ ap (λ (r : ℕ → List Reply). r c ++ reply ∷ []) rest.replies) answers_it a
 
 -- a reply that answers no create
-told_at : (world new : World) (c : ℕ) (reply : Reply) → new.links ≡ world.links → new.clients ≡ world.clients
+pub told_at : (world new : World) (c : ℕ) (reply : Reply) → new.links ≡ world.links → new.clients ≡ world.clients
     → ((file : ℕ) → creates file (new.requests c) ≡ creates file (world.requests c))
     → new.server.held ≡ world.server.held → new.replies ≡ put world.replies c (world.replies c ++ reply ∷ [])
     → ((file : ℕ) → answer_of file reply ≡ 0) → IsCountedAt world c → IsCountedAt new c
@@ -169,14 +162,14 @@ told_at world new c reply links clients requests held replies none a =
     )) a
 
 -- an acknowledgment that leaves its queue is no create
-ack_off : (world : World) (c : ℕ) (given : Option LeaseOf) → IsOldest world c (Request.Acknowledge given) → (file : ℕ)
+pub ack_off : (world : World) (c : ℕ) (given : Option LeaseOf) → IsOldest world c (Request.Acknowledge given) → (file : ℕ)
     → creates file ((popped world c).requests c) ≡ creates file (world.requests c)
 ack_off world c given oldest file =
     ap (λ (q : List Request). creates file q) (put_same world.requests c (rest_of (world.requests c)))
     ∙ subst (λ q. creates file (rest_of q) ≡ creates file q) (sym oldest.is_first) refl
 
 -- a request is held
-hold_at : (world : World) (file : ℕ) (one : Held) → IsOldest world one.client (Request.OnFile one.request)
+pub hold_at : (world : World) (file : ℕ) (one : Held) → IsOldest world one.client (Request.OnFile one.request)
     → IsInTurn (SmallStep.Hold file one) world.server → IsCountedAt world one.client
     → IsCountedAt (held_in (popped world one.client) file one) one.client
 hold_at world at one oldest turn a = same_counts world (held_in (popped world one.client) at one) one.client refl refl
@@ -201,7 +194,7 @@ hold_at world at one oldest turn a = same_counts world (held_in (popped world on
       arith,
       first_off file (world.requests one.client) oldest.queue one.request oldest.is_first,
       not_its file one.request
-          turn ne,
+          turn.0 ne,
       ap (λ (q : List Request). creates file q) (put_same world.requests one.client
           (rest_of (world.requests one.client))),
       ap (λ (l : List Held). held_creates file (held_by one.client l))
@@ -239,7 +232,7 @@ pub stepped_machine : (world : World) (client : ℕ) (step : Step) → (stepped_
 stepped_machine world client step =
     ap (λ (t : ℕ → Client). t client) (stepped_clients world client step) ∙ put_same world.clients client step.client
 
-command_at : (world : World) (client : ℕ) (step : Step) → IsCountedStep (world.clients client) none_answered step
+pub command_at : (world : World) (client : ℕ) (step : Step) → IsCountedStep (world.clients client) none_answered step
     → IsCountedAt world client → IsCountedAt (stepped_in world client step) client
 command_at world client step counts a up file =
     let was = ap (λ (l : ℕ → Link). is_up (l client)) (sym (stepped_links world client step)) ∙ up in
@@ -253,7 +246,7 @@ parked_idle online entry live sound is none =
     let s = subst (λ p. IsSoundPhase online entry.sent p) is sound in
     not_true (is_asking live) (λ asks. omega (arith, s.1.asking_with_handles asks, eqb-true live.handles 0 none))
 
-take_at : (world : World) (client : ℕ) (reply : Reply) (queue : List Reply) → Ground world
+pub take_at : (world : World) (client : ℕ) (reply : Reply) (queue : List Reply) → Ground world
     → world.replies client ≡ reply ∷ queue → IsNamedReply client (Fact.Took client ∷ world.past) reply
     → IsCountedAt world client → IsCountedAt (reply_taken world client reply queue) client
 take_at world client reply queue g first named a up file =
@@ -344,11 +337,6 @@ all_send client file idle (suc count) =
     further m n ne = either (suc m == n) (λ e. absurd (ne (eqb-true (suc m) n e))) (λ e. grind arith)
 
 -- of no client that is away is a request held
-none_pass : {X : Type 0} (test : X → Bool) (xs : List X) → ((x : X) → Among x xs → test x ≡ false) → filter test xs ≡ []
-none_pass test [] none = refl
-none_pass test (x ∷ xs) none = if_cases (λ l. l ≡ []) (test x) (x ∷ filter test xs) (filter test xs)
-    (λ passes. clash (test x) passes (none x (inl refl))) (λ fails. none_pass test xs (λ y a. none y (inr a)))
-
 pub none_held : (world : World) (client : ℕ) → Ground world → is_up (world.links client) ≡ false → (file : ℕ)
     → held_by client (world.server.held file) ≡ []
 none_held world client g down file = none_pass (λ one. one.client == client) (world.server.held file)
@@ -370,7 +358,7 @@ unknown_idle : (client : Client) (file : ℕ) → (client.entries file).phase �
 unknown_idle client file closed =
     ap (λ p. one_if (has_asked (connect_turn client file (client.entries file).sent p).entry.phase)) (sym closed)
 
-connect_at : (world : World) (client : ℕ) → Ground world → world.links client ≡ Link.Down
+pub connect_at : (world : World) (client : ℕ) → Ground world → world.links client ≡ Link.Down
     → IsCountedAt (connected world client) client
 connect_at world client g down up file =
     let machine = world.clients client in
@@ -394,71 +382,9 @@ connect_at world client g down up file =
 
 -- ---- all moves
 
-unmoved_at : (world new : World) (c : ℕ) → IsUnmoved world new c → IsCountedAt world c → IsCountedAt new c
+pub unmoved_at : (world new : World) (c : ℕ) → IsUnmoved world new c → IsCountedAt world c → IsCountedAt new c
 unmoved_at world new c u a = same_counts world new c u.link u.machine
     (λ file. ap₂ (λ (q : List Request) (l : List Held). creates file q + held_creates file l + answers file (new.replies c))
     u.requests (u.held file)
     ∙ ap (λ (q : List Reply). creates file (world.requests c) + held_creates file (held_by c (world.server.held file))
     + answers file q) u.replies) a
-
-pub creates_move : IsOwnMoved HasStructure IsCountedAt
-creates_move = record {
-  unmoved = λ world new c v good u a. unmoved_at world new c u a;
-  refused = λ world off c request status v good source may a.
-      replied_at world off (told_to off c (refusal_of request status)) c request (refusal_of request status) v.ground source
-      refl refl refl refl refl (λ file. refusal_answers file request status) a;
-  full = λ world off c file access share ask v good source a.
-      replied_at world off (told_to off c (Reply.CreateFailed file Status.InsufficientResources)) c
-      (FileRequest.Create file access share (Some ask)) (Reply.CreateFailed file Status.InsufficientResources) v.ground source
-      refl refl refl refl refl (λ f. refl) a;
-  granted = λ world off c file access share ask v good source none on free a.
-      let lease = lease_after off.server c file ask.lease in
-      replied_at world off (granted_in off c file access share ask lease) c
-      (FileRequest.Create file access share (Some ask)) (granted_reply off.server file ask lease) v.ground source refl refl refl
-      (lease_put_rest off.server c ask.lease (lease_after off.server c file ask.lease)
-      (λ s. s.held ≡ off.server.held) (λ l. refl)) refl (λ f. refl) a;
-  reconnected = λ world off c file access share ask file_id v good source again on waits a.
-      replied_at world off (reconnected_in off c file ask file_id) c (FileRequest.Create file access share (Some ask))
-      (reconnected_reply off.server c file ask file_id) v.ground source refl refl refl refl refl (λ f. refl) a;
-  read = λ world off c file_id one v good source found may a.
-      replied_at world off (told_to off c (Reply.ReadDone file_id (off.server.contents one.file))) c
-      (FileRequest.Read file_id) (Reply.ReadDone file_id (off.server.contents one.file)) v.ground source refl refl refl refl refl
-      (λ f. refl) a;
-  changed = λ world off c file_id number patch one v good source found may a.
-      replied_at world off (changed_in off c one.file file_id number patch) c
-      (FileRequest.Write file_id number patch) (Reply.WriteDone file_id number) v.ground source refl refl refl refl refl
-      (λ f. refl) a;
-  closed = λ world off c file_id one v good source found a.
-      replied_at world off (told_to (without_opens off (λ other. other.file_id == file_id)) c (Reply.Closed file_id)) c
-      (FileRequest.Close file_id) (Reply.Closed file_id) v.ground source refl refl refl refl refl
-      (λ f. refl) a;
-  ack_failed = λ world c given status v good oldest why a. told_at world (told_to (popped world c) c (Reply.AckFailed status)) c
-      (Reply.AckFailed status) refl refl (ack_off world c given oldest) refl refl (λ f. refl) a;
-  ack_done = λ world c given lowered v good oldest there breaks within a. told_at world
-      (leased_in (popped world c) (key_of c given.key) (record { state = granted_form_of given.state; broken_to = None })
-      (done_reply given)) c (done_reply given) refl refl (ack_off world c (Some given) oldest) refl refl (λ f. refl) a;
-  hold = λ world file one v good oldest may turn a. hold_at world file one oldest turn a;
-  dropped = λ world c test v good away a. same_counts world (without_opens world test) c refl refl (λ file. refl) a;
-  lower = λ world key lowered v good may light a. told_at world
-      (leased_in world key (record { state = lowered; broken_to = None })
-      (break_notice key (world.server.leases key).state lowered)) key.client
-      (break_notice key (world.server.leases key).state lowered) refl refl (λ f. refl) refl refl
-      (λ f. refl) a;
-  begin = λ world key lowered v good may heavy a. told_at world
-      (leased_in world key (record { state = (world.server.leases key).state; broken_to = Some lowered })
-      (break_notice key (world.server.leases key).state lowered)) key.client
-      (break_notice key (world.server.leases key).state lowered) refl refl (λ f. refl) refl refl
-      (λ f. refl) a;
-  cut = λ world c v good up a on file. absurd (true≢false (sym on ∙ ap is_up (put_same world.links c Link.Cut)));
-  timer = λ world c file v good on breaks a. same_counts world (timed_out world c file) c refl refl (λ f. refl) a;
-  connect = λ world c v good down a. connect_at world c v.ground down;
-  command = λ world c command v good a. command_at world c (commanded (world.clients c) command)
-      (any_command (world.clients c) (IsCountedStep (world.clients c) none_answered)
-      (commands_count (world.clients c)) command) a;
-  take = λ world c reply queue v good first a. take_at world c reply queue v.ground first
-      (reply_later c world.past (Fact.Took c ∷ world.past) (later_fact world.past (Fact.Took c)) reply
-      (subst (Each (IsNamedReply c world.past)) first ((v.named c good).replies)).0) a;
-  notice = λ world c v good cut a on file. absurd (true≢false (sym on
-      ∙ ap (λ (l : ℕ → Link). is_up (l c)) (stepped_links (record world { links = put world.links c Link.Down }) c
-      (noticed (world.clients c))) ∙ ap is_up (put_same world.links c Link.Down)));
-}

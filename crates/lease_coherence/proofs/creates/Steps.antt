@@ -1,20 +1,18 @@
 -- What a client's step adds to the creates under way, and what it takes.
 use Rattle.lease_laws.proofs.Words.{◌++◌, ◌+◌, ◌==◌, ◌∙◌, ◌∷◌, ◌≡◌, ◌≢◌, ◌≤◌, Answer, Asked, BreakNotice, Client, Entry, Fact}
-use Rattle.lease_laws.proofs.Words.{FileRequest, List, LiveEntry, None, Option, Pending, Phase, Reply, Request, Some, State, Step}
-use Rattle.lease_laws.proofs.Words.{Turn, ℕ, [], acknowledgment, ap, ap₂, arith}
-use Rattle.lease_laws.proofs.Words.{eq-eqb, eqb-true, false, flushed, if◌then◌else◌, is_asking, is_some, meet}
-use Rattle.lease_laws.proofs.Words.{next_write, phase_with, put}
-use Rattle.lease_laws.proofs.Words.{refl, sent_without, subst, sym, true, turned, without_open}
-use Rattle.lease_laws.proofs.Words.{write_requests, wrote_step}
-use Rattle.lease_laws.proofs.client.Thin.{put_same, put_other}
-use Rattle.lease_laws.proofs.server.Lists.{if_cases, either, and_parts}
-use Rattle.lease_laws.proofs.world.Links.{by_client}
-use Rattle.lease_coherence.specs.Creates.{answer_of, asked_by, creates, one_if, has_asked}
-use Rattle.lease_coherence.specs.Names.{IsNamedReply}
+use Rattle.lease_laws.proofs.Words.{FileRequest, List, LiveEntry, None, Option, Pending, Phase, Reply, Request, Some, State}
+use Rattle.lease_laws.proofs.Words.{Step, Turn, ℕ, [], acknowledgment, ap, ap₂, arith, eq-eqb, eqb-true, false, flushed}
+use Rattle.lease_laws.proofs.Words.{if◌then◌else◌, is_asking, is_some, meet, next_write, phase_with, put, refl, sent_without}
+use Rattle.lease_laws.proofs.Words.{subst, sym, true, turned, without_open, write_requests, wrote_step}
+use Rattle.lease_laws.proofs.client.Thin.{put_other, put_same}
 use Rattle.lease_laws.proofs.client.cases.Commands.{HasCommands, sent_of}
 use Rattle.lease_laws.proofs.client.cases.Replies.{HasTakes, PassesOver}
-use Rattle.lease_coherence.proofs.creates.Counts.{creates_append, writes_create, none_asked}
 use Rattle.lease_laws.proofs.client.cases.Turns.{by_turn}
+use Rattle.lease_laws.proofs.server.Lists.{and_parts, either, if_cases}
+use Rattle.lease_laws.proofs.world.Links.{by_client}
+use Rattle.lease_coherence.specs.Creates.{answer_of, asked_by, creates, has_asked, one_if}
+use Rattle.lease_coherence.specs.Names.{IsNamedReply}
+use Rattle.lease_coherence.proofs.creates.Counts.{creates_append, none_asked, writes_create}
 
 -- a step of the client: so many creates were answered to it
 abbrev pub IsCountedStep : Client → (ℕ → ℕ) → Step → Type 0

@@ -1,51 +1,50 @@
 -- Every move keeps a client's bytes fresh, of each file whose timer didn't run out, while its link is up.
 use Rattle.lease_laws.proofs.Words.{◌++◌, ◌+◌, ◌==◌, ◌∙◌, ◌∷◌, ◌≡◌, ◌≤◌, Among, Bool, Client, Command, Fact, FileRequest}
-use Rattle.lease_laws.proofs.Words.{IsSoundPhase, Lease, Link, List, LiveEntry, None, Note, Open, Pending, Phase, Reply, Request}
-use Rattle.lease_laws.proofs.Words.{Server, Some, State, Status, Step, World, ℕ, [], ap, ap₂, arith, belief_in}
+use Rattle.lease_laws.proofs.Words.{IsSoundPhase, Lease, Link, List, LiveEntry, None, Note, Open, Pending, Phase, Reply}
+use Rattle.lease_laws.proofs.Words.{Request, Server, Some, State, Status, Step, World, ℕ, [], ap, ap₂, arith, belief_in}
 use Rattle.lease_laws.proofs.Words.{commanded, connect_turn, connection_made, content_of, drop, eq-eqb, fact_of, false, has_key}
-use Rattle.lease_laws.proofs.Words.{has_strayed, if◌then◌else◌, inl, is_breaking, is_down, is_up, key_of}
-use Rattle.lease_laws.proofs.Words.{last_of, last_sending, lease_key, length, list_any, machine_key, not, noticed, numbers_to}
-use Rattle.lease_laws.proofs.Words.{put, refl, refusal_of, sendings, slice_get, stepped_in, subst, suc, sym, taken}
-use Rattle.lease_laws.proofs.Words.{takings, true, true≢false, without, zero}
+use Rattle.lease_laws.proofs.Words.{has_strayed, if◌then◌else◌, inl, is_breaking, is_down, is_up, key_of, last_of, last_sending}
+use Rattle.lease_laws.proofs.Words.{lease_key, length, list_any, machine_key, not, numbers_to, refl, refusal_of, sendings}
+use Rattle.lease_laws.proofs.Words.{slice_get, stepped_in, subst, suc, sym, taken, takings, true, true≢false, without, zero}
 use Rattle.lease_laws.proofs.client.Forms.{commanded-stays, taken-stays}
 use Rattle.lease_laws.proofs.client.Thin.{put_same}
+use Rattle.lease_laws.proofs.client.cases.Commands.{any_command}
+use Rattle.lease_laws.proofs.client.cases.Replies.{any_reply, is_live}
 use Rattle.lease_laws.proofs.server.Keys.{put_key-cases}
-use Rattle.lease_laws.proofs.server.Lists.{either, clash, among_filter}
-use Rattle.lease_laws.proofs.world.Links.{stepped_links}
+use Rattle.lease_laws.proofs.server.Lists.{among_filter, clash, either}
 use Rattle.lease_coherence.specs.Creates.{answers}
 use Rattle.lease_coherence.specs.Names.{Each, IsOwnOpen}
 use Rattle.lease_coherence.specs.Standing.{IsStandingAt}
-use Rattle.lease_coherence.proofs.beliefs.Forms.{IsAboutFile}
 use Rattle.lease_coherence.proofs.beliefs.Closed.{lease_stays, left_there}
-use Rattle.lease_coherence.proofs.beliefs.Sent.{off_fresh, off_trust, refusal_bare}
-use Rattle.lease_coherence.proofs.beliefs.Trust.{file_key, HasTrust}
-use Rattle.lease_coherence.proofs.beliefs.OneLease.{acks, is_ack_break, OnGiven, GivesNothing, BreaksAreMet}
-use Rattle.lease_laws.proofs.client.cases.Commands.{any_command}
-use Rattle.lease_laws.proofs.client.cases.Replies.{any_reply, is_live}
-use Rattle.lease_coherence.proofs.fresh.Clients.{WasSoLive, KeepsLive, commands_keep, all_about, IsDueTo, TakesFresh}
-use Rattle.lease_coherence.proofs.fresh.Contents.{noted_content}
-use Rattle.lease_coherence.proofs.fresh.Sent.{IsFreshIn, IsUpFresh, left_reads, HasMore, seen_more, base_more, unmoved_fresh}
-use Rattle.lease_coherence.proofs.fresh.Sent.{sent_fresh, still_sends, gone_reads}
+use Rattle.lease_coherence.proofs.beliefs.Forms.{IsAboutFile}
+use Rattle.lease_coherence.proofs.beliefs.OneLease.{BreaksAreMet, GivesNothing, OnGiven, acks, is_ack_break}
+use Rattle.lease_coherence.proofs.beliefs.Sent.{off_fresh, off_trust}
+use Rattle.lease_coherence.proofs.beliefs.Trust.{HasTrust, file_key}
+use Rattle.lease_coherence.proofs.fresh.Clients.{IsDueTo, KeepsLive, TakesFresh, WasSoLive, all_about, commands_keep}
+use Rattle.lease_coherence.proofs.fresh.Contents.{HasContents, noted_content}
+use Rattle.lease_coherence.proofs.fresh.FreshBytes.{AckReads, Follows, IsFreshFor, IsRelayed, TellsBytes, acks_fewer}
+use Rattle.lease_coherence.proofs.fresh.FreshBytes.{after_fewer, places_of, reads_after, reads_by, reads_last, relayed_fewer}
+use Rattle.lease_coherence.proofs.fresh.FreshBytes.{relayed_later}
+use Rattle.lease_coherence.proofs.fresh.Moves.{acked_fresh, broken_fresh, changed_fresh, granted_fresh, granted_was, low_of}
+use Rattle.lease_coherence.proofs.fresh.Moves.{off_fresh_in, off_low, own_of, plain_told, popped_fresh, read_fresh}
+use Rattle.lease_coherence.proofs.fresh.Moves.{reconnected_fresh, refusal_still, told_fresh}
+use Rattle.lease_coherence.proofs.fresh.Sent.{HasFresh, HasMore, IsFreshIn, base_more, gone_reads, left_reads, seen_more}
+use Rattle.lease_coherence.proofs.fresh.Sent.{sent_fresh, still_sends, unmoved_fresh}
 use Rattle.lease_coherence.proofs.fresh.Takes.{takes_fresh}
-use Rattle.lease_coherence.proofs.fresh.FreshBytes.{reads_by, reads_after, reads_last, after_fewer, AckReads, acks_fewer, Follows}
-use Rattle.lease_coherence.proofs.fresh.FreshBytes.{TellsBytes, IsRelayed, relayed_later, relayed_fewer, places_of, IsFreshFor}
-use Rattle.lease_coherence.proofs.moves.Deeds.{told_to, without_opens}
-use Rattle.lease_coherence.proofs.moves.Events.{Ground, timed_out, come_back, connected, reply_gone, reply_taken}
+use Rattle.lease_coherence.proofs.layers.Layers.{HasLayers, HasRecord}
+use Rattle.lease_coherence.proofs.moves.Deeds.{IsSource, told_to, without_opens}
+use Rattle.lease_coherence.proofs.moves.Events.{Ground, come_back, connected, reply_gone, reply_taken, timed_out}
 use Rattle.lease_coherence.proofs.moves.Frames.{stepped_past, stepped_replies}
 use Rattle.lease_coherence.proofs.moves.Moves.{popped}
-use Rattle.lease_coherence.proofs.moves.Own.{IsOwnMoved}
+use Rattle.lease_coherence.proofs.moves.Own.{IsKnownOf, IsOwnMoved, IsToldOf, IsUp, told_bare}
 use Rattle.lease_coherence.proofs.moves.Spared.{ends_as}
-use Rattle.lease_coherence.proofs.names.Names.{off_named}
 use Rattle.lease_coherence.proofs.names.NamedInRecord.{each_append, each_weaker}
-use Rattle.lease_coherence.proofs.records.Later.{later_then, later_fact, later_noted, past_noted}
-use Rattle.lease_coherence.proofs.standing.OpensStayStanding.{link_of, was_up, each_flat, standing_moves}
+use Rattle.lease_coherence.proofs.names.Names.{off_named}
+use Rattle.lease_coherence.proofs.records.Later.{later_fact, later_noted, later_then, past_noted}
+use Rattle.lease_coherence.proofs.standing.OpensStayStanding.{each_flat, standing_moves}
 use Rattle.lease_coherence.proofs.standing.Standing.{step_of}
+use Rattle.lease_coherence.proofs.writes.Answered.{ground_of, known_by, names_of}
 use Rattle.lease_coherence.proofs.writes.Counts.{settling}
-use Rattle.lease_coherence.proofs.writes.Answered.{ground_of, names_of, known_by}
-use Rattle.lease_coherence.proofs.fresh.Moves.{own_of, low_of, popped_fresh, off_fresh_in, off_low, plain_told, told_fresh}
-use Rattle.lease_coherence.proofs.fresh.Moves.{refusal_still, read_fresh, changed_fresh, granted_was, granted_fresh}
-use Rattle.lease_coherence.proofs.fresh.Moves.{reconnected_fresh, acked_fresh, broken_fresh}
-use Rattle.lease_coherence.proofs.records.Known.{HasRecord}
 
 -- ---- opens that close
 
@@ -345,7 +344,7 @@ joined_places d past = by_same (d == d) (eq-eqb d d refl)
     by_same true e = refl
     by_same false e = absurd (true≢false (sym e))
 
-connect_fresh : (world : World) (c : ℕ) → Ground world → world.links c ≡ Link.Down → (file : ℕ)
+pub connect_fresh : (world : World) (c : ℕ) → Ground world → world.links c ≡ Link.Down → (file : ℕ)
     → IsFreshIn (connected world c) c file
 connect_fresh world c g down file =
     let machine = world.clients c in
@@ -400,104 +399,95 @@ quiet_behind : (world : World) (c file : ℕ) (reply : Reply) (queue : List Repl
 quiet_behind world c file reply queue first t fresh live asks =
     let b = subst (BreaksAreMet (file_key world c file) file
     (is_breaking (world.server.leases (machine_key world c file))) (acks (file_key world c file) (world.requests c))
-    (is_live ((world.clients c).entries file).phase)) first (t.files file fresh).believed.breaks in
+    (is_live ((world.clients c).entries file).phase)) first (t.files file fresh).explained.believed.breaks in
     ((b.0) live asks).no_grant
 
 due_of : (world : World) (c : ℕ) (reply : Reply) (queue : List Reply) → HasRecord world
     → has_strayed c world.past ≡ false → is_up (world.links c) ≡ true → world.replies c ≡ reply ∷ queue
     → IsDueTo c (world.clients c) world.past reply
 due_of world c reply queue v good up first = record {
-  asked = λ file. omega (arith, v.leases.structure.creates c good up file, ap (λ (q : List Reply). answers file q) first);
+  asked = λ file. omega (arith, v.layers.creates c good up file, ap (λ (q : List Reply). answers file q) first);
   sent = λ file number known own.
       omega (arith, (v.once c good up).counts file number known own, ap (λ (q : List Reply). settling number q) first);
 }
 
-pub fresh_moves : IsOwnMoved HasRecord IsUpFresh
+-- a request that is answered, where nothing else changes
+answer_fresh : (world off : World) (c : ℕ) (request : FileRequest) (reply : Reply) → IsSource world off c request
+    → IsToldOf off c request reply → Ground world → HasContents world → (file : ℕ)
+    → takings c off.past ≤ length (sendings c off.past) → IsFreshIn off c file → IsFreshIn (told_to off c reply) c file
+answer_fresh world off c request reply source (IsToldOf.Refused asked status may) g h file low f = told_fresh off c
+    (refusal_of asked status) file (told_bare off c asked _ (IsToldOf.Refused asked status may)) (refusal_still asked status) low f
+answer_fresh world off c request reply source (IsToldOf.Full of_file access share ask) g h file low f =
+    told_fresh off c (Reply.CreateFailed of_file Status.InsufficientResources) file tt tt low f
+answer_fresh world off c request reply source (IsToldOf.Read file_id one found may) g h file low f =
+    read_fresh world off c file_id one source g h found file low f
+
+layers_of : {world : World} {c : ℕ} → IsKnownOf HasRecord IsUp world c → IsKnownOf HasLayers IsUp world c
+layers_of k = record { all = k.all.layers; good = k.good; when = k.when }
+
+pub fresh_moves : IsOwnMoved HasRecord IsUp HasFresh
 fresh_moves = record {
-  unmoved = λ world new c v good u a up file fresh.
-      unmoved_fresh world new c u (ground_of world v).fine.sound (own_of world v c good) file
-      (a (ap is_up (sym u.link) ∙ up) file (sym (u.expired (machine_key world c file) refl)
+  unmoved = λ world new c k u a file fresh.
+      unmoved_fresh world new c u (ground_of world k.all).fine.sound (own_of world k.all c k.good) file
+      (a file (sym (u.expired (machine_key world c file) refl)
       ∙ ap (λ (m : Client). new.server.expired (key_of c (lease_key m.guid file))) (sym u.machine) ∙ fresh));
-  refused = λ world off c request status v good source may a up file fresh.
-      let was = link_of world off c request source up in
-      told_fresh off c (refusal_of request status) file (refusal_bare request status) (refusal_still request status)
-      (off_low world off c request source (low_of world (ground_of world v) c was))
-      (off_fresh_in world off c file request source (a was file (off_fresh world off c file request source fresh)));
-  full = λ world off c file access share ask v good source a up at fresh.
-      let was = link_of world off c _ source up in
-      told_fresh off c (Reply.CreateFailed file Status.InsufficientResources) at tt tt
-      (off_low world off c _ source (low_of world (ground_of world v) c was))
-      (off_fresh_in world off c at _ source (a was at (off_fresh world off c at _ source fresh)));
-  granted = λ world off c file access share ask v good source none on free a up at fresh.
+  told = λ world off c request reply k source is a file fresh. answer_fresh world off c request reply source is
+      (ground_of world k.all) k.all.contents file (off_low world off c request source (low_of world (ground_of world k.all) c k.when))
+      (off_fresh_in world off c file request source (a file (off_fresh world off c file request source fresh)));
+  granted = λ world off c file access share ask k source none on free a at fresh.
       let request = FileRequest.Create file access share (Some ask) in
-      let was = link_of world off c request source up in
-      let own = (off_named world off c request c source (names_of world v c good)).1 refl in
+      let own = (off_named world off c request c source (names_of world k.all c k.good)).1 refl in
       let before : off.server.expired (machine_key off c at) ≡ false = granted_was off c file access share ask at fresh in
       granted_fresh off c file access share ask own.lease own.asks own.key
-      (off_trust world off c request source (v.leases.beliefs c good was)) at before
-      (off_low world off c request source (low_of world (ground_of world v) c was))
-      (off_fresh_in world off c at request source (a was at (off_fresh world off c at request source before)));
-  reconnected = λ world off c file access share ask file_id v good source again on waits a up at fresh.
+      (off_trust world off c request source (k.all.layers.beliefs c k.good k.when)) at before
+      (off_low world off c request source (low_of world (ground_of world k.all) c k.when))
+      (off_fresh_in world off c at request source (a at (off_fresh world off c at request source before)));
+  reconnected = λ world off c file access share ask file_id k source again on waits a at fresh.
       let request = FileRequest.Create file access share (Some ask) in
-      let was = link_of world off c request source up in
-      let own = (off_named world off c request c source (names_of world v c good)).1 refl in
+      let own = (off_named world off c request c source (names_of world k.all c k.good)).1 refl in
       reconnected_fresh off c file ask file_id own.lease own.asks own.key
-      (off_trust world off c request source (v.leases.beliefs c good was)) at fresh
-      (off_low world off c request source (low_of world (ground_of world v) c was))
-      (off_fresh_in world off c at request source (a was at (off_fresh world off c at request source fresh)));
-  read = λ world off c file_id one v good source found may a up file fresh.
-      let was = link_of world off c _ source up in
-      read_fresh world off c file_id one source (ground_of world v) v.contents found file
-      (off_low world off c _ source (low_of world (ground_of world v) c was))
-      (off_fresh_in world off c file _ source (a was file (off_fresh world off c file _ source fresh)));
-  changed = λ world off c file_id number patch one v good source found may a up file fresh.
-      let was = link_of world off c _ source up in
-      changed_fresh world off c file_id number patch one source (ground_of world v) (names_of world v c good)
-      found file (off_low world off c _ source (low_of world (ground_of world v) c was))
-      (off_fresh_in world off c file _ source (a was file (off_fresh world off c file _ source fresh)));
-  closed = λ world off c file_id one v good source found a up file fresh.
-      let was = link_of world off c _ source up in
+      (off_trust world off c request source (k.all.layers.beliefs c k.good k.when)) at fresh
+      (off_low world off c request source (low_of world (ground_of world k.all) c k.when))
+      (off_fresh_in world off c at request source (a at (off_fresh world off c at request source fresh)));
+  changed = λ world off c file_id number patch one k source found may a file fresh.
+      changed_fresh world off c file_id number patch one source (ground_of world k.all) (names_of world k.all c k.good)
+      found file (off_low world off c _ source (low_of world (ground_of world k.all) c k.when))
+      (off_fresh_in world off c file _ source (a file (off_fresh world off c file _ source fresh)));
+  closed = λ world off c file_id one k source found a file fresh.
       closed_fresh off c file_id file
-      (standing_moves.closed world off c file_id one v.leases.structure good source found (v.leases.structure.opens c good) up)
-      (λ x there by. (off_named world off c (FileRequest.Close file_id) c source (names_of world v c good)).0.opens x
+      (standing_moves.closed world off c file_id one (layers_of k) source found (k.all.layers.opens c k.good k.when))
+      (λ x there by. (off_named world off c (FileRequest.Close file_id) c source (names_of world k.all c k.good)).0.opens x
       (left_there off (λ other. other.file_id == file_id) x there) by)
-      fresh (off_low world off c _ source (low_of world (ground_of world v) c was))
-      (off_fresh_in world off c file _ source (a was file (off_fresh world off c file _ source fresh)));
-  ack_failed = λ world c given status v good oldest why a up file fresh.
-      told_fresh (popped world c) c (Reply.AckFailed status) file tt tt (low_of world (ground_of world v) c up)
-      (popped_fresh world c file (a up file fresh));
-  ack_done = λ world c given lowered v good oldest there breaks within a up file fresh.
-      acked_fresh world c given oldest file (low_of world (ground_of world v) c up) (a up file fresh);
-  hold = λ world at one v good oldest may turn a up file fresh. popped_fresh world one.client file (a up file fresh);
-  dropped = λ world c test v good away a up file fresh. dropped_fresh world c test file
-      (standing_moves.dropped world c test v.leases.structure good away (v.leases.structure.opens c good) up)
-      (λ x there by. own_of world v c good x (left_there world test x there) by) fresh (a up file fresh);
-  lower = λ world key lowered v good may light a up file fresh.
+      fresh (off_low world off c _ source (low_of world (ground_of world k.all) c k.when))
+      (off_fresh_in world off c file _ source (a file (off_fresh world off c file _ source fresh)));
+  ack_failed = λ world c given status k oldest why a file fresh.
+      told_fresh (popped world c) c (Reply.AckFailed status) file tt tt (low_of world (ground_of world k.all) c k.when)
+      (popped_fresh world c file (a file fresh));
+  ack_done = λ world c given lowered k oldest there breaks within a file fresh.
+      acked_fresh world c given oldest file (low_of world (ground_of world k.all) c k.when) (a file fresh);
+  hold = λ world at one k oldest may turn a file fresh. popped_fresh world one.client file (a file fresh);
+  dropped = λ world c test k away a file fresh. dropped_fresh world c test file
+      (standing_moves.dropped world c test (layers_of k) away (k.all.layers.opens c k.good k.when))
+      (λ x there by. own_of world k.all c k.good x (left_there world test x there) by) fresh (a file fresh);
+  lower = λ world key lowered k may light a file fresh.
       broken_fresh world key (record { state = lowered; broken_to = None }) lowered file refl
-      (low_of world (ground_of world v) key.client up) (a up file fresh);
-  begin = λ world key lowered v good may heavy a up file fresh.
+      (low_of world (ground_of world k.all) key.client k.when) (a file fresh);
+  begin = λ world key lowered k may heavy a file fresh.
       broken_fresh world key (record { state = (world.server.leases key).state; broken_to = Some lowered }) lowered file
-      refl (low_of world (ground_of world v) key.client up) (a up file fresh);
-  cut = λ world c v good up a on. absurd (true≢false (sym on ∙ ap is_up (put_same world.links c Link.Cut)));
-  timer = λ world c at v good on breaks a up file fresh. timer_fresh world c at file
-      (standing_moves.timer world c at v.leases.structure good on breaks (v.leases.structure.opens c good) up)
-      (own_of world v c good) fresh (a up file (timer_was world c at file fresh));
-  connect = λ world c v good down a up file fresh. connect_fresh world c (ground_of world v) down file;
-  command = λ world c command v good a up file fresh.
-      let was = was_up world c (commanded (world.clients c) command) up in
-      command_fresh world c command was file (a was file
-      (stepped_was world c (commanded (world.clients c) command) was (commanded-stays (world.clients c) command).guid file
+      refl (low_of world (ground_of world k.all) key.client k.when) (a file fresh);
+  timer = λ world c at k on breaks a file fresh. timer_fresh world c at file
+      (standing_moves.timer world c at (layers_of k) on breaks (k.all.layers.opens c k.good k.when))
+      (own_of world k.all c k.good) fresh (a file (timer_was world c at file fresh));
+  command = λ world c command k a file fresh.
+      command_fresh world c command k.when file (a file
+      (stepped_was world c (commanded (world.clients c) command) k.when (commanded-stays (world.clients c) command).guid file
       fresh));
-  take = λ world c reply queue v good first a up file fresh.
+  take = λ world c reply queue k first a file fresh.
       let gone = reply_gone world c queue in
       let machine = world.clients c in
-      let was : is_up (world.links c) ≡ true = was_up gone c (taken machine reply) up in
-      let before = stepped_was gone c (taken machine reply) was (taken-stays machine reply).guid file fresh in
-      take_fresh world c reply queue was first file (any_reply machine (TakesFresh c machine world.past)
-      (takes_fresh c machine world.past ((ground_of world v).clients c) (known_by world v c good)) reply)
-      (due_of world c reply queue v good was first)
-      (quiet_behind world c file reply queue first (v.leases.beliefs c good was) before) (a was file before);
-  notice = λ world c v good cut a on. absurd (true≢false (sym on
-      ∙ ap (λ (l : ℕ → Link). is_up (l c)) (stepped_links (record world { links = put world.links c Link.Down }) c
-      (noticed (world.clients c))) ∙ ap is_up (put_same world.links c Link.Down)));
+      let before = stepped_was gone c (taken machine reply) k.when (taken-stays machine reply).guid file fresh in
+      take_fresh world c reply queue k.when first file (any_reply machine (TakesFresh c machine world.past)
+      (takes_fresh c machine world.past ((ground_of world k.all).clients c) (known_by world k.all c k.good)) reply)
+      (due_of world c reply queue k.all k.good k.when first)
+      (quiet_behind world c file reply queue first (k.all.layers.beliefs c k.good k.when) before) (a file before);
 }

@@ -1,28 +1,26 @@
 -- What a client does keeps its bytes fresh.
 use Rattle.lease_laws.proofs.Words.{◌+◌, ◌==◌, ◌∙◌, ◌∷◌, ◌≡◌, ◌≢◌, ◌≤◌, Answer, Bool, BreakNotice, Client, CreateAnswer, Entry}
 use Rattle.lease_laws.proofs.Words.{Fact, FileRequest, IsSoundClient, IsSoundLive, IsSoundPhase, List, LiveEntry, None, Option}
-use Rattle.lease_laws.proofs.Words.{Patch, Pending, Phase, Reply, Request, Some, State, Step, Turn, ℕ, ⊎_elim, [], ap, arith}
-use Rattle.lease_laws.proofs.Words.{belief_in, bytes_eq, bytes_eq-Decides, content_of, create_request, eq-eqb}
-use Rattle.lease_laws.proofs.Words.{eqb-true, false, has_sent, has_written, inl, is_key_of, is_numbered}
-use Rattle.lease_laws.proofs.Words.{knows_file, lease_key, list_any, next_write, put, refl, subst, sym, true}
-use Rattle.lease_laws.proofs.Words.{true≢false, turned, wrote_step}
-use Rattle.lease_laws.proofs.client.Thin.{put_same, put_other}
-use Rattle.lease_laws.proofs.server.Lists.{either, clash, not_true, not_false, or_true}
+use Rattle.lease_laws.proofs.Words.{Patch, Pending, Phase, Reply, Request, Some, State, Step, Turn, ℕ, [], ⊎_elim, ap, arith}
+use Rattle.lease_laws.proofs.Words.{belief_in, bytes_eq, bytes_eq-Decides, content_of, create_request, eq-eqb, eqb-true, false}
+use Rattle.lease_laws.proofs.Words.{has_sent, has_written, inl, is_key_of, is_numbered, knows_file, lease_key, list_any}
+use Rattle.lease_laws.proofs.Words.{next_write, put, refl, subst, sym, true, true≢false, turned, wrote_step}
+use Rattle.lease_laws.proofs.client.Thin.{put_other, put_same}
+use Rattle.lease_laws.proofs.client.cases.Commands.{HasCommands}
+use Rattle.lease_laws.proofs.client.cases.Files.{found_so, never_found}
+use Rattle.lease_laws.proofs.client.cases.Replies.{PassesOver, is_live}
+use Rattle.lease_laws.proofs.client.cases.Turns.{by_turn, step_of}
+use Rattle.lease_laws.proofs.server.Lists.{clash, either, not_false, not_true, or_true}
 use Rattle.lease_laws.proofs.world.Links.{by_client}
 use Rattle.lease_coherence.specs.Creates.{answer_of, asked_by, one_if}
 use Rattle.lease_coherence.specs.Names.{Each, WasWritten}
-use Rattle.lease_coherence.proofs.beliefs.Forms.{IsAboutFile, writes_about, writes_close_about, keys_apart}
-use Rattle.lease_coherence.proofs.beliefs.OneLease.{OnGiven, GivesNothing, is_ack_break}
-use Rattle.lease_laws.proofs.client.cases.Commands.{HasCommands}
-use Rattle.lease_laws.proofs.client.cases.Files.{never_found}
-use Rattle.lease_laws.proofs.client.cases.Replies.{PassesOver, is_live}
-use Rattle.lease_laws.proofs.client.cases.Files.{found_so}
-use Rattle.lease_coherence.proofs.fresh.FreshBytes.{reads_by, reads_after, AckReads, IsPatched, Follows, TellsBytes}
-use Rattle.lease_coherence.proofs.names.NamedInRecord.{each_weaker}
-use Rattle.lease_coherence.proofs.writes.Counts.{settles_of, numbered_in, none_numbered}
-use Rattle.lease_coherence.proofs.writes.Steps.{IsKnownBy, IsOwnNumber}
+use Rattle.lease_coherence.proofs.beliefs.Forms.{IsAboutFile, keys_apart, writes_about, writes_close_about}
+use Rattle.lease_coherence.proofs.beliefs.OneLease.{GivesNothing, OnGiven, is_ack_break}
 use Rattle.lease_coherence.proofs.creates.Counts.{none_asked}
-use Rattle.lease_laws.proofs.client.cases.Turns.{step_of, by_turn}
+use Rattle.lease_coherence.proofs.fresh.FreshBytes.{AckReads, Follows, IsPatched, TellsBytes, reads_after, reads_by}
+use Rattle.lease_coherence.proofs.names.NamedInRecord.{each_weaker}
+use Rattle.lease_coherence.proofs.writes.Counts.{none_numbered, numbered_in, settles_of}
+use Rattle.lease_coherence.proofs.writes.Steps.{IsKnownBy, IsOwnNumber}
 
 -- ---- entries that stay live as they were
 

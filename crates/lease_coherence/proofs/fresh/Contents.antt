@@ -1,15 +1,14 @@
 -- At every point of a run the contents of the server are those of the record.
 use Rattle.lease_laws.proofs.Words.{◌==◌, ◌∙◌, ◌∷◌, ◌≡◌, Fact, FileRequest, Link, List, Note, Patch, Server, Step, World, ℕ, []}
-use Rattle.lease_laws.proofs.Words.{ap, arith, content_of, eq-eqb, eqb-true, fact_of, if◌then◌else◌}
-use Rattle.lease_laws.proofs.Words.{lease_after, put, refl}
-use Rattle.lease_laws.proofs.Words.{commanded, connection_made, noticed, stepped_in, subst, sym, taken}
+use Rattle.lease_laws.proofs.Words.{ap, arith, commanded, connection_made, content_of, eq-eqb, eqb-true, fact_of, if◌then◌else◌}
+use Rattle.lease_laws.proofs.Words.{lease_after, noticed, put, refl, stepped_in, subst, sym, taken}
 use Rattle.lease_state.specs.Content.{patch as patched}
-use Rattle.lease_laws.proofs.client.Thin.{put_same, put_other}
-use Rattle.lease_laws.proofs.server.Lists.{either, clash}
+use Rattle.lease_laws.proofs.client.Thin.{put_other, put_same}
+use Rattle.lease_laws.proofs.server.Lists.{clash, either}
 use Rattle.lease_laws.proofs.world.Runs.{stepped_server}
 use Rattle.lease_laws.proofs.world.cases.Events.{IsTold}
 use Rattle.lease_coherence.proofs.moves.Deeds.{HasDeeds, IsSource, step_deed}
-use Rattle.lease_coherence.proofs.moves.Events.{Ground, IsMoved, reply_gone, come_back, Move}
+use Rattle.lease_coherence.proofs.moves.Events.{Ground, IsMoved, Move, come_back, reply_gone}
 use Rattle.lease_coherence.proofs.moves.Frames.{from_source, lease_put_rest, stepped_past}
 use Rattle.lease_coherence.proofs.records.Later.{past_noted}
 

@@ -1,15 +1,15 @@
 -- What a client has of a file's bytes, against the replies on their way to it: in words of one file, its entry, and the
 -- places where the replies were sent.
 use Rattle.lease_laws.proofs.Words.{◌&&◌, ◌++◌, ◌+◌, ◌==◌, ◌∙◌, ◌∷◌, ◌≡◌, ◌≢◌, ◌⊎◌, Bool, Fact, Lease, LeaseGiven, List}
-use Rattle.lease_laws.proofs.Words.{LiveEntry, None, Option, Patch, Phase, Reply, Request, Some, ℕ, ⊎_elim, ⊤, [], ap, arith}
+use Rattle.lease_laws.proofs.Words.{LiveEntry, None, Option, Patch, Phase, Reply, Request, Some, ℕ, [], ⊎_elim, ⊤, ap, arith}
 use Rattle.lease_laws.proofs.Words.{belief_in, bytes_eq, content_of, drop, eqb-true, false, given_state, has_written}
 use Rattle.lease_laws.proofs.Words.{if◌then◌else◌, inl, inr, last_sending, not, nothing_cached, refl, sendings, sym, takings}
 use Rattle.lease_laws.proofs.Words.{true, true≢false, was_opened}
 use Rattle.lease_state.specs.Content.{patch as patched}
-use Rattle.lease_laws.proofs.server.Lists.{if_cases, clash, and_parts, and_both}
+use Rattle.lease_laws.proofs.server.Lists.{and_both, and_parts, clash, if_cases}
 use Rattle.lease_coherence.specs.Creates.{one_if}
 use Rattle.lease_coherence.specs.Names.{Each}
-use Rattle.lease_coherence.proofs.beliefs.OneLease.{OnGiven, GivesNothing, acks, ack_of, is_created}
+use Rattle.lease_coherence.proofs.beliefs.OneLease.{GivesNothing, OnGiven, ack_of, acks, is_created}
 use Rattle.lease_coherence.proofs.moves.Spared.{ends_as}
 use Rattle.lease_coherence.proofs.records.Later.{IsLater}
 

@@ -1,37 +1,37 @@
 -- What the server does for a client leaves what it holds of a file's bytes fresh.
-use Rattle.lease_laws.proofs.Words.{◌&&◌, ◌++◌, ◌+◌, ◌==◌, ◌∙◌, ◌∷◌, ◌≡◌, ◌≤◌, Access, Among, Bool, CreateAsk, Fact, FileRequest}
-use Rattle.lease_laws.proofs.Words.{Key, Lease, LeaseOf, List, None, Open, Option, Patch, Reply, Request, Share, Some, State}
-use Rattle.lease_laws.proofs.Words.{Status, World, ℕ, [], ap, arith, break_notice, bytes_eq, bytes_eq-Decides, connected_open}
-use Rattle.lease_laws.proofs.Words.{content_of, eq-eqb, eqb-true, false, granted_form_of, has_strayed, has_written, if◌then◌else◌}
-use Rattle.lease_laws.proofs.Words.{inl, inr, is_breaking, is_some, is_up, key_eq, key_of, lease_after, lease_granted, lease_key}
-use Rattle.lease_laws.proofs.Words.{length, machine_key, nothing_cached, refl, refusal_of, sendings, subst, sym, takings, true}
-use Rattle.lease_laws.proofs.Words.{true≢false, was_opened}
+use Rattle.lease_laws.proofs.Words.{◌&&◌, ◌++◌, ◌+◌, ◌==◌, ◌∙◌, ◌∷◌, ◌≡◌, ◌≤◌, Access, Among, Bool, CreateAsk, Fact}
+use Rattle.lease_laws.proofs.Words.{FileRequest, Key, Lease, LeaseOf, List, None, Open, Option, Patch, Reply, Request, Share}
+use Rattle.lease_laws.proofs.Words.{Some, State, Status, World, ℕ, [], ap, arith, break_notice, bytes_eq, bytes_eq-Decides}
+use Rattle.lease_laws.proofs.Words.{connected_open, content_of, eq-eqb, eqb-true, false, granted_form_of, has_strayed}
+use Rattle.lease_laws.proofs.Words.{has_written, if◌then◌else◌, inl, inr, is_breaking, is_some, is_up, key_eq, key_of}
+use Rattle.lease_laws.proofs.Words.{lease_after, lease_granted, lease_key, length, machine_key, nothing_cached, refl}
+use Rattle.lease_laws.proofs.Words.{refusal_of, sendings, subst, sym, takings, true, true≢false, was_opened}
 use Rattle.lease_state.specs.Content.{patch as patched}
 use Rattle.lease_laws.proofs.client.Thin.{put_same}
 use Rattle.lease_laws.proofs.server.Keys.{key_eq-refl, put_key-cases}
-use Rattle.lease_laws.proofs.server.Lists.{if_cases, either, clash, and_parts}
+use Rattle.lease_laws.proofs.server.Lists.{and_parts, clash, either, if_cases}
+use Rattle.lease_laws.proofs.server.cases.Ends.{found_open}
 use Rattle.lease_coherence.specs.Names.{Each, IsNamedAt, IsOwnOpen, WasWrittenOn}
 use Rattle.lease_coherence.proofs.beliefs.Forms.{keys_apart}
-use Rattle.lease_coherence.proofs.beliefs.Grants.{grant_settled, grant_breaking}
+use Rattle.lease_coherence.proofs.beliefs.Grants.{grant_breaking, grant_settled}
 use Rattle.lease_coherence.proofs.beliefs.Leases.{settled_none}
-use Rattle.lease_coherence.proofs.beliefs.Sent.{is_bare}
-use Rattle.lease_coherence.proofs.beliefs.Trust.{file_key, HasTrust}
+use Rattle.lease_coherence.proofs.beliefs.Trust.{HasTrust, file_key}
 use Rattle.lease_coherence.proofs.fresh.Contents.{HasContents}
-use Rattle.lease_coherence.proofs.fresh.Sent.{IsFreshIn, IsToldTo, left_reads, IsToldIn, sent_fresh, bare_reads, is_still}
+use Rattle.lease_coherence.proofs.fresh.FreshBytes.{AckReads, Follows, IsFreshFor, given_reads, reads_by}
+use Rattle.lease_coherence.proofs.fresh.Sent.{IsFreshIn, IsToldIn, IsToldTo, bare_reads, is_still, left_reads, sent_fresh}
 use Rattle.lease_coherence.proofs.fresh.Sent.{still_sends}
-use Rattle.lease_coherence.proofs.fresh.FreshBytes.{given_reads, reads_by, AckReads, Follows, IsFreshFor}
-use Rattle.lease_coherence.proofs.moves.Deeds.{IsSource, told_to, granted_in, reconnected_in, changed_in, leased_in}
-use Rattle.lease_coherence.proofs.moves.Deeds.{granted_reply, reconnected_reply, done_reply}
+use Rattle.lease_coherence.proofs.layers.Layers.{HasRecord}
+use Rattle.lease_coherence.proofs.moves.Deeds.{IsSource, changed_in, done_reply, granted_in, granted_reply, leased_in}
+use Rattle.lease_coherence.proofs.moves.Deeds.{reconnected_in, reconnected_reply, told_to}
 use Rattle.lease_coherence.proofs.moves.Events.{Ground}
 use Rattle.lease_coherence.proofs.moves.Frames.{from_source, lease_put_rest}
-use Rattle.lease_coherence.proofs.moves.Moves.{IsOldest, rest_of, popped}
-use Rattle.lease_coherence.proofs.moves.Spared.{ends_by, ends_as}
-use Rattle.lease_coherence.proofs.names.Names.{off_named, off_counted}
+use Rattle.lease_coherence.proofs.moves.Moves.{IsOldest, popped, rest_of}
+use Rattle.lease_coherence.proofs.moves.Own.{is_bare}
+use Rattle.lease_coherence.proofs.moves.Spared.{ends_as, ends_by}
 use Rattle.lease_coherence.proofs.names.NamedInRecord.{each_rest, opened_once}
-use Rattle.lease_coherence.proofs.records.Later.{later_same, later_fact}
+use Rattle.lease_coherence.proofs.names.Names.{off_counted, off_named}
+use Rattle.lease_coherence.proofs.records.Later.{later_fact, later_same}
 use Rattle.lease_coherence.proofs.writes.Answered.{names_of}
-use Rattle.lease_coherence.proofs.records.Known.{HasRecord}
-use Rattle.lease_laws.proofs.server.cases.Ends.{found_open}
 
 pub own_of : (world : World) → HasRecord world → (c : ℕ) → has_strayed c world.past ≡ false
     → (one : Open) → Among one world.server.opens → one.client ≡ c → IsOwnOpen (world.clients c).guid one
@@ -273,7 +273,7 @@ granted_asked off c file access share ask asked named t at fresh low f =
     (λ settled. inr (settled_none own at (off.server.leases (machine_key off c at)) ((off.clients c).entries at).phase
     (off.requests c) (off.replies c)
     (ap (λ k. is_breaking (off.server.leases k)) (key_same off c file at asked named same) ∙ settled)
-    (t.files at fresh).believed)))
+    (t.files at fresh).explained.believed)))
     (λ apart. inl (created_bound own at file (off.server.last_id + 1) asked.key left lease (ask.durable && lease.state.handle)
     (left ≡ true)
     (λ same e. clash (file == at) same apart) (λ a e. e))))) f
@@ -330,7 +330,7 @@ reconnected_asked off c file ask file_id asked named t at fresh low f =
     (λ settled. inr (settled_none own at (off.server.leases (machine_key off c at)) ((off.clients c).entries at).phase
     (off.requests c) (off.replies c)
     (ap (λ k. is_breaking (off.server.leases k)) (key_same off c file at asked named same) ∙ settled)
-    (t.files at fresh).believed)))
+    (t.files at fresh).explained.believed)))
     (λ apart. inl (created_bound own at file file_id asked.key left lease false (left ≡ true)
     (λ same e. clash (file == at) same apart) (λ a e. e))))) f
 

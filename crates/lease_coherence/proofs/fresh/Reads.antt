@@ -1,32 +1,33 @@
 -- In every run a good client's cached reads are fresh.
 use Rattle.lease_laws.proofs.Words.{◌++◌, ◌∙◌, ◌∷◌, ◌≡◌, Among, Call, Client, ClientCall, EachFact, Event, Fact, FreshRead}
-use Rattle.lease_laws.proofs.Words.{IsSoundClient, Link, List, LiveEntry, Note, Out, Phase, Progress, Setup, Some, Step, World, ℕ}
-use Rattle.lease_laws.proofs.Words.{[], after, ap, ap₂, arith, client_called, cut, expire, fact_of, false, first_world, happened}
-use Rattle.lease_laws.proofs.Words.{has_strayed, inl, inr, is_allowed_setup, is_good, is_served, is_start, join, last_of}
-use Rattle.lease_laws.proofs.Words.{last_sending, list_all, machine_key, not, patches, patches_of, put, receive, refl}
-use Rattle.lease_laws.proofs.Words.{reverse, reverse-reverse, scavenge, sendings, served, slice_get, starts_from}
-use Rattle.lease_laws.proofs.Words.{stepped_in, subst, suc, sym, takings, true, unsent_in, view, zero}
+use Rattle.lease_laws.proofs.Words.{IsSoundClient, Link, List, LiveEntry, Note, Out, Phase, Progress, Setup, Some, Step, World}
+use Rattle.lease_laws.proofs.Words.{ℕ, [], after, ap, ap₂, arith, client_called, cut, expire, fact_of, false, first_world_under}
+use Rattle.lease_laws.proofs.Words.{happened, has_strayed, inl, inr, is_allowed_setup, is_good, is_served, is_start, join}
+use Rattle.lease_laws.proofs.Words.{last_of, last_sending, list_all, machine_key, not, patches, patches_of, put, receive, refl}
+use Rattle.lease_laws.proofs.Words.{reverse, reverse-reverse, scavenge, sendings, served, slice_get, starts_from, stepped_in}
+use Rattle.lease_laws.proofs.Words.{subst, suc, sym, takings, true, unsent_in, view, zero}
+use Rattle.lease_laws.proofs.Words.{Rules}
+use Rattle.lease_laws.proofs.client.cases.Commands.{IsEntry, sent_of}
 use Rattle.lease_laws.proofs.records.Content.{content_when_sent}
-use Rattle.lease_laws.proofs.records.Given.{Given, given_kept, first_given}
-use Rattle.lease_laws.proofs.records.Runs.{IsBegun, all_starts, all_reversed, begun_kept, first_begun}
+use Rattle.lease_laws.proofs.records.Given.{Given, first_given, given_kept}
+use Rattle.lease_laws.proofs.records.Runs.{IsBegun, all_reversed, all_starts, begun_kept, first_begun}
 use Rattle.lease_laws.proofs.records.Writes.{writes_now}
 use Rattle.lease_laws.proofs.server.Lists.{and_parts, not_parts}
-use Rattle.lease_laws.proofs.world.FileIds.{IsCountedWorld, first_counted, told, all_delivered_past}
-use Rattle.lease_laws.proofs.world.Kept.{served-clients, kept_forms}
+use Rattle.lease_laws.proofs.world.FileIds.{IsCountedWorld, all_delivered_past, first_counted, told}
+use Rattle.lease_laws.proofs.world.Kept.{kept_forms, served-clients}
 use Rattle.lease_laws.proofs.world.Timers.{IsTimely, first_timely, timely_forms, unexpired}
-use Rattle.lease_laws.proofs.world.cases.Events.{Both, HasForms, IsTold, Keeps, KeepsWhere, both_forms, call_served, kept_by_run}
-use Rattle.lease_laws.proofs.world.cases.Events.{link_lost, link_made, reply_off, two_forms}
+use Rattle.lease_laws.proofs.world.cases.Events.{Both, HasForms, IsTold, Keeps, KeepsWhere, both_forms, call_served}
+use Rattle.lease_laws.proofs.world.cases.Events.{kept_by_run, link_lost, link_made, reply_off, two_forms}
 use Rattle.lease_coherence.specs.Parts.{InRuns}
-use Rattle.lease_coherence.proofs.moves.Events.{carried_forms}
-use Rattle.lease_laws.proofs.client.cases.Commands.{IsEntry, sent_of}
+use Rattle.lease_coherence.proofs.layers.AllRuns.{first_record, record_carried}
+use Rattle.lease_coherence.proofs.layers.Layers.{HasRecord}
+use Rattle.lease_coherence.proofs.moves.Events.{Both, carried_forms}
 use Rattle.lease_coherence.proofs.moves.Frames.{stepped_past}
 use Rattle.lease_coherence.proofs.records.Later.{past_noted}
 use Rattle.lease_coherence.proofs.wellformed.Notes.{EachNote}
 use Rattle.lease_coherence.proofs.writes.Answered.{ground_of}
 use Rattle.lease_coherence.proofs.writes.Noted.{IsPlainNote, LeavesWrites, TellsWrites}
 use Rattle.lease_coherence.proofs.writes.Unanswered.{call_tells_writes}
-use Rattle.lease_coherence.proofs.records.AllRuns.{record_carried, first_record}
-use Rattle.lease_coherence.proofs.records.Known.{HasRecord}
 
 -- ---- a read from the cache
 
@@ -50,10 +51,10 @@ sending_among : (c : ℕ) (past place : List Fact) → last_sending c past ≡ S
 unfolding last_sending
 sending_among c past place e = last_among (takings c past) (sendings c past) place e
 
-pub timely : (setup : Setup) (events : List Event) (c file : ℕ) → is_served c (after (first_world setup) events).past ≡ true
-    → (after (first_world setup) events).server.expired (machine_key (after (first_world setup) events) c file) ≡ false
-timely setup events = unexpired (after (first_world setup) events)
-    (kept_by_run IsTimely timely_forms (first_world setup) events (first_timely setup))
+pub timely : (rules : Rules) (setup : Setup) (events : List Event) (c file : ℕ) → is_served c (after (first_world_under rules setup) events).past ≡ true
+    → (after (first_world_under rules setup) events).server.expired (machine_key (after (first_world_under rules setup) events) c file) ≡ false
+timely rules setup events = unexpired (after (first_world_under rules setup) events)
+    (kept_by_run IsTimely timely_forms (first_world_under rules setup) events (first_timely rules setup))
 
 -- what is known of the world of every run
 abbrev IsReached : World → Type 0
@@ -65,9 +66,9 @@ reached_forms = two_forms (Both IsCountedWorld HasRecord) (Both IsTimely (Both I
     (two_forms IsTimely (Both IsBegun Given) timely_forms
     (two_forms IsBegun Given (kept_forms IsBegun begun_kept) (kept_forms Given given_kept)))
 
-first_reached : (setup : Setup) → is_allowed_setup setup ≡ true → IsReached (first_world setup)
-first_reached setup allowed =
-    ((first_counted setup, first_record setup allowed), (first_timely setup, (first_begun setup, first_given setup)))
+first_reached : (rules : Rules) (setup : Setup) → is_allowed_setup setup ≡ true → IsReached (first_world_under rules setup)
+first_reached rules setup allowed =
+    ((first_counted rules setup, first_record rules setup allowed), (first_timely rules setup, (first_begun rules setup, first_given rules setup)))
 
 read_is_fresh : (world : World) → IsReached world → (c at : ℕ) (live : LiveEntry)
     (base : List ℕ) → IsEntry (world.clients c) at (Phase.Live live) → live.base ≡ Some base
@@ -177,10 +178,10 @@ fresh_forms = record {
 -- ---- runs
 
 pub reads_are_fresh : InRuns FreshRead
-unfolding first_world
-reads_are_fresh setup events allowed = subst (EachFact FreshRead) (sym (reverse-reverse (after (first_world setup) events).past))
-    (kept_by_run (Both IsReached FreshIn) (both_forms IsReached FreshIn reached_forms fresh_forms) (first_world setup) events (
-      first_reached setup allowed,
+unfolding first_world_under
+reads_are_fresh rules setup events allowed = subst (EachFact FreshRead) (sym (reverse-reverse (after (first_world_under rules setup) events).past))
+    (kept_by_run (Both IsReached FreshIn) (both_forms IsReached FreshIn reached_forms fresh_forms) (first_world_under rules setup) events (
+      first_reached rules setup allowed,
       starts_fresh (reverse (starts_from 1 setup.files))
           (all_reversed (starts_from 1 setup.files) [] (all_starts 1 setup.files) refl),
     )).1

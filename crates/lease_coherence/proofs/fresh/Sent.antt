@@ -1,27 +1,25 @@
 -- What the server does keeps a client's bytes fresh.
 use Rattle.lease_laws.proofs.Words.{◌++◌, ◌==◌, ◌∙◌, ◌∷◌, ◌≡◌, ◌≤◌, ◌⊎◌, Among, Bool, Client, Fact, IsSound, Key, Lease, List}
-use Rattle.lease_laws.proofs.Words.{Open, Phase, Reply, Some, World, ℕ, ⊎_elim, ⊤, [], ap, ap₂, arith, belief_in, bytes_eq}
+use Rattle.lease_laws.proofs.Words.{Open, Phase, Reply, Some, World, ℕ, [], ⊎_elim, ⊤, ap, ap₂, arith, belief_in, bytes_eq}
 use Rattle.lease_laws.proofs.Words.{bytes_eq-Decides, content_of, drop, eq-eqb, eqb-true, false, has_key, if◌then◌else◌, is_key}
 use Rattle.lease_laws.proofs.Words.{is_up, key_of, last_of, last_sending, lease_key, length, list_any, machine_key, no_lease}
 use Rattle.lease_laws.proofs.Words.{refl, sendings, slice_get, subst, suc, sym, takings, true, true≢false, zero}
-use Rattle.lease_laws.proofs.server.Keys.{is_key-refl, is_key-one}
-use Rattle.lease_laws.proofs.server.Lists.{either, clash, any_has, not_false}
+use Rattle.lease_laws.proofs.client.cases.Replies.{is_live}
+use Rattle.lease_laws.proofs.server.Keys.{is_key-one, is_key-refl}
+use Rattle.lease_laws.proofs.server.Lists.{any_has, clash, either, not_false}
 use Rattle.lease_coherence.specs.Names.{IsOwnOpen}
 use Rattle.lease_coherence.specs.Standing.{IsStandingAt}
 use Rattle.lease_coherence.proofs.beliefs.Forms.{keys_apart}
-use Rattle.lease_coherence.proofs.beliefs.Sent.{is_bare}
-use Rattle.lease_coherence.proofs.beliefs.Trust.{file_key, nothing_stands}
 use Rattle.lease_coherence.proofs.beliefs.OneLease.{acks}
-use Rattle.lease_laws.proofs.client.cases.Replies.{is_live}
+use Rattle.lease_coherence.proofs.beliefs.Trust.{file_key, nothing_stands}
+use Rattle.lease_coherence.proofs.fresh.FreshBytes.{AckReads, Follows, HasBase, IsFreshFor, IsLastSeen, IsRelayed, TellsBytes}
+use Rattle.lease_coherence.proofs.fresh.FreshBytes.{acks_fewer, after_none, no_acks_read, places_of, reads_after, reads_by}
+use Rattle.lease_coherence.proofs.fresh.FreshBytes.{reads_last, relayed_later, relayed_now}
 use Rattle.lease_coherence.proofs.moves.Foreign.{IsUnmoved, key_client}
+use Rattle.lease_coherence.proofs.moves.Own.{is_bare}
 use Rattle.lease_coherence.proofs.moves.Spared.{ends_as}
 use Rattle.lease_coherence.proofs.names.NamedInRecord.{each_weaker}
-use Rattle.lease_coherence.proofs.records.Later.{IsLater, later_then, later_fact}
-use Rattle.lease_coherence.proofs.fresh.FreshBytes.{reads_by, reads_after, reads_last, after_none, AckReads, acks_fewer}
-use Rattle.lease_coherence.proofs.fresh.FreshBytes.{no_acks_read}
-use Rattle.lease_coherence.proofs.fresh.FreshBytes.{Follows, TellsBytes, IsRelayed, relayed_later, relayed_now, IsLastSeen}
-use Rattle.lease_coherence.proofs.fresh.FreshBytes.{HasBase}
-use Rattle.lease_coherence.proofs.fresh.FreshBytes.{places_of, IsFreshFor}
+use Rattle.lease_coherence.proofs.records.Later.{IsLater, later_fact, later_then}
 
 -- ---- one client and one file of a world
 
@@ -29,9 +27,11 @@ abbrev pub IsFreshIn : World → ℕ → ℕ → Type 0
 IsFreshIn world c file = IsFreshFor c (file_key world c file) file (world.server.leases (machine_key world c file))
     ((world.clients c).entries file).phase (world.requests c) (world.replies c) world.past
 
+abbrev pub HasFresh : World → ℕ → Type 0
+HasFresh world c = (file : ℕ) → world.server.expired (machine_key world c file) ≡ false → IsFreshIn world c file
+
 abbrev pub IsUpFresh : World → ℕ → Type 0
-IsUpFresh world c = is_up (world.links c) ≡ true → (file : ℕ)
-    → world.server.expired (machine_key world c file) ≡ false → IsFreshIn world c file
+IsUpFresh world c = is_up (world.links c) ≡ true → HasFresh world c
 
 -- what the entry holds reads of, once all replies are taken
 abbrev pub left_reads : World → ℕ → ℕ → Bool

@@ -1,26 +1,25 @@
 -- Each form of a reply that is taken keeps the bytes fresh.
-use Rattle.lease_laws.proofs.Words.{◌&&◌, ◌==◌, ◌∙◌, ◌∷◌, ◌≡◌, ◌≢◌, Among, Answer, Asked, Bool, BreakNotice, Client, CreateAnswer}
-use Rattle.lease_laws.proofs.Words.{Fact, IsSoundClient, LeaseGiven, List, LiveEntry, None, Option, Pending, Phase, Reply}
-use Rattle.lease_laws.proofs.Words.{Request, Some, State, Turn, ℕ, ⊎_elim, [], acknowledgment, ap, base_with, belief_in}
-use Rattle.lease_laws.proofs.Words.{belief_lowered, bytes_eq, bytes_eq-Decides, content_of, eq-eqb, eqb-true}
-use Rattle.lease_laws.proofs.Words.{false, find, flushed, given_state, has_sent, has_written, if◌then◌else◌, inl, is_key_of}
-use Rattle.lease_laws.proofs.Words.{is_numbered, lease_key, list_any, meet, not, nothing_cached, parked_closed}
-use Rattle.lease_laws.proofs.Words.{phase_with, promoted_belief, quiet_step, read_turn, refl}
-use Rattle.lease_laws.proofs.Words.{subst, sym, true, true≢false, turned, was_opened, without_open, write_done_turn}
-use Rattle.lease_laws.proofs.Words.{write_requests}
+use Rattle.lease_laws.proofs.Words.{◌&&◌, ◌==◌, ◌∙◌, ◌∷◌, ◌≡◌, ◌≢◌, Among, Answer, Asked, Bool, BreakNotice, Client}
+use Rattle.lease_laws.proofs.Words.{CreateAnswer, Fact, IsSoundClient, LeaseGiven, List, LiveEntry, None, Option, Pending}
+use Rattle.lease_laws.proofs.Words.{Phase, Reply, Request, Some, State, Turn, ℕ, [], ⊎_elim, acknowledgment, ap, base_with}
+use Rattle.lease_laws.proofs.Words.{belief_in, belief_lowered, bytes_eq, bytes_eq-Decides, content_of, eq-eqb, eqb-true, false}
+use Rattle.lease_laws.proofs.Words.{find, flushed, given_state, has_sent, has_written, if◌then◌else◌, inl, is_key_of}
+use Rattle.lease_laws.proofs.Words.{is_numbered, lease_key, list_any, meet, not, nothing_cached, parked_closed, phase_with}
+use Rattle.lease_laws.proofs.Words.{promoted_belief, quiet_step, read_turn, refl, subst, sym, true, true≢false, turned}
+use Rattle.lease_laws.proofs.Words.{was_opened, without_open, write_done_turn, write_requests}
 use Rattle.lease_state.specs.Content.{patch as patched}
-use Rattle.lease_laws.proofs.server.Lists.{if_cases, clash, and_both, or_true, find_has}
-use Rattle.lease_coherence.specs.Names.{Each, IsNamedPhase, WasWritten}
-use Rattle.lease_coherence.proofs.beliefs.Forms.{IsAboutFile, writes_about, writes_close_about, keys_apart}
 use Rattle.lease_laws.proofs.client.cases.Commands.{sent_of}
-use Rattle.lease_laws.proofs.client.cases.Files.{find_absent}
+use Rattle.lease_laws.proofs.client.cases.Files.{find_absent, found_so}
 use Rattle.lease_laws.proofs.client.cases.Replies.{HasTakes, is_live}
-use Rattle.lease_laws.proofs.client.cases.Files.{found_so}
-use Rattle.lease_coherence.proofs.fresh.FreshBytes.{given_reads, reads_by, reads_after, after_nothing, AckReads, Follows}
-use Rattle.lease_coherence.proofs.fresh.FreshBytes.{HasBytes}
-use Rattle.lease_coherence.proofs.fresh.Clients.{IsMetBy, TakesFresh, stays_so, not_live, turned_keeps, idle_keeps, plain_fresh}
-use Rattle.lease_coherence.proofs.fresh.Clients.{turn_fresh, here_fresh, base_reads, all_about, created_elsewhere}
-use Rattle.lease_coherence.proofs.fresh.Clients.{broken_elsewhere, number_elsewhere, written_elsewhere, passed_plain}
+use Rattle.lease_laws.proofs.server.Lists.{and_both, clash, find_has, if_cases, or_true}
+use Rattle.lease_coherence.specs.Names.{Each, IsNamedPhase, WasWritten}
+use Rattle.lease_coherence.proofs.beliefs.Forms.{IsAboutFile, keys_apart, writes_about, writes_close_about}
+use Rattle.lease_coherence.proofs.fresh.Clients.{IsMetBy, TakesFresh, all_about, base_reads, broken_elsewhere}
+use Rattle.lease_coherence.proofs.fresh.Clients.{created_elsewhere, here_fresh, idle_keeps, not_live, number_elsewhere}
+use Rattle.lease_coherence.proofs.fresh.Clients.{passed_plain, plain_fresh, stays_so, turn_fresh, turned_keeps}
+use Rattle.lease_coherence.proofs.fresh.Clients.{written_elsewhere}
+use Rattle.lease_coherence.proofs.fresh.FreshBytes.{AckReads, Follows, HasBytes, after_nothing, given_reads, reads_after}
+use Rattle.lease_coherence.proofs.fresh.FreshBytes.{reads_by}
 use Rattle.lease_coherence.proofs.names.NamedInRecord.{each_append, opened_once}
 use Rattle.lease_coherence.proofs.writes.Steps.{IsKnownBy}
 

@@ -1,23 +1,23 @@
 -- An acknowledgment that is judged, and a request that is held, leave a client's writes safe.
-use Rattle.lease_laws.proofs.Words.{◌++◌, ◌+◌, ◌∙◌, ◌∷◌, ◌≡◌, ◌⊎◌, FileRequest, IsSound, IsSoundPhase, Key, Lease, LeaseOf, List}
-use Rattle.lease_laws.proofs.Words.{LiveEntry, None, Parted, Phase, Reply, Request, Some, Status, World, ℕ, ⊎_elim, [], ap, arith}
-use Rattle.lease_laws.proofs.Words.{bytes_eq, bytes_eq-Decides, granted_form_of, has_buffered, inl, inr, is_breaking, is_up}
-use Rattle.lease_laws.proofs.Words.{key_of, machine_key, refl, subst, sym, true, true≢false}
+use Rattle.lease_laws.proofs.Words.{◌++◌, ◌+◌, ◌∙◌, ◌∷◌, ◌≡◌, ◌⊎◌, FileRequest, IsSound, IsSoundPhase, Key, Lease, LeaseOf}
+use Rattle.lease_laws.proofs.Words.{List, LiveEntry, None, Parted, Phase, Reply, Request, Some, Status, World, ℕ, [], ⊎_elim}
+use Rattle.lease_laws.proofs.Words.{ap, arith, bytes_eq, bytes_eq-Decides, granted_form_of, has_buffered, inl, inr, is_breaking}
+use Rattle.lease_laws.proofs.Words.{is_up, key_of, machine_key, refl, subst, sym, true, true≢false}
 use Rattle.lease_laws.proofs.client.Thin.{put_same}
 use Rattle.lease_laws.proofs.server.Keys.{put_key-cases}
-use Rattle.lease_laws.proofs.server.Lists.{either, clash, not_true}
+use Rattle.lease_laws.proofs.server.Lists.{clash, either, not_true}
 use Rattle.lease_coherence.specs.Creates.{one_if}
 use Rattle.lease_coherence.specs.Names.{Each, IsNamedAt, IsNamedRequest}
 use Rattle.lease_coherence.proofs.beliefs.Acked.{served_state}
-use Rattle.lease_coherence.proofs.beliefs.Trust.{file_key, HasTrust}
 use Rattle.lease_coherence.proofs.beliefs.OneLease.{AckKeeps, acks}
-use Rattle.lease_coherence.proofs.late.Likes.{sent_past, held_up, acks_like}
+use Rattle.lease_coherence.proofs.beliefs.Trust.{HasTrust, file_key}
+use Rattle.lease_coherence.proofs.late.Likes.{acks_like, held_up, sent_past}
 use Rattle.lease_coherence.proofs.late.Moves.{told_late}
-use Rattle.lease_coherence.proofs.late.Servers.{EntryHolds, itself, entries_like, popped_safe, grants_more}
-use Rattle.lease_coherence.proofs.late.SafeWrites.{holds_write, WriteSafe, HeldPlain, NotBuffered, AcksKeep, IsSafeUp, IsNotLate}
-use Rattle.lease_coherence.proofs.late.SafeWrites.{IsLike, KnowsIds}
-use Rattle.lease_coherence.proofs.moves.Deeds.{told_to, leased_in, done_reply}
-use Rattle.lease_coherence.proofs.moves.Moves.{IsOldest, rest_of, popped}
+use Rattle.lease_coherence.proofs.late.SafeWrites.{AcksKeep, HeldPlain, IsLike, IsNotLate, IsSafeUp, KnowsIds, NotBuffered}
+use Rattle.lease_coherence.proofs.late.SafeWrites.{WriteSafe, holds_write}
+use Rattle.lease_coherence.proofs.late.Servers.{EntryHolds, entries_like, grants_more, itself, popped_safe}
+use Rattle.lease_coherence.proofs.moves.Deeds.{done_reply, leased_in, told_to}
+use Rattle.lease_coherence.proofs.moves.Moves.{IsOldest, popped, rest_of}
 use Rattle.lease_coherence.proofs.names.NamedInRecord.{each_rest}
 
 -- ---- a request leaves its queue
@@ -135,7 +135,7 @@ ack_kept world c given oldest sound breaks t file live is write own =
     (λ zero. absurd (some_acks (acks key oldest.queue) (ap (λ x. one_if x + acks key oldest.queue) (sym own)
     ∙ ap (acks key) (sym oldest.is_first) ∙ zero)))
     (λ a. let all : Each (AckKeeps key) (Request.Acknowledge (Some given) ∷ oldest.queue) =
-    subst (Each (AckKeeps key)) oldest.is_first (a.bounds live is write) in all.0) (t.files file fresh).believed.answers
+    subst (Each (AckKeeps key)) oldest.is_first (a.bounds live is write) in all.0) (t.files file fresh).explained.believed.answers
 
 done_holds : (world : World) (c : ℕ) (given : LeaseOf) → IsOldest world c (Request.Acknowledge (Some given))
     → IsSound world.server → is_breaking (world.server.leases (key_of c given.key)) ≡ true → HasTrust world c

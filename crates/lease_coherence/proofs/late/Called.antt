@@ -1,35 +1,36 @@
 -- A command, and a reply that is taken, leave a client's writes safe.
-use Rattle.lease_laws.proofs.Words.{◌+◌, ◌∙◌, ◌∷◌, ◌≡◌, Client, ClientCall, Command, Fact, IsSoundClient, List, LiveEntry, Parted}
-use Rattle.lease_laws.proofs.Words.{Phase, Reply, Step, TellNumbers, World, ℕ, ⊎_elim, [], ap, commanded, false, inl, inr, is_up}
-use Rattle.lease_laws.proofs.Words.{knows_file, machine_key, opened_count, refl, stepped_in, subst, sym, taken, true, was_opened}
+use Rattle.lease_laws.proofs.Words.{◌+◌, ◌∙◌, ◌∷◌, ◌≡◌, Client, ClientCall, Command, Fact, IsSoundClient, List, LiveEntry}
+use Rattle.lease_laws.proofs.Words.{Parted, Phase, Reply, Step, TellNumbers, World, ℕ, [], ⊎_elim, ap, commanded, false, inl}
+use Rattle.lease_laws.proofs.Words.{inr, is_up, knows_file, machine_key, opened_count, refl, stepped_in, subst, sym, taken}
+use Rattle.lease_laws.proofs.Words.{true, was_opened}
 use Rattle.lease_laws.proofs.client.Forms.{commanded-stays, taken-stays}
 use Rattle.lease_laws.proofs.client.Notes.{called_tells}
 use Rattle.lease_laws.proofs.client.Thin.{put_same}
-use Rattle.lease_laws.proofs.server.Lists.{clash}
-use Rattle.lease_coherence.specs.Names.{Each, IsNamedAt, IsNamedRequest, IsNamedReply}
-use Rattle.lease_coherence.specs.Standing.{IsOpenFor, GivenWell, PhaseStands, IsStandingAt}
-use Rattle.lease_coherence.proofs.beliefs.Anchors.{AnchorsOn, command_anchors, take_anchors}
-use Rattle.lease_coherence.proofs.beliefs.Trust.{file_key, HasTrust}
-use Rattle.lease_coherence.proofs.beliefs.OneLease.{HoldsWrites, OnGiven}
 use Rattle.lease_laws.proofs.client.cases.Commands.{any_command}
 use Rattle.lease_laws.proofs.client.cases.Replies.{any_reply}
-use Rattle.lease_coherence.proofs.late.Clients.{StepFrom, no_settles, commands_from, takes_from}
-use Rattle.lease_coherence.proofs.late.Entries.{StepSafe, TakesSafe, IsTakenSafe, commands_safe, takes_safe}
-use Rattle.lease_coherence.proofs.late.Likes.{ids_of, took_past, named_asked, writes_up, held_up, acks_like, grants_like}
-use Rattle.lease_coherence.proofs.late.Servers.{itself, all_hold, entries_like, live_id}
-use Rattle.lease_coherence.proofs.late.Steps.{IsStepWell, IsOnWay, new_number, stepped_entries, stepped_up}
-use Rattle.lease_coherence.proofs.late.SafeWrites.{GrantsSafe, IsSafeAt, IsSafeUp, IsNotLate, IsLike, KnowsIds}
+use Rattle.lease_laws.proofs.server.Lists.{clash}
+use Rattle.lease_coherence.specs.Names.{Each, IsNamedAt, IsNamedReply, IsNamedRequest}
+use Rattle.lease_coherence.specs.Standing.{GivenWell, IsOpenFor, IsStandingAt, PhaseStands}
+use Rattle.lease_coherence.proofs.beliefs.Anchors.{AnchorsOn, command_anchors, take_anchors}
+use Rattle.lease_coherence.proofs.beliefs.OneLease.{HoldsWrites, OnGiven}
+use Rattle.lease_coherence.proofs.beliefs.Trust.{HasTrust, file_key}
+use Rattle.lease_coherence.proofs.late.Clients.{StepFrom, commands_from, no_settles, takes_from}
+use Rattle.lease_coherence.proofs.late.Entries.{IsTakenSafe, StepSafe, TakesSafe, commands_safe, takes_safe}
+use Rattle.lease_coherence.proofs.late.Likes.{acks_like, grants_like, held_up, ids_of, named_asked, took_past, writes_up}
+use Rattle.lease_coherence.proofs.late.SafeWrites.{GrantsSafe, IsLike, IsNotLate, IsSafeAt, IsSafeUp, KnowsIds}
+use Rattle.lease_coherence.proofs.late.Servers.{all_hold, entries_like, itself, live_id}
+use Rattle.lease_coherence.proofs.late.Steps.{IsOnWay, IsStepWell, new_number, stepped_entries, stepped_up}
 use Rattle.lease_coherence.proofs.moves.Events.{Ground, reply_gone, reply_taken}
 use Rattle.lease_coherence.proofs.moves.Ground.{called_sound}
-use Rattle.lease_coherence.proofs.names.Names.{IsCountedOff}
+use Rattle.lease_coherence.proofs.moves.Own.{was_up}
 use Rattle.lease_coherence.proofs.names.NamedInRecord.{request_later}
+use Rattle.lease_coherence.proofs.names.Names.{IsCountedOff}
 use Rattle.lease_coherence.proofs.records.Later.{later_fact}
 use Rattle.lease_coherence.proofs.records.Once.{unbuffered_clean}
-use Rattle.lease_coherence.proofs.standing.OpensStayStanding.{was_up}
 use Rattle.lease_coherence.proofs.standing.StandingOpens.{asked_weaker}
 use Rattle.lease_coherence.proofs.writes.Counts.{settles_of}
-use Rattle.lease_coherence.proofs.writes.WritesStayUnderWayOnce.{known_took}
 use Rattle.lease_coherence.proofs.writes.Steps.{IsKnownBy}
+use Rattle.lease_coherence.proofs.writes.WritesStayUnderWayOnce.{known_took}
 
 -- what is known of the client where its link is up
 pub record IsKnownUp (world : World) (c : ℕ) : Type 0 where
@@ -72,7 +73,7 @@ step_well world c settles step up k guid files sound tells from anchors = record
   tells = tells;
   from = from;
   anchors = anchors;
-  answers = λ file fresh. ⊎_elim (λ zero. inl zero) (λ a. inr a.bounds) (k.trust.files file fresh).believed.answers;
+  answers = λ file fresh. ⊎_elim (λ zero. inl zero) (λ a. inr a.bounds) (k.trust.files file fresh).explained.believed.answers;
   stands = λ file live is fresh. live_open world c k.stands file live is fresh;
   unknown = no_reconnect (world.clients c) step files sound;
   live_ids = λ file live is. live_id c file world.past ((world.clients c).entries file).phase
@@ -127,8 +128,8 @@ taken_safe world c reply queue first k u = let gone = reply_gone world c queue i
   given = λ file fresh. let all : Each (OnGiven (HoldsWrites (world.server.leases (machine_key world c file)).state)
       (file_key world c file) file) (reply ∷ queue) =
       subst (Each (OnGiven (HoldsWrites (world.server.leases (machine_key world c file)).state) (file_key world c file) file))
-      first (k.trust.files file fresh).believed.given in all.0;
-  own = λ file live is fresh. (k.trust.files file fresh).believed.own live is;
+      first (k.trust.files file fresh).explained.believed.given in all.0;
+  own = λ file live is fresh. (k.trust.files file fresh).explained.believed.own live is;
   stands = λ file live is fresh. let o = live_open world c k.stands file live is fresh in record {
     one = o.one;
     there = o.there;
@@ -162,11 +163,11 @@ gone_well world c reply queue was k =
       known = known_took c machine world.past k.known;
       named = asked_weaker (IsNamedRequest c machine.guid world.past) (IsNamedRequest c machine.guid gone.past) gone c
           (λ r. request_later c machine.guid world.past gone.past later r)
-          (record { queued = k.names.requests; held = k.names.held });
+          (record { queued = k.names.requests; held = λ file one a own. (k.names.held file one a own).named });
       tells = called_tells machine (ClientCall.Taken reply) (k.ground.clients c);
       from = any_reply machine (λ r s. StepFrom machine (λ n. settles_of n r) s) (takes_from machine (k.ground.clients c)) reply;
       anchors = take_anchors machine reply;
-      answers = λ file fresh. ⊎_elim (λ zero. inl zero) (λ a. inr a.bounds) (k.trust.files file fresh).believed.answers;
+      answers = λ file fresh. ⊎_elim (λ zero. inl zero) (λ a. inr a.bounds) (k.trust.files file fresh).explained.believed.answers;
       stands = λ file live is fresh. let o = live_open world c k.stands file live is fresh in record {
         one = o.one;
         there = o.there;

@@ -1,25 +1,23 @@
 -- What a client does leaves its writes safe.
 use Rattle.lease_laws.proofs.Words.{◌++◌, ◌+◌, ◌==◌, ◌∙◌, ◌∷◌, ◌≡◌, ◌≢◌, ◌⊎◌, Among, Answer, Asked, Bool, BreakNotice, Client}
 use Rattle.lease_laws.proofs.Words.{Entry, FileRequest, IsSoundClient, List, LiveEntry, None, Note, Option, Parted, Patch}
-use Rattle.lease_laws.proofs.Words.{Pending, Phase, Reply, Request, Some, State, Step, Turn, ℕ, ⊎_elim, ⊤, [], acknowledgment, ap}
-use Rattle.lease_laws.proofs.Words.{are_rising, belief_lowered, eq-eqb, eqb-true, false}
-use Rattle.lease_laws.proofs.Words.{file_where, flushed, gives_up, has_number, has_sent, if◌then◌else◌, inl, inr}
-use Rattle.lease_laws.proofs.Words.{knows_file, meet, next_write, phase_with}
-use Rattle.lease_laws.proofs.Words.{put, quiet_step, refl, sent_without, subst, sym}
-use Rattle.lease_laws.proofs.Words.{true, turned, unanswered_in, unsent_in, without_open}
-use Rattle.lease_laws.proofs.Words.{write_requests, wrote_step}
-use Rattle.lease_laws.proofs.client.Thin.{put_same, put_other}
-use Rattle.lease_laws.proofs.server.Lists.{if_cases, clash, not_true, among_append, true_or}
-use Rattle.lease_laws.proofs.world.Links.{by_client}
-use Rattle.lease_coherence.specs.Creates.{one_if}
-use Rattle.lease_coherence.specs.Names.{Each}
+use Rattle.lease_laws.proofs.Words.{Pending, Phase, Reply, Request, Some, State, Step, Turn, ℕ, [], ⊎_elim, ⊤, acknowledgment}
+use Rattle.lease_laws.proofs.Words.{ap, are_rising, belief_lowered, eq-eqb, eqb-true, false, file_where, flushed, gives_up}
+use Rattle.lease_laws.proofs.Words.{has_number, has_sent, if◌then◌else◌, inl, inr, knows_file, meet, next_write, phase_with}
+use Rattle.lease_laws.proofs.Words.{put, quiet_step, refl, sent_without, subst, sym, true, turned, unanswered_in, unsent_in}
+use Rattle.lease_laws.proofs.Words.{without_open, write_requests, wrote_step}
+use Rattle.lease_laws.proofs.client.Thin.{put_other, put_same}
 use Rattle.lease_laws.proofs.client.cases.Commands.{HasCommands, sent_of}
 use Rattle.lease_laws.proofs.client.cases.Files.{never_found}
 use Rattle.lease_laws.proofs.client.cases.Replies.{HasTakes, PassesOver}
+use Rattle.lease_laws.proofs.client.cases.Turns.{by_turn}
+use Rattle.lease_laws.proofs.server.Lists.{among_append, clash, if_cases, not_true, true_or}
+use Rattle.lease_laws.proofs.world.Links.{by_client}
+use Rattle.lease_coherence.specs.Creates.{one_if}
+use Rattle.lease_coherence.specs.Names.{Each}
 use Rattle.lease_coherence.proofs.moves.Shift.{append_none}
 use Rattle.lease_coherence.proofs.writes.Counts.{settles_of}
-use Rattle.lease_coherence.proofs.writes.Settled.{number_there, number_append, rising_rest}
-use Rattle.lease_laws.proofs.client.cases.Turns.{by_turn}
+use Rattle.lease_coherence.proofs.writes.Settled.{number_append, number_there, rising_rest}
 
 -- ---- what is sent
 

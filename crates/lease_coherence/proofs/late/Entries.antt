@@ -1,27 +1,25 @@
 -- Each step of a client leaves its entries safe.
 use Rattle.lease_laws.proofs.Words.{◌&&◌, ◌++◌, ◌+◌, ◌||◌, ◌∙◌, ◌∷◌, ◌≡◌, ◌⊎◌, Among, Asked, Bool, BreakNotice, Client}
 use Rattle.lease_laws.proofs.Words.{CreateAnswer, Entry, IsSoundClient, IsSoundLive, IsSoundPhase, LeaseGiven, List, LiveEntry}
-use Rattle.lease_laws.proofs.Words.{None, Open, Option, Parted, Pending, Phase, Reply, Some, State, Step, Turn, World, ℕ, ⊎_elim}
-use Rattle.lease_laws.proofs.Words.{[], ap, belief_lowered, bytes_eq, connect_turn, false, filter}
-use Rattle.lease_laws.proofs.Words.{first_belief, given_state, gives_up, if◌then◌else◌, inl, inr, is_touched}
-use Rattle.lease_laws.proofs.Words.{knows_file, lease_key, live_entry, machine_key, meet, next_write, not, nothing_cached}
-use Rattle.lease_laws.proofs.Words.{phase_with, promoted_belief, put}
-use Rattle.lease_laws.proofs.Words.{refl, sent_without, subst, sym, true, true≢false, turned}
-use Rattle.lease_laws.proofs.Words.{without_open}
-use Rattle.lease_laws.proofs.client.Thin.{put_same, put_other}
-use Rattle.lease_laws.proofs.server.Lists.{if_cases, either, clash, and_parts}
+use Rattle.lease_laws.proofs.Words.{None, Open, Option, Parted, Pending, Phase, Reply, Some, State, Step, Turn, World, ℕ, []}
+use Rattle.lease_laws.proofs.Words.{⊎_elim, ap, belief_lowered, bytes_eq, connect_turn, false, filter, first_belief}
+use Rattle.lease_laws.proofs.Words.{given_state, gives_up, if◌then◌else◌, inl, inr, is_touched, knows_file, lease_key}
+use Rattle.lease_laws.proofs.Words.{live_entry, machine_key, meet, next_write, not, nothing_cached, phase_with, promoted_belief}
+use Rattle.lease_laws.proofs.Words.{put, refl, sent_without, subst, sym, true, true≢false, turned, without_open}
+use Rattle.lease_laws.proofs.client.Thin.{put_other, put_same}
+use Rattle.lease_laws.proofs.client.cases.Commands.{HasCommands, sent_of}
+use Rattle.lease_laws.proofs.client.cases.Links.{HasNotices}
+use Rattle.lease_laws.proofs.client.cases.Replies.{HasTakes}
+use Rattle.lease_laws.proofs.client.cases.Turns.{by_turn}
+use Rattle.lease_laws.proofs.server.Lists.{and_parts, clash, either, if_cases}
 use Rattle.lease_laws.proofs.world.Links.{by_client}
 use Rattle.lease_coherence.specs.Names.{Each}
-use Rattle.lease_coherence.specs.Standing.{IsOpenFor, FitsPhase}
-use Rattle.lease_coherence.proofs.beliefs.Trust.{file_key}
+use Rattle.lease_coherence.specs.Standing.{FitsPhase, IsOpenFor}
 use Rattle.lease_coherence.proofs.beliefs.OneLease.{HoldsWrites, OnGiven}
-use Rattle.lease_laws.proofs.client.cases.Commands.{HasCommands, sent_of}
-use Rattle.lease_laws.proofs.client.cases.Replies.{HasTakes}
-use Rattle.lease_coherence.proofs.late.SafeWrites.{holds_write, IsClean, LiveSafe, KeptWrite, KeptSafe, PhaseSafe, given_writes}
-use Rattle.lease_coherence.proofs.late.SafeWrites.{GrantSafe}
+use Rattle.lease_coherence.proofs.beliefs.Trust.{file_key}
+use Rattle.lease_coherence.proofs.late.SafeWrites.{GrantSafe, IsClean, KeptSafe, KeptWrite, LiveSafe, PhaseSafe, given_writes}
+use Rattle.lease_coherence.proofs.late.SafeWrites.{holds_write}
 use Rattle.lease_coherence.proofs.names.NamedInRecord.{each_append, each_weaker, each_without}
-use Rattle.lease_laws.proofs.client.cases.Links.{HasNotices}
-use Rattle.lease_laws.proofs.client.cases.Turns.{by_turn}
 
 -- ---- lists
 

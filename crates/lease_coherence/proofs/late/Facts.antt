@@ -1,22 +1,23 @@
 -- No write is accepted late: each change in a record is of a write that nobody overtook.
-use Rattle.lease_laws.proofs.Words.{◌+◌, ◌∙◌, ◌∷◌, ◌≡◌, Among, EachFact, Event, Fact, FileRequest, Link, List, NoLateWrite, Note}
-use Rattle.lease_laws.proofs.Words.{Open, Patch, Request, Setup, Some, Step, World, ℕ, [], after, ap, arith, commanded}
-use Rattle.lease_laws.proofs.Words.{connected_open, connection_made, fact_of, false, first_world, has_strayed, is_allowed_setup}
-use Rattle.lease_laws.proofs.Words.{is_touched, noticed, put, refl, reverse-reverse, reverse_aux, starts_from}
-use Rattle.lease_laws.proofs.Words.{stepped_in, subst, sym, taken, true}
-use Rattle.lease_coherence.specs.Parts.{InRuns}
-use Rattle.lease_coherence.proofs.late.WritesStaySafe.{ground_in}
-use Rattle.lease_coherence.proofs.late.SafeWrites.{WriteSafe}
-use Rattle.lease_coherence.proofs.moves.Deeds.{HasDeeds, IsSource, step_deed}
+use Rattle.lease_laws.proofs.Words.{◌+◌, ◌∙◌, ◌∷◌, ◌≡◌, Among, EachFact, Event, Fact, FileRequest, Link, List, NoLateWrite}
+use Rattle.lease_laws.proofs.Words.{Note, Open, Patch, Request, Setup, Some, Step, World, ℕ, [], after, ap, arith, commanded}
+use Rattle.lease_laws.proofs.Words.{connected_open, connection_made, fact_of, false, first_world_under, has_strayed, is_allowed_setup}
+use Rattle.lease_laws.proofs.Words.{is_touched, noticed, put, refl, reverse-reverse, reverse_aux, starts_from, stepped_in}
+use Rattle.lease_laws.proofs.Words.{subst, sym, taken, true}
+use Rattle.lease_laws.proofs.Words.{Rules}
+use Rattle.lease_laws.proofs.server.cases.Ends.{found_open}
 use Rattle.lease_laws.proofs.world.cases.Events.{IsTold}
-use Rattle.lease_coherence.proofs.moves.Events.{IsMoved, Both, carried_both, runs_have, come_back, reply_gone, Move}
+use Rattle.lease_coherence.specs.Parts.{InRuns}
+use Rattle.lease_coherence.proofs.late.SafeWrites.{WriteSafe}
+use Rattle.lease_coherence.proofs.late.WritesStaySafe.{ground_in}
+use Rattle.lease_coherence.proofs.layers.AllRuns.{first_record, record_carried}
+use Rattle.lease_coherence.proofs.layers.Layers.{HasRecord}
+use Rattle.lease_coherence.proofs.moves.Deeds.{HasDeeds, IsSource, step_deed}
+use Rattle.lease_coherence.proofs.moves.Events.{Both, IsMoved, Move, carried_both, come_back, reply_gone, runs_have}
 use Rattle.lease_coherence.proofs.moves.Frames.{from_source, stepped_past}
 use Rattle.lease_coherence.proofs.order.Sends.{off_past}
 use Rattle.lease_coherence.proofs.records.Later.{past_noted}
 use Rattle.lease_coherence.proofs.standing.StandingOpens.{asked_off}
-use Rattle.lease_coherence.proofs.records.AllRuns.{record_carried, first_record}
-use Rattle.lease_coherence.proofs.records.Known.{HasRecord}
-use Rattle.lease_laws.proofs.server.cases.Ends.{found_open}
 
 abbrev NoneLate : World → Type 0
 NoneLate world = EachFact NoLateWrite world.past
@@ -108,15 +109,15 @@ unfolding starts_from
 starts_none first [] past l = l
 starts_none first (bytes ∷ files) past l = starts_none (first + 1) files (Fact.Start first bytes ∷ past) (tt, l)
 
-first_none : (setup : Setup) → NoneLate (first_world setup)
-unfolding first_world
-first_none setup = starts_none 1 setup.files [] tt
+first_none : (rules : Rules) (setup : Setup) → NoneLate (first_world_under rules setup)
+unfolding first_world_under
+first_none rules setup = starts_none 1 setup.files [] tt
 
-pub run_late : (setup : Setup) (events : List Event) → is_allowed_setup setup ≡ true
-    → Both HasRecord NoneLate (after (first_world setup) events)
-run_late setup events allowed = runs_have (Both HasRecord NoneLate) (λ world v. ground_in world v.0)
-    (carried_both HasRecord NoneLate record_carried none_moves) setup (first_record setup allowed, first_none setup) events
+pub run_late : (rules : Rules) (setup : Setup) (events : List Event) → is_allowed_setup setup ≡ true
+    → Both HasRecord NoneLate (after (first_world_under rules setup) events)
+run_late rules setup events allowed = runs_have (Both HasRecord NoneLate) (λ world v. ground_in world v.0)
+    (carried_both HasRecord NoneLate record_carried none_moves) rules setup (first_record rules setup allowed, first_none rules setup) events
 
 pub no_write_is_late : InRuns NoLateWrite
-no_write_is_late setup events allowed = subst (EachFact NoLateWrite)
-    (sym (reverse-reverse (after (first_world setup) events).past)) (run_late setup events allowed).1
+no_write_is_late rules setup events allowed = subst (EachFact NoLateWrite)
+    (sym (reverse-reverse (after (first_world_under rules setup) events).past)) (run_late rules setup events allowed).1

@@ -1,21 +1,21 @@
 -- Grants, reconnects, closed opens and timers leave a client's writes safe.
-use Rattle.lease_laws.proofs.Words.{◌++◌, ◌==◌, ◌∙◌, ◌∷◌, ◌≡◌, ◌≤◌, Access, Among, Bool, CreateAsk, FileRequest, IsFree, IsSound}
-use Rattle.lease_laws.proofs.Words.{Lease, LeaseOf, Open, Pending, Reply, Share, Some, World, ℕ, ⊎_elim, [], ap, arith}
-use Rattle.lease_laws.proofs.Words.{connected_again, false, has_key, is_breaking, is_touched, is_up, key_of}
-use Rattle.lease_laws.proofs.Words.{knows_file, lease_after, lease_granted, lease_key, machine_key, new_open, not}
-use Rattle.lease_laws.proofs.Words.{own_key, refl, subst, sym, true}
+use Rattle.lease_laws.proofs.Words.{◌++◌, ◌==◌, ◌∙◌, ◌∷◌, ◌≡◌, ◌≤◌, Access, Among, Bool, CreateAsk, FileRequest, IsFree}
+use Rattle.lease_laws.proofs.Words.{IsSound, Lease, LeaseOf, Open, Pending, Reply, Share, Some, World, ℕ, [], ⊎_elim, ap, arith}
+use Rattle.lease_laws.proofs.Words.{connected_again, false, has_key, is_breaking, is_touched, is_up, key_of, knows_file}
+use Rattle.lease_laws.proofs.Words.{lease_after, lease_granted, lease_key, machine_key, new_open, not, own_key, refl, subst}
+use Rattle.lease_laws.proofs.Words.{sym, true}
 use Rattle.lease_laws.proofs.client.Thin.{put_same}
 use Rattle.lease_laws.proofs.server.Keys.{put_key-cases}
-use Rattle.lease_laws.proofs.server.Lists.{if_cases, clash, not_parts, not_true, among_append, among_filter, among_map}
+use Rattle.lease_laws.proofs.server.Lists.{among_append, among_filter, among_map, clash, if_cases, not_parts, not_true}
 use Rattle.lease_coherence.specs.Names.{IsNamedAt}
 use Rattle.lease_coherence.proofs.beliefs.Given.{own_named}
 use Rattle.lease_coherence.proofs.beliefs.Grants.{grant_keeps}
 use Rattle.lease_coherence.proofs.beliefs.Trust.{file_key}
-use Rattle.lease_coherence.proofs.late.Likes.{sent_past, opened_past, expired_past}
+use Rattle.lease_coherence.proofs.late.Likes.{expired_past, opened_past, sent_past}
 use Rattle.lease_coherence.proofs.late.Moves.{replied_late, unsent_late}
-use Rattle.lease_coherence.proofs.late.Servers.{itself, closing_holds, own_has_key, expired_nothing, gives_timely, given_so}
-use Rattle.lease_coherence.proofs.late.SafeWrites.{holds_write, given_writes, IsNotLate, IsLike, KnowsIds}
-use Rattle.lease_coherence.proofs.moves.Deeds.{IsSource, told_to, granted_in, granted_reply, reconnected_in, reconnected_reply}
+use Rattle.lease_coherence.proofs.late.SafeWrites.{IsLike, IsNotLate, KnowsIds, given_writes, holds_write}
+use Rattle.lease_coherence.proofs.late.Servers.{closing_holds, expired_nothing, given_so, gives_timely, itself, own_has_key}
+use Rattle.lease_coherence.proofs.moves.Deeds.{IsSource, granted_in, granted_reply, reconnected_in, reconnected_reply, told_to}
 use Rattle.lease_coherence.proofs.moves.Deeds.{without_opens}
 use Rattle.lease_coherence.proofs.moves.Events.{timed_out}
 use Rattle.lease_coherence.proofs.writes.Counts.{settling}
@@ -72,9 +72,9 @@ granted_asked off c file access share ask asked named sound free ids n clean a =
   where
     still : (off.server.leases (key_of c asked.key)).state.write ≡ true
         → (lease_granted off.server (key_of c asked.key) file asked.state).state.write ≡ true
-    still h = grant_keeps off.server (key_of c asked.key) file asked.state access share sound free
+    still h = (grant_keeps off.server (key_of c asked.key) file asked.state access share sound free
         (not_true (off.server.expired (key_of c asked.key)) (λ out. clash (off.server.leases (key_of c asked.key)).state.write h
-        (ap (λ (l : Lease). l.state.write) (sound.timed_out (key_of c asked.key) out)))) h
+        (ap (λ (l : Lease). l.state.write) (sound.timed_out (key_of c asked.key) out))))).writes h
 
     fresh : (at : ℕ) → given_writes (file_key off c at) (Some (record {
       key = asked.key;

@@ -1,21 +1,27 @@
 -- A request that is held was no buffered write: where a lease holds writes, nothing is in the way of its own requests.
-use Rattle.lease_laws.proofs.Words.{◌++◌, ◌==◌, ◌∙◌, ◌∷◌, ◌≡◌, Among, Bool, FileRequest, HasToWait, Held, IsAbout, IsInTurn}
-use Rattle.lease_laws.proofs.Words.{IsSound, List, MayHold, None, Ok, Open, Option, Request, SmallStep, Some, Status, World, ℕ}
-use Rattle.lease_laws.proofs.Words.{⊎_elim, ⊤, [], ap, ap₂, breaks_to_some, connected_open, eqb-true, file_asked, file_of_open}
-use Rattle.lease_laws.proofs.Words.{find, has_buffered, is_breaking, key_of, key_of_open, key_under, lease_key, list_any}
-use Rattle.lease_laws.proofs.Words.{machine_key, own_key, refl, subst, sym, true, true≢false}
-use Rattle.lease_laws.proofs.server.Lists.{if_cases, clash, not_true, or_true, find_has, among_append}
+use Rattle.lease_laws.proofs.Words.{◌++◌, ◌==◌, ◌∙◌, ◌∷◌, ◌≡◌, Among, FileRequest, HasToWait, Held, IsAbout, IsInTurn}
+use Rattle.lease_laws.proofs.Words.{IsSound, MayHold, None, Ok, Open, Option, Request, SmallStep, Some, Status, World, ℕ}
+use Rattle.lease_laws.proofs.Words.{[], ⊎_elim, ⊤, ap, ap₂, breaks_to_some, connected_open, file_asked, file_of_open}
+use Rattle.lease_laws.proofs.Words.{has_buffered, is_breaking, key_of, key_of_open, key_under, lease_key, list_any}
+use Rattle.lease_laws.proofs.Words.{machine_key, own_key, refl, subst, sym, true}
+use Rattle.lease_laws.proofs.Words.{is_behind}
+use Rattle.lease_laws.proofs.Words.{waits_behind}
+use Rattle.lease_laws.proofs.Words.{and_parts}
+use Rattle.lease_laws.proofs.server.Lists.{among_append, not_true}
+use Rattle.lease_laws.proofs.server.Lists.{any_has}
+use Rattle.lease_laws.proofs.server.Lists.{has_any}
+use Rattle.lease_laws.proofs.server.cases.Ends.{found_open}
+use Rattle.lease_coherence.proofs.order.OrderedRequests.{first_among, first_of, first_waits_behind_none}
 use Rattle.lease_coherence.specs.Names.{IsNamedAt, IsNamedOnFile, IsNamedRequest, WasWrittenOn}
 use Rattle.lease_coherence.proofs.late.Acked.{popped_ids, popped_named}
-use Rattle.lease_coherence.proofs.late.Likes.{same_past, acks_like, grants_like}
-use Rattle.lease_coherence.proofs.late.Servers.{itself, popped_safe, own_has_key, none_in_the_way}
-use Rattle.lease_coherence.proofs.late.SafeWrites.{holds_write, WriteSafe, HeldPlain, IsNotLate, IsLike, KnowsIds}
+use Rattle.lease_coherence.proofs.late.Likes.{acks_like, grants_like, same_past}
+use Rattle.lease_coherence.proofs.late.SafeWrites.{HeldPlain, IsLike, IsNotLate, KnowsIds, WriteSafe, holds_write}
+use Rattle.lease_coherence.proofs.late.Servers.{itself, none_in_the_way, own_has_key, popped_safe}
 use Rattle.lease_coherence.proofs.moves.Deeds.{held_in}
 use Rattle.lease_coherence.proofs.moves.Ground.{among_put}
 use Rattle.lease_coherence.proofs.moves.Moves.{IsOldest, popped}
 use Rattle.lease_coherence.proofs.standing.StandingOpens.{asked_held, head_of}
 use Rattle.lease_coherence.proofs.writes.WritesStayUnderWayOnce.{no_file, same_file}
-use Rattle.lease_laws.proofs.server.cases.Ends.{found_open}
 
 -- the file that a request asks for
 abbrev pub AsksOn : World → ℕ → FileRequest → Type 0
@@ -50,13 +56,6 @@ none_waits world c sound n file x there by on holds (FileRequest.Write file_id n
     (own_has_key world c file x by on (n.opens x there by)) (on ∙ sym here) holds b.is_blocked
 none_waits world c sound n file x there by on holds request named asks b = absurd b
 
--- the first that passes the test
-pub first_of : (test : Held → Bool) (held : List Held) → list_any test held ≡ true → (y : Held) × (find test held ≡ Some y)
-first_of test [] e = absurd (true≢false (sym e))
-first_of test (x ∷ held) e = if_cases (λ o. (y : Held) × (o ≡ Some y)) (test x) (Some x) (find test held)
-    (λ yes. (x, refl))
-    (λ no. first_of test held (⊎_elim (λ yes. clash (test x) yes no) (λ later. later) (or_true (test x) (list_any test held) e)))
-
 -- the open of a write that is held stands on the file
 held_on : (world : World) (c file_id : ℕ) (at : ℕ) (x : Open)
     → ((z : Open) → Among z world.server.opens → z.file_id ≡ file_id → z.file ≡ x.file) → (found : Option Open)
@@ -75,6 +74,14 @@ held_plain world at one may turn sound ids n named safe = by_request one.request
     c : ℕ
     c = one.client
 
+    -- one that it waits behind is of its client
+    some_own : is_behind world.server.rules one (world.server.held at) ≡ true
+        → list_any (λ (y : Held). y.client == one.client) (world.server.held at) ≡ true
+    some_own behind =
+        let y = any_has (waits_behind world.server.rules one) (world.server.held at) behind in
+        has_any (λ (z : Held). z.client == one.client) y.0 (world.server.held at) y.1
+        (and_parts ((y.0).client == one.client) _ y.2).0
+
     by_request : (r : FileRequest) → one.request ≡ r → HeldPlain world one.client (Request.OnFile r)
     by_request (FileRequest.Write file_id number patch) is = λ x there by id.
         let w : WasWrittenOn one.client file_id number patch world.past =
@@ -84,18 +91,19 @@ held_plain world at one may turn sound ids n named safe = by_request one.request
         let same : (z : Open) → Among z world.server.opens → z.file_id ≡ file_id → z.file ≡ x.file =
         λ z zin zid. (ids.on file_id w.file w.opened z zin zid).0 ∙ sym (ids.on file_id w.file w.opened x there id).0 in
         let here = held_on world one.client file_id at x same (connected_open world.server one.client file_id) refl
-        (subst (λ r. file_asked world.server one.client r ≡ Ok at) is turn) in
+        (subst (λ r. file_asked world.server one.client r ≡ Ok at) is turn.0) in
         not_true (has_buffered one.client x.file number world.past) (λ b.
         let holds = (s x there by id).held b in ⊎_elim
         (λ waits. none_waits world one.client sound n x.file x there by refl holds (FileRequest.Write file_id number patch) w
         same (subst (HasToWait world.server one.client) is waits))
-        (λ behind. let y = first_of (λ o. o.client == one.client) (world.server.held at) behind.1 in
-        let found = find_has _ y.0 (world.server.held at) y.1 in
+        (λ behind. let y = first_of one.client (world.server.held at) (some_own behind.1) in
+        let among = first_among one.client (world.server.held at) y in
         none_waits world one.client sound n at x there by here
-        (subst (λ f. holds_write world one.client f ≡ true) here holds) (y.0).request
-        (n.held at y.0 found.0 (eqb-true (y.0).client one.client found.1))
-        (about_asks world at (y.0).request ((behind.0).is_orderly.held_about at y.0 found.0))
-        ((behind.0).all_wait at one.client y.0 y.1)) may.1)
+        (subst (λ f. holds_write world one.client f ≡ true) here holds) (y.one).request
+        (n.held at y.one among y.own).named
+        (about_asks world at (y.one).request ((behind.0).is_orderly.held_about at y.one among))
+        (subst (λ d. HasToWait world.server d (y.one).request) y.own ((behind.0).all_wait at y.before y.one y.behind y.split
+        (first_waits_behind_none world.server.rules one.client (world.server.held at) y)))) may.1)
     by_request request is = tt
 
 held_like : (world : World) (at : ℕ) (one : Held) → IsLike world (held_in world at one) one.client

@@ -1,16 +1,17 @@
 -- What moves of the server leave of the writes and grants on their way.
-use Rattle.lease_laws.proofs.Words.{◌&&◌, ◌++◌, ◌==◌, ◌||◌, ◌∙◌, ◌∷◌, ◌≡◌, ◌≤◌, Among, Bool, Fact, FileRequest, Held, List, Note}
-use Rattle.lease_laws.proofs.Words.{Patch, Pending, Reply, Request, Some, World, ℕ, ⊎_elim, [], ap, eq-eqb, fact_of, false}
-use Rattle.lease_laws.proofs.Words.{given_state, has_buffered, inl, inr, is_touched, not, refl, subst, sym, true, was_opened}
-use Rattle.lease_coherence.specs.Names.{Each, IsNamedAt, IsNamedRequest, IsNamedReply, WasWrittenOn}
+use Rattle.lease_laws.proofs.Words.{◌&&◌, ◌++◌, ◌==◌, ◌||◌, ◌∙◌, ◌∷◌, ◌≡◌, ◌≤◌, Among, Bool, Fact, FileRequest, Held, List}
+use Rattle.lease_laws.proofs.Words.{Note, Patch, Pending, Reply, Request, Some, World, ℕ, [], ⊎_elim, ap, eq-eqb, fact_of}
+use Rattle.lease_laws.proofs.Words.{false, given_state, has_buffered, inl, inr, is_touched, not, refl, subst, sym, true}
+use Rattle.lease_laws.proofs.Words.{was_opened}
+use Rattle.lease_coherence.specs.Names.{Each, IsNamedAt, IsNamedReply, IsNamedRequest, WasWrittenOn}
 use Rattle.lease_coherence.specs.Standing.{AllAsked}
 use Rattle.lease_coherence.proofs.beliefs.OneLease.{AckKeeps}
-use Rattle.lease_coherence.proofs.late.SafeWrites.{WriteSafe, HeldPlain, NotBuffered, AcksKeep, given_writes, GrantSafe}
-use Rattle.lease_coherence.proofs.late.SafeWrites.{GrantsSafe}
-use Rattle.lease_coherence.proofs.late.SafeWrites.{SamePast, IsLike, StillHolds, KnowsIds, same_key, write_like, plain_like}
+use Rattle.lease_coherence.proofs.late.SafeWrites.{AcksKeep, GrantSafe, GrantsSafe, HeldPlain, IsLike, KnowsIds, NotBuffered}
+use Rattle.lease_coherence.proofs.late.SafeWrites.{SamePast, StillHolds, WriteSafe, given_writes, plain_like, same_key}
+use Rattle.lease_coherence.proofs.late.SafeWrites.{write_like}
 use Rattle.lease_coherence.proofs.moves.Shift.{append_none}
+use Rattle.lease_coherence.proofs.names.NamedInRecord.{opened_by, opened_once, opened_within}
 use Rattle.lease_coherence.proofs.names.Names.{IsCountedOff}
-use Rattle.lease_coherence.proofs.names.NamedInRecord.{opened_within, opened_once, opened_by}
 use Rattle.lease_coherence.proofs.order.OrderedRequests.{append_three}
 use Rattle.lease_coherence.proofs.records.Later.{past_noted}
 
@@ -97,7 +98,7 @@ asked_both P Q R world c f p q = record {
 
 pub named_asked : (world : World) (c : ℕ) → IsNamedAt world c
     → AllAsked (IsNamedRequest c (world.clients c).guid world.past) world c
-named_asked world c n = record { queued = n.requests; held = n.held }
+named_asked world c n = record { queued = n.requests; held = λ file one a own. (n.held file one a own).named }
 
 -- with the same requests
 asked_moved : (P : Request → Type 0) (world new : World) (c : ℕ) → new.requests c ≡ world.requests c
@@ -127,7 +128,7 @@ pub held_up : (world new : World) (c : ℕ) → IsLike world new c → KnowsIds 
     → (file : ℕ) (one : Held) → Among one (new.server.held file) → one.client ≡ c → HeldPlain new c (Request.OnFile one.request)
 held_up world new c like ids held n plain file one a own =
     let was = subst (λ (h : ℕ → List Held). Among one (h file)) held a in
-    still one.request (plain file one was own) (n.held file one was own)
+    still one.request (plain file one was own) (n.held file one was own).named
   where
     still : (r : FileRequest) → HeldPlain world c (Request.OnFile r)
         → IsNamedRequest c (world.clients c).guid world.past (Request.OnFile r) → HeldPlain new c (Request.OnFile r)

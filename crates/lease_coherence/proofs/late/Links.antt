@@ -1,23 +1,22 @@
 -- A connection that is lost, noticed or made leaves a client's writes safe.
-use Rattle.lease_laws.proofs.Words.{◌==◌, ◌∙◌, ◌∷◌, ◌≡◌, Among, FileRequest, Held, Lease, Link, List, Open, Reply, Request, World}
-use Rattle.lease_laws.proofs.Words.{ℕ, [], ap, arith, connection_made, disconnected, eq-eqb, false}
-use Rattle.lease_laws.proofs.Words.{is_lost, is_up, machine_key, not, noticed, put}
-use Rattle.lease_laws.proofs.Words.{refl, subst, sym, true≢false, without}
+use Rattle.lease_laws.proofs.Words.{◌==◌, ◌∙◌, ◌∷◌, ◌≡◌, Among, FileRequest, Held, Lease, Link, List, Open, Reply, Request}
+use Rattle.lease_laws.proofs.Words.{World, ℕ, [], ap, arith, connection_made, disconnected, eq-eqb, false, is_lost, is_up}
+use Rattle.lease_laws.proofs.Words.{machine_key, not, noticed, put, refl, subst, sym, true≢false, without}
 use Rattle.lease_laws.proofs.client.Thin.{put_same}
-use Rattle.lease_laws.proofs.server.Lists.{if_cases, among_filter, among_filtered, among_map}
+use Rattle.lease_laws.proofs.client.cases.Links.{any_notice}
+use Rattle.lease_laws.proofs.server.Lists.{among_filter, among_filtered, among_map, if_cases}
 use Rattle.lease_laws.proofs.world.Links.{stepped_links}
 use Rattle.lease_coherence.specs.Names.{Each, IsNamedAt}
 use Rattle.lease_coherence.proofs.beliefs.OneLease.{acks}
-use Rattle.lease_coherence.proofs.late.Entries.{notices_safe, connect_safe}
+use Rattle.lease_coherence.proofs.late.Entries.{connect_safe, notices_safe}
 use Rattle.lease_coherence.proofs.late.Likes.{dropped_past, joined_past}
-use Rattle.lease_coherence.proofs.late.Servers.{all_hold, entries_like, itself, closing_holds}
+use Rattle.lease_coherence.proofs.late.SafeWrites.{AcksKeep, GrantsSafe, IsNotLate, IsSafeAt, KnowsIds, WriteSafe}
+use Rattle.lease_coherence.proofs.late.Servers.{all_hold, closing_holds, entries_like, itself}
 use Rattle.lease_coherence.proofs.late.Steps.{stepped_entries}
-use Rattle.lease_coherence.proofs.late.SafeWrites.{WriteSafe, AcksKeep, GrantsSafe, IsSafeAt, IsNotLate, KnowsIds}
-use Rattle.lease_coherence.proofs.moves.Events.{Ground, cut_off, come_back, connected, noticed_by}
+use Rattle.lease_coherence.proofs.moves.Events.{Ground, come_back, connected, cut_off, noticed_by}
 use Rattle.lease_coherence.proofs.moves.Frames.{stepped_replies}
 use Rattle.lease_coherence.proofs.names.NamedInRecord.{each_weaker}
 use Rattle.lease_coherence.proofs.order.RequestsStayInOrder.{IsCreate, connect_creates, connect_held}
-use Rattle.lease_laws.proofs.client.cases.Links.{any_notice}
 
 -- ---- a connection is lost
 

@@ -1,19 +1,18 @@
 -- What the server does for a client leaves its writes safe: each move by itself.
 use Rattle.lease_laws.proofs.Words.{◌++◌, ◌∙◌, ◌∷◌, ◌≡◌, Bool, FileRequest, Key, Lease, None, Open, Patch, Reply, Some, State}
-use Rattle.lease_laws.proofs.Words.{World, ℕ, ⊎_elim, [], ap, break_notice, false, is_up, knows_file, machine_key}
+use Rattle.lease_laws.proofs.Words.{World, ℕ, [], ⊎_elim, ap, break_notice, false, is_up, knows_file, machine_key}
 use Rattle.lease_laws.proofs.Words.{needs_acknowledgment, not, refl, subst, sym, true}
 use Rattle.lease_laws.proofs.client.Thin.{put_same}
 use Rattle.lease_laws.proofs.server.Keys.{put_key-cases}
-use Rattle.lease_laws.proofs.server.Lists.{clash, true_or, among_filter}
+use Rattle.lease_laws.proofs.server.Lists.{among_filter, clash, true_or}
 use Rattle.lease_coherence.specs.Names.{IsNamedAt}
-use Rattle.lease_coherence.proofs.beliefs.Sent.{is_bare}
-use Rattle.lease_coherence.proofs.late.Likes.{same_past, sent_past, changed_past, grants_like}
-use Rattle.lease_coherence.proofs.late.Servers.{all_hold, entries_like, itself, off_safe, up_like, grant_bare, closing_holds}
-use Rattle.lease_coherence.proofs.late.Servers.{grants_more}
-use Rattle.lease_coherence.proofs.late.SafeWrites.{holds_write, GrantSafe, GrantsSafe, IsSafeAt, IsSafeUp, IsNotLate, IsLike}
-use Rattle.lease_coherence.proofs.late.SafeWrites.{StillHolds, KnowsIds}
-use Rattle.lease_coherence.proofs.moves.Deeds.{IsSource, told_to, changed_in, without_opens, leased_in}
-use Rattle.lease_coherence.proofs.standing.OpensStayStanding.{link_of}
+use Rattle.lease_coherence.proofs.late.Likes.{changed_past, grants_like, same_past, sent_past}
+use Rattle.lease_coherence.proofs.late.SafeWrites.{GrantSafe, GrantsSafe, IsLike, IsNotLate, IsSafeAt, IsSafeUp, KnowsIds}
+use Rattle.lease_coherence.proofs.late.SafeWrites.{StillHolds, holds_write}
+use Rattle.lease_coherence.proofs.late.Servers.{all_hold, closing_holds, entries_like, grant_bare, grants_more, itself}
+use Rattle.lease_coherence.proofs.late.Servers.{off_safe, up_like}
+use Rattle.lease_coherence.proofs.moves.Deeds.{IsSource, changed_in, leased_in, told_to, without_opens}
+use Rattle.lease_coherence.proofs.moves.Own.{is_bare, link_of}
 
 -- ---- a move that leaves all as it was
 

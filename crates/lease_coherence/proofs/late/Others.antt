@@ -1,17 +1,17 @@
 -- What others do leaves a client's writes safe.
 use Rattle.lease_laws.proofs.Words.{◌++◌, ◌==◌, ◌∙◌, ◌∷◌, ◌≡◌, ◌⊎◌, Among, Client, FileRequest, Held, Lease, List, LiveEntry}
-use Rattle.lease_laws.proofs.Words.{Open, Parted, Pending, Phase, Reply, Request, Some, World, ℕ, ⊎_elim, [], ap, ap₂, eq-eqb}
-use Rattle.lease_laws.proofs.Words.{false, given_state, has_buffered, inl, inr, is_touched, is_up, key_of, knows_file, lease_key}
-use Rattle.lease_laws.proofs.Words.{machine_key, refl, subst, sym, true, was_opened}
+use Rattle.lease_laws.proofs.Words.{Open, Parted, Pending, Phase, Reply, Request, Some, World, ℕ, [], ⊎_elim, ap, ap₂, eq-eqb}
+use Rattle.lease_laws.proofs.Words.{false, given_state, has_buffered, inl, inr, is_touched, is_up, key_of, knows_file}
+use Rattle.lease_laws.proofs.Words.{lease_key, machine_key, refl, subst, sym, true, was_opened}
 use Rattle.lease_laws.proofs.server.Lists.{among_filter, among_filtered}
 use Rattle.lease_coherence.specs.Names.{Each, IsNamedAt, IsNamedReply}
+use Rattle.lease_coherence.proofs.beliefs.OneLease.{AckKeeps, HoldsWrites, OnGiven, acks}
 use Rattle.lease_coherence.proofs.beliefs.Trust.{file_key}
-use Rattle.lease_coherence.proofs.beliefs.OneLease.{HoldsWrites, OnGiven, AckKeeps, acks}
 use Rattle.lease_coherence.proofs.late.Entries.{given_so}
-use Rattle.lease_coherence.proofs.late.Servers.{live_id, parted_id, own_has_key}
-use Rattle.lease_coherence.proofs.late.SafeWrites.{holds_write, IsClean, KeptWrite, WriteSafe, HeldPlain, NotBuffered, AcksKeep}
-use Rattle.lease_coherence.proofs.late.SafeWrites.{PhaseSafe, given_writes, GrantSafe, GrantsSafe, IsSafeUp, IsNotLate, KnowsIds}
-use Rattle.lease_coherence.proofs.late.SafeWrites.{same_key}
+use Rattle.lease_coherence.proofs.late.SafeWrites.{AcksKeep, GrantSafe, GrantsSafe, HeldPlain, IsClean, IsNotLate, IsSafeUp}
+use Rattle.lease_coherence.proofs.late.SafeWrites.{KeptWrite, KnowsIds, NotBuffered, PhaseSafe, WriteSafe, given_writes}
+use Rattle.lease_coherence.proofs.late.SafeWrites.{holds_write, same_key}
+use Rattle.lease_coherence.proofs.late.Servers.{live_id, own_has_key, parted_id}
 use Rattle.lease_coherence.proofs.moves.Foreign.{IsUnmoved}
 use Rattle.lease_coherence.proofs.names.NamedInRecord.{each_weaker}
 use Rattle.lease_coherence.proofs.standing.StandingOpens.{asked_unmoved, asked_weaker}

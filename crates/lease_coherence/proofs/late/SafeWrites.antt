@@ -1,13 +1,13 @@
 -- Which writes of a client may still be accepted, and that no other client opened or changed their files: in its
 -- entries, on their way, and over a lost connection.
 use Rattle.lease_laws.proofs.Words.{◌&&◌, ◌++◌, ◌||◌, ◌∙◌, ◌∷◌, ◌≡◌, ◌≤◌, ◌⊎◌, Among, Bool, Client, Fact, FileRequest, Held}
-use Rattle.lease_laws.proofs.Words.{LeaseGiven, List, LiveEntry, None, Open, Option, Parted, Pending, Phase, Reply, Request, Some}
-use Rattle.lease_laws.proofs.Words.{World, ℕ, ⊤, [], ap, bytes_eq, false, given_state, has_buffered, inl, inr, is_touched, is_up}
-use Rattle.lease_laws.proofs.Words.{knows_file, lease_key, machine_key, refl, subst, sym, true, was_opened}
+use Rattle.lease_laws.proofs.Words.{LeaseGiven, List, LiveEntry, None, Open, Option, Parted, Pending, Phase, Reply, Request}
+use Rattle.lease_laws.proofs.Words.{Some, World, ℕ, [], ⊤, ap, bytes_eq, false, given_state, has_buffered, inl, inr, is_touched}
+use Rattle.lease_laws.proofs.Words.{is_up, knows_file, lease_key, machine_key, refl, subst, sym, true, was_opened}
 use Rattle.lease_coherence.specs.Names.{Each}
 use Rattle.lease_coherence.specs.Standing.{AllAsked}
-use Rattle.lease_coherence.proofs.beliefs.Trust.{file_key}
 use Rattle.lease_coherence.proofs.beliefs.OneLease.{AckKeeps, acks}
+use Rattle.lease_coherence.proofs.beliefs.Trust.{file_key}
 use Rattle.lease_coherence.proofs.names.NamedInRecord.{each_weaker}
 use Rattle.lease_coherence.proofs.writes.Counts.{settling}
 

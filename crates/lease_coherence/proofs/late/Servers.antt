@@ -1,34 +1,35 @@
 -- What the server does for a client leaves its writes safe.
 use Rattle.lease_laws.proofs.Words.{◌&&◌, ◌++◌, ◌+◌, ◌==◌, ◌||◌, ◌∙◌, ◌∷◌, ◌≡◌, ◌⊎◌, Among, Bool, Client, FileRequest, Held}
 use Rattle.lease_laws.proofs.Words.{IsBlockedBy, IsSound, Key, Lease, List, LiveEntry, Open, Option, Parted, Patch, Pending}
-use Rattle.lease_laws.proofs.Words.{Phase, Reply, Request, Server, Some, State, World, ℕ, ⊎_elim, [], ap, ap₂, arith}
-use Rattle.lease_laws.proofs.Words.{bytes_eq, eq-eqb, eqb-true, false, given_state, granted_form_of, has_key, has_own_key}
-use Rattle.lease_laws.proofs.Words.{has_written, held_of, if◌then◌else◌, inl, inr, is_breaking, is_key, is_state_within}
-use Rattle.lease_laws.proofs.Words.{is_touched, knows_file, lease_granted, lease_key, machine_key, not, nothing_cached}
-use Rattle.lease_laws.proofs.Words.{refl, subst, suc, sym, true, true≢false, was_opened, with_opens, without, zero}
+use Rattle.lease_laws.proofs.Words.{Phase, Reply, Request, Server, Some, State, World, ℕ, [], ⊎_elim, ap, ap₂, arith, bytes_eq}
+use Rattle.lease_laws.proofs.Words.{eq-eqb, eqb-true, false, given_state, has_key, has_own_key, has_written}
+use Rattle.lease_laws.proofs.Words.{held_of, if◌then◌else◌, inl, inr, is_breaking, is_key, is_touched}
+use Rattle.lease_laws.proofs.Words.{knows_file, lease_granted, lease_key, machine_key, not, nothing_cached, refl, subst, suc}
+use Rattle.lease_laws.proofs.Words.{sym, true, true≢false, was_opened, with_opens, without, zero}
 use Rattle.lease_laws.proofs.client.Thin.{put_same}
 use Rattle.lease_laws.proofs.server.Keys.{is_key-refl}
-use Rattle.lease_laws.proofs.server.Lists.{if_cases, either, clash, and_parts, not_true, or_true, has_any, among_filter}
+use Rattle.lease_laws.proofs.server.Lists.{among_filter, and_parts, clash, either, has_any, if_cases, not_true, or_true}
 use Rattle.lease_laws.proofs.server.PassWaits.{among_more}
+use Rattle.lease_laws.proofs.server.cases.Grants.{any_grant}
 use Rattle.lease_coherence.specs.Creates.{held_by, one_if}
 use Rattle.lease_coherence.specs.Names.{Each, IsNamedAt, IsNamedPhase, IsNamedRequest, IsOwnOpen, WasWritten, WasWrittenOn}
 use Rattle.lease_coherence.specs.Standing.{AllAsked, IsOpenFor, Stands}
 use Rattle.lease_coherence.proofs.beliefs.Closed.{lease_stays}
-use Rattle.lease_coherence.proofs.beliefs.Sent.{is_bare}
-use Rattle.lease_coherence.proofs.beliefs.Trust.{file_key}
 use Rattle.lease_coherence.proofs.beliefs.OneLease.{acks}
-use Rattle.lease_coherence.proofs.late.Likes.{same_past, asked_both, named_asked, writes_up, held_up, acks_like, grants_like}
-use Rattle.lease_coherence.proofs.late.Likes.{grants_last}
-use Rattle.lease_coherence.proofs.late.SafeWrites.{holds_write, WriteSafe, PhaseSafe, IsSafeAt, AcksKeep, given_writes, GrantSafe}
-use Rattle.lease_coherence.proofs.late.SafeWrites.{GrantsSafe, IsSafeUp, WasOpen, IsLike, StillHolds, KnowsIds, same_key}
-use Rattle.lease_coherence.proofs.late.SafeWrites.{phase_like}
+use Rattle.lease_coherence.proofs.beliefs.Trust.{file_key}
+use Rattle.lease_coherence.proofs.late.Likes.{acks_like, asked_both, grants_last, grants_like, held_up, named_asked, same_past}
+use Rattle.lease_coherence.proofs.late.Likes.{writes_up}
+use Rattle.lease_coherence.proofs.late.SafeWrites.{AcksKeep, GrantSafe, GrantsSafe, IsLike, IsSafeAt, IsSafeUp, KnowsIds}
+use Rattle.lease_coherence.proofs.late.SafeWrites.{PhaseSafe, StillHolds, WasOpen, WriteSafe, given_writes, holds_write}
+use Rattle.lease_coherence.proofs.late.SafeWrites.{phase_like, same_key}
 use Rattle.lease_coherence.proofs.moves.Deeds.{IsSource, with_held}
 use Rattle.lease_coherence.proofs.moves.Ground.{among_put}
-use Rattle.lease_coherence.proofs.moves.Moves.{rest_of, popped}
+use Rattle.lease_coherence.proofs.moves.Moves.{popped, rest_of}
+use Rattle.lease_coherence.proofs.moves.Own.{is_bare}
 use Rattle.lease_coherence.proofs.names.NamedInRecord.{each_rest, opened_once}
 use Rattle.lease_coherence.proofs.order.OrderedRequests.{WriteStands, WriteStandsOn}
 use Rattle.lease_coherence.proofs.standing.StandingOpens.{asked_off, asked_popped}
-use Rattle.lease_coherence.proofs.writes.Counts.{write_of, writes, held_writes, settling, numbered_in, writes_left}
+use Rattle.lease_coherence.proofs.writes.Counts.{held_writes, numbered_in, settling, write_of, writes, writes_left}
 use Rattle.lease_coherence.proofs.writes.Steps.{IsKnownBy, IsSentOnce}
 
 -- ---- entries
@@ -132,7 +133,7 @@ off_safe world off c request source ids n u =
       writes = record { queued = left.queued; held = left.held };
       held = λ at one a own. ⊎_elim (λ old. u.held at one old own)
           (λ new. u.held h.file one (subst (λ (l : List Held). Among one l) (sym h.held)
-          (among_more one (held_of c request) h.before h.behind new.1)) own)
+          (among_more one (held_of c request h.lane) h.before h.behind new.1)) own)
           (among_put world.server.held h.file (h.before ++ h.behind) at one a);
       acks_keep = acks_like world rest c like ids (world.requests c) n.requests u.acks_keep;
       again = u.again;
@@ -298,16 +299,15 @@ pub expired_nothing : (server : Server) (key : Key) (file : ℕ) (want : State) 
     × ((lease_granted server key file want).state.write ≡ false)
 expired_nothing server key file want sound out =
     let none = sound.timed_out key out in
-    let T : Lease → Type 0 = λ l. (is_breaking l ≡ false) × (l.state.write ≡ false) in
-    if_cases T (is_breaking (server.leases key)) _ _
-    (λ breaks. clash (is_breaking (server.leases key)) breaks (ap is_breaking none))
-    (λ settled. if_cases T (is_state_within (server.leases key).state (granted_form_of want)) _ _
-    (λ within. (
-      refl,
-      if_cases (λ (s : State). s.write ≡ false) (server.expired key) nothing_cached _ (λ o. refl)
-          (λ fresh. clash (server.expired key) out fresh),
-    ))
-    (λ more. (ap is_breaking none, ap (λ (l : Lease). l.state.write) none)))
+    any_grant server key file want (λ l. (is_breaking l ≡ false) × (l.state.write ≡ false)) (record {
+      breaks = λ breaks. clash (is_breaking (server.leases key)) breaks (ap is_breaking none);
+      rises = λ settled within. (
+        refl,
+        if_cases (λ (s : State). s.write ≡ false) (server.expired key) nothing_cached _ (λ o. refl)
+            (λ fresh. clash (server.expired key) out fresh),
+      );
+      stays = λ settled. (ap is_breaking none, ap (λ (l : Lease). l.state.write) none);
+    })
 
 -- of a key whose timer ran out nothing is given
 pub gives_timely : (key : List ℕ) (asked : List ℕ) (lease : Lease) (out : Bool)

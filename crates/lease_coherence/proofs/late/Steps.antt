@@ -1,26 +1,25 @@
 -- A step of a client leaves its writes safe, in its entries and on their way.
-use Rattle.lease_laws.proofs.Words.{◌&&◌, ◌++◌, ◌+◌, ◌==◌, ◌||◌, ◌∙◌, ◌∷◌, ◌≡◌, ◌≤◌, ◌⊎◌, Among, Bool, Client, Fact, FileRequest}
-use Rattle.lease_laws.proofs.Words.{Held, IsSound, IsSoundClient, Lease, List, LiveEntry, None, Note, Open, Parted, Patch}
-use Rattle.lease_laws.proofs.Words.{Pending, Phase, Reply, Request, Server, Some, Step, TellNumbers, World, ℕ, ⊎_elim, [], ap}
-use Rattle.lease_laws.proofs.Words.{ap₂, are_buffered, arith, eq-eqb, eqb-true, fact_of, false, given_state, has_buffered, inl}
-use Rattle.lease_laws.proofs.Words.{inr, is_touched, is_up, key_of, knows_file, lease_key, list_any, machine_key, refl}
-use Rattle.lease_laws.proofs.Words.{stepped_in, subst, sym, true, was_opened, write_requests}
-use Rattle.lease_laws.proofs.server.Lists.{either, clash, and_parts, and_both, not_true, any_has, has_any, among_behind}
+use Rattle.lease_laws.proofs.Words.{◌&&◌, ◌++◌, ◌+◌, ◌==◌, ◌||◌, ◌∙◌, ◌∷◌, ◌≡◌, ◌≤◌, ◌⊎◌, Among, Bool, Client, Fact}
+use Rattle.lease_laws.proofs.Words.{FileRequest, Held, IsSound, IsSoundClient, Lease, List, LiveEntry, None, Note, Open, Parted}
+use Rattle.lease_laws.proofs.Words.{Patch, Pending, Phase, Reply, Request, Server, Some, Step, TellNumbers, World, ℕ, []}
+use Rattle.lease_laws.proofs.Words.{⊎_elim, ap, ap₂, are_buffered, arith, eq-eqb, eqb-true, fact_of, false, given_state}
+use Rattle.lease_laws.proofs.Words.{has_buffered, inl, inr, is_touched, is_up, key_of, knows_file, lease_key, list_any}
+use Rattle.lease_laws.proofs.Words.{machine_key, refl, stepped_in, subst, sym, true, was_opened, write_requests}
+use Rattle.lease_laws.proofs.server.Lists.{among_behind, and_both, and_parts, any_has, clash, either, has_any, not_true}
 use Rattle.lease_laws.proofs.world.Runs.{stepped_server}
 use Rattle.lease_coherence.specs.Names.{Each, IsNamedRequest, WasWrittenOn}
 use Rattle.lease_coherence.specs.Standing.{AllAsked, IsOpenFor}
-use Rattle.lease_coherence.proofs.beliefs.Anchors.{AnchorsOn, AnchorsLive}
+use Rattle.lease_coherence.proofs.beliefs.Anchors.{AnchorsLive, AnchorsOn}
 use Rattle.lease_coherence.proofs.beliefs.Entries.{no_acks_keep}
-use Rattle.lease_coherence.proofs.beliefs.Trust.{file_key}
 use Rattle.lease_coherence.proofs.beliefs.OneLease.{AckKeeps, acks, acks_append}
+use Rattle.lease_coherence.proofs.beliefs.Trust.{file_key}
 use Rattle.lease_coherence.proofs.creates.Creates.{stepped_machine}
-use Rattle.lease_coherence.proofs.late.Clients.{IsOther, SendsWrites, SentFrom, EntryFrom, StepFrom}
-use Rattle.lease_coherence.proofs.late.Entries.{StepSafe, at_among, sound_live, unsent_writes, given_so}
+use Rattle.lease_coherence.proofs.late.Clients.{EntryFrom, IsOther, SendsWrites, SentFrom, StepFrom}
+use Rattle.lease_coherence.proofs.late.Entries.{StepSafe, at_among, given_so, sound_live, unsent_writes}
 use Rattle.lease_coherence.proofs.late.Likes.{asked_both, noted_touched}
-use Rattle.lease_coherence.proofs.late.SafeWrites.{holds_write, IsSafeWrite, IsClean, WriteSafe, HeldPlain, LiveSafe, KeptWrite}
-use Rattle.lease_coherence.proofs.late.SafeWrites.{PhaseSafe, IsSafeAt, NotBuffered, AcksKeep, given_writes, IsGrantSafe}
-use Rattle.lease_coherence.proofs.late.SafeWrites.{GrantSafe}
-use Rattle.lease_coherence.proofs.late.SafeWrites.{GrantsSafe, IsSafeUp, KnowsIds}
+use Rattle.lease_coherence.proofs.late.SafeWrites.{AcksKeep, GrantSafe, GrantsSafe, HeldPlain, IsClean, IsGrantSafe, IsSafeAt}
+use Rattle.lease_coherence.proofs.late.SafeWrites.{IsSafeUp, IsSafeWrite, KeptWrite, KnowsIds, LiveSafe, NotBuffered, PhaseSafe}
+use Rattle.lease_coherence.proofs.late.SafeWrites.{WriteSafe, given_writes, holds_write}
 use Rattle.lease_coherence.proofs.moves.Frames.{stepped_past, stepped_replies}
 use Rattle.lease_coherence.proofs.names.NamedInRecord.{each_append, each_weaker}
 use Rattle.lease_coherence.proofs.records.Later.{past_noted}

@@ -1,21 +1,20 @@
 -- What a step of the server does in a world: each of its forms, with what is known of it. Whatever holds after each
 -- form holds after every step.
-use Rattle.lease_laws.proofs.Words.{◌&&◌, ◌++◌, ◌+◌, ◌==◌, ◌∷◌, ◌≡◌, ◌⊎◌, Access, Bool, CreateAsk, Fact, FileRequest, Held}
-use Rattle.lease_laws.proofs.Words.{IsAwaitedAt, IsFree, IsInTurn, Key, Lease, LeaseOf, List, MayChange, MayCreate, MayEnd}
-use Rattle.lease_laws.proofs.Words.{MayHold, MayLower, MayRefuse, None, Ok, Open, Option, Outcome, Patch}
+use Rattle.lease_laws.proofs.Words.{◌&&◌, ◌++◌, ◌+◌, ◌==◌, ◌∙◌, ◌∷◌, ◌≡◌, ◌⊎◌, Access, Bool, CreateAsk, Fact, FileRequest}
+use Rattle.lease_laws.proofs.Words.{HasOpen, Held, IsAwaitedAt, IsFree, IsInTurn, Key, Lease, LeaseOf, List, MayChange}
+use Rattle.lease_laws.proofs.Words.{MayCreate, MayEnd, MayHold, MayLower, MayRefuse, None, Ok, Open, Option, Outcome, Patch}
 use Rattle.lease_laws.proofs.Words.{Reply, Request, Server, Share, SmallStep, Some, State, Status, World, ℕ, [], acknowledged}
-use Rattle.lease_laws.proofs.Words.{all_delivered, begun, break_notice}
-use Rattle.lease_laws.proofs.Words.{concluded, connected_again, connected_open, false, file_asked}
-use Rattle.lease_laws.proofs.Words.{granted_form_of, has_file, has_lease, held_of, inl}
-use Rattle.lease_laws.proofs.Words.{inr, is_behind, is_left_open, is_state_within, key_of, lease_after, lease_given}
-use Rattle.lease_laws.proofs.Words.{lease_put, map, may_read, needs_acknowledgment, new_open}
-use Rattle.lease_laws.proofs.Words.{own_key, put, refl, refusal_of}
-use Rattle.lease_laws.proofs.Words.{HasOpen, served, standing_lease, subst, sym, true, with_lease, with_opens, without, ◌∙◌}
+use Rattle.lease_laws.proofs.Words.{all_delivered, begun, break_notice, concluded, connected_again, connected_open, false}
+use Rattle.lease_laws.proofs.Words.{file_asked, granted_form_of, has_file, has_lease, held_of, inl, inr, is_behind}
+use Rattle.lease_laws.proofs.Words.{is_left_open, is_state_within, key_of, lease_after, lease_given, lease_put, map, may_read}
+use Rattle.lease_laws.proofs.Words.{needs_acknowledgment, new_open, own_key, put, refl, refusal_of, served, standing_lease}
+use Rattle.lease_laws.proofs.Words.{subst, sym, true, with_lease, with_opens, without}
+use Rattle.lease_laws.proofs.Words.{Lane, as_held}
 use Rattle.lease_state.specs.Content.{patch as patched}
-use Rattle.lease_coherence.proofs.moves.Moves.{IsNext, IsOldest, popped, moved}
-use Rattle.lease_laws.proofs.server.cases.Judgements.{IsRefusedAck, ack_fault, any_judgement}
 use Rattle.lease_laws.proofs.server.StepLeases.{held_left-serves}
 use Rattle.lease_laws.proofs.server.cases.Ends.{IsLeft, any_end}
+use Rattle.lease_laws.proofs.server.cases.Judgements.{IsRefusedAck, ack_fault, any_judgement}
+use Rattle.lease_coherence.proofs.moves.Moves.{IsNext, IsOldest, moved, popped}
 
 -- ---- where a request that is answered comes from
 
@@ -23,20 +22,22 @@ abbrev pub with_held : World → ℕ → List Held → World
 with_held world file left =
     record world { server = record world.server { held = put world.server.held file left } }
 
--- it is the oldest of its client, with no earlier one held on its file
+-- it is the oldest of its client, and waits behind none that is held on its file
 pub record HasArrived (world : World) (off : World) (client : ℕ) (request : FileRequest) : Type 0 where
   pub oldest : IsOldest world client (Request.OnFile request)
   pub is_off : off ≡ popped world client
-  pub in_turn : (file : ℕ) → file_asked world.server client request ≡ Ok file → is_behind client (world.server.held file) ≡ false
+  pub in_turn : (file : ℕ) → file_asked world.server client request ≡ Ok file
+      → is_behind world.server.rules (as_held world.server client request) (world.server.held file) ≡ false
 
--- or the first of its client that is held on a file
+-- or is held on a file, and waits behind none
 pub record WasHeld (world : World) (off : World) (client : ℕ) (request : FileRequest) : Type 0 where
   pub file : ℕ
   pub before : List Held
   pub behind : List Held
-  pub held : world.server.held file ≡ before ++ held_of client request ∷ behind
+  pub lane : Lane
+  pub held : world.server.held file ≡ before ++ held_of client request lane ∷ behind
   pub is_off : off ≡ with_held world file (before ++ behind)
-  pub in_turn : is_behind client before ≡ false
+  pub in_turn : is_behind world.server.rules (held_of client request lane) before ≡ false
 
 -- `off` is the world in which it is taken off
 pub record IsSource (world : World) (off : World) (client : ℕ) (request : FileRequest) : Type 0 where
@@ -249,6 +250,7 @@ step_deed world P h (SmallStep.AnswerHeld file before one behind outcome) next =
         file = file;
         before = before;
         behind = behind;
+        lane = one.lane;
         held = next.guarded.0;
         is_off = refl;
         in_turn = next.in_turn;

@@ -1,21 +1,22 @@
 -- What the moves of worlds keep, every event keeps.
-use Rattle.lease_laws.proofs.Words.{◌∙◌, ◌∷◌, ◌≡◌, Bool, Call, ClientCall, Command, Event, Fact, IsOnline, IsSoundClient, IsTied}
-use Rattle.lease_laws.proofs.Words.{Link, List, Progress, Reply, Request, Server, Setup, SmallStep, WaitsWell, World, ℕ, ⊤, []}
-use Rattle.lease_laws.proofs.Words.{after, all_delivered, ap, begun, breaking, call_begun, called, client_called}
-use Rattle.lease_laws.proofs.Words.{client_forgotten, commanded, connection_made, false, first_world, happened, has_file, has_key}
-use Rattle.lease_laws.proofs.Words.{has_strayed, if◌then◌else◌, is_breaking, is_left_behind, is_lost, is_up, joined}
+use Rattle.lease_laws.proofs.Words.{◌∙◌, ◌∷◌, ◌≡◌, Bool, Call, ClientCall, Command, Event, Fact, IsOnline, IsSoundClient}
+use Rattle.lease_laws.proofs.Words.{IsTied, Link, List, Progress, Reply, Request, Server, Setup, SmallStep, WaitsWell, World, ℕ}
+use Rattle.lease_laws.proofs.Words.{[], ⊤, after, all_delivered, ap, begun, breaking, call_begun, called, client_called}
+use Rattle.lease_laws.proofs.Words.{client_forgotten, commanded, connection_made, false, first_world_under, happened, has_file}
+use Rattle.lease_laws.proofs.Words.{has_key, has_strayed, if◌then◌else◌, is_breaking, is_left_behind, is_lost, is_up, joined}
 use Rattle.lease_laws.proofs.Words.{key_expired, list_any, machine_key, noticed, opens_disconnected, opens_dropped, own_steps}
 use Rattle.lease_laws.proofs.Words.{put, receive, refl, requests_sent, served, stepped_in, steps_taken, subst, sym, taken, true}
+use Rattle.lease_laws.proofs.Words.{Rules}
 use Rattle.lease_laws.proofs.server.Lists.{if_cases}
 use Rattle.lease_laws.proofs.server.Orderly.{IsFine}
-use Rattle.lease_laws.proofs.server.StepCalls.{called-steps, call_begun-silent}
+use Rattle.lease_laws.proofs.server.StepCalls.{call_begun-silent, called-steps}
+use Rattle.lease_laws.proofs.server.cases.Calls.{joins}
 use Rattle.lease_laws.proofs.world.FileIds.{IsCounted, IsCountedWorld, counted_kept, first_counted}
 use Rattle.lease_laws.proofs.world.Kept.{kept_forms}
-pub use Rattle.lease_laws.proofs.world.cases.Events.{Both}
 use Rattle.lease_laws.proofs.world.cases.Events.{HasForms, IsTold, Keeps, KeepsWhere, both_forms, call_served, kept_by_run}
 use Rattle.lease_laws.proofs.world.cases.Events.{link_lost, link_made}
-use Rattle.lease_laws.proofs.server.cases.Calls.{joins}
-use Rattle.lease_coherence.proofs.moves.Moves.{IsNext, rest_of, moved, popped, steps_keep, none_due, once_due}
+use Rattle.lease_coherence.proofs.moves.Moves.{IsNext, moved, none_due, once_due, popped, rest_of, steps_keep}
+pub use Rattle.lease_laws.proofs.world.cases.Events.{Both}
 
 -- What is known at every point: the server is sound and in order, FileIds are as the record counts them, links
 -- are as the server and the clients have them, and clients are sound.
@@ -272,5 +273,5 @@ after_moves V ground k world events c v =
 
 -- what the moves keep, every run has
 pub runs_have : (V : World → Type 0) → ((world : World) → V world → Ground world) → IsCarried V
-    → (setup : Setup) → V (first_world setup) → (events : List Event) → V (after (first_world setup) events)
-runs_have V ground k setup v events = after_moves V ground k (first_world setup) events (first_counted setup) v
+    → (rules : Rules) (setup : Setup) → V (first_world_under rules setup) → (events : List Event) → V (after (first_world_under rules setup) events)
+runs_have V ground k rules setup v events = after_moves V ground k (first_world_under rules setup) events (first_counted rules setup) v

@@ -2,21 +2,21 @@
 -- leases. So what is said of one client has to be shown for its own moves alone.
 use Rattle.lease_laws.proofs.Words.{◌++◌, ◌==◌, ◌||◌, ◌∙◌, ◌∷◌, ◌≡◌, ◌≢◌, Access, Among, Bool, CachesAlone, CreateAsk, Fact}
 use Rattle.lease_laws.proofs.Words.{FileRequest, Held, IsFree, IsGivenUp, IsLawful, IsSound, Key, Lease, LeaseOf, List, None}
-use Rattle.lease_laws.proofs.Words.{Open, Option, Patch, Reply, Server, Share, Some, State, World, ℕ, ⊎_elim, [], ap, eqb-true}
+use Rattle.lease_laws.proofs.Words.{Open, Option, Patch, Reply, Server, Share, Some, State, World, ℕ, [], ⊎_elim, ap, eqb-true}
 use Rattle.lease_laws.proofs.Words.{false, filter, has_key, has_own_key, held_of, if◌then◌else◌, inl, inr, is_key}
 use Rattle.lease_laws.proofs.Words.{is_state_within, key_of, key_under, lease_put, list_any, map, new_open, no_lease, not}
 use Rattle.lease_laws.proofs.Words.{nothing_cached, own_key, put, refl, subst, sym, true, true≢false, with_opens, without}
 use Rattle.lease_laws.proofs.client.Thin.{put_other}
 use Rattle.lease_laws.proofs.server.Keys.{put_key-cases}
-use Rattle.lease_laws.proofs.server.Lists.{if_cases, clash, and_parts, not_true, among_append, among_before, among_filter}
-use Rattle.lease_laws.proofs.server.Lists.{among_filtered, among_map, any_has, has_any}
+use Rattle.lease_laws.proofs.server.Lists.{among_append, among_before, among_filter, among_filtered, among_map, and_parts}
+use Rattle.lease_laws.proofs.server.Lists.{any_has, clash, has_any, if_cases, not_true}
 use Rattle.lease_coherence.specs.Creates.{held_by}
-use Rattle.lease_coherence.proofs.moves.Deeds.{IsSource, with_held, told_to, granted_in, changed_in, without_opens, leased_in}
-use Rattle.lease_coherence.proofs.moves.Events.{not_chosen, Ground}
+use Rattle.lease_coherence.proofs.moves.Deeds.{IsSource, changed_in, granted_in, leased_in, told_to, with_held, without_opens}
+use Rattle.lease_coherence.proofs.moves.Events.{Ground, not_chosen}
 use Rattle.lease_coherence.proofs.moves.Moves.{popped}
-use Rattle.lease_coherence.proofs.moves.Spared.{IsSpared, HasNoWriter, HasNoReader, ends_by, ends_as, spared_same, spared_then}
-use Rattle.lease_coherence.proofs.moves.Spared.{spared_fact, spared_two}
-use Rattle.lease_coherence.proofs.records.Later.{IsLater, later_same, later_then, later_fact, later_two}
+use Rattle.lease_coherence.proofs.moves.Spared.{HasNoReader, HasNoWriter, IsSpared, ends_as, ends_by, spared_fact, spared_same}
+use Rattle.lease_coherence.proofs.moves.Spared.{spared_then, spared_two}
+use Rattle.lease_coherence.proofs.records.Later.{IsLater, later_fact, later_same, later_then, later_two}
 
 -- a key's client is that of its open
 pub key_client : (key : Key) (one : Open) → has_key key one ≡ true → key.client ≡ one.client
@@ -215,7 +215,7 @@ pub unmoved_off : (world off : World) (client : ℕ) (request : FileRequest) (c 
 unmoved_off world off client request c source ne = ⊎_elim
     (λ a. subst (λ o. IsUnmoved world o c) (sym a.is_off) (unmoved_popped world client c ne))
     (λ h. subst (λ o. IsUnmoved world o c) (sym h.is_off) (unmoved_held world h.file (h.before ++ h.behind) c
-    (filter_off (λ one. one.client == c) h.before h.behind (held_of client request) (apart client c ne)
+    (filter_off (λ one. one.client == c) h.before h.behind (held_of client request h.lane) (apart client c ne)
     ∙ ap (held_by c) (sym h.held)))) source.from
 
 -- the server of the part from which a request was taken off is known as the whole one is

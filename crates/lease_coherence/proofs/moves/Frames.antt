@@ -1,6 +1,6 @@
 -- What moves leave alone, in words that every part of the theorem uses.
 use Rattle.lease_laws.proofs.Words.{◌++◌, ◌∷◌, ◌≡◌, FileRequest, Held, Lease, LeaseOf, List, None, Note, Option, Server, Some}
-use Rattle.lease_laws.proofs.Words.{Step, World, ℕ, ⊎_elim, [], fact_of, happened, lease_put, noted, put, refl, requests_sent}
+use Rattle.lease_laws.proofs.Words.{Step, World, ℕ, [], ⊎_elim, fact_of, happened, lease_put, noted, put, refl, requests_sent}
 use Rattle.lease_laws.proofs.Words.{sent_over, stepped_in, subst, sym}
 use Rattle.lease_coherence.proofs.moves.Deeds.{IsSource, with_held}
 use Rattle.lease_coherence.proofs.moves.Moves.{popped}

@@ -1,37 +1,36 @@
 -- What is known at every point of a run is kept by every move.
-use Rattle.lease_laws.proofs.world.Links.{all_tied, by_client, carried, first_linked, relinked, sent_tied, served_links}
-use Rattle.lease_laws.proofs.world.Links.{stepped_online, stepped_tied, told_tied}
 use Rattle.lease_laws.proofs.Words.{◌++◌, ◌+◌, ◌==◌, ◌∙◌, ◌∷◌, ◌≡◌, ◌≢◌, ◌⊎◌, Among, Call, Client, ClientCall, Command, EachOut}
 use Rattle.lease_laws.proofs.Words.{Fact, Held, IsGuarded, IsInTurn, IsOnline, IsSoundClient, IsTied, IsToPresent, Link, List}
-use Rattle.lease_laws.proofs.Words.{Note, Out, Progress, Reply, Request, Server, Setup, SmallStep, World, ℕ, ⊎_elim, []}
-use Rattle.lease_laws.proofs.Words.{acknowledged, ap, arith, begun, breaking, call_begun, client_called}
-use Rattle.lease_laws.proofs.Words.{commanded, concluded, eq-eqb, eqb-true, fact_of, false}
-use Rattle.lease_laws.proofs.Words.{first_world, happened, held_left, inl, inr, is_down, is_left_behind, is_served, is_up}
-use Rattle.lease_laws.proofs.Words.{length, machine_key, not, noted}
-use Rattle.lease_laws.proofs.Words.{put, refl, requests_sent, sendings, step_taken}
-use Rattle.lease_laws.proofs.Words.{stepped_in, subst, sym, takings, true}
-use Rattle.lease_laws.proofs.client.Entries.{first_entries, called_entries}
+use Rattle.lease_laws.proofs.Words.{Note, Out, Progress, Reply, Request, Server, Setup, SmallStep, World, ℕ, [], ⊎_elim}
+use Rattle.lease_laws.proofs.Words.{acknowledged, ap, arith, begun, breaking, call_begun, client_called, commanded, concluded}
+use Rattle.lease_laws.proofs.Words.{eq-eqb, eqb-true, fact_of, false, first_world_under, happened, held_left, inl, inr, is_down}
+use Rattle.lease_laws.proofs.Words.{is_left_behind, is_served, is_up, length, machine_key, not, noted, put, refl, requests_sent}
+use Rattle.lease_laws.proofs.Words.{sendings, step_taken, stepped_in, subst, sym, takings, true}
+use Rattle.lease_laws.proofs.Words.{Rules}
+use Rattle.lease_laws.proofs.client.Entries.{called_entries, first_entries}
 use Rattle.lease_laws.proofs.client.Forms.{commanded-stays, taken-stays}
-use Rattle.lease_laws.proofs.client.InFiles.{first_in_files, called_in_files}
-use Rattle.lease_laws.proofs.client.Numbers.{first_numbers, called_numbers}
-use Rattle.lease_laws.proofs.client.Thin.{put_same, put_other}
-use Rattle.lease_laws.proofs.server.Arrivals.{asked_well, acknowledged-held}
+use Rattle.lease_laws.proofs.client.InFiles.{called_in_files, first_in_files}
+use Rattle.lease_laws.proofs.client.Numbers.{called_numbers, first_numbers}
+use Rattle.lease_laws.proofs.client.Thin.{put_other, put_same}
+use Rattle.lease_laws.proofs.server.Arrivals.{acknowledged-held, asked_well}
 use Rattle.lease_laws.proofs.server.Calls.{joined-sound}
 use Rattle.lease_laws.proofs.server.Held.{concluded-held}
-use Rattle.lease_laws.proofs.server.Lists.{if_cases, clash, among_append, among_filter}
-use Rattle.lease_laws.proofs.server.Orderly.{IsFine, IsHeldWell, held_well, same_well, orderly_goes}
+use Rattle.lease_laws.proofs.server.Lists.{among_append, among_filter, clash, if_cases}
+use Rattle.lease_laws.proofs.server.Orderly.{IsFine, IsHeldWell, held_well, orderly_goes, same_well}
 use Rattle.lease_laws.proofs.server.PassWaits.{among_more}
-use Rattle.lease_laws.proofs.server.StepKeeps.{step-sound, step-goes}
-use Rattle.lease_laws.proofs.server.StepOuts as outs
-use Rattle.lease_laws.proofs.server.WaitCalls.{joined-orderly, cut-fine, expired-fine, dropped-fine}
-use Rattle.lease_laws.proofs.world.FileIds.{IsCounted, all_delivered_past, begun_counted, first_counted, note_same, same_counted}
-use Rattle.lease_laws.proofs.world.FileIds.{step_counted, told, world_fact_same}
-use Rattle.lease_laws.proofs.world.Kept.{IsOfWorld, served-server, served-clients, told_of_world}
+use Rattle.lease_laws.proofs.server.StepKeeps.{step-goes, step-sound}
+use Rattle.lease_laws.proofs.server.WaitCalls.{cut-fine, dropped-fine, expired-fine, joined-orderly}
+use Rattle.lease_laws.proofs.world.FileIds.{IsCounted, all_delivered_past, begun_counted, first_counted, note_same}
+use Rattle.lease_laws.proofs.world.FileIds.{same_counted, step_counted, told, world_fact_same}
+use Rattle.lease_laws.proofs.world.Kept.{IsOfWorld, served-clients, served-server, told_of_world}
+use Rattle.lease_laws.proofs.world.Links.{all_tied, by_client, carried, first_linked, relinked, sent_tied, served_links}
+use Rattle.lease_laws.proofs.world.Links.{stepped_online, stepped_tied, told_tied}
+use Rattle.lease_laws.proofs.world.Runs.{stepped_clients, stepped_server}
 use Rattle.lease_laws.proofs.world.cases.Events.{IsTold}
-use Rattle.lease_laws.proofs.world.Runs.{stepped_server, stepped_clients}
+use Rattle.lease_laws.proofs.server.StepOuts as outs
 use Rattle.lease_coherence.proofs.moves.Events.{Ground, IsCarried, Move, chosen, come_back, connected, cut_off, left_behind}
 use Rattle.lease_coherence.proofs.moves.Events.{noticed_by, reply_gone, reply_taken, strayed, timed_out}
-use Rattle.lease_coherence.proofs.moves.Moves.{IsNext, rest_of, popped, taken_off, moved}
+use Rattle.lease_coherence.proofs.moves.Moves.{IsNext, moved, popped, rest_of, taken_off}
 
 -- ---- steps of the server
 
@@ -71,7 +70,8 @@ step_well (SmallStep.Hold file one) progress f may turn = λ at x a. ⊎_elim
     (λ old. held_well progress.server at x f.orderly (subst (λ n. Among x (progress.server.held n)) (sym new.0) old))
     (λ last. ⊎_elim
     (λ same. subst (λ n. IsHeldWell progress.server n x) (sym new.0) (subst (IsHeldWell progress.server file) (sym same)
-    (asked_well one.client one.request progress f may.0 file turn)))
+    (let well = asked_well one.client one.request progress f may.0 file turn.0 in
+    record { up = well.up; on_file = well.on_file; about = well.about })))
     (λ none. absurd none) last) (among_append x (progress.server.held file) (one ∷ []) new.1))
     (among_put progress.server.held file (progress.server.held file ++ one ∷ []) at x a)
 step_well step progress f may turn = λ at x a. held_well progress.server at x f.orderly a
@@ -355,13 +355,13 @@ ground_carried world (Move.Take client reply queue) first g = take_ground world 
 ground_carried world (Move.Notice client) cut g = notice_ground world client g cut
 ground_carried world (Move.Stray client request) up g = stray_ground world client request g
 
-pub first_ground : (setup : Setup) → Ground (first_world setup)
-unfolding first_world
-first_ground setup = record {
-  fine = record { sound = (first_linked setup).sound; orderly = ((first_linked setup).waits).is_orderly };
-  counted = (first_counted setup).counted;
-  tied = (first_linked setup).tied;
-  online = (first_linked setup).online;
+pub first_ground : (rules : Rules) (setup : Setup) → Ground (first_world_under rules setup)
+unfolding first_world_under
+first_ground rules setup = record {
+  fine = record { sound = (first_linked rules setup).sound; orderly = ((first_linked rules setup).waits).is_orderly };
+  counted = (first_counted rules setup).counted;
+  tied = (first_linked rules setup).tied;
+  online = (first_linked rules setup).online;
   clients = λ client. record {
     entries = first_entries _ _;
     in_files = first_in_files _ _;

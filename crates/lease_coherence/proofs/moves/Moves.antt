@@ -1,7 +1,7 @@
 -- Worlds move: the server takes its small steps one by one, and what each gives out is delivered at once. The
 -- request that comes stands in its queue until the step that answers, holds or judges it.
 use Rattle.lease_laws.proofs.Words.{◌++◌, ◌∙◌, ◌∷◌, ◌≡◌, AreGuarded, AreInTurn, AreOf, Call, IsGuarded, IsInTurn, List, Out}
-use Rattle.lease_laws.proofs.Words.{Progress, Request, Server, SmallStep, World, ℕ, ⊤, [], all_delivered, ap, arith, begun}
+use Rattle.lease_laws.proofs.Words.{Progress, Request, Server, SmallStep, World, ℕ, [], ⊤, all_delivered, ap, arith, begun}
 use Rattle.lease_laws.proofs.Words.{delivered, own_count, put, refl, served, step_taken, steps_taken, subst, suc, sym}
 use Rattle.lease_laws.proofs.world.Kept.{served-server}
 use Rattle.lease_coherence.proofs.moves.Shift.{step_follows}

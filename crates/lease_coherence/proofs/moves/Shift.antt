@@ -1,10 +1,7 @@
 -- A step of the server doesn't look at what was given out before it: it appends its own outs.
-use Rattle.lease_laws.proofs.Words.{◌++◌, ◌∙◌, ◌∷◌, ◌≡◌, FileRequest, LeaseOf, List}
-use Rattle.lease_laws.proofs.Words.{Option, Out, Outcome, Progress, Reply, SmallStep, ℕ, []}
-use Rattle.lease_laws.proofs.Words.{acknowledged, ap, begun, concluded}
-use Rattle.lease_laws.proofs.Words.{held_left}
-use Rattle.lease_laws.proofs.Words.{refl, replied, step_taken, sym}
-use Rattle.lease_laws.proofs.Words.{subst}
+use Rattle.lease_laws.proofs.Words.{◌++◌, ◌∙◌, ◌∷◌, ◌≡◌, FileRequest, LeaseOf, List, Option, Out, Outcome, Progress, Reply}
+use Rattle.lease_laws.proofs.Words.{SmallStep, ℕ, [], acknowledged, ap, begun, concluded, held_left, refl, replied, step_taken}
+use Rattle.lease_laws.proofs.Words.{subst, sym}
 use Rattle.lease_laws.proofs.server.cases.Ends.{any_end, ends_again, ends_changed, ends_closed, ends_full, ends_granted}
 use Rattle.lease_laws.proofs.server.cases.Ends.{ends_left, ends_read}
 use Rattle.lease_laws.proofs.server.cases.Judgements.{any_judgement, ends_break, is_refused}

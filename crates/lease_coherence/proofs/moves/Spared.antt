@@ -1,9 +1,10 @@
 -- What others do, in a client's eyes: nothing that is sent to it or taken by it, no write of it, no open or change of a
 -- file whose writes it caches, and no change of a file that it reads from its cache.
 use Rattle.lease_laws.proofs.Words.{◌&&◌, ◌==◌, ◌||◌, ◌∙◌, ◌∷◌, ◌≡◌, ◌≢◌, Among, Bool, Fact, Key, Lease, List, None, Note, Open}
-use Rattle.lease_laws.proofs.Words.{Option, Patch, Some, State, ℕ, ⊤, [], ap, content_of, eqb-true, fact_of, false, has_buffered}
-use Rattle.lease_laws.proofs.Words.{has_key, has_written, is_touched, not, refl, same_patch, sendings, sym, takings, true}
-use Rattle.lease_laws.proofs.server.Lists.{either, clash, not_true}
+use Rattle.lease_laws.proofs.Words.{Option, Patch, Some, State, ℕ, [], ⊤, ap, content_of, eqb-true, fact_of, false}
+use Rattle.lease_laws.proofs.Words.{has_buffered, has_key, has_written, is_touched, not, refl, same_patch, sendings, sym}
+use Rattle.lease_laws.proofs.Words.{takings, true}
+use Rattle.lease_laws.proofs.server.Lists.{clash, either, not_true}
 use Rattle.lease_coherence.specs.Agreement.{touched_since_lost}
 use Rattle.lease_coherence.proofs.records.Later.{past_noted}
 

@@ -1,30 +1,26 @@
 -- What a client's step names is in the record already, and a write that it settles as done was accepted.
 use Rattle.lease_laws.proofs.Words.{◌++◌, ◌==◌, ◌∷◌, ◌≡◌, Answer, Asked, Bool, BreakNotice, Client, ClientCall, Entry, Fact}
 use Rattle.lease_laws.proofs.Words.{FileRequest, List, LiveEntry, None, Note, OpenTerms, Option, Parted, Patch, Pending, Phase}
-use Rattle.lease_laws.proofs.Words.{Reply, Request, Settlement, Some, State, Step, Turn, ℕ, ⊤, [], acknowledgment, all_turned}
-use Rattle.lease_laws.proofs.Words.{belief_of, believes_noted, bytes_eq, bytes_eq-Decides}
-use Rattle.lease_laws.proofs.Words.{client_called, connect_turn, create_request, eq-eqb, false}
-use Rattle.lease_laws.proofs.Words.{find, first_belief, flat_map, flushed, gives_up, has_written, if◌then◌else◌}
-use Rattle.lease_laws.proofs.Words.{is_accepted, is_key_of, is_numbered, joint_terms, lease_key, meet, next_write, notice_turn}
-use Rattle.lease_laws.proofs.Words.{numbers_to, phase_with, promoted_belief}
-use Rattle.lease_laws.proofs.Words.{put, reconnect_request, refl, same_patch}
-use Rattle.lease_laws.proofs.Words.{same_state, sent_without, settled_as, silent_turn, subst, sym, true, turned, unflushed}
-use Rattle.lease_laws.proofs.Words.{was_opened, without_open, write_requests}
-use Rattle.lease_laws.proofs.Words.{wrote_step}
-use Rattle.lease_laws.proofs.client.Thin.{put_same, put_other}
-use Rattle.lease_laws.proofs.server.Lists.{if_cases, true_or, and_both}
+use Rattle.lease_laws.proofs.Words.{Reply, Request, Settlement, Some, State, Step, Turn, ℕ, [], ⊤, acknowledgment, all_turned}
+use Rattle.lease_laws.proofs.Words.{belief_of, believes_noted, bytes_eq, bytes_eq-Decides, client_called, connect_turn}
+use Rattle.lease_laws.proofs.Words.{create_request, eq-eqb, false, find, first_belief, flat_map, flushed, gives_up, has_written}
+use Rattle.lease_laws.proofs.Words.{if◌then◌else◌, is_accepted, is_key_of, is_numbered, joint_terms, lease_key, meet}
+use Rattle.lease_laws.proofs.Words.{next_write, notice_turn, numbers_to, phase_with, promoted_belief, put, reconnect_request}
+use Rattle.lease_laws.proofs.Words.{refl, same_patch, same_state, sent_without, settled_as, silent_turn, subst, sym, true}
+use Rattle.lease_laws.proofs.Words.{turned, unflushed, was_opened, without_open, write_requests, wrote_step}
+use Rattle.lease_laws.proofs.client.Thin.{put_other, put_same}
+use Rattle.lease_laws.proofs.client.cases.Commands.{HasCommands, any_command, sent_of}
+use Rattle.lease_laws.proofs.client.cases.Files.{found_so}
+use Rattle.lease_laws.proofs.client.cases.Links.{HasNotices, any_notice}
+use Rattle.lease_laws.proofs.client.cases.Replies.{HasTakes, any_reply}
+use Rattle.lease_laws.proofs.client.cases.Turns.{by_turn, step_of}
+use Rattle.lease_laws.proofs.server.Lists.{and_both, if_cases, true_or}
 use Rattle.lease_laws.proofs.world.Links.{by_client}
 use Rattle.lease_coherence.specs.Names.{Each, IsNamedEntry, IsNamedPhase, IsNamedReply, IsNamedRequest, WasWritten}
-use Rattle.lease_laws.proofs.client.cases.Commands.{HasCommands, any_command, sent_of}
-use Rattle.lease_laws.proofs.client.cases.Replies.{HasTakes, any_reply}
-use Rattle.lease_laws.proofs.client.cases.Files.{found_so}
-use Rattle.lease_coherence.proofs.names.NamedInRecord.{each_append, each_filter, each_without, each_either, request_later}
-use Rattle.lease_coherence.proofs.names.NamedInRecord.{writes_later}
-use Rattle.lease_coherence.proofs.names.NamedInRecord.{entry_later}
+use Rattle.lease_coherence.proofs.names.NamedInRecord.{each_append, each_either, each_filter, each_without, entry_later}
+use Rattle.lease_coherence.proofs.names.NamedInRecord.{request_later, writes_later}
 use Rattle.lease_coherence.proofs.records.Later.{IsLater, later_fact, later_noted, past_noted}
 use Rattle.lease_coherence.proofs.wellformed.Notes.{EachNote, notes_append}
-use Rattle.lease_laws.proofs.client.cases.Links.{HasNotices, any_notice}
-use Rattle.lease_laws.proofs.client.cases.Turns.{by_turn, step_of}
 
 -- a write that is settled as done was accepted
 abbrev pub IsTrueDone : ℕ → List Fact → Note → Type 0

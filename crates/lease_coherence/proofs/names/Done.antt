@@ -1,32 +1,34 @@
 -- Every move keeps what clients name, and so no write is settled as done that wasn't accepted.
 use Rattle.lease_laws.proofs.Words.{◌+◌, ◌==◌, ◌∙◌, ◌∷◌, ◌≡◌, ◌≢◌, Among, Client, ClientCall, EachFact, Event, Fact, Link, List}
 use Rattle.lease_laws.proofs.Words.{NoFalseDone, Note, Open, Out, Reply, Request, Server, Settlement, Setup, SmallStep, Step}
-use Rattle.lease_laws.proofs.Words.{World, ℕ, [], after, ap, arith, begun, client_called}
-use Rattle.lease_laws.proofs.Words.{disconnected, false, first_world, happened, has_key, has_strayed}
-use Rattle.lease_laws.proofs.Words.{is_left_behind, is_lost, machine_key, new_client, new_server, not}
-use Rattle.lease_laws.proofs.Words.{put, refl, reverse-reverse}
-use Rattle.lease_laws.proofs.Words.{reverse_aux, sent_over, starts_from, step_taken, stepped_in, subst, sym, true}
-use Rattle.lease_laws.proofs.Words.{without}
+use Rattle.lease_laws.proofs.Words.{World, ℕ, [], after, ap, arith, begun, client_called, disconnected, false, first_world_under}
+use Rattle.lease_laws.proofs.Words.{happened, has_key, has_strayed, is_left_behind, is_lost, machine_key, new_client}
+use Rattle.lease_laws.proofs.Words.{new_server_under, not, put, refl, reverse-reverse, reverse_aux, sent_over, starts_from}
+use Rattle.lease_laws.proofs.Words.{step_taken, stepped_in, subst, sym, true, without}
+use Rattle.lease_laws.proofs.Words.{Rules}
 use Rattle.lease_laws.proofs.client.Forms.{commanded-stays, taken-stays}
-use Rattle.lease_laws.proofs.client.Thin.{put_same, put_other}
-use Rattle.lease_laws.proofs.server.Lists.{if_cases, clash, among_filter, among_map}
+use Rattle.lease_laws.proofs.client.Thin.{put_other, put_same}
+use Rattle.lease_laws.proofs.server.Lists.{among_filter, among_map, clash, if_cases}
 use Rattle.lease_laws.proofs.world.FileIds.{told}
 use Rattle.lease_laws.proofs.world.Links.{by_client}
-use Rattle.lease_laws.proofs.world.Runs.{stepped_server, stepped_clients}
-use Rattle.lease_coherence.specs.Names.{Each, IsNamed, IsNamedAt, IsNamedEntry, IsNamedOnFile, IsNamedReply, IsNamedRequest}
-use Rattle.lease_coherence.specs.Names.{IsOwnOpen}
-use Rattle.lease_coherence.specs.Parts.{NothingIsFalselyDone}
+use Rattle.lease_laws.proofs.world.Runs.{stepped_clients, stepped_server}
 use Rattle.lease_laws.proofs.world.cases.Events.{IsTold}
+use Rattle.lease_coherence.specs.Names.{Each, IsNamed, IsNamedAt, IsNamedEntry, IsNamedReply, IsNamedRequest}
+use Rattle.lease_coherence.specs.Names.{IsOwnOpen}
+use Rattle.lease_coherence.specs.Names.{IsNamedHeld}
+use Rattle.lease_coherence.specs.Parts.{NothingIsFalselyDone}
 use Rattle.lease_coherence.proofs.moves.Deeds.{step_deed}
 use Rattle.lease_coherence.proofs.moves.Events.{Both, Ground, IsMoved, Move, carried_both, come_back, cut_off, left_behind}
 use Rattle.lease_coherence.proofs.moves.Events.{reply_gone, runs_have, strayed, timed_out}
-use Rattle.lease_coherence.proofs.moves.Frames.{stepped_past, stepped_requests, stepped_replies}
-use Rattle.lease_coherence.proofs.moves.Ground.{ground_carried, first_ground, moved_past}
+use Rattle.lease_coherence.proofs.moves.Frames.{stepped_past, stepped_replies, stepped_requests}
+use Rattle.lease_coherence.proofs.moves.Ground.{first_ground, ground_carried, moved_past}
 use Rattle.lease_coherence.proofs.moves.Moves.{IsNext, moved}
 use Rattle.lease_coherence.proofs.names.Clients.{IsCallNamed, IsTrueDone, call_named}
-use Rattle.lease_coherence.proofs.names.Names.{at_later, replies_later, deeds_named}
-use Rattle.lease_coherence.proofs.names.NamedInRecord.{each_append, each_weaker, request_later, on_file_later}
-use Rattle.lease_coherence.proofs.records.Later.{IsLater, later_same, later_then, later_fact, later_told, later_noted, past_noted}
+use Rattle.lease_coherence.proofs.names.NamedInRecord.{each_append, each_weaker, request_later}
+use Rattle.lease_coherence.proofs.names.Names.{at_later, deeds_named, replies_later}
+use Rattle.lease_coherence.proofs.names.Names.{held_later}
+use Rattle.lease_coherence.proofs.records.Later.{IsLater, later_fact, later_noted, later_same, later_then, later_told}
+use Rattle.lease_coherence.proofs.records.Later.{past_noted}
 use Rattle.lease_coherence.proofs.wellformed.Notes.{EachNote}
 
 -- ---- names over the other moves
@@ -65,9 +67,9 @@ here_named world client call same named n =
           (each_weaker (IsNamedRequest client machine.guid world.past) (IsNamedRequest client machine.guid new)
           (world.requests client)
           (λ request r. request_later client machine.guid world.past new later request r) n.requests) s.requests))));
-      held = λ file one a own. subst (λ p. IsNamedOnFile client (next.clients client).guid p one.request) past
-          (subst (λ g. IsNamedOnFile client g new one.request) guid
-          (on_file_later client machine.guid world.past new later one.request
+      held = λ file one a own. subst (λ p. IsNamedHeld client (next.clients client).guid p file one) past
+          (subst (λ g. IsNamedHeld client g new file one) guid
+          (held_later client machine.guid world.past new later file one
           (n.held file one (subst (λ (x : Server). Among one (x.held file)) (sym server) a) own)));
       opens = λ one a own. subst (λ g. IsOwnOpen g one) guid
           (n.opens one (subst (λ (x : Server). Among one x.opens) (sym server) a) own);
@@ -295,9 +297,9 @@ unfolding starts_from
 starts_true first [] past each = each
 starts_true first (bytes ∷ files) past each = starts_true (first + 1) files (Fact.Start first bytes ∷ past) (tt, each)
 
-pub first_true : (setup : Setup) → HasTrueNames (first_world setup)
-unfolding first_world new_server new_client
-first_true setup = (
+pub first_true : (rules : Rules) (setup : Setup) → HasTrueNames (first_world_under rules setup)
+unfolding first_world_under new_server_under new_client
+first_true rules setup = (
   λ c good. record {
     requests = tt;
     held = λ file one a own. absurd a;
@@ -308,10 +310,10 @@ first_true setup = (
   starts_true 1 setup.files [] tt,
 )
 
-pub run_true : (setup : Setup) (events : List Event) → Both Ground HasTrueNames (after (first_world setup) events)
-run_true setup events = runs_have (Both Ground HasTrueNames) (λ world both. both.0)
-    (carried_both Ground HasTrueNames ground_carried true_moves) setup (first_ground setup, first_true setup) events
+pub run_true : (rules : Rules) (setup : Setup) (events : List Event) → Both Ground HasTrueNames (after (first_world_under rules setup) events)
+run_true rules setup events = runs_have (Both Ground HasTrueNames) (λ world both. both.0)
+    (carried_both Ground HasTrueNames ground_carried true_moves) rules setup (first_ground rules setup, first_true rules setup) events
 
 pub nothing_is_falsely_done : NothingIsFalselyDone
-nothing_is_falsely_done setup events allowed = let names = (run_true setup events).1 in
-    subst (EachFact NoFalseDone) (sym (reverse-reverse (after (first_world setup) events).past)) names.1
+nothing_is_falsely_done rules setup events allowed = let names = (run_true rules setup events).1 in
+    subst (EachFact NoFalseDone) (sym (reverse-reverse (after (first_world_under rules setup) events).past)) names.1

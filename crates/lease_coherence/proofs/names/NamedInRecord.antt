@@ -1,10 +1,16 @@
 -- Names: FileIds, lease keys and numbers of writes, as the messages, the opens and the entries of a client have them,
 -- compared with the record.
 use Rattle.lease_laws.proofs.Words.{◌++◌, ◌+◌, ◌==◌, ◌∙◌, ◌∷◌, ◌≡◌, ◌≤◌, Bool, Entry, Fact, FileRequest, List, None, Pending}
-use Rattle.lease_laws.proofs.Words.{Phase, Reply, Request, Some, ℕ, ⊎_elim, [], arith, eqb-true, false, filter, if◌then◌else◌}
+use Rattle.lease_laws.proofs.Words.{Phase, Reply, Request, Some, ℕ, [], ⊎_elim, arith, eqb-true, false, filter, if◌then◌else◌}
 use Rattle.lease_laws.proofs.Words.{opened_count, sent_without, sym, true, true≢false, was_opened}
-use Rattle.lease_laws.proofs.server.Lists.{if_cases, and_parts, or_true}
-use Rattle.lease_coherence.specs.Names.{Each, IsNamedEntry, IsNamedOnFile, IsNamedPhase, IsNamedReply, IsNamedRequest, WasWritten}
+use Rattle.lease_laws.proofs.Words.{Among}
+use Rattle.lease_laws.proofs.Words.{inl}
+use Rattle.lease_laws.proofs.Words.{inr}
+use Rattle.lease_laws.proofs.server.Lists.{and_parts, if_cases, or_true}
+use Rattle.lease_laws.proofs.server.Lists.{clash}
+use Rattle.lease_laws.proofs.Words.{refl}
+use Rattle.lease_coherence.specs.Names.{Each, IsNamedEntry, IsNamedOnFile, IsNamedPhase, IsNamedReply, IsNamedRequest}
+use Rattle.lease_coherence.specs.Names.{WasWritten}
 use Rattle.lease_coherence.proofs.moves.Moves.{rest_of}
 use Rattle.lease_coherence.proofs.records.Later.{IsLater}
 
@@ -26,6 +32,11 @@ pub each_filter : {X : Type 0} (P : X → Type 0) (test : X → Bool) (xs : List
 each_filter P test [] each = tt
 each_filter P test (x ∷ xs) each = if_cases (Each P) (test x) (x ∷ filter test xs) (filter test xs)
     (λ passes. (each.0, each_filter P test xs each.1)) (λ fails. each_filter P test xs each.1)
+
+pub none_pass : {X : Type 0} (test : X → Bool) (xs : List X) → ((x : X) → Among x xs → test x ≡ false) → filter test xs ≡ []
+none_pass test [] none = refl
+none_pass test (x ∷ xs) none = if_cases (λ l. l ≡ []) (test x) (x ∷ filter test xs) (filter test xs)
+    (λ passes. clash (test x) passes (none x (inl refl))) (λ fails. none_pass test xs (λ y a. none y (inr a)))
 
 pub each_without : (P : Pending → Type 0) (number : ℕ) (writes : List Pending) → Each P writes
     → Each P (sent_without number writes)

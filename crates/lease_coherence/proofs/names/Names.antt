@@ -1,36 +1,49 @@
 -- In every run, all that a client names that hasn't strayed is in the record already; so a write that it settles as done
 -- was accepted.
 use Rattle.lease_laws.proofs.Words.{◌++◌, ◌+◌, ◌==◌, ◌∙◌, ◌∷◌, ◌≡◌, Access, Among, Client, CreateAsk, Fact, FileRequest, Held}
-use Rattle.lease_laws.proofs.Words.{Key, List, None, Open, Option, Patch, Reply, Request, Share, Some, Status, World, ℕ, ⊎_elim}
-use Rattle.lease_laws.proofs.Words.{[], ap, asked_key, awaits, connected_again, eq-eqb, eqb-true, false, has_strayed, has_written}
-use Rattle.lease_laws.proofs.Words.{held_of, inl, is_accepted, is_left_open, lease_after, lease_key, map, new_open, not}
-use Rattle.lease_laws.proofs.Words.{opened_count, own_key, put, refl, refusal_of, subst, sym, true, true≢false, was_opened}
-use Rattle.lease_laws.proofs.client.Thin.{put_same, put_other}
-use Rattle.lease_laws.proofs.server.Lists.{if_cases, and_parts, and_both, true_or, among_append, among_behind, among_filter}
-use Rattle.lease_laws.proofs.server.Lists.{among_map}
+use Rattle.lease_laws.proofs.Words.{Key, List, None, Open, Option, Patch, Reply, Request, Share, Some, Status, World, ℕ, []}
+use Rattle.lease_laws.proofs.Words.{⊎_elim, ap, asked_key, awaits, connected_again, eq-eqb, eqb-true, false, has_strayed}
+use Rattle.lease_laws.proofs.Words.{has_written, held_of, inl, is_accepted, is_left_open, lease_after, lease_key, map, new_open}
+use Rattle.lease_laws.proofs.Words.{not, opened_count, own_key, put, refl, refusal_of, subst, sym, true, true≢false, was_opened}
+use Rattle.lease_laws.proofs.Words.{IsInTurn, connected_open, file_asked}
+use Rattle.lease_laws.proofs.Words.{Ok, SmallStep, file_of_open}
+use Rattle.lease_laws.proofs.Words.{lane_of, lane_of_open}
+use Rattle.lease_laws.proofs.Words.{Lane}
+use Rattle.lease_laws.proofs.Words.{Result, Server}
+use Rattle.lease_laws.proofs.Words.{file_of_create}
+use Rattle.lease_laws.proofs.Words.{arith}
+use Rattle.lease_laws.proofs.client.Thin.{put_other, put_same}
+use Rattle.lease_laws.proofs.server.Lists.{among_append, among_behind, among_filter, among_map, and_both, and_parts, if_cases}
+use Rattle.lease_laws.proofs.server.Lists.{true_or}
 use Rattle.lease_laws.proofs.server.PassWaits.{among_more}
+use Rattle.lease_laws.proofs.server.cases.Ends.{found_open}
 use Rattle.lease_laws.proofs.world.Links.{by_client}
+use Rattle.lease_model.specs.server.Lanes.{lane_by, lane_under}
 use Rattle.lease_coherence.specs.Names.{Each, IsNamed, IsNamedAt, IsNamedEntry, IsNamedOnFile, IsNamedReply, IsNamedRequest}
 use Rattle.lease_coherence.specs.Names.{IsOwnCreate, IsOwnOpen}
-use Rattle.lease_coherence.proofs.moves.Deeds.{HasDeeds, IsSource, told_to, with_held, held_in, granted_in, reconnected_in}
-use Rattle.lease_coherence.proofs.moves.Deeds.{changed_in}
+use Rattle.lease_coherence.specs.Names.{IsNamedHeld}
+use Rattle.lease_coherence.proofs.moves.Deeds.{HasDeeds, IsSource, changed_in, granted_in, held_in, reconnected_in, told_to}
+use Rattle.lease_coherence.proofs.moves.Deeds.{with_held}
 use Rattle.lease_coherence.proofs.moves.Events.{Ground}
 use Rattle.lease_coherence.proofs.moves.Frames.{lease_put_rest}
 use Rattle.lease_coherence.proofs.moves.Ground.{among_put}
-use Rattle.lease_coherence.proofs.moves.Moves.{IsOldest, rest_of, popped}
-use Rattle.lease_coherence.proofs.names.NamedInRecord.{each_append, each_weaker, each_rest, on_file_later, request_later}
-use Rattle.lease_coherence.proofs.names.NamedInRecord.{reply_later}
-use Rattle.lease_coherence.proofs.names.NamedInRecord.{entry_later, opened_once}
-use Rattle.lease_coherence.proofs.records.Later.{IsLater, later_same, later_fact, later_two}
-use Rattle.lease_laws.proofs.server.cases.Ends.{found_open}
+use Rattle.lease_coherence.proofs.moves.Moves.{IsOldest, popped, rest_of}
+use Rattle.lease_coherence.proofs.names.NamedInRecord.{each_append, each_rest, each_weaker, entry_later, on_file_later}
+use Rattle.lease_coherence.proofs.names.NamedInRecord.{opened_once, reply_later, request_later}
+use Rattle.lease_coherence.proofs.records.Later.{IsLater, later_fact, later_same, later_two}
 
 -- ---- one client's part of a world
+
+pub held_later : (client : ℕ) (guid : List ℕ) (past new : List Fact) → IsLater past new → (file : ℕ) (one : Held)
+    → IsNamedHeld client guid past file one → IsNamedHeld client guid new file one
+held_later client guid past new later file one n =
+    record { named = on_file_later client guid past new later one.request n.named; lane = n.lane }
 
 -- what changes elsewhere, or only grows older
 pub at_later : (world new : World) (client : ℕ) → IsLater world.past new.past → new.clients client ≡ world.clients client
     → Each (IsNamedRequest client (world.clients client).guid world.past) (new.requests client)
     → ((file : ℕ) (one : Held) → Among one (new.server.held file) → one.client ≡ client
-    → IsNamedOnFile client (world.clients client).guid world.past one.request)
+    → IsNamedHeld client (world.clients client).guid world.past file one)
     → ((one : Open) → Among one new.server.opens → one.client ≡ client → IsOwnOpen (world.clients client).guid one)
     → Each (IsNamedReply client new.past) (new.replies client) → IsNamedAt world client → IsNamedAt new client
 at_later world new client later same requests held opens replies n = record {
@@ -38,8 +51,8 @@ at_later world new client later same requests held opens replies n = record {
       (each_weaker (IsNamedRequest client (world.clients client).guid world.past)
       (IsNamedRequest client (world.clients client).guid new.past) (new.requests client)
       (λ request r. request_later client (world.clients client).guid world.past new.past later request r) requests);
-  held = λ file one a own. subst (λ (m : Client). IsNamedOnFile client m.guid new.past one.request) (sym same)
-      (on_file_later client (world.clients client).guid world.past new.past later one.request (held file one a own));
+  held = λ file one a own. subst (λ (m : Client). IsNamedHeld client m.guid new.past file one) (sym same)
+      (held_later client (world.clients client).guid world.past new.past later file one (held file one a own));
   opens = λ one a own. subst (λ (m : Client). IsOwnOpen m.guid one) (sym same) (opens one a own);
   replies = replies;
   entries = λ file. subst (λ (m : Client). IsNamedEntry client file new.past (m.entries file)) (sym same)
@@ -70,6 +83,40 @@ told_named world new client reply c later clients requests held opens replies na
     (λ ne apart here old. subst (Each (IsNamedReply c new.past)) (sym (put_other world.replies client _ c ne)) old)
     named (replies_later c world.past new.past (world.replies c) later n.replies))) n
 
+-- the lane of a request by an open of the client
+lane_by_open : (world : World) (c file file_id : ℕ) → IsNamedAt world c → (found : Option Open)
+    → connected_open world.server c file_id ≡ found → file_of_open found ≡ Ok file
+    → lane_of_open file_id found ≡ Lane.Leased (lease_key (world.clients c).guid file)
+lane_by_open world c file file_id n None is asked = absurd (cc)
+lane_by_open world c file file_id n (Some one) is asked =
+    let own = found_open world.server c file_id one is in
+    let at : one.file ≡ file = same_file one.file file asked in
+    ap (lane_by file_id) (n.opens one own.there own.by) ∙ ap (λ f. Lane.Leased (lease_key (world.clients c).guid f)) at
+  where
+    of_number : ℕ → Result ℕ Status
+    of_number n = Ok n
+
+    same_file : (a b : ℕ) → of_number a ≡ of_number b → a ≡ b
+    same_file a b e = cc
+
+-- the lane of a request is the key of its file
+pub own_lane : (world : World) (c file : ℕ) (request : FileRequest) → IsNamedAt world c
+    → IsNamedOnFile c (world.clients c).guid world.past request → file_asked world.server c request ≡ Ok file
+    → lane_of world.server c request ≡ Lane.Leased (lease_key (world.clients c).guid file)
+own_lane world c file (FileRequest.Create other access share None) n named asked = absurd named
+own_lane world c file (FileRequest.Create other access share (Some ask)) n named asked =
+    ap lane_under named.asks
+    ∙ ap Lane.Leased (named.key ∙ ap (lease_key (world.clients c).guid) (created_on world.server other file ask asked))
+  where
+    created_on : (server : Server) (other at : ℕ) (ask : CreateAsk) → file_of_create server other (Some ask) ≡ Ok at → other ≡ at
+    created_on server other at ask e = grind arith
+own_lane world c file (FileRequest.Read file_id) n named asked =
+    lane_by_open world c file file_id n (connected_open world.server c file_id) refl asked
+own_lane world c file (FileRequest.Write file_id number patch) n named asked =
+    lane_by_open world c file file_id n (connected_open world.server c file_id) refl asked
+own_lane world c file (FileRequest.Close file_id) n named asked =
+    lane_by_open world c file file_id n (connected_open world.server c file_id) refl asked
+
 -- a request is taken off
 pub off_named : (world off : World) (client : ℕ) (request : FileRequest) (c : ℕ) → IsSource world off client request
     → IsNamedAt world c → IsNamedAt off c × (c ≡ client → IsNamedOnFile c (off.clients c).guid off.past request)
@@ -88,12 +135,13 @@ off_named world off client request c source n = ⊎_elim
     (λ h. subst (λ o. IsNamedAt o c × (c ≡ client → IsNamedOnFile c (o.clients c).guid o.past request)) (sym h.is_off) (
       at_later world (with_held world h.file (h.before ++ h.behind)) c (later_same world.past) refl n.requests
           (λ file one a own. ⊎_elim (λ old. n.held file one old own)
-          (λ left. n.held h.file one (subst (λ (l : List Held). Among one l) (sym h.held)
-          (among_more one _ h.before h.behind left.1)) own)
+          (λ left. subst (λ f. IsNamedHeld c (world.clients c).guid world.past f one) (sym left.0)
+          (n.held h.file one (subst (λ (l : List Held). Among one l) (sym h.held)
+          (among_more one _ h.before h.behind left.1)) own))
           (among_put world.server.held h.file (h.before ++ h.behind) file one a)) n.opens n.replies n,
-      (λ same. n.held h.file (held_of client request) (subst (λ (l : List Held). Among (held_of client request) l)
-          (sym h.held) (among_behind (held_of client request) h.before (held_of client request ∷ h.behind) (inl refl)))
-          (sym same)),
+      (λ same. (n.held h.file (held_of client request h.lane) (subst (λ (l : List Held). Among (held_of client request h.lane) l)
+          (sym h.held) (among_behind (held_of client request h.lane) h.before (held_of client request h.lane ∷ h.behind) (inl refl)))
+          (sym same)).named),
     )) source.from
   where
     first_of : {queue : List Request} → world.requests c ≡ Request.OnFile request ∷ queue
@@ -236,7 +284,7 @@ deeds_named world g named = record {
       let n = popped_named world client c (named c good) in
       told_named (popped world client) _ client _ c (later_fact world.past (Fact.Sent client)) refl refl
       (λ at x a. a) n.opens refl (λ same. tt) n;
-  hold = λ file one oldest may turn c good. held_named world file one c oldest (named c good);
+  hold = λ file one oldest may turn c good. held_named world file one c oldest turn (named c good);
   drop = λ key c good. let n = named c good in
       at_later world _ c (later_same world.past) refl n.requests n.held
       (λ x a mine. n.opens x (among_filter (λ o. not (is_left_open key o)) x world.server.opens a).0 mine) n.replies n;
@@ -259,14 +307,23 @@ deeds_named world g named = record {
         (sym (put_other w.requests client (rest_of (w.requests client)) c ne)) each) n.requests) n.held n.opens n.replies n
 
     held_named : (w : World) (file : ℕ) (one : Held) (c : ℕ) → IsOldest w one.client (Request.OnFile one.request)
-        → IsNamedAt w c → IsNamedAt (held_in (popped w one.client) file one) c
-    held_named w file one c oldest n =
+        → IsInTurn (SmallStep.Hold file one) w.server → IsNamedAt w c → IsNamedAt (held_in (popped w one.client) file one) c
+    held_named w file one c oldest turn n =
         let p = popped_named w one.client c n in
         at_later (popped w one.client) (held_in (popped w one.client) file one) c (later_same w.past) refl p.requests
         (λ at x a own. ⊎_elim (λ old. n.held at x old own)
-        (λ new. ⊎_elim (λ old. n.held file x old own)
-        (λ last. ⊎_elim (λ same. subst (λ (h : Held). IsNamedOnFile c (w.clients c).guid w.past h.request) (sym same)
-        (subst (Each (IsNamedRequest c (w.clients c).guid w.past))
-        (ap w.requests (sym own ∙ ap (λ (h : Held). h.client) same) ∙ oldest.is_first) n.requests).0)
-        (λ none. absurd none) last) (among_append x (w.server.held file) (one ∷ []) new.1))
+        (λ new. subst (λ f. IsNamedHeld c (w.clients c).guid w.past f x) (sym new.0) (⊎_elim (λ old. n.held file x old own)
+        (λ last. ⊎_elim (λ same. last_named x same own)
+        (λ none. absurd none) last) (among_append x (w.server.held file) (one ∷ []) new.1)))
         (among_put w.server.held file (w.server.held file ++ one ∷ []) at x a)) p.opens p.replies p
+      where
+        last_named : (x : Held) → x ≡ one → x.client ≡ c → IsNamedHeld c (w.clients c).guid w.past file x
+        last_named x same own =
+            let mine : one.client ≡ c = sym (ap (λ (h : Held). h.client) same) ∙ own in
+            let named : IsNamedOnFile c (w.clients c).guid w.past one.request =
+            (subst (Each (IsNamedRequest c (w.clients c).guid w.past)) (ap w.requests (sym mine) ∙ oldest.is_first) n.requests).0 in
+            subst (IsNamedHeld c (w.clients c).guid w.past file) (sym same) (record {
+              named = named;
+              lane = turn.1 ∙ ap (λ d. lane_of w.server d one.request) mine
+                  ∙ own_lane w c file one.request n named (ap (λ d. file_asked w.server d one.request) (sym mine) ∙ turn.0);
+            })

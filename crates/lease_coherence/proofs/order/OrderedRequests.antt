@@ -1,18 +1,38 @@
 -- What a client asks about a file, in its order: what is held first, then what is on its way. No write stands after a
 -- Close of its open.
-use Rattle.lease_laws.proofs.Words.{◌++◌, ◌==◌, ◌||◌, ◌∙◌, ◌∷◌, ◌≡◌, ◌≢◌, Bool, FileRequest, Held, List, Request, World, ℕ}
-use Rattle.lease_laws.proofs.Words.{⊎_elim, ⊤, [], ap, eq-eqb, eqb-true, false, held_of, is_behind, is_up, put, refl, subst, sym}
+use Rattle.lease_laws.proofs.Words.{◌++◌, ◌==◌, ◌∙◌, ◌∷◌, ◌≡◌, ◌≢◌, FileRequest, Held, List, Request, World, ℕ, []}
+use Rattle.lease_laws.proofs.Words.{⊎_elim, ⊤, ap, eq-eqb, eqb-true, false, held_of, is_behind, is_up, put, refl, subst, sym}
 use Rattle.lease_laws.proofs.Words.{true, true≢false, was_opened}
-use Rattle.lease_laws.proofs.client.Thin.{put_same, put_other}
-use Rattle.lease_laws.proofs.server.Lists.{either, clash}
+use Rattle.lease_laws.proofs.Words.{Among, Rules, list_any}
+use Rattle.lease_laws.proofs.Words.{Lane}
+use Rattle.lease_laws.proofs.Words.{file_asked, inl, lease_key, waits_behind}
+use Rattle.lease_laws.proofs.Words.{Ok}
+use Rattle.lease_laws.proofs.Words.{and_parts}
+use Rattle.lease_laws.proofs.Words.{as_held}
+use Rattle.lease_laws.proofs.Words.{same_lane}
+use Rattle.lease_laws.proofs.Words.{ap₂}
+use Rattle.lease_laws.proofs.Words.{bytes_eq-Decides}
+use Rattle.lease_laws.proofs.client.Thin.{put_other, put_same}
+use Rattle.lease_laws.proofs.server.Lists.{clash, either}
+use Rattle.lease_laws.proofs.server.Lists.{among_behind, among_filtered, has_none, or_true}
+use Rattle.lease_laws.proofs.server.Lists.{among_before, and_both, not_true}
+use Rattle.lease_laws.proofs.server.Lists.{has_any, or_of_true}
+use Rattle.lease_state.specs.Rules.{is_by_client}
 use Rattle.lease_coherence.specs.Agreement.{as_requests, asked_of}
 use Rattle.lease_coherence.specs.Creates.{held_by}
 use Rattle.lease_coherence.specs.Names.{Each}
+use Rattle.lease_coherence.specs.Names.{IsNamedAt}
+use Rattle.lease_coherence.specs.Names.{IsNamedOnFile}
+use Rattle.lease_coherence.specs.Names.{IsNamedRequest}
 use Rattle.lease_coherence.specs.Standing.{AllAsked, IsNoClose, Stands}
-use Rattle.lease_coherence.proofs.moves.Deeds.{IsSource, with_held, held_in}
-use Rattle.lease_coherence.proofs.moves.Events.{chosen, not_chosen}
-use Rattle.lease_coherence.proofs.moves.Moves.{IsOldest, rest_of, popped}
+use Rattle.lease_coherence.proofs.names.NamedInRecord.{none_pass}
+use Rattle.lease_coherence.proofs.names.Names.{own_lane}
+use Rattle.lease_coherence.proofs.moves.Deeds.{IsSource, held_in, with_held}
+use Rattle.lease_coherence.proofs.moves.Deeds.{HasArrived, WasHeld}
+use Rattle.lease_coherence.proofs.moves.Events.{chosen}
+use Rattle.lease_coherence.proofs.moves.Moves.{IsOldest, popped, rest_of}
 use Rattle.lease_coherence.proofs.names.NamedInRecord.{each_append}
+use Rattle.lease_coherence.proofs.names.NamedInRecord.{none_pass}
 
 -- ---- lists of requests
 
@@ -152,17 +172,90 @@ off_ordered world off c file request source o = ⊎_elim
     (λ a. subst (λ x. AreOrdered (asked_of x c file)) (sym a.is_off)
     (popped_ordered world c file (Request.OnFile request) a.oldest o))
     (λ h. subst (λ x. AreOrdered (asked_of x c file)) (sym h.is_off)
-    (left_ordered world c file h.file h.before h.behind (held_of c request) (eq-eqb c c refl) h.held o)) source.from
+    (left_ordered world c file h.file h.before h.behind (held_of c request h.lane) (eq-eqb c c refl) h.held o)) source.from
 
--- none of the client's
-pub none_behind : (c : ℕ) (held : List Held) → is_behind c held ≡ false → held_by c held ≡ []
-none_behind c [] e = refl
-none_behind c (one ∷ held) e = let p = neither (one.client == c) (is_behind c held) e in
-    not_chosen (one.client == c) (one ∷ held_by c held) (held_by c held) p.0 ∙ none_behind c held p.1
-  where
-    neither : (a b : Bool) → (a || b) ≡ false → (a ≡ false) × (b ≡ false)
-    neither true b e = absurd (true≢false e)
-    neither false b e = (refl, e)
+-- Requests of a client's machine on a file are of one lane, so that one waits behind each earlier one, by client or by key.
+waits_behind_own : (rules : Rules) (one x : Held) (key : List ℕ) → x.client ≡ one.client → x.lane ≡ Lane.Leased key
+    → one.lane ≡ Lane.Leased key → waits_behind rules one x ≡ true
+waits_behind_own rules one x key by of own = and_both (x.client == one.client) _ (eq-eqb x.client one.client by)
+    (or_of_true (is_by_client rules.order) (same_lane x.lane one.lane)
+    (ap₂ same_lane of own ∙ (bytes_eq-Decides key key).1 refl))
+
+-- so one that waits behind none has none of the client's before it
+pub none_behind : (rules : Rules) (c : ℕ) (one : Held) (key : List ℕ) (held : List Held) → one.client ≡ c
+    → one.lane ≡ Lane.Leased key → ((x : Held) → Among x held → x.client ≡ c → x.lane ≡ Lane.Leased key)
+    → is_behind rules one held ≡ false → held_by c held ≡ []
+none_behind rules c one key held by lane lanes none = none_pass (λ x. x.client == c) held (λ x a. not_true (x.client == c) (λ own.
+    let mine = eqb-true x.client c own in
+    clash (is_behind rules one held) (has_any (waits_behind rules one) x held a
+    (waits_behind_own rules one x key (mine ∙ sym by) (lanes x a mine) lane)) none))
+
+-- a request in its turn has none of its client's before it on its file
+pub none_there : (world off : World) (c file : ℕ) (request : FileRequest) → IsNamedAt world c
+    → HasArrived world off c request → file_asked world.server c request ≡ Ok file → held_by c (world.server.held file) ≡ []
+none_there world off c file request n a asked =
+    let named : IsNamedOnFile c (world.clients c).guid world.past request =
+    (subst (Each (IsNamedRequest c (world.clients c).guid world.past)) a.oldest.is_first n.requests).0 in
+    none_behind world.server.rules c (as_held world.server c request) (lease_key (world.clients c).guid file)
+    (world.server.held file) refl (own_lane world c file request n named asked)
+    (λ x there by. (n.held file x there by).lane) (a.in_turn file asked)
+
+pub none_before : (world off : World) (c : ℕ) (request : FileRequest) → IsNamedAt world c
+    → (h : WasHeld world off c request) → held_by c h.before ≡ []
+none_before world off c request n h =
+    let one = held_of c request h.lane in
+    let among : (x : Held) → Among x (h.before ++ one ∷ h.behind) → Among x (world.server.held h.file) =
+    λ x a. subst (λ (l : List Held). Among x l) (sym h.held) a in
+    none_behind world.server.rules c one (lease_key (world.clients c).guid h.file) h.before refl
+    (n.held h.file one (among one (among_behind one h.before (one ∷ h.behind) (inl refl))) refl).lane
+    (λ x a by. (n.held h.file x (among x (among_before x h.before (one ∷ h.behind) a)) by).lane) h.in_turn
+
+-- none of the client's is there
+pub none_own : (c : ℕ) (held : List Held) (x : Held) → held_by c held ≡ [] → Among x held → x.client ≡ c → ⊥
+none_own c held x none a own = subst (λ (l : List Held). Among x l) none
+    (among_filtered (λ (y : Held). y.client == c) x held a (eq-eqb x.client c own))
+
+-- the first that is held of a client
+pub record IsFirstOf (c : ℕ) (held : List Held) : Type 0 where
+  pub before : List Held
+  pub one : Held
+  pub behind : List Held
+  pub split : held ≡ before ++ one ∷ behind
+  pub own : one.client ≡ c
+  pub none : (x : Held) → Among x before → (x.client == c) ≡ false
+
+pub first_of : (c : ℕ) (held : List Held) → list_any (λ (x : Held). x.client == c) held ≡ true → IsFirstOf c held
+first_of c [] e = absurd (true≢false (sym e))
+first_of c (y ∷ held) e = either (y.client == c)
+    (λ own. record {
+      before = [];
+      one = y;
+      behind = held;
+      split = refl;
+      own = eqb-true y.client c own;
+      none = λ x never. absurd never;
+    })
+    (λ other.
+    let later = first_of c held (⊎_elim (λ own. clash (y.client == c) own other) (λ some. some)
+    (or_true (y.client == c) (list_any (λ (x : Held). x.client == c) held) e)) in record {
+      before = y ∷ later.before;
+      one = later.one;
+      behind = later.behind;
+      split = ap (λ (l : List Held). y ∷ l) later.split;
+      own = later.own;
+      none = λ x. ⊎_elim (λ same. ap (λ (h : Held). h.client == c) same ∙ other) (later.none x);
+    })
+
+-- it waits behind none, by client or by key
+pub first_waits_behind_none : (rules : Rules) (c : ℕ) (held : List Held) (f : IsFirstOf c held)
+    → is_behind rules f.one f.before ≡ false
+first_waits_behind_none rules c held f = has_none (waits_behind rules f.one) f.before (λ x a.
+    not_true (waits_behind rules f.one x) (λ waits. clash (x.client == (f.one).client) (and_parts (x.client == (f.one).client) _ waits).0
+    (ap (λ d. x.client == d) f.own ∙ f.none x a)))
+
+pub first_among : (c : ℕ) (held : List Held) (f : IsFirstOf c held) → Among f.one held
+first_among c held f = subst (λ (l : List Held). Among f.one l) (sym f.split)
+    (among_behind f.one f.before (f.one ∷ f.behind) (inl refl))
 
 -- a request is held: of its file the order stays, of others there is one less
 pub held_ordered : (world : World) (at : ℕ) (one : Held) → IsOldest world one.client (Request.OnFile one.request)

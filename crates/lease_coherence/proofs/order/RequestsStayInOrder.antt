@@ -1,55 +1,52 @@
 -- Every move keeps a client's requests in order.
-use Rattle.lease_laws.proofs.Words.{◌++◌, ◌==◌, ◌||◌, ◌∙◌, ◌∷◌, ◌≡◌, Among, Bool, Client, Fact, FileRequest, Held, IsAbout}
-use Rattle.lease_laws.proofs.Words.{IsOpenOn, Link, List, LiveEntry, None, Ok, Open, Pending, Phase, Reply, Request, Server, Some}
-use Rattle.lease_laws.proofs.Words.{Status, Step, World, ℕ, ⊎_elim, ⊤, [], ap, ap₂, break_notice, commanded}
-use Rattle.lease_laws.proofs.Words.{connect_turn, connected_again, connected_open, connection_made, eq-eqb, eqb-true, false}
-use Rattle.lease_laws.proofs.Words.{file_asked, file_of_open, flat_map, granted_form_of, held_of, inl, inr, is_behind, is_up}
-use Rattle.lease_laws.proofs.Words.{key_of, lease_after, lease_key, machine_key, not, noticed, numbers_to}
-use Rattle.lease_laws.proofs.Words.{put, refl, refusal_of, stepped_in, subst, sym, taken, true, true≢false}
-use Rattle.lease_laws.proofs.Words.{was_opened}
+use Rattle.lease_laws.proofs.Words.{◌++◌, ◌==◌, ◌∙◌, ◌∷◌, ◌≡◌, Among, Bool, Client, Fact, FileRequest, Held, IsAbout}
+use Rattle.lease_laws.proofs.Words.{IsOpenOn, Link, List, LiveEntry, None, Ok, Open, Pending, Phase, Reply, Request, Server}
+use Rattle.lease_laws.proofs.Words.{Some, Step, World, ℕ, [], ⊎_elim, ⊤, ap, ap₂, break_notice, commanded, connect_turn}
+use Rattle.lease_laws.proofs.Words.{connected_again, connected_open, connection_made, eq-eqb, eqb-true, file_asked}
+use Rattle.lease_laws.proofs.Words.{file_of_open, flat_map, granted_form_of, held_of, inl, inr, is_up, key_of}
+use Rattle.lease_laws.proofs.Words.{lease_after, lease_key, machine_key, not, numbers_to, put, refl, stepped_in, subst, sym}
+use Rattle.lease_laws.proofs.Words.{taken, true, was_opened}
 use Rattle.lease_laws.proofs.client.Forms.{commanded-stays, taken-stays}
-use Rattle.lease_laws.proofs.client.Thin.{put_same, put_other}
-use Rattle.lease_laws.proofs.server.Lists.{if_cases, either, clash, not_true, true_or, among_append, among_before}
-use Rattle.lease_laws.proofs.server.Lists.{among_behind, among_filtered}
-use Rattle.lease_laws.proofs.world.Links.{stepped_links}
-use Rattle.lease_laws.proofs.world.Runs.{stepped_server}
-use Rattle.lease_coherence.specs.Creates.{held_by}
-use Rattle.lease_coherence.specs.Names.{Each, IsNamedAt, IsNamedPhase}
-use Rattle.lease_coherence.specs.Standing.{AllAsked, IsNoClose, NotClosed, Stands, IsStandingAt, PhaseStands}
+use Rattle.lease_laws.proofs.client.Thin.{put_other, put_same}
 use Rattle.lease_laws.proofs.client.cases.Commands.{any_command}
 use Rattle.lease_laws.proofs.client.cases.Replies.{any_reply}
+use Rattle.lease_laws.proofs.server.Lists.{among_append, among_before, among_behind, among_filtered, clash, either, if_cases}
+use Rattle.lease_laws.proofs.server.Lists.{not_true}
+use Rattle.lease_laws.proofs.server.cases.Ends.{found_open}
+use Rattle.lease_laws.proofs.world.Runs.{stepped_server}
+use Rattle.lease_coherence.specs.Agreement.{as_requests, asked_of}
+use Rattle.lease_coherence.specs.Creates.{held_by}
+use Rattle.lease_coherence.specs.Names.{Each, IsNamedAt, IsNamedPhase}
+use Rattle.lease_coherence.specs.Standing.{AllAsked, IsNoClose, IsStandingAt, NotClosed, PhaseStands, Stands}
 use Rattle.lease_coherence.proofs.creates.Creates.{none_held}
-use Rattle.lease_coherence.proofs.moves.Deeds.{IsSource, HasArrived, WasHeld, told_to, held_in, granted_in, reconnected_in}
-use Rattle.lease_coherence.proofs.moves.Deeds.{changed_in, without_opens, leased_in, done_reply}
-use Rattle.lease_coherence.proofs.moves.Events.{Ground, timed_out, come_back, connected, reply_gone}
+use Rattle.lease_coherence.proofs.layers.Layers.{HasRecord}
+use Rattle.lease_coherence.proofs.moves.Deeds.{HasArrived, IsSource, WasHeld, changed_in, done_reply, granted_in, held_in}
+use Rattle.lease_coherence.proofs.moves.Deeds.{leased_in, reconnected_in, told_to, without_opens}
+use Rattle.lease_coherence.proofs.moves.Events.{Ground, come_back, connected, reply_gone, timed_out}
 use Rattle.lease_coherence.proofs.moves.Foreign.{IsUnmoved, apart, false_not, map_kept}
 use Rattle.lease_coherence.proofs.moves.Frames.{lease_put_rest, stepped_past}
-use Rattle.lease_coherence.proofs.moves.Moves.{IsOldest, rest_of, popped}
-use Rattle.lease_coherence.proofs.moves.Own.{IsOwnMoved}
+use Rattle.lease_coherence.proofs.moves.Moves.{IsOldest, popped, rest_of}
+use Rattle.lease_coherence.proofs.moves.Own.{IsOwnMoved, IsUp}
 use Rattle.lease_coherence.proofs.names.NamedInRecord.{each_append, each_weaker}
-use Rattle.lease_coherence.specs.Agreement.{as_requests, asked_of}
-use Rattle.lease_coherence.proofs.order.OrderedRequests.{IsNoWrite, AreOrdered, IsOpenIn, ordered_behind, ordered_more}
-use Rattle.lease_coherence.proofs.order.OrderedRequests.{append_three}
-use Rattle.lease_coherence.proofs.order.OrderedRequests.{asked_among, popped_ordered, none_behind, held_ordered, WriteStands}
-use Rattle.lease_coherence.proofs.order.OrderedRequests.{IsInOrder}
-use Rattle.lease_coherence.proofs.order.OrderedRequests.{IsUpInOrder}
-use Rattle.lease_coherence.proofs.records.Later.{IsLater, later_same, later_fact, later_two, later_noted}
-use Rattle.lease_coherence.proofs.standing.OpensStayStanding.{link_of, was_up, each_flat, gone_standing}
-use Rattle.lease_coherence.proofs.standing.Servers.{stands_by, again_up, timer_stands}
-use Rattle.lease_coherence.proofs.standing.Standing.{IsStepped, step_of, stands_after}
-use Rattle.lease_coherence.proofs.standing.StandingOpens.{asked_weaker, asked_popped, asked_held, asked_unmoved}
+use Rattle.lease_coherence.proofs.order.OrderedRequests.{AreOrdered, IsInOrder, IsNoWrite, IsOpenIn, WriteStands, append_three}
+use Rattle.lease_coherence.proofs.order.OrderedRequests.{asked_among, held_ordered, none_before, none_own, none_there, ordered_behind, ordered_more}
+use Rattle.lease_coherence.proofs.order.OrderedRequests.{popped_ordered}
+use Rattle.lease_coherence.proofs.order.Sends.{SendsInOrder, UnderLive, commands_send, off_order, same_order, sends}
+use Rattle.lease_coherence.proofs.order.Sends.{stands_later, takes_send}
+use Rattle.lease_coherence.proofs.records.Later.{IsLater, later_fact, later_noted, later_same, later_two}
+use Rattle.lease_coherence.proofs.standing.OpensStayStanding.{each_flat, gone_standing}
+use Rattle.lease_coherence.proofs.standing.Servers.{again_up, stands_by, timer_stands}
+use Rattle.lease_coherence.proofs.standing.Standing.{IsStepped, stands_after, step_of}
+use Rattle.lease_coherence.proofs.standing.StandingOpens.{asked_held, asked_popped, asked_unmoved, asked_weaker}
 use Rattle.lease_coherence.proofs.writes.Answered.{ground_of, names_of}
-use Rattle.lease_coherence.proofs.order.Sends.{UnderLive, SendsInOrder, sends, commands_send, takes_send, stands_later}
-use Rattle.lease_coherence.proofs.order.Sends.{same_order, off_order}
-use Rattle.lease_coherence.proofs.records.Known.{HasRecord}
-use Rattle.lease_laws.proofs.server.cases.Ends.{found_open}
 
 -- ---- an open that is closed
 
 -- no write of it is left
 left_writes : (world off : World) (c file_id : ℕ) (one : Open) → IsSource world off c (FileRequest.Close file_id)
-    → Ground world → connected_open off.server c file_id ≡ Some one → IsInOrder world c → AllAsked (IsNoWrite file_id) off c
-left_writes world off c file_id one source g found o = ⊎_elim arrived was_held source.from
+    → Ground world → connected_open off.server c file_id ≡ Some one → IsNamedAt world c → IsInOrder world c
+    → AllAsked (IsNoWrite file_id) off c
+left_writes world off c file_id one source g found n o = ⊎_elim arrived was_held source.from
   where
     there : Among one off.server.opens
     there = (found_open off.server c file_id one found).there
@@ -77,16 +74,6 @@ left_writes world off c file_id one source g found o = ⊎_elim arrived was_held
             λ same. never number patch (is ∙ ap (λ i. FileRequest.Write i number patch) same)
         by_request request is = tt
 
-    own_among : (x : Held) (held : List Held) → Among x held → x.client ≡ c → is_behind c held ≡ true
-    own_among x [] a own = absurd a
-    own_among x (y ∷ held) a own = ⊎_elim
-        (λ same. true_or (y.client == c) (is_behind c held) (eq-eqb y.client c (ap (λ (h : Held). h.client) (sym same) ∙ own)))
-        (λ later. or_later (y.client == c) (is_behind c held) (own_among x held later own)) a
-      where
-        or_later : (p q : Bool) → q ≡ true → (p || q) ≡ true
-        or_later true q e = refl
-        or_later false q e = e
-
     each_held : (held : List Held) → Each (IsNoWrite file_id) (as_requests (held_by c held)) → (x : Held) → Among x held
         → x.client ≡ c → IsNoWrite file_id (Request.OnFile x.request)
     each_held [] each x a own = absurd a
@@ -103,21 +90,20 @@ left_writes world off c file_id one source g found o = ⊎_elim arrived was_held
         let mine = subst (λ (w : World). Among one w.server.opens) a.is_off there in
         let asked : file_asked world.server c (FileRequest.Close file_id) ≡ Ok one.file =
         ap file_of_open (subst (λ (w : World). connected_open w.server c file_id ≡ Some one) a.is_off found) in
-        let none = a.in_turn one.file asked in
+        let none = none_there world off c one.file (FileRequest.Close file_id) n a asked in
         let q = subst (λ l. AreOrdered l) (ap₂ (λ (h : List Held) r. as_requests h ++ r)
-        (none_behind c (world.server.held one.file) none) a.oldest.is_first) (o.ordered one.file) in
+        none a.oldest.is_first) (o.ordered one.file) in
         subst (λ w. AllAsked (IsNoWrite file_id) w c) (sym a.is_off) (record {
           queued = subst (Each (IsNoWrite file_id))
               (sym (put_same world.requests c (rest_of (world.requests c)) ∙ ap rest_of a.oldest.is_first)) q.0;
-          held = λ at x b own. not_held at x (λ number patch is. clash (is_behind c (world.server.held one.file))
-              (own_among x (world.server.held one.file)
-              (subst (λ n. Among x (world.server.held n)) (sym (same_place at x b mine number patch is)) b) own) none);
+          held = λ at x b own. not_held at x (λ number patch is. none_own c (world.server.held one.file) x none
+              (subst (λ n. Among x (world.server.held n)) (sym (same_place at x b mine number patch is)) b) own);
         })
 
     was_held : WasHeld world off c (FileRequest.Close file_id) → AllAsked (IsNoWrite file_id) off c
     was_held h =
         let mine = subst (λ (w : World). Among one w.server.opens) h.is_off there in
-        let close = held_of c (FileRequest.Close file_id) in
+        let close = held_of c (FileRequest.Close file_id) h.lane in
         let place : one.file ≡ h.file =
         on_place (g.fine.orderly.held_about h.file close (subst (λ (l : List Held). Among close l) (sym h.held)
         (among_behind close h.before (close ∷ h.behind) (inl refl)))) mine in
@@ -146,7 +132,7 @@ left_writes world off c file_id one source g found o = ⊎_elim arrived was_held
         in_left : (x : Held) → Among x (h.before ++ h.behind) → x.client ≡ c
             → Each (IsNoWrite file_id) (as_requests (held_by c h.behind)) → IsNoWrite file_id (Request.OnFile x.request)
         in_left x a own each = ⊎_elim
-            (λ first. clash (is_behind c h.before) (own_among x h.before first own) h.in_turn)
+            (λ first. absurd (none_own c h.before x (none_before world off c (FileRequest.Close file_id) n h) first own))
             (λ last. each_held h.behind each x last own) (among_append x h.before h.behind a)
 
 -- ---- moves of the server
@@ -159,13 +145,13 @@ replied_order off new c machine requests held expired later kept o = same_order 
     (λ file id s. stands_by off new c file id machine expired (λ one own up same a. kept one own up a) s) o
 
 closed_order : (world off : World) (c file_id : ℕ) (one : Open) → IsSource world off c (FileRequest.Close file_id)
-    → Ground world → connected_open off.server c file_id ≡ Some one → IsInOrder world c
+    → Ground world → connected_open off.server c file_id ≡ Some one → IsNamedAt world c → IsInOrder world c
     → IsInOrder (told_to (without_opens off (λ other. other.file_id == file_id)) c (Reply.Closed file_id)) c
-closed_order world off c file_id one source g found o =
+closed_order world off c file_id one source g found n o =
     let test : Open → Bool = λ other. other.file_id == file_id in
     let new = told_to (without_opens off test) c (Reply.Closed file_id) in
     let was = off_order world off c (FileRequest.Close file_id) source o in
-    let none = left_writes world off c file_id one source g found o in record {
+    let none = left_writes world off c file_id one source g found n o in record {
       ordered = was.ordered;
       stands = record {
         queued = each_both (WriteStands off c) (IsNoWrite file_id) (WriteStands new c) (off.requests c) still
@@ -334,7 +320,7 @@ connect_held world c g down file =
     ap (λ (x : Server). held_by c (x.held file)) (stepped_server (come_back world c) c (connection_made (world.clients c)))
     ∙ none_held world c g (ap is_up down) file
 
-connect_order : (world : World) (c : ℕ) → Ground world → world.links c ≡ Link.Down → IsInOrder (connected world c) c
+pub connect_order : (world : World) (c : ℕ) → Ground world → world.links c ≡ Link.Down → IsInOrder (connected world c) c
 connect_order world c g down =
     let new = connected world c in
     let creates = connect_creates world c g down in record {
@@ -377,80 +363,64 @@ timer_stays : (world : World) (c at : ℕ) → IsNamedAt world c → (file id : 
     → Stands (timed_out world c at) c file id
 timer_stays world c at n file id s = timer_stands world c at n file id s
 
-pub order_moves : IsOwnMoved HasRecord IsUpInOrder
+pub order_moves : IsOwnMoved HasRecord IsUp IsInOrder
 order_moves = record {
-  unmoved = λ world new c v good u a up. unmoved_order world new c u (a (ap is_up (sym u.link) ∙ up));
-  refused = λ world off c request status v good source may a up.
-      replied_order off (told_to off c (refusal_of request status)) c refl refl refl refl
-      (later_fact off.past (Fact.Sent c)) (λ one own y x. x)
-      (off_order world off c request source (a (link_of world off c request source up)));
-  full = λ world off c file access share ask v good source a up.
-      replied_order off (told_to off c (Reply.CreateFailed file Status.InsufficientResources)) c refl refl refl refl
-      (later_fact off.past (Fact.Sent c)) (λ one own y x. x)
-      (off_order world off c _ source (a (link_of world off c _ source up)));
-  granted = λ world off c file access share ask v good source none on free a up.
+  unmoved = λ world new c k u a. unmoved_order world new c u a;
+  told = λ world off c request reply k source is a. replied_order off (told_to off c reply) c refl refl refl refl
+      (later_fact off.past (Fact.Sent c)) (λ one own y x. x) (off_order world off c request source a);
+  granted = λ world off c file access share ask k source none on free a.
       let lease = lease_after off.server c file ask.lease in
       replied_order off (granted_in off c file access share ask lease) c refl refl
       (lease_put_rest off.server c ask.lease lease (λ s. s.held ≡ off.server.held) (λ l. refl))
       (lease_put_rest off.server c ask.lease lease (λ s. s.expired ≡ off.server.expired) (λ l. refl))
       (later_two off.past (Fact.Opened file c) (Fact.Sent c)) (λ one own y x. among_before one off.server.opens _ x)
-      (off_order world off c _ source (a (link_of world off c _ source up)));
-  reconnected = λ world off c file access share ask file_id v good source again on waits a up.
+      (off_order world off c _ source a);
+  reconnected = λ world off c file access share ask file_id k source again on waits a.
       replied_order off (reconnected_in off c file ask file_id) c refl refl refl refl (later_fact off.past (Fact.Sent c))
       (λ one own y x. map_kept (connected_again file_id) one off.server.opens (again_up file_id one y) x)
-      (off_order world off c _ source (a (link_of world off c _ source up)));
-  read = λ world off c file_id one v good source found may a up.
-      replied_order off (told_to off c (Reply.ReadDone file_id (off.server.contents one.file))) c refl refl refl refl
-      (later_fact off.past (Fact.Sent c)) (λ x own y z. z) (off_order world off c _ source (a (link_of world off c _ source up)));
-  changed = λ world off c file_id number patch one v good source found may a up.
+      (off_order world off c _ source a);
+  changed = λ world off c file_id number patch one k source found may a.
       replied_order off (changed_in off c one.file file_id number patch) c refl refl refl refl
       (later_two off.past (Fact.Changed one.file c number patch) (Fact.Sent c)) (λ x own y z. z)
-      (off_order world off c _ source (a (link_of world off c _ source up)));
-  closed = λ world off c file_id one v good source found a up.
-      closed_order world off c file_id one source (ground_of world v) found (a (link_of world off c _ source up));
-  ack_failed = λ world c given status v good oldest why a up.
+      (off_order world off c _ source a);
+  closed = λ world off c file_id one k source found a.
+      closed_order world off c file_id one source (ground_of world k.all) found (names_of world k.all c k.good) a;
+  ack_failed = λ world c given status k oldest why a.
       replied_order (popped world c) (told_to (popped world c) c (Reply.AckFailed status)) c refl refl refl refl
-      (later_fact world.past (Fact.Sent c)) (λ one own y x. x) (popped_order world c _ oldest (a up));
-  ack_done = λ world c given lowered v good oldest there breaks within a up.
+      (later_fact world.past (Fact.Sent c)) (λ one own y x. x) (popped_order world c _ oldest a);
+  ack_done = λ world c given lowered k oldest there breaks within a.
       replied_order (popped world c) (leased_in (popped world c) (key_of c given.key)
       (record { state = granted_form_of given.state; broken_to = None }) (done_reply given)) c refl refl refl refl
-      (later_fact world.past (Fact.Sent c)) (λ one own y x. x) (popped_order world c _ oldest (a up));
-  hold = λ world at one v good oldest may turn a up. hold_order world at one oldest (a up);
-  dropped = λ world c test v good away a up.
+      (later_fact world.past (Fact.Sent c)) (λ one own y x. x) (popped_order world c _ oldest a);
+  hold = λ world at one k oldest may turn a. hold_order world at one oldest a;
+  dropped = λ world c test k away a.
       replied_order world (without_opens world test) c refl refl refl refl (later_same world.past)
       (λ one own y x. among_filtered (λ o. not (test o)) one world.server.opens x
-      (false_not (test one) (not_true (test one) (λ t. clash one.connected y (away one t))))) (a up);
-  lower = λ world key lowered v good may light a up.
+      (false_not (test one) (not_true (test one) (λ t. clash one.connected y (away one t))))) a;
+  lower = λ world key lowered k may light a.
       replied_order world (leased_in world key (record { state = lowered; broken_to = None })
       (break_notice key (world.server.leases key).state lowered)) key.client refl refl refl refl
-      (later_fact world.past (Fact.Sent key.client)) (λ one own y x. x) (a up);
-  begin = λ world key lowered v good may heavy a up. replied_order world (leased_in world key (record {
+      (later_fact world.past (Fact.Sent key.client)) (λ one own y x. x) a;
+  begin = λ world key lowered k may heavy a. replied_order world (leased_in world key (record {
     state = (world.server.leases key).state;
     broken_to = Some lowered;
   }) (break_notice key (world.server.leases key).state lowered)) key.client refl refl refl refl
-      (later_fact world.past (Fact.Sent key.client)) (λ one own y x. x) (a up);
-  cut = λ world c v good up a on. absurd (true≢false (sym on ∙ ap is_up (put_same world.links c Link.Cut)));
-  timer = λ world c at v good on breaks a up. same_order world (timed_out world c at) c refl refl
-      (later_fact world.past (Fact.Expired c at)) (timer_stays world c at (names_of world v c good)) (a up);
-  connect = λ world c v good down a up. connect_order world c (ground_of world v) down;
-  command = λ world c command v good a up.
-      let was = was_up world c (commanded (world.clients c) command) up in
-      stepped_order world c (commanded (world.clients c) command) was (commanded-stays (world.clients c) command).guid
+      (later_fact world.past (Fact.Sent key.client)) (λ one own y x. x) a;
+  timer = λ world c at k on breaks a. same_order world (timed_out world c at) c refl refl
+      (later_fact world.past (Fact.Expired c at)) (timer_stays world c at (names_of world k.all c k.good)) a;
+  command = λ world c command k a.
+      stepped_order world c (commanded (world.clients c) command) k.when (commanded-stays (world.clients c) command).guid
       (any_command (world.clients c) (SendsInOrder (world.clients c)) (commands_send (world.clients c)) command)
-      (v.leases.structure.opens c good was) (live_opened world c (names_of world v c good)) (a was);
-  take = λ world c reply queue v good first a up.
+      (k.all.layers.opens c k.good k.when) (live_opened world c (names_of world k.all c k.good)) a;
+  take = λ world c reply queue k first a.
       let gone = reply_gone world c queue in
       let machine = world.clients c in
-      let was : is_up (world.links c) ≡ true = was_up gone c (taken machine reply) up in
-      let s = v.leases.structure.opens c good was in
-      stepped_order gone c (taken machine reply) was (taken-stays machine reply).guid
+      let s = k.all.layers.opens c k.good k.when in
+      stepped_order gone c (taken machine reply) k.when (taken-stays machine reply).guid
       (any_reply machine (λ r step. SendsInOrder machine step) (takes_send machine) reply)
       (gone_standing world c reply queue first s)
       (λ file live is. (later_fact world.past (Fact.Took c)).opened live.file_id file c
-      (live_opened world c (names_of world v c good) file live is))
+      (live_opened world c (names_of world k.all c k.good) file live is))
       (same_order world gone c refl refl (later_fact world.past (Fact.Took c))
-      (λ file id x. stands_by world gone c file id refl refl (λ one own y same z. z) x) (a was));
-  notice = λ world c v good cut a on. absurd (true≢false (sym on
-      ∙ ap (λ (l : ℕ → Link). is_up (l c)) (stepped_links (record world { links = put world.links c Link.Down }) c
-      (noticed (world.clients c))) ∙ ap is_up (put_same world.links c Link.Down)));
+      (λ file id x. stands_by world gone c file id refl refl (λ one own y same z. z) x) a);
 }

@@ -1,25 +1,23 @@
 -- What clients send stands in order, and stays so in other worlds.
 use Rattle.lease_laws.proofs.Words.{◌++◌, ◌∷◌, ◌≡◌, Among, Client, FileRequest, Held, List, LiveEntry, Pending, Phase, Request}
-use Rattle.lease_laws.proofs.Words.{Step, World, ℕ, ⊎_elim, ⊤, [], acknowledgment, ap}
-use Rattle.lease_laws.proofs.Words.{flushed, meet}
-use Rattle.lease_laws.proofs.Words.{Turn, refl, subst, sym, turned}
-use Rattle.lease_laws.proofs.Words.{write_requests}
+use Rattle.lease_laws.proofs.Words.{Step, Turn, World, ℕ, [], ⊎_elim, ⊤, acknowledgment, ap, flushed, meet, refl, subst, sym}
+use Rattle.lease_laws.proofs.Words.{turned, write_requests}
+use Rattle.lease_laws.proofs.client.cases.Commands.{HasCommands}
+use Rattle.lease_laws.proofs.client.cases.Replies.{HasTakes}
+use Rattle.lease_laws.proofs.client.cases.Turns.{by_turn}
 use Rattle.lease_laws.proofs.server.Lists.{if_cases}
+use Rattle.lease_coherence.specs.Agreement.{as_requests}
 use Rattle.lease_coherence.specs.Creates.{held_by}
 use Rattle.lease_coherence.specs.Names.{Each}
 use Rattle.lease_coherence.specs.Standing.{Stands}
-use Rattle.lease_coherence.proofs.moves.Shift.{append_none}
-use Rattle.lease_laws.proofs.client.cases.Commands.{HasCommands}
-use Rattle.lease_laws.proofs.client.cases.Replies.{HasTakes}
 use Rattle.lease_coherence.proofs.moves.Deeds.{IsSource, with_held}
 use Rattle.lease_coherence.proofs.moves.Moves.{popped}
+use Rattle.lease_coherence.proofs.moves.Shift.{append_none}
 use Rattle.lease_coherence.proofs.names.NamedInRecord.{each_weaker}
-use Rattle.lease_coherence.specs.Agreement.{as_requests}
-use Rattle.lease_coherence.proofs.order.OrderedRequests.{AreOrdered, off_ordered, WriteStands, IsInOrder}
+use Rattle.lease_coherence.proofs.order.OrderedRequests.{AreOrdered, IsInOrder, WriteStands, off_ordered}
 use Rattle.lease_coherence.proofs.records.Later.{IsLater, later_same}
 use Rattle.lease_coherence.proofs.standing.Servers.{stands_by}
-use Rattle.lease_coherence.proofs.standing.StandingOpens.{asked_weaker, asked_off}
-use Rattle.lease_laws.proofs.client.cases.Turns.{by_turn}
+use Rattle.lease_coherence.proofs.standing.StandingOpens.{asked_off, asked_weaker}
 
 -- ---- what clients send
 

@@ -1,50 +1,50 @@
 -- Every move leaves what entries keep untouched, of each client that hasn't strayed, over any link.
 use Rattle.lease_laws.proofs.Words.{◌==◌, ◌||◌, ◌∙◌, ◌∷◌, ◌≡◌, ◌⊎◌, Access, Among, Bool, Client, CreateAsk, Event, Fact}
 use Rattle.lease_laws.proofs.Words.{FileRequest, Key, Lease, LeaseOf, Link, List, LiveEntry, None, Open, Parted, Patch, Pending}
-use Rattle.lease_laws.proofs.Words.{Phase, Reply, Server, Setup, Share, Some, State, Status, Step, World, ℕ, ⊎_elim, [], after}
-use Rattle.lease_laws.proofs.Words.{ap, arith, break_notice, bytes_eq, bytes_eq-Decides, commanded, connect_turn}
-use Rattle.lease_laws.proofs.Words.{connected_again, connection_made, eq-eqb, eqb-true, false, first_world, granted_form_of}
-use Rattle.lease_laws.proofs.Words.{has_key, has_strayed, inl, inr, is_state_within, is_up, key_of}
-use Rattle.lease_laws.proofs.Words.{lease_after, lease_key, list_any, machine_key, new_client, new_open, no_lease, not, noticed}
-use Rattle.lease_laws.proofs.Words.{put, refl, refusal_of, stepped_in, subst, sym, taken, true, true≢false}
-use Rattle.lease_laws.proofs.Words.{was_opened, with_opens, without}
+use Rattle.lease_laws.proofs.Words.{Phase, Reply, Server, Setup, Share, Some, State, Step, World, ℕ, [], ⊎_elim, after, ap}
+use Rattle.lease_laws.proofs.Words.{arith, break_notice, bytes_eq, bytes_eq-Decides, commanded, connect_turn, connected_again}
+use Rattle.lease_laws.proofs.Words.{connection_made, eq-eqb, eqb-true, false, first_world_under, granted_form_of, has_key}
+use Rattle.lease_laws.proofs.Words.{has_strayed, inl, inr, is_state_within, is_up, key_of, lease_after, lease_key, list_any}
+use Rattle.lease_laws.proofs.Words.{machine_key, new_client, new_open, no_lease, not, noticed, put, refl, stepped_in, subst}
+use Rattle.lease_laws.proofs.Words.{sym, taken, true, true≢false, was_opened, with_opens, without}
+use Rattle.lease_laws.proofs.Words.{Rules}
 use Rattle.lease_laws.proofs.client.Forms.{commanded-stays, taken-stays}
 use Rattle.lease_laws.proofs.client.Thin.{put_same}
+use Rattle.lease_laws.proofs.client.cases.Commands.{any_command}
+use Rattle.lease_laws.proofs.client.cases.Links.{HasNotices, any_notice}
+use Rattle.lease_laws.proofs.client.cases.Replies.{any_reply}
 use Rattle.lease_laws.proofs.server.Keys.{put_key-cases}
-use Rattle.lease_laws.proofs.server.Lists.{if_cases, either, clash, among_append, among_filter, among_map, and_parts}
+use Rattle.lease_laws.proofs.server.Lists.{among_append, among_filter, among_map, and_parts, clash, either, if_cases}
 use Rattle.lease_laws.proofs.world.Links.{stepped_links}
 use Rattle.lease_laws.proofs.world.Runs.{stepped_server}
 use Rattle.lease_coherence.specs.Agreement.{touched_since_lost}
-use Rattle.lease_coherence.specs.Creates.{asked_by, one_if, under_way, has_asked}
+use Rattle.lease_coherence.specs.Creates.{asked_by, has_asked, one_if, under_way}
 use Rattle.lease_coherence.specs.Names.{Each, IsNamedAt, IsNamedRequest}
-use Rattle.lease_coherence.specs.Standing.{AskFits, again_of, IsStandingAt}
-use Rattle.lease_coherence.proofs.beliefs.Forms.{keys_apart}
+use Rattle.lease_coherence.specs.Standing.{AskFits, IsStandingAt, again_of}
 use Rattle.lease_coherence.proofs.beliefs.Closed.{left_there}
+use Rattle.lease_coherence.proofs.beliefs.Forms.{keys_apart}
 use Rattle.lease_coherence.proofs.beliefs.TrustStays.{own_create}
-use Rattle.lease_laws.proofs.client.cases.Commands.{any_command}
-use Rattle.lease_laws.proofs.client.cases.Replies.{any_reply}
 use Rattle.lease_coherence.proofs.creates.Creates.{source_counts, stepped_machine}
 use Rattle.lease_coherence.proofs.late.Likes.{ids_of}
-use Rattle.lease_coherence.proofs.late.Servers.{live_id, parted_id, own_has_key}
-use Rattle.lease_coherence.proofs.late.SafeWrites.{holds_write, KnowsIds}
-use Rattle.lease_coherence.proofs.moves.Deeds.{IsSource, done_reply, told_to, granted_in, reconnected_in, changed_in, leased_in}
+use Rattle.lease_coherence.proofs.late.SafeWrites.{KnowsIds, holds_write}
+use Rattle.lease_coherence.proofs.late.Servers.{live_id, own_has_key, parted_id}
+use Rattle.lease_coherence.proofs.layers.AllRuns.{first_layers, layers_carried}
+use Rattle.lease_coherence.proofs.layers.Layers.{HasLayers}
+use Rattle.lease_coherence.proofs.moves.Deeds.{IsSource, changed_in, done_reply, granted_in, leased_in, reconnected_in, told_to}
 use Rattle.lease_coherence.proofs.moves.Deeds.{without_opens}
-use Rattle.lease_coherence.proofs.moves.Events.{Ground, Both, carried_both, runs_have, cut_off, timed_out, come_back, connected}
-use Rattle.lease_coherence.proofs.moves.Events.{noticed_by, reply_gone}
+use Rattle.lease_coherence.proofs.moves.Events.{Both, Ground, carried_both, come_back, connected, cut_off, noticed_by}
+use Rattle.lease_coherence.proofs.moves.Events.{reply_gone, runs_have, timed_out}
 use Rattle.lease_coherence.proofs.moves.Foreign.{IsUnmoved}
 use Rattle.lease_coherence.proofs.moves.Frames.{from_source, stepped_past}
-use Rattle.lease_coherence.proofs.moves.Moves.{rest_of, popped}
-use Rattle.lease_coherence.proofs.moves.Own.{IsOwnMoved, OfGood, own_moves}
-use Rattle.lease_coherence.proofs.names.Names.{off_named, off_counted}
+use Rattle.lease_coherence.proofs.moves.Moves.{popped, rest_of}
+use Rattle.lease_coherence.proofs.moves.Own.{Always, IsLinkMoved, IsOwnMoved, OfGood, own_moves}
 use Rattle.lease_coherence.proofs.names.NamedInRecord.{each_rest}
-use Rattle.lease_coherence.proofs.parted.UntouchedFiles.{UntouchedUnder, PhaseUntouched, IsUntouched, own_changed, own_opened}
-use Rattle.lease_coherence.proofs.parted.UntouchedFiles.{sent_touched, expired_touched, joined_touched, took_touched, just_lost}
-use Rattle.lease_coherence.proofs.parted.UntouchedFiles.{noted_touched, under_by, phase_by, PartedBy, StepParts, commands_part}
-use Rattle.lease_coherence.proofs.parted.UntouchedFiles.{takes_part}
-use Rattle.lease_coherence.proofs.standing.AllRuns.{structure_carried, first_structure}
+use Rattle.lease_coherence.proofs.names.Names.{off_counted, off_named}
+use Rattle.lease_coherence.proofs.parted.UntouchedFiles.{IsUntouched, PartedBy, PhaseUntouched, StepParts, UntouchedUnder}
+use Rattle.lease_coherence.proofs.parted.UntouchedFiles.{commands_part, expired_touched, joined_touched, just_lost}
+use Rattle.lease_coherence.proofs.parted.UntouchedFiles.{noted_touched, own_changed, own_opened, phase_by, sent_touched}
+use Rattle.lease_coherence.proofs.parted.UntouchedFiles.{takes_part, took_touched, under_by}
 use Rattle.lease_coherence.proofs.standing.StandingOpens.{asked_off}
-use Rattle.lease_coherence.proofs.standing.Structure.{HasStructure}
-use Rattle.lease_laws.proofs.client.cases.Links.{HasNotices, any_notice}
 
 -- ---- the same client and link
 
@@ -341,7 +341,7 @@ connect_untouched world c a =
 
 -- ---- all moves
 
-ids_in : (world : World) → HasStructure world → (c : ℕ) → KnowsIds world c
+ids_in : (world : World) → HasLayers world → (c : ℕ) → KnowsIds world c
 ids_in world v c = ids_of world c (record { last = (v.ground).counted.last; opens = (v.ground).counted.opens })
 
 -- a link with something on its way is up
@@ -354,7 +354,7 @@ takes_up world g c reply queue first = either (is_up (world.links c)) (λ up. up
     some r q e = cc
 
 -- the client of a request that is answered is connected
-present_up : (world off : World) → HasStructure world → (c : ℕ) (request : FileRequest) → IsSource world off c request
+present_up : (world off : World) → HasLayers world → (c : ℕ) (request : FileRequest) → IsSource world off c request
     → (is_up (world.links c) ≡ true) × (is_up (off.links c) ≡ true)
 present_up world off v c request source =
     let up = sym ((v.ground).tied c).present ∙ source.up in
@@ -390,7 +390,7 @@ popped_named world c n = record {
   entries = n.entries;
 }
 
-off_named_at : (world off : World) → HasStructure world → (c : ℕ) (request : FileRequest) → has_strayed c world.past ≡ false
+off_named_at : (world off : World) → HasLayers world → (c : ℕ) (request : FileRequest) → has_strayed c world.past ≡ false
     → IsSource world off c request → IsNamedAt off c
 off_named_at world off v c request good source = (off_named world off c request c source (v.named c good)).0
 
@@ -406,82 +406,79 @@ form_writes : (state : State) → (granted_form_of state).write ≡ true → sta
 form_writes state = if_cases (λ (s : State). s.write ≡ true → state.write ≡ true) state.read state
     (record { read = false; write = false; handle = false }) (λ reads w. w) (λ none w. absurd (true≢false (sym w)))
 
-pub untouched_moves : IsOwnMoved HasStructure IsUntouched
+pub untouched_moves : IsOwnMoved HasLayers Always IsUntouched
 untouched_moves = record {
-  unmoved = λ world new c v good u a. unmoved_untouched world new c u (v.named c good) (ids_in world v c) a;
-  refused = λ world off c request status v good source may a.
-      told_untouched off c (refusal_of request status) (off_named_at world off v c request good source)
-      (off_untouched world off c request source a);
-  full = λ world off c file access share ask v good source a.
-      told_untouched off c (Reply.CreateFailed file Status.InsufficientResources) (off_named_at world off v c _ good source)
-      (off_untouched world off c _ source a);
-  granted = λ world off c file access share ask v good source none on free a.
+  unmoved = λ world new c k u a. unmoved_untouched world new c u (k.all.named c k.good) (ids_in world k.all c) a;
+  told = λ world off c request reply k source is a. told_untouched off c reply
+      (off_named_at world off k.all c request k.good source) (off_untouched world off c request source a);
+  granted = λ world off c file access share ask k source none on free a.
       let request = FileRequest.Create file access share (Some ask) in
-      let own = own_create world off c file access share ask source (v.named c good) in
-      let up = present_up world off v c request source in
+      let own = own_create world off c file access share ask source (k.all.named c k.good) in
+      let up = present_up world off k.all c request source in
       granted_untouched world off c file access share ask own.lease own.asks own.key up.1
-      (ids_of off c (off_counted world off c request source v.ground)) (off_named_at world off v c request good source)
-      (λ parted is. none_parted world off c file access share ask v.ground source none (v.creates c good up.0 file)
-      (v.opens c good up.0) parted (same_phase world off c request source file parted is))
+      (ids_of off c (off_counted world off c request source k.all.ground)) (off_named_at world off k.all c request k.good source)
+      (λ parted is. none_parted world off c file access share ask k.all.ground source none (k.all.creates c k.good up.0 file)
+      (k.all.opens c k.good up.0) parted (same_phase world off c request source file parted is))
       (off_untouched world off c request source a);
-  reconnected = λ world off c file access share ask file_id v good source again on waits a.
-      reconnected_untouched off c file ask file_id (off_named_at world off v c _ good source)
+  reconnected = λ world off c file access share ask file_id k source again on waits a.
+      reconnected_untouched off c file ask file_id (off_named_at world off k.all c _ k.good source)
       (off_untouched world off c _ source a);
-  read = λ world off c file_id one v good source found may a.
-      told_untouched off c (Reply.ReadDone file_id (off.server.contents one.file)) (off_named_at world off v c _ good source)
+  changed = λ world off c file_id number patch one k source found may a.
+      changed_untouched off c one.file file_id number patch (off_named_at world off k.all c _ k.good source)
       (off_untouched world off c _ source a);
-  changed = λ world off c file_id number patch one v good source found may a.
-      changed_untouched off c one.file file_id number patch (off_named_at world off v c _ good source)
-      (off_untouched world off c _ source a);
-  closed = λ world off c file_id one v good source found a.
+  closed = λ world off c file_id one k source found a.
       let test : Open → Bool = λ other. other.file_id == file_id in
       told_untouched (without_opens off test) c (Reply.Closed file_id)
-      (still_named off c test (off_named_at world off v c _ good source))
-      (dropped_untouched off c test (off_named_at world off v c _ good source) (off_untouched world off c _ source a));
-  ack_failed = λ world c given status v good oldest why a.
-      told_untouched (popped world c) c (Reply.AckFailed status) (popped_named world c (v.named c good)) a;
-  ack_done = λ world c given lowered v good oldest there breaks within a.
-      leased_untouched (popped world c) (key_of c given.key) _ (done_reply given) (popped_named world c (v.named c good))
+      (still_named off c test (off_named_at world off k.all c _ k.good source))
+      (dropped_untouched off c test (off_named_at world off k.all c _ k.good source) (off_untouched world off c _ source a));
+  ack_failed = λ world c given status k oldest why a.
+      told_untouched (popped world c) c (Reply.AckFailed status) (popped_named world c (k.all.named c k.good)) a;
+  ack_done = λ world c given lowered k oldest there breaks within a.
+      leased_untouched (popped world c) (key_of c given.key) _ (done_reply given) (popped_named world c (k.all.named c k.good))
       (λ w. within_writes lowered (world.server.leases (key_of c given.key)).state
-      (((v.ground).fine.sound.lawful (key_of c given.key)).is_broken_so lowered breaks).is_part
+      (((k.all.ground).fine.sound.lawful (key_of c given.key)).is_broken_so lowered breaks).is_part
       (within_writes given.state lowered within (form_writes given.state w))) a;
-  hold = λ world file one v good oldest may turn a. a;
-  dropped = λ world c test v good away a. dropped_untouched world c test (v.named c good) a;
-  lower = λ world key lowered v good may light a. leased_untouched world key _
-      (break_notice key (world.server.leases key).state lowered) (v.named key.client good)
+  hold = λ world file one k oldest may turn a. a;
+  dropped = λ world c test k away a. dropped_untouched world c test (k.all.named c k.good) a;
+  lower = λ world key lowered k may light a. leased_untouched world key _
+      (break_notice key (world.server.leases key).state lowered) (k.all.named key.client k.good)
       (λ w. within_writes lowered (world.server.leases key).state may.is_lowered.is_part w) a;
-  begin = λ world key lowered v good may heavy a. leased_untouched world key _
-      (break_notice key (world.server.leases key).state lowered) (v.named key.client good)
+  begin = λ world key lowered k may heavy a. leased_untouched world key _
+      (break_notice key (world.server.leases key).state lowered) (k.all.named key.client k.good)
       (λ w. w) a;
-  cut = λ world c v good up a. cut_untouched world c;
-  timer = λ world c file v good on breaks a. timer_untouched world c file (v.named c good) a;
-  connect = λ world c v good down a. connect_untouched world c a;
-  command = λ world c command v good a.
+  timer = λ world c file k on breaks a. timer_untouched world c file (k.all.named c k.good) a;
+  command = λ world c command k a.
       let machine = world.clients c in
       stepped_untouched world world c (commanded machine command) refl refl (commanded-stays machine command).guid
       (λ file. refl)
       (λ file p. parts_untouched world world.links c file false (machine.entries file).phase
       ((commanded machine command).client.entries file).phase (λ off. (refl, off))
       (any_command machine (StepParts false machine) (commands_part machine) command file) p) a;
-  take = λ world c reply queue v good first a.
+  take = λ world c reply queue k first a.
       let machine = world.clients c in
-      let up = takes_up world v.ground c reply queue first in
+      let up = takes_up world k.all.ground c reply queue first in
       stepped_untouched world (reply_gone world c queue) c (taken machine reply) refl refl (taken-stays machine reply).guid
       (λ file. took_touched c c file world.past)
       (λ file p. parts_untouched world world.links c file true (machine.entries file).phase
       ((taken machine reply).client.entries file).phase (λ off. clash (is_up (world.links c)) up off)
       (any_reply machine (λ r s. StepParts true machine s) (takes_part machine) reply file) p) a;
+}
+
+pub untouched_link : IsLinkMoved HasLayers IsUntouched
+untouched_link = record {
+  cut = λ world c v good up a. cut_untouched world c;
+  connect = λ world c v good down a. connect_untouched world c a;
   notice = λ world c v good cut a. notice_untouched world c cut a;
 }
 
 -- ---- all runs
 
 abbrev pub HasParted : World → Type 0
-HasParted = Both HasStructure (OfGood IsUntouched)
+HasParted = Both HasLayers (OfGood IsUntouched)
 
-pub run_parted : (setup : Setup) (events : List Event) → HasParted (after (first_world setup) events)
-unfolding first_world new_client
-run_parted setup events = runs_have HasParted (λ world all. all.0.ground)
-    (carried_both HasStructure (OfGood IsUntouched) structure_carried
-    (own_moves HasStructure IsUntouched (λ world all. all.ground) untouched_moves)) setup
-    (first_structure setup, λ client good file. tt) events
+pub run_parted : (rules : Rules) (setup : Setup) (events : List Event) → HasParted (after (first_world_under rules setup) events)
+unfolding first_world_under new_client
+run_parted rules setup events = runs_have HasParted (λ world all. all.0.ground)
+    (carried_both HasLayers (OfGood IsUntouched) layers_carried
+    (own_moves HasLayers IsUntouched (λ world all. all.ground) untouched_moves untouched_link)) rules setup
+    (first_layers rules setup, λ client good file. tt) events

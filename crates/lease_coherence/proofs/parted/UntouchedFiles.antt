@@ -1,21 +1,18 @@
 -- What an entry keeps over a lost connection: where the lease of its open still holds writes, no other client opened or changed
 -- the file since.
-use Rattle.lease_laws.proofs.Words.{Turn, ◌&&◌, ◌==◌, ◌||◌, ◌∷◌, ◌≡◌, ◌⊎◌, Among, Asked, Bool, Client, Entry, Fact, List}
-use Rattle.lease_laws.proofs.Words.{LiveEntry}
-use Rattle.lease_laws.proofs.Words.{None, Note, Open, Option, Parted, Patch, Pending, Phase, Some, Step, World, ℕ, ⊤, []}
-use Rattle.lease_laws.proofs.Words.{eq-eqb, fact_of, false, inl}
-use Rattle.lease_laws.proofs.Words.{inr, is_up, not, phase_with, put}
-use Rattle.lease_laws.proofs.Words.{refl, sent_without, subst, sym, true, true≢false, turned}
-use Rattle.lease_laws.proofs.Words.{without_open}
-use Rattle.lease_laws.proofs.client.Thin.{put_same, put_other}
-use Rattle.lease_laws.proofs.world.Links.{by_client}
-use Rattle.lease_coherence.specs.Agreement.{touched_since_lost}
+use Rattle.lease_laws.proofs.Words.{◌&&◌, ◌==◌, ◌||◌, ◌∷◌, ◌≡◌, ◌⊎◌, Among, Asked, Bool, Client, Entry, Fact, List, LiveEntry}
+use Rattle.lease_laws.proofs.Words.{None, Note, Open, Option, Parted, Patch, Pending, Phase, Some, Step, Turn, World, ℕ, [], ⊤}
+use Rattle.lease_laws.proofs.Words.{eq-eqb, fact_of, false, inl, inr, is_up, not, phase_with, put, refl, sent_without, subst}
+use Rattle.lease_laws.proofs.Words.{sym, true, true≢false, turned, without_open}
+use Rattle.lease_laws.proofs.client.Thin.{put_other, put_same}
 use Rattle.lease_laws.proofs.client.cases.Commands.{HasCommands, sent_of}
 use Rattle.lease_laws.proofs.client.cases.Replies.{HasTakes}
+use Rattle.lease_laws.proofs.client.cases.Turns.{by_turn}
+use Rattle.lease_laws.proofs.world.Links.{by_client}
+use Rattle.lease_coherence.specs.Agreement.{touched_since_lost}
 use Rattle.lease_coherence.proofs.covered.CoveredOpens.{IsLiveUnder}
 use Rattle.lease_coherence.proofs.late.SafeWrites.{holds_write}
 use Rattle.lease_coherence.proofs.records.Later.{past_noted}
-use Rattle.lease_laws.proofs.client.cases.Turns.{by_turn}
 
 -- ---- one entry
 

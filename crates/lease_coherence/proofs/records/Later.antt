@@ -1,8 +1,8 @@
 -- What a record says at a place it says at every later place too.
 use Rattle.lease_laws.proofs.Words.{◌&&◌, ◌+◌, ◌==◌, ◌||◌, ◌∷◌, ◌≡◌, Bool, Fact, List, Note, Out, Patch, ℕ, [], fact_of, false}
-use Rattle.lease_laws.proofs.Words.{has_joined, has_strayed, has_written, is_accepted, is_started, opened_count, refl, same_patch}
-use Rattle.lease_laws.proofs.Words.{true, was_opened}
-use Rattle.lease_laws.proofs.world.FileIds.{told, fact_told}
+use Rattle.lease_laws.proofs.Words.{has_joined, has_strayed, has_written, is_accepted, is_started, opened_count, refl}
+use Rattle.lease_laws.proofs.Words.{same_patch, true, was_opened}
+use Rattle.lease_laws.proofs.world.FileIds.{fact_told, told}
 
 pub record IsLater (past : List Fact) (new : List Fact) : Type 0 where
   pub started : (file : ℕ) → is_started file past ≡ true → is_started file new ≡ true

@@ -1,10 +1,10 @@
 -- In a record that is well formed a client uses the number of a write once: on one file, and with one patch.
-use Rattle.lease_laws.proofs.Words.{◌&&◌, ◌==◌, ◌||◌, ◌∙◌, ◌∷◌, ◌≡◌, Bool, EachFact, Fact, List, Patch, WellFormed, ℕ, ⊎_elim, []}
-use Rattle.lease_laws.proofs.Words.{ap, bytes_eq, bytes_eq-Decides, eq-eqb, eqb-true, false, has_buffered, has_written}
+use Rattle.lease_laws.proofs.Words.{◌&&◌, ◌==◌, ◌||◌, ◌∙◌, ◌∷◌, ◌≡◌, Bool, EachFact, Fact, List, Patch, WellFormed, ℕ, []}
+use Rattle.lease_laws.proofs.Words.{⊎_elim, ap, bytes_eq, bytes_eq-Decides, eq-eqb, eqb-true, false, has_buffered, has_written}
 use Rattle.lease_laws.proofs.Words.{is_started, is_touched, is_well_formed, is_within_limit, not, refl, same_patch, sym, true}
 use Rattle.lease_laws.proofs.Words.{true≢false}
 use Rattle.lease_model.specs.records.Past.{has_number}
-use Rattle.lease_laws.proofs.server.Lists.{and_parts, and_both, or_true, true_or}
+use Rattle.lease_laws.proofs.server.Lists.{and_both, and_parts, or_true, true_or}
 
 -- the number of a write that was given is used
 pub written_number : (c file number : ℕ) (patch : Patch) (past : List Fact)

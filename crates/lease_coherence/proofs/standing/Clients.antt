@@ -1,19 +1,18 @@
 -- A client closes only what it gives up with the same step, and asks as its entries say.
-use Rattle.lease_laws.proofs.Words.{Turn, ◌++◌, ◌+◌, ◌∙◌, ◌∷◌, ◌≡◌, ◌≢◌, ◌⊎◌, Asked, BreakNotice, Entry, FileRequest, List}
-use Rattle.lease_laws.proofs.Words.{LiveEntry, None, Option, Pending, Phase, Reply, Request, Some, State, Step, World, ℕ, ⊤, []}
-use Rattle.lease_laws.proofs.Words.{acknowledgment, ap, belief_lowered, create_request}
-use Rattle.lease_laws.proofs.Words.{first_belief, flushed, if◌then◌else◌, inl, inr, is_some, joint_terms}
-use Rattle.lease_laws.proofs.Words.{lease_key, opened_turn, phase_with, promoted_belief}
+use Rattle.lease_laws.proofs.Words.{◌++◌, ◌+◌, ◌∙◌, ◌∷◌, ◌≡◌, ◌≢◌, ◌⊎◌, Asked, BreakNotice, Entry, FileRequest, List, LiveEntry}
+use Rattle.lease_laws.proofs.Words.{None, Option, Pending, Phase, Reply, Request, Some, State, Step, Turn, World, ℕ, [], ⊤}
+use Rattle.lease_laws.proofs.Words.{acknowledgment, ap, belief_lowered, create_request, first_belief, flushed, if◌then◌else◌}
+use Rattle.lease_laws.proofs.Words.{inl, inr, is_some, joint_terms, lease_key, opened_turn, phase_with, promoted_belief}
 use Rattle.lease_laws.proofs.Words.{promoted_turn, put, reconnected_turn, refl, subst, sym, true, turned, unflushed}
 use Rattle.lease_laws.proofs.Words.{without_open, write_requests}
+use Rattle.lease_laws.proofs.client.cases.Commands.{HasCommands, sent_of}
+use Rattle.lease_laws.proofs.client.cases.Replies.{HasTakes}
+use Rattle.lease_laws.proofs.client.cases.Turns.{by_turn}
 use Rattle.lease_laws.proofs.server.Lists.{if_cases}
 use Rattle.lease_coherence.specs.Creates.{has_asked}
 use Rattle.lease_coherence.specs.Names.{Each}
 use Rattle.lease_coherence.specs.Standing.{AllAsked, FitsPhase, GivenWell, IsNoClose, NotClosed, PhaseStands, Stands, again_of}
-use Rattle.lease_laws.proofs.client.cases.Commands.{HasCommands, sent_of}
-use Rattle.lease_laws.proofs.client.cases.Replies.{HasTakes}
 use Rattle.lease_coherence.proofs.names.NamedInRecord.{each_append, each_weaker}
-use Rattle.lease_laws.proofs.client.cases.Turns.{by_turn}
 
 -- an entry isn't under this FileId
 abbrev pub IsNotUnder : ℕ → Phase → Type 0

@@ -1,39 +1,38 @@
 -- Every move keeps standing what stands.
 use Rattle.lease_laws.proofs.Words.{◌++◌, ◌==◌, ◌∙◌, ◌∷◌, ◌≡◌, Among, Client, Fact, FileRequest, Held, IsAbout, IsSoundPhase}
-use Rattle.lease_laws.proofs.Words.{Link, List, Pending, Phase, Reply, Request, Server, Some, Status, Step, World, ℕ, ⊎_elim, []}
-use Rattle.lease_laws.proofs.Words.{ap, arith, break_notice, commanded, connect_turn, connection_made, eq-eqb, false}
-use Rattle.lease_laws.proofs.Words.{flat_map, has_strayed, inl, inr, is_down, is_up, key_of, not, noticed, numbers_to}
-use Rattle.lease_laws.proofs.Words.{put, refl, refusal_of, sent_over, stepped_in, subst, sym, taken, true, true≢false}
+use Rattle.lease_laws.proofs.Words.{Link, List, Pending, Phase, Reply, Request, Server, Some, World, ℕ, [], ⊎_elim, ap, arith}
+use Rattle.lease_laws.proofs.Words.{break_notice, commanded, connect_turn, connection_made, eq-eqb, false, flat_map}
+use Rattle.lease_laws.proofs.Words.{has_strayed, inl, inr, is_down, is_up, key_of, not, numbers_to, refl, sent_over, subst, sym}
+use Rattle.lease_laws.proofs.Words.{taken, true}
 use Rattle.lease_laws.proofs.client.Forms.{commanded-stays, taken-stays}
 use Rattle.lease_laws.proofs.client.Thin.{put_same}
-use Rattle.lease_laws.proofs.server.Lists.{clash, among_filtered}
-use Rattle.lease_laws.proofs.world.Links.{stepped_links}
-use Rattle.lease_laws.proofs.world.Runs.{stepped_server}
-use Rattle.lease_coherence.specs.Creates.{IsCountedAt, answer_of, answers, create_of, creates, held_by, held_creates, one_if}
-use Rattle.lease_coherence.specs.Creates.{has_asked}
-use Rattle.lease_coherence.specs.Names.{Each}
-use Rattle.lease_coherence.specs.Standing.{AllAsked, AskFits, FitsPhase, GivenWell, IsNoClose, IsStandingAt, IsUpStanding}
-use Rattle.lease_coherence.specs.Standing.{NotClosed, PhaseStands, Stands, again_of}
 use Rattle.lease_laws.proofs.client.cases.Commands.{any_command}
 use Rattle.lease_laws.proofs.client.cases.Replies.{any_reply}
+use Rattle.lease_laws.proofs.server.Lists.{among_filtered, clash}
+use Rattle.lease_laws.proofs.world.Runs.{stepped_server}
+use Rattle.lease_coherence.specs.Creates.{IsCountedAt, answer_of, answers, create_of, creates, has_asked, held_by, held_creates}
+use Rattle.lease_coherence.specs.Creates.{one_if}
+use Rattle.lease_coherence.specs.Names.{Each}
+use Rattle.lease_coherence.specs.Standing.{AllAsked, AskFits, FitsPhase, GivenWell, IsNoClose, IsStandingAt, NotClosed}
+use Rattle.lease_coherence.specs.Standing.{PhaseStands, Stands, again_of}
 use Rattle.lease_coherence.proofs.creates.Creates.{none_held, off_rest, stepped_machine}
+use Rattle.lease_coherence.proofs.layers.Layers.{HasLayers}
 use Rattle.lease_coherence.proofs.moves.Deeds.{IsSource, done_reply}
-use Rattle.lease_coherence.proofs.moves.Moves.{popped}
 use Rattle.lease_coherence.proofs.moves.Events.{Ground, come_back, connected, reply_gone}
-use Rattle.lease_coherence.proofs.moves.Frames.{stepped_requests, stepped_replies}
-use Rattle.lease_coherence.proofs.moves.Own.{IsOwnMoved}
+use Rattle.lease_coherence.proofs.moves.Frames.{stepped_replies, stepped_requests}
+use Rattle.lease_coherence.proofs.moves.Moves.{popped}
+use Rattle.lease_coherence.proofs.moves.Own.{IsOwnMoved, IsUp, told_bare}
 use Rattle.lease_coherence.proofs.names.Done.{gone_named}
-use Rattle.lease_coherence.proofs.names.Names.{off_named, off_counted}
 use Rattle.lease_coherence.proofs.names.NamedInRecord.{each_append, each_weaker}
-use Rattle.lease_coherence.proofs.standing.Clients.{IsNoCreate, IsNoAnswer, IsLastCreate, AnswersLast, FitsGiven, AllEntries}
+use Rattle.lease_coherence.proofs.names.Names.{off_counted, off_named}
+use Rattle.lease_coherence.proofs.standing.Clients.{AllEntries, AnswersLast, FitsGiven, IsLastCreate, IsNoAnswer, IsNoCreate}
 use Rattle.lease_coherence.proofs.standing.Clients.{StepStands, TakeStands, commands_stand, takes_stand}
-use Rattle.lease_coherence.proofs.standing.Servers.{told_standing, refusal_plain, off_standing, granted_standing}
-use Rattle.lease_coherence.proofs.standing.Servers.{reconnected_standing, closed_standing, dropped_standing, leased_standing}
-use Rattle.lease_coherence.proofs.standing.Servers.{changed_standing, popped_standing, held_standing, timer_standing}
+use Rattle.lease_coherence.proofs.standing.Servers.{bare_plain, changed_standing, closed_standing, dropped_standing}
+use Rattle.lease_coherence.proofs.standing.Servers.{granted_standing, held_standing, leased_standing, off_standing}
+use Rattle.lease_coherence.proofs.standing.Servers.{popped_standing, reconnected_standing, timer_standing, told_standing}
 use Rattle.lease_coherence.proofs.standing.Servers.{unmoved_standing}
 use Rattle.lease_coherence.proofs.standing.Standing.{step_standing}
 use Rattle.lease_coherence.proofs.standing.StandingOpens.{asked_off, head_of}
-use Rattle.lease_coherence.proofs.standing.Structure.{HasStructure}
 
 -- ---- no other create is under way
 
@@ -128,10 +127,6 @@ entries_of world c s file = record {
       (fits_of world c file) s.given;
 }
 
-pub was_up : (world : World) (c : ℕ) (step : Step) → is_up ((stepped_in world c step).links c) ≡ true
-    → is_up (world.links c) ≡ true
-was_up world c step up = ap (λ (l : ℕ → Link). is_up (l c)) (sym (stepped_links world c step)) ∙ up
-
 -- a reply leaves its queue
 pub gone_standing : (world : World) (c : ℕ) (reply : Reply) (queue : List Reply) → world.replies c ≡ reply ∷ queue
     → IsStandingAt world c → IsStandingAt (reply_gone world c queue) c
@@ -180,7 +175,7 @@ no_entry : {X : Type 0} (held : List Held) (c : ℕ) (one : Held) → held_by c 
 no_entry held c one none a own = absurd (subst (λ (l : List Held). Among one l) none
     (among_filtered (λ h. h.client == c) one held a (eq-eqb one.client c own)))
 
-connect_standing : (world : World) (c : ℕ) → Ground world → world.links c ≡ Link.Down → IsStandingAt (connected world c) c
+pub connect_standing : (world : World) (c : ℕ) → Ground world → world.links c ≡ Link.Down → IsStandingAt (connected world c) c
 connect_standing world c g down =
     let machine = world.clients c in
     let back = come_back world c in
@@ -277,74 +272,52 @@ given_gone world c queue (_) w = w
 
 -- ---- all moves
 
--- the link was up where the request came from
-pub link_of : (world off : World) (c : ℕ) (request : FileRequest) → IsSource world off c request
-    → is_up (off.links c) ≡ true → is_up (world.links c) ≡ true
-link_of world off c request source up = ap (λ (l : ℕ → Link). is_up (l c)) (sym (off_rest world off c request source).links) ∙ up
-
-pub standing_moves : IsOwnMoved HasStructure IsUpStanding
+pub standing_moves : IsOwnMoved HasLayers IsUp IsStandingAt
 standing_moves = record {
-  unmoved = λ world new c v good u a up. unmoved_standing world new c u (a (ap is_up (sym u.link) ∙ up));
-  refused = λ world off c request status v good source may a up.
-      told_standing off c (refusal_of request status) (refusal_plain request status)
-      (off_standing world off c request source (a (link_of world off c request source up)));
-  full = λ world off c file access share ask v good source a up.
-      told_standing off c (Reply.CreateFailed file Status.InsufficientResources) tt
-      (off_standing world off c _ source (a (link_of world off c _ source up)));
-  granted = λ world off c file access share ask v good source none on free a up.
-      let s = a (link_of world off c (FileRequest.Create file access share (Some ask)) source up) in
-      granted_standing off c file access share ask (off_counted world off c _ source v.ground)
-      (off_named world off c (FileRequest.Create file access share (Some ask)) c source (v.named c good)).0
-      (fits_off world off c (FileRequest.Create file access share (Some ask)) source s) none
-      (off_standing world off c (FileRequest.Create file access share (Some ask)) source s);
-  reconnected = λ world off c file access share ask file_id v good source again on waits a up.
-      let s = a (link_of world off c (FileRequest.Create file access share (Some ask)) source up) in
-      reconnected_standing off c file access share ask file_id
-      (fits_off world off c (FileRequest.Create file access share (Some ask)) source s) again waits
-      (off_standing world off c (FileRequest.Create file access share (Some ask)) source s);
-  read = λ world off c file_id one v good source found may a up.
-      told_standing off c (Reply.ReadDone file_id (off.server.contents one.file)) tt
-      (off_standing world off c _ source (a (link_of world off c _ source up)));
-  changed = λ world off c file_id number patch one v good source found may a up.
+  unmoved = λ world new c k u a. unmoved_standing world new c u a;
+  told = λ world off c request reply k source is a. told_standing off c reply
+      (bare_plain reply (told_bare off c request reply is)) (off_standing world off c request source a);
+  granted = λ world off c file access share ask k source none on free a.
+      let request = FileRequest.Create file access share (Some ask) in
+      granted_standing off c file access share ask (off_counted world off c request source k.all.ground)
+      (off_named world off c request c source (k.all.named c k.good)).0
+      (fits_off world off c request source a) none (off_standing world off c request source a);
+  reconnected = λ world off c file access share ask file_id k source again on waits a.
+      let request = FileRequest.Create file access share (Some ask) in
+      reconnected_standing off c file access share ask file_id (fits_off world off c request source a) again waits
+      (off_standing world off c request source a);
+  changed = λ world off c file_id number patch one k source found may a.
       changed_standing off c one.file file_id number patch
-      (off_standing world off c _ source (a (link_of world off c _ source up)));
-  closed = λ world off c file_id one v good source found a up.
-      closed_standing world off c file_id source (a (link_of world off c _ source up));
-  ack_failed = λ world c given status v good oldest why a up.
-      told_standing (popped world c) c (Reply.AckFailed status) tt (popped_standing world c (a up));
-  ack_done = λ world c given lowered v good oldest there breaks within a up.
-      leased_standing (popped world c) (key_of c given.key) _ (done_reply given) tt (popped_standing world c (a up));
-  hold = λ world file one v good oldest may turn a up. held_standing world file one oldest (a up);
-  dropped = λ world c test v good away a up. dropped_standing world c test away (a up);
-  lower = λ world key lowered v good may light a up.
-      leased_standing world key _ (break_notice key (world.server.leases key).state lowered) tt (a up);
-  begin = λ world key lowered v good may heavy a up.
-      leased_standing world key _ (break_notice key (world.server.leases key).state lowered) tt (a up);
-  cut = λ world c v good up a on. absurd (true≢false (sym on ∙ ap is_up (put_same world.links c Link.Cut)));
-  timer = λ world c file v good on breaks a up. timer_standing world c file (v.named c good) (a up);
-  connect = λ world c v good down a up. connect_standing world c v.ground down;
-  command = λ world c command v good a up.
-      let was = was_up world c (commanded (world.clients c) command) up in
-      let s = a was in
-      step_standing world c (commanded (world.clients c) command) was
-      (commanded-stays (world.clients c) command).guid (v.named c good)
+      (off_standing world off c _ source a);
+  closed = λ world off c file_id one k source found a.
+      closed_standing world off c file_id source a;
+  ack_failed = λ world c given status k oldest why a.
+      told_standing (popped world c) c (Reply.AckFailed status) tt (popped_standing world c a);
+  ack_done = λ world c given lowered k oldest there breaks within a.
+      leased_standing (popped world c) (key_of c given.key) _ (done_reply given) tt (popped_standing world c a);
+  hold = λ world file one k oldest may turn a. held_standing world file one oldest a;
+  dropped = λ world c test k away a. dropped_standing world c test away a;
+  lower = λ world key lowered k may light a.
+      leased_standing world key _ (break_notice key (world.server.leases key).state lowered) tt a;
+  begin = λ world key lowered k may heavy a.
+      leased_standing world key _ (break_notice key (world.server.leases key).state lowered) tt a;
+  timer = λ world c file k on breaks a. timer_standing world c file (k.all.named c k.good) a;
+  command = λ world c command k a.
+      step_standing world c (commanded (world.clients c) command) k.when
+      (commanded-stays (world.clients c) command).guid (k.all.named c k.good)
       (any_command (world.clients c) (StepStands world c (world.replies c))
-      (commands_stand world c (world.replies c) (entries_of world c s)) command) s;
-  take = λ world c reply queue v good first a up.
+      (commands_stand world c (world.replies c) (entries_of world c a)) command) a;
+  take = λ world c reply queue k first a.
       let gone = reply_gone world c queue in
-      let was : is_up (world.links c) ≡ true = was_up gone c (taken (world.clients c) reply) up in
-      let s = gone_standing world c reply queue first (a was) in
+      let s = gone_standing world c reply queue first a in
       let left : gone.replies c ≡ queue = put_same world.replies c queue in
-      step_standing gone c (taken (world.clients c) reply) was (taken-stays (world.clients c) reply).guid
-      (gone_named world c reply queue first v.named c (strayed_after world c good))
+      step_standing gone c (taken (world.clients c) reply) k.when (taken-stays (world.clients c) reply).guid
+      (gone_named world c reply queue first (k.all).named c (strayed_after world c k.good))
       (subst (λ q. StepStands gone c q (taken (world.clients c) reply)) (sym left)
       (any_reply (world.clients c) (TakeStands gone c queue)
       (takes_stand gone c queue (subst (AllEntries gone c) left (entries_of gone c s))) reply
-      (first_given world c reply queue first (a was)) (answers_last world c reply queue v.ground was (v.creates c good) first)))
+      (first_given world c reply queue first a) (answers_last world c reply queue k.all.ground k.when (k.all.creates c k.good) first)))
       s;
-  notice = λ world c v good cut a on. absurd (true≢false (sym on
-      ∙ ap (λ (l : ℕ → Link). is_up (l c)) (stepped_links (record world { links = put world.links c Link.Down }) c
-      (noticed (world.clients c))) ∙ ap is_up (put_same world.links c Link.Down)));
 }
   where
     fits_off : (world off : World) (c : ℕ) (request : FileRequest) → IsSource world off c request

@@ -1,28 +1,27 @@
 -- What the server does leaves the opens of a client standing that it named and doesn't close.
 use Rattle.lease_laws.proofs.Words.{◌++◌, ◌+◌, ◌==◌, ◌∙◌, ◌∷◌, ◌≡◌, ◌≤◌, Access, Among, Bool, Client, CreateAsk, FileRequest}
 use Rattle.lease_laws.proofs.Words.{Held, IsAwaitedAt, Key, Lease, List, LiveEntry, None, Open, Patch, Phase, Reply, Request}
-use Rattle.lease_laws.proofs.Words.{Share, Some, Status, World, ℕ, ⊎_elim, ⊤, [], ap, arith, connected_again, eq-eqb, false}
-use Rattle.lease_laws.proofs.Words.{has_key, inl, inr, is_key, key_eq, key_of, lease_after, lease_key, machine_key}
-use Rattle.lease_laws.proofs.Words.{map, new_open, not, opened_count, own_key, put, refl, refusal_of, subst, sym}
-use Rattle.lease_laws.proofs.Words.{true, was_opened}
+use Rattle.lease_laws.proofs.Words.{Share, Some, World, ℕ, [], ⊎_elim, ⊤, ap, arith, connected_again, eq-eqb, false, has_key}
+use Rattle.lease_laws.proofs.Words.{inl, inr, is_key, key_eq, key_of, lease_after, lease_key, machine_key, map, new_open, not}
+use Rattle.lease_laws.proofs.Words.{opened_count, own_key, put, refl, subst, sym, true, was_opened}
 use Rattle.lease_laws.proofs.client.Thin.{put_same}
-use Rattle.lease_laws.proofs.server.Keys.{put_key-cases, is_key-one, is_key-refl, key_eq-refl}
-use Rattle.lease_laws.proofs.server.Lists.{if_cases, either, clash, not_true, among_before, among_behind, among_filtered}
+use Rattle.lease_laws.proofs.server.Keys.{is_key-one, is_key-refl, key_eq-refl, put_key-cases}
+use Rattle.lease_laws.proofs.server.Lists.{among_before, among_behind, among_filtered, clash, either, if_cases, not_true}
 use Rattle.lease_coherence.specs.Names.{Each, IsNamedAt, IsNamedPhase, IsNamedRequest}
-use Rattle.lease_coherence.specs.Standing.{AllAsked, AskFits, FitsPhase, GivenWell, IsNoClose, IsOpenFor, IsStandingAt, NotClosed}
-use Rattle.lease_coherence.specs.Standing.{PhaseStands, Stands, again_of}
+use Rattle.lease_coherence.specs.Standing.{AllAsked, AskFits, FitsPhase, GivenWell, IsNoClose, IsOpenFor, IsStandingAt}
+use Rattle.lease_coherence.specs.Standing.{NotClosed, PhaseStands, Stands, again_of}
 use Rattle.lease_coherence.proofs.creates.Creates.{off_rest}
-use Rattle.lease_coherence.proofs.moves.Deeds.{IsSource, told_to, with_held, granted_in, granted_reply, reconnected_in}
-use Rattle.lease_coherence.proofs.moves.Deeds.{reconnected_reply, changed_in, without_opens, leased_in, held_in}
+use Rattle.lease_coherence.proofs.moves.Deeds.{IsSource, changed_in, granted_in, granted_reply, held_in, leased_in}
+use Rattle.lease_coherence.proofs.moves.Deeds.{reconnected_in, reconnected_reply, told_to, with_held, without_opens}
 use Rattle.lease_coherence.proofs.moves.Events.{timed_out}
-use Rattle.lease_coherence.proofs.moves.Foreign.{false_not, IsUnmoved, map_kept, apart}
+use Rattle.lease_coherence.proofs.moves.Foreign.{IsUnmoved, apart, false_not, map_kept}
 use Rattle.lease_coherence.proofs.moves.Frames.{lease_put_rest}
 use Rattle.lease_coherence.proofs.moves.Moves.{IsOldest, popped}
-use Rattle.lease_coherence.proofs.names.Names.{IsCountedOff, awaits_parts}
+use Rattle.lease_coherence.proofs.moves.Own.{is_bare}
 use Rattle.lease_coherence.proofs.names.NamedInRecord.{each_append, each_weaker, opened_within}
-use Rattle.lease_coherence.proofs.standing.StandingOpens.{asked_popped, asked_off, asked_held, asked_unmoved, IsFrame}
-use Rattle.lease_coherence.proofs.standing.StandingOpens.{framed_given}
-use Rattle.lease_coherence.proofs.standing.StandingOpens.{framed_at}
+use Rattle.lease_coherence.proofs.names.Names.{IsCountedOff, awaits_parts}
+use Rattle.lease_coherence.proofs.standing.StandingOpens.{IsFrame, asked_held, asked_off, asked_popped, asked_unmoved}
+use Rattle.lease_coherence.proofs.standing.StandingOpens.{framed_at, framed_given}
 
 -- an open that stays
 pub stands_by : (world new : World) (c file file_id : ℕ) → new.clients c ≡ world.clients c
@@ -102,9 +101,9 @@ told_standing world c reply plain s = given_more world (told_to world c reply) c
     (frame_same world (told_to world c reply) c refl refl (λ one own up a. a)
     (λ P a. record { queued = a.queued; held = a.held })) refl (plain_well _ c reply plain) s
 
-pub refusal_plain : (request : FileRequest) (status : Status) → plain_reply (refusal_of request status)
-refusal_plain (FileRequest.Create file access share contexts) status = tt
-refusal_plain request status = tt
+pub bare_plain : (reply : Reply) → is_bare reply → plain_reply reply
+bare_plain (Reply.Created file file_id contexts) bare = absurd bare
+bare_plain reply bare = tt
 
 -- ---- grants
 
@@ -113,7 +112,7 @@ new_open_asked : (off : World) (c : ℕ) (counted : IsCountedOff off) → IsName
 new_open_asked off c counted n = record {
   queued = each_weaker (IsNamedRequest c (off.clients c).guid off.past) (IsNoClose (off.server.last_id + 1))
       (off.requests c) request_low n.requests;
-  held = λ file one a own. request_low (Request.OnFile one.request) (n.held file one a own);
+  held = λ file one a own. request_low (Request.OnFile one.request) (n.held file one a own).named;
 }
   where
     request_low : (r : Request) → IsNamedRequest c (off.clients c).guid off.past r → IsNoClose (off.server.last_id + 1) r

@@ -1,20 +1,20 @@
 -- In every run, while a client's link is up, the opens that it names and doesn't close stand.
 use Rattle.lease_laws.proofs.Words.{◌++◌, ◌==◌, ◌∙◌, ◌∷◌, ◌≡◌, ◌≢◌, Among, Client, Entry, FileRequest, List, LiveEntry, None}
-use Rattle.lease_laws.proofs.Words.{Parted, Phase, Reply, Request, Server, Some, Step, World, ℕ, ⊎_elim, ⊤, [], ap, ap₂, eq-eqb}
+use Rattle.lease_laws.proofs.Words.{Parted, Phase, Reply, Request, Server, Some, Step, World, ℕ, [], ⊎_elim, ⊤, ap, ap₂, eq-eqb}
 use Rattle.lease_laws.proofs.Words.{eqb-true, inl, inr, is_up, key_of, lease_key, put, refl, sent_over, stepped_in, subst, sym}
 use Rattle.lease_laws.proofs.Words.{true, was_opened}
-use Rattle.lease_laws.proofs.client.Thin.{put_same, put_other}
-use Rattle.lease_laws.proofs.server.Lists.{either, clash}
+use Rattle.lease_laws.proofs.client.Thin.{put_other, put_same}
+use Rattle.lease_laws.proofs.server.Lists.{clash, either}
 use Rattle.lease_laws.proofs.world.Links.{by_client}
 use Rattle.lease_laws.proofs.world.Runs.{stepped_server}
 use Rattle.lease_coherence.specs.Names.{Each, IsNamedAt, IsNamedPhase, IsNamedReply}
-use Rattle.lease_coherence.specs.Standing.{AllAsked, AskFits, FitsPhase, GivenWell, IsNoClose, IsStandingAt, PhaseStands, Stands}
-use Rattle.lease_coherence.specs.Standing.{again_of}
-use Rattle.lease_coherence.proofs.creates.Creates.{up_link, stepped_machine}
-use Rattle.lease_coherence.proofs.moves.Frames.{stepped_requests, stepped_replies}
+use Rattle.lease_coherence.specs.Standing.{AllAsked, AskFits, FitsPhase, GivenWell, IsNoClose, IsStandingAt, PhaseStands}
+use Rattle.lease_coherence.specs.Standing.{Stands, again_of}
+use Rattle.lease_coherence.proofs.creates.Creates.{stepped_machine, up_link}
+use Rattle.lease_coherence.proofs.moves.Frames.{stepped_replies, stepped_requests}
 use Rattle.lease_coherence.proofs.names.NamedInRecord.{each_append, each_weaker, opened_once}
-use Rattle.lease_coherence.proofs.standing.Clients.{IsNotUnder, FitsGiven, IsNotGiven, IsNoCreate, TurnAsks, ClosesOld}
-use Rattle.lease_coherence.proofs.standing.Clients.{TurnStands, StepStands}
+use Rattle.lease_coherence.proofs.standing.Clients.{ClosesOld, FitsGiven, IsNoCreate, IsNotGiven, IsNotUnder, StepStands}
+use Rattle.lease_coherence.proofs.standing.Clients.{TurnAsks, TurnStands}
 use Rattle.lease_coherence.proofs.standing.StandingOpens.{asked_weaker}
 
 -- ---- what a step leaves

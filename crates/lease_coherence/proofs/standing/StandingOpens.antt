@@ -1,16 +1,17 @@
 -- While a client's link is up, the open of each live entry stands, and that of each grant on its way; no Close of it is
 -- on its way. A create that is under way, and its answer, fit the entry that asked.
-use Rattle.lease_laws.proofs.Words.{◌++◌, ◌==◌, ◌∷◌, ◌≡◌, Among, Client, FileRequest, Held, List, Phase, Reply, Request, World, ℕ}
-use Rattle.lease_laws.proofs.Words.{⊎_elim, [], eq-eqb, held_of, inl, refl, subst, sym}
+use Rattle.lease_laws.proofs.Words.{◌++◌, ◌==◌, ◌∷◌, ◌≡◌, Among, Client, FileRequest, Held, List, Phase, Reply, Request, World}
+use Rattle.lease_laws.proofs.Words.{ℕ, [], ⊎_elim, eq-eqb, held_of, inl, refl, subst, sym}
 use Rattle.lease_laws.proofs.client.Thin.{put_same}
 use Rattle.lease_laws.proofs.server.Lists.{among_append, among_behind, among_filter, among_filtered}
 use Rattle.lease_laws.proofs.server.PassWaits.{among_more}
 use Rattle.lease_coherence.specs.Names.{Each}
-use Rattle.lease_coherence.specs.Standing.{AllAsked, AskFits, FitsPhase, GivenWell, IsStandingAt, NotClosed, PhaseStands, Stands}
+use Rattle.lease_coherence.specs.Standing.{AllAsked, AskFits, FitsPhase, GivenWell, IsStandingAt, NotClosed, PhaseStands}
+use Rattle.lease_coherence.specs.Standing.{Stands}
 use Rattle.lease_coherence.proofs.moves.Deeds.{IsSource, held_in}
 use Rattle.lease_coherence.proofs.moves.Foreign.{IsUnmoved}
 use Rattle.lease_coherence.proofs.moves.Ground.{among_put}
-use Rattle.lease_coherence.proofs.moves.Moves.{IsOldest, rest_of, popped}
+use Rattle.lease_coherence.proofs.moves.Moves.{IsOldest, popped, rest_of}
 use Rattle.lease_coherence.proofs.names.NamedInRecord.{each_rest, each_weaker}
 
 pub asked_weaker : (P Q : Request → Type 0) (world : World) (c : ℕ) → ((r : Request) → P r → Q r) → AllAsked P world c
@@ -43,11 +44,11 @@ asked_off P world off c request source a = ⊎_elim
         queued = a.queued;
         held = λ file one x own. ⊎_elim (λ old. a.held file one old own)
             (λ left. a.held h.file one (subst (λ (l : List Held). Among one l) (sym h.held)
-            (among_more one (held_of c request) h.before h.behind left.1)) own)
+            (among_more one (held_of c request h.lane) h.before h.behind left.1)) own)
             (among_put world.server.held h.file (h.before ++ h.behind) file one x);
       },
-      a.held h.file (held_of c request) (subst (λ (l : List Held). Among (held_of c request) l) (sym h.held)
-          (among_behind (held_of c request) h.before (held_of c request ∷ h.behind) (inl refl))) refl,
+      a.held h.file (held_of c request h.lane) (subst (λ (l : List Held). Among (held_of c request h.lane) l) (sym h.held)
+          (among_behind (held_of c request h.lane) h.before (held_of c request h.lane ∷ h.behind) (inl refl))) refl,
     )) source.from
 
 -- one is held

@@ -1,9 +1,9 @@
 -- Breaks that an entry will meet, and entries that close their open: in words of one file.
 use Rattle.lease_laws.proofs.Words.{◌++◌, ◌||◌, ◌∷◌, ◌≡◌, ◌⊎◌, Bool, Client, List, LiveEntry, Phase, Reply, Request, Step, ℕ}
-use Rattle.lease_laws.proofs.Words.{⊎_elim, [], false, inl, inr, is_asking, refl, true}
-use Rattle.lease_laws.proofs.server.Lists.{or_true, or_of_true}
+use Rattle.lease_laws.proofs.Words.{[], ⊎_elim, false, inl, inr, is_asking, refl, true}
+use Rattle.lease_laws.proofs.server.Lists.{or_of_true, or_true}
 use Rattle.lease_coherence.specs.Creates.{creates}
-use Rattle.lease_coherence.proofs.beliefs.OneLease.{is_created, is_ack_break}
+use Rattle.lease_coherence.proofs.beliefs.OneLease.{is_ack_break, is_created}
 use Rattle.lease_coherence.proofs.covered.CoveredOpens.{ClosedBefore}
 
 -- a break that asks for an acknowledgment is on its way, and a live entry will meet it

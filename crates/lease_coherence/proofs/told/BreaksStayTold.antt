@@ -2,41 +2,38 @@
 use Rattle.lease_laws.proofs.Words.{◌++◌, ◌+◌, ◌∙◌, ◌∷◌, ◌≡◌, Among, Client, FileRequest, IsSound, Link, List, LiveEntry, Open}
 use Rattle.lease_laws.proofs.Words.{Phase, Reply, Request, Server, Some, Status, Step, World, ℕ, ⊎_elim, ap, arith, commanded}
 use Rattle.lease_laws.proofs.Words.{connection_made, false, has_file, has_key, has_strayed, inl, inr, is_breaking, is_up}
-use Rattle.lease_laws.proofs.Words.{key_of, lease_key, machine_key, noticed, put, refl, stepped_in, subst, sym, taken, true}
-use Rattle.lease_laws.proofs.Words.{true≢false}
+use Rattle.lease_laws.proofs.Words.{key_of, lease_key, machine_key, refl, stepped_in, subst, sym, taken, true}
 use Rattle.lease_laws.proofs.client.Forms.{commanded-stays, taken-stays}
 use Rattle.lease_laws.proofs.client.Thin.{put_same}
-use Rattle.lease_laws.proofs.server.Lists.{clash}
-use Rattle.lease_laws.proofs.world.Links.{stepped_links}
-use Rattle.lease_laws.proofs.world.Runs.{stepped_server}
-use Rattle.lease_coherence.specs.Creates.{answers, asked_by, creates, held_by, one_if, under_way, has_asked}
-use Rattle.lease_coherence.specs.Names.{Each, IsNamedAt, IsNamedReply, IsOwnOpen}
-use Rattle.lease_coherence.specs.Standing.{IsStandingAt, PhaseStands}
-use Rattle.lease_coherence.proofs.beliefs.TrustStays.{own_create}
-use Rattle.lease_coherence.proofs.beliefs.Trust.{file_key}
-use Rattle.lease_coherence.proofs.beliefs.OneLease.{acks, acks_append}
 use Rattle.lease_laws.proofs.client.cases.Commands.{any_command}
 use Rattle.lease_laws.proofs.client.cases.Replies.{any_reply, is_live}
+use Rattle.lease_laws.proofs.server.Lists.{clash}
+use Rattle.lease_laws.proofs.world.Runs.{stepped_server}
+use Rattle.lease_coherence.specs.Agreement.{as_requests, asked_of}
+use Rattle.lease_coherence.specs.Creates.{answers, asked_by, creates, has_asked, held_by, one_if, under_way}
+use Rattle.lease_coherence.specs.Names.{Each, IsNamedAt, IsNamedReply, IsOwnOpen}
+use Rattle.lease_coherence.specs.Standing.{IsStandingAt, PhaseStands}
+use Rattle.lease_coherence.proofs.beliefs.OneLease.{acks, acks_append}
+use Rattle.lease_coherence.proofs.beliefs.Trust.{file_key}
+use Rattle.lease_coherence.proofs.beliefs.TrustStays.{own_create}
+use Rattle.lease_coherence.proofs.covered.CoveredOpens.{ClosedBefore, NotFailed, closed_more, never_granted}
 use Rattle.lease_coherence.proofs.covered.Moves.{FailsGone, HasCovered}
-use Rattle.lease_coherence.proofs.covered.OpensStayCovered.{counted_of, quiet_of, not_failed}
-use Rattle.lease_coherence.proofs.covered.CoveredOpens.{ClosedBefore, closed_more, never_granted, NotFailed}
-use Rattle.lease_coherence.proofs.moves.Deeds.{IsSource}
+use Rattle.lease_coherence.proofs.covered.OpensStayCovered.{counted_of, not_failed, quiet_of}
+use Rattle.lease_coherence.proofs.layers.Layers.{HasLayers}
+use Rattle.lease_coherence.proofs.moves.Deeds.{IsSource, told_to}
 use Rattle.lease_coherence.proofs.moves.Events.{Ground, come_back, connected, reply_gone, reply_taken}
 use Rattle.lease_coherence.proofs.moves.Foreign.{IsUnmoved, key_client, off_sound}
 use Rattle.lease_coherence.proofs.moves.Frames.{from_source, stepped_replies}
-use Rattle.lease_coherence.proofs.moves.Own.{IsOwnMoved}
-use Rattle.lease_coherence.specs.Agreement.{as_requests, asked_of}
+use Rattle.lease_coherence.proofs.moves.Own.{IsOwnMoved, IsToldOf, IsUp}
 use Rattle.lease_coherence.proofs.order.OrderedRequests.{append_three}
-use Rattle.lease_coherence.proofs.standing.OpensStayStanding.{link_of, was_up}
 use Rattle.lease_coherence.proofs.standing.Standing.{IsStepped, step_of}
-use Rattle.lease_coherence.proofs.told.Clients.{StepTold, commands_told, whole_of, TakeTold, takes_told}
-use Rattle.lease_coherence.proofs.told.Moves.{ClosedIn, ToldBy, HasTold, IsUpTold, told_map, kept_told, breaking_open}
-use Rattle.lease_coherence.proofs.told.Moves.{breaking_up, open_place, off_server}
-use Rattle.lease_coherence.proofs.told.Servers.{replied_told, refused_told, changed_told, closed_told, dropped_told, timer_told}
-use Rattle.lease_coherence.proofs.told.Servers.{granted_told, reconnected_told, lower_told, begin_told, failed_told, done_told}
-use Rattle.lease_coherence.proofs.told.Servers.{held_told}
-use Rattle.lease_coherence.proofs.told.BreaksMet.{HasMet, met_more, IsClosing}
-use Rattle.lease_coherence.proofs.told.Leases.{HasLeases}
+use Rattle.lease_coherence.proofs.told.BreaksMet.{HasMet, IsClosing, met_more}
+use Rattle.lease_coherence.proofs.told.Clients.{StepTold, TakeTold, commands_told, takes_told, whole_of}
+use Rattle.lease_coherence.proofs.told.Moves.{ClosedIn, HasTold, ToldBy, breaking_open, breaking_up, kept_told, off_server}
+use Rattle.lease_coherence.proofs.told.Moves.{open_place, told_map}
+use Rattle.lease_coherence.proofs.told.Servers.{begin_told, changed_told, closed_told, done_told, dropped_told, failed_told}
+use Rattle.lease_coherence.proofs.told.Servers.{granted_told, held_told, lower_told, reconnected_told, refused_told}
+use Rattle.lease_coherence.proofs.told.Servers.{replied_told, timer_told}
 
 -- ---- what others do
 
@@ -58,7 +55,7 @@ unmoved_told world new c u t = kept_told world new c u.machine (λ file fresh br
 
 -- ---- a client connects: no lease of it is breaking
 
-connect_told : (world : World) (c : ℕ) → Ground world → world.links c ≡ Link.Down → HasTold (connected world c) c
+pub connect_told : (world : World) (c : ℕ) → Ground world → world.links c ≡ Link.Down → HasTold (connected world c) c
 connect_told world c g down file fresh breaks =
     let new = connected world c in
     let key = machine_key new c file in
@@ -232,19 +229,19 @@ take_told world c reply queue first up k t =
 
 -- ---- all moves
 
-pub known_here : (world : World) → HasLeases world → (c : ℕ) → has_strayed c world.past ≡ false
+pub known_here : (world : World) → HasLayers world → (c : ℕ) → has_strayed c world.past ≡ false
     → is_up (world.links c) ≡ true → IsKnownHere world c
 known_here world v c good up = record {
-  ground = v.structure.ground;
-  names = v.structure.named c good;
-  counted = v.structure.creates c good up;
-  stands = v.structure.opens c good up;
+  ground = v.ground;
+  names = v.named c good;
+  counted = v.creates c good up;
+  stands = v.opens c good up;
   covered = v.covered c good up;
 }
 
-off_own : (world off : World) → HasLeases world → (c : ℕ) (request : FileRequest) → has_strayed c world.past ≡ false
+off_own : (world off : World) → HasLayers world → (c : ℕ) (request : FileRequest) → has_strayed c world.past ≡ false
     → IsSource world off c request → (x : Open) → Among x off.server.opens → x.client ≡ c → IsOwnOpen (world.clients c).guid x
-off_own world off v c request good source x there by = (v.structure.named c good).opens x
+off_own world off v c request good source x there by = (v.named c good).opens x
     (subst (λ (l : List Open). Among x l) (off_server world off c request source).opens there) by
 
 off_file : (world off : World) (c : ℕ) (request : FileRequest) → IsSource world off c request → (file : ℕ)
@@ -252,53 +249,51 @@ off_file : (world off : World) (c : ℕ) (request : FileRequest) → IsSource wo
 off_file world off c request source file = from_source world off c request
     (λ o. has_file o.server file ≡ true → has_file world.server file ≡ true) source (λ e. e) (λ at left e. e)
 
-pub told_moves : IsOwnMoved HasLeases IsUpTold
+-- a request that is answered, where nothing else changes
+answer_told : (world off : World) (c : ℕ) (request : FileRequest) (reply : Reply) → IsSource world off c request
+    → IsSound off.server → ((x : Open) → Among x off.server.opens → x.client ≡ c → IsOwnOpen (world.clients c).guid x)
+    → IsToldOf off c request reply → HasTold world c → HasTold (told_to off c reply) c
+answer_told world off c request reply source sound own (IsToldOf.Refused asked status may) t =
+    refused_told world off c asked status source sound own may t
+answer_told world off c request reply source sound own (IsToldOf.Full file access share ask) t =
+    replied_told world off c (FileRequest.Create file access share (Some ask))
+    (Reply.CreateFailed file Status.InsufficientResources) source (λ at x there has breaks. tt) t
+answer_told world off c request reply source sound own (IsToldOf.Read file_id one found may) t =
+    replied_told world off c (FileRequest.Read file_id) (Reply.ReadDone file_id (off.server.contents one.file)) source
+    (λ at x there has breaks. tt) t
+
+pub told_moves : IsOwnMoved HasLayers IsUp HasTold
 told_moves = record {
-  unmoved = λ world new c v good u a up. unmoved_told world new c u (a (ap is_up (sym u.link) ∙ up));
-  refused = λ world off c request status v good source may a up.
-      refused_told world off c request status source (off_sound world off c request source (v.structure.ground).fine.sound)
-      (off_own world off v c request good source) may (a (link_of world off c request source up));
-  full = λ world off c file access share ask v good source a up.
-      replied_told world off c (FileRequest.Create file access share (Some ask))
-      (Reply.CreateFailed file Status.InsufficientResources) source (λ at x there has breaks. tt)
-      (a (link_of world off c _ source up));
-  granted = λ world off c file access share ask v good source none on free a up.
+  unmoved = λ world new c k u a. unmoved_told world new c u a;
+  told = λ world off c request reply k source is a. answer_told world off c request reply source
+      (off_sound world off c request source k.all.ground.fine.sound) (off_own world off k.all c request k.good source) is a;
+  granted = λ world off c file access share ask k source none on free a.
       let request = FileRequest.Create file access share (Some ask) in
-      let own = own_create world off c file access share ask source (v.structure.named c good) in
+      let own = own_create world off c file access share ask source (k.all.named c k.good) in
       let same = from_source world off c request (λ o. o.clients ≡ world.clients) source refl (λ at left. refl) in
       granted_told world off c file access share ask own.lease own.asks
-      (own.key ∙ ap (λ (m : ℕ → Client). lease_key (m c).guid file) same) source v.structure.ground
-      (off_file world off c request source file on) (a (link_of world off c request source up));
-  reconnected = λ world off c file access share ask file_id v good source again on waits a up.
-      reconnected_told world off c file access share ask file_id source (a (link_of world off c _ source up));
-  read = λ world off c file_id one v good source found may a up.
-      replied_told world off c (FileRequest.Read file_id) (Reply.ReadDone file_id (off.server.contents one.file)) source
-      (λ at x there has breaks. tt) (a (link_of world off c _ source up));
-  changed = λ world off c file_id number patch one v good source found may a up.
-      changed_told world off c one.file file_id number patch source (a (link_of world off c _ source up));
-  closed = λ world off c file_id one v good source found a up.
-      closed_told world off c file_id source (a (link_of world off c _ source up));
-  ack_failed = λ world c given status v good oldest why a up.
-      failed_told world c given status oldest why (v.structure.ground).fine.sound (v.within c good up) (a up);
-  ack_done = λ world c given lowered v good oldest there breaks within a up. done_told world c given oldest (a up);
-  hold = λ world file one v good oldest may turn a up. held_told world file one oldest turn v.structure.ground
-      (v.structure.named one.client good).opens (a up);
-  dropped = λ world c test v good away a up. dropped_told world c test (a up);
-  lower = λ world key lowered v good may light a up. lower_told world key lowered (a up);
-  begin = λ world key lowered v good may heavy a up. begin_told world key lowered may heavy
-      (v.structure.named key.client good).opens (v.covered key.client good up) (a up);
-  cut = λ world c v good up a on. absurd (true≢false (sym on ∙ ap is_up (put_same world.links c Link.Cut)));
-  timer = λ world c file v good on breaks a up. timer_told world c file (a up);
-  connect = λ world c v good down a up. connect_told world c v.structure.ground down;
-  command = λ world c command v good a up.
+      (own.key ∙ ap (λ (m : ℕ → Client). lease_key (m c).guid file) same) (k.all.named c k.good) source k.all.ground
+      (off_file world off c request source file on) a;
+  reconnected = λ world off c file access share ask file_id k source again on waits a.
+      reconnected_told world off c file access share ask file_id source a;
+  changed = λ world off c file_id number patch one k source found may a.
+      changed_told world off c one.file file_id number patch source a;
+  closed = λ world off c file_id one k source found a.
+      closed_told world off c file_id source a;
+  ack_failed = λ world c given status k oldest why a.
+      failed_told world c given status oldest why (k.all.ground).fine.sound (k.all.beliefs c k.good k.when) a;
+  ack_done = λ world c given lowered k oldest there breaks within a. done_told world c given oldest a;
+  hold = λ world file one k oldest may turn a. held_told world file one oldest turn k.all.ground
+      (k.all.named one.client k.good).opens a;
+  dropped = λ world c test k away a. dropped_told world c test a;
+  lower = λ world key lowered k may light a. lower_told world key lowered a;
+  begin = λ world key lowered k may heavy a. begin_told world key lowered may heavy
+      (k.all.named key.client k.good).opens (k.all.covered key.client k.good k.when) a;
+  timer = λ world c file k on breaks a. timer_told world c file a;
+  command = λ world c command k a.
       let machine = world.clients c in
-      let was = was_up world c (commanded machine command) up in
-      command_told world c (commanded machine command) was (commanded-stays machine command).guid
-      (any_command machine (StepTold machine) (commands_told machine) command) (known_here world v c good was) (a was);
-  take = λ world c reply queue v good first a up.
-      let was : is_up (world.links c) ≡ true = was_up (reply_gone world c queue) c (taken (world.clients c) reply) up in
-      take_told world c reply queue first was (known_here world v c good was) (a was);
-  notice = λ world c v good cut a on. absurd (true≢false (sym on
-      ∙ ap (λ (l : ℕ → Link). is_up (l c)) (stepped_links (record world { links = put world.links c Link.Down }) c
-      (noticed (world.clients c))) ∙ ap is_up (put_same world.links c Link.Down)));
+      command_told world c (commanded machine command) k.when (commanded-stays machine command).guid
+      (any_command machine (StepTold machine) (commands_told machine) command) (known_here world k.all c k.good k.when) a;
+  take = λ world c reply queue k first a.
+      take_told world c reply queue first k.when (known_here world k.all c k.good k.when) a;
 }

@@ -1,28 +1,27 @@
 -- A live entry that meets a break acknowledges it or closes its open, and one that stops being live closes its open.
 use Rattle.lease_laws.proofs.Words.{◌&&◌, ◌++◌, ◌+◌, ◌==◌, ◌||◌, ◌∙◌, ◌∷◌, ◌≡◌, ◌≢◌, ◌⊎◌, Answer, Bool, BreakNotice, Client}
-use Rattle.lease_laws.proofs.Words.{CreateAnswer, Entry, Fact, FileRequest, IsSoundClient, List, LiveEntry, None, Option, Pending}
-use Rattle.lease_laws.proofs.Words.{Phase, Reply, Request, Some, State, Step, Turn, ℕ, ⊎_elim, ⊤, [], acknowledgment, ap, arith}
-use Rattle.lease_laws.proofs.Words.{belief_lowered, bytes_eq, bytes_eq-Decides, create_request}
-use Rattle.lease_laws.proofs.Words.{eq-eqb, eqb-true, false, flushed, inl, inr, is_asking, is_key_of, lease_key}
-use Rattle.lease_laws.proofs.Words.{meet, next_write, not, parked_closed, phase_with}
-use Rattle.lease_laws.proofs.Words.{put, quiet_step, refl, subst, sym, true, true≢false, turned}
+use Rattle.lease_laws.proofs.Words.{CreateAnswer, Entry, Fact, FileRequest, IsSoundClient, List, LiveEntry, None, Option}
+use Rattle.lease_laws.proofs.Words.{Pending, Phase, Reply, Request, Some, State, Step, Turn, ℕ, [], ⊎_elim, ⊤, acknowledgment}
+use Rattle.lease_laws.proofs.Words.{ap, arith, belief_lowered, bytes_eq, bytes_eq-Decides, create_request, eq-eqb, eqb-true}
+use Rattle.lease_laws.proofs.Words.{false, flushed, inl, inr, is_asking, is_key_of, lease_key, meet, next_write, not}
+use Rattle.lease_laws.proofs.Words.{parked_closed, phase_with, put, quiet_step, refl, subst, sym, true, true≢false, turned}
 use Rattle.lease_laws.proofs.Words.{write_requests, wrote_step}
-use Rattle.lease_laws.proofs.client.Thin.{put_same, put_other}
-use Rattle.lease_laws.proofs.server.Lists.{if_cases, either, clash, and_parts, or_true, not_true}
-use Rattle.lease_laws.proofs.world.Links.{by_client}
-use Rattle.lease_coherence.specs.Creates.{one_if, has_asked}
-use Rattle.lease_coherence.specs.Names.{Each, IsNamedReply}
-use Rattle.lease_coherence.proofs.beliefs.Forms.{IsAboutFile, writes_about, keys_apart}
-use Rattle.lease_coherence.proofs.beliefs.OneLease.{acks, acks_append, is_created, is_ack_break}
+use Rattle.lease_laws.proofs.client.Thin.{put_other, put_same}
 use Rattle.lease_laws.proofs.client.cases.Commands.{HasCommands, sent_of}
-use Rattle.lease_laws.proofs.client.cases.Replies.{HasTakes, PassesOver, is_live}
 use Rattle.lease_laws.proofs.client.cases.Files.{found_so}
-use Rattle.lease_coherence.proofs.covered.Clients.{IsCounted, closed_status, parked_idle}
-use Rattle.lease_coherence.proofs.covered.CoveredOpens.{ClosedBefore, closed_behind, closed_behind_writes, NotFailed}
-use Rattle.lease_coherence.proofs.fresh.Clients.{never_passed, sound_live}
-use Rattle.lease_coherence.proofs.told.BreaksMet.{HasMet, met_more, IsClosing}
-use Rattle.lease_coherence.proofs.creates.Counts.{none_asked}
+use Rattle.lease_laws.proofs.client.cases.Replies.{HasTakes, PassesOver, is_live}
 use Rattle.lease_laws.proofs.client.cases.Turns.{by_turn, step_of}
+use Rattle.lease_laws.proofs.server.Lists.{and_parts, clash, either, if_cases, not_true, or_true}
+use Rattle.lease_laws.proofs.world.Links.{by_client}
+use Rattle.lease_coherence.specs.Creates.{has_asked, one_if}
+use Rattle.lease_coherence.specs.Names.{Each, IsNamedReply}
+use Rattle.lease_coherence.proofs.beliefs.Forms.{IsAboutFile, keys_apart, writes_about}
+use Rattle.lease_coherence.proofs.beliefs.OneLease.{acks, acks_append, is_ack_break, is_created}
+use Rattle.lease_coherence.proofs.covered.Clients.{IsCounted, closed_status, parked_idle}
+use Rattle.lease_coherence.proofs.covered.CoveredOpens.{ClosedBefore, NotFailed, closed_behind, closed_behind_writes}
+use Rattle.lease_coherence.proofs.creates.Counts.{none_asked}
+use Rattle.lease_coherence.proofs.fresh.Clients.{never_passed, sound_live}
+use Rattle.lease_coherence.proofs.told.BreaksMet.{HasMet, IsClosing, met_more}
 
 -- ---- commands
 

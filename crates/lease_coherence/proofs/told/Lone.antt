@@ -2,32 +2,32 @@
 -- the lease holds no handles.
 use Rattle.lease_laws.proofs.Words.{◌&&◌, ◌++◌, ◌==◌, ◌||◌, ◌∙◌, ◌∷◌, ◌≡◌, ◌⊎◌, Access, Bool, Client, CreateAsk, Event}
 use Rattle.lease_laws.proofs.Words.{FileRequest, Key, Lease, LeaseOf, Link, List, None, Open, Reply, Server, Setup, Share, Some}
-use Rattle.lease_laws.proofs.Words.{State, Status, Step, World, ℕ, ⊎_elim, ⊤, [], after, ap, break_notice, bytes_eq}
-use Rattle.lease_laws.proofs.Words.{bytes_eq-Decides, commanded, connection_made, eq-eqb, false, first_world, granted_form_of}
-use Rattle.lease_laws.proofs.Words.{has_key, inl, inr, is_state_within, key_eq, key_of, lease_after}
-use Rattle.lease_laws.proofs.Words.{lease_key, lease_put, list_any, machine_key, needs_acknowledgment, no_lease, not}
-use Rattle.lease_laws.proofs.Words.{nothing_cached, noticed, put, refl, refusal_of, stepped_in, subst, sym, taken}
-use Rattle.lease_laws.proofs.Words.{true, true≢false, with_opens, without}
+use Rattle.lease_laws.proofs.Words.{State, Step, World, ℕ, [], ⊎_elim, ⊤, after, ap, break_notice, bytes_eq, bytes_eq-Decides}
+use Rattle.lease_laws.proofs.Words.{commanded, connection_made, eq-eqb, false, first_world_under, granted_form_of, has_key, inl, inr}
+use Rattle.lease_laws.proofs.Words.{is_state_within, key_eq, key_of, lease_after, lease_key, lease_put, list_any, machine_key}
+use Rattle.lease_laws.proofs.Words.{needs_acknowledgment, no_lease, not, nothing_cached, noticed, put, refl, stepped_in, subst}
+use Rattle.lease_laws.proofs.Words.{sym, taken, true, true≢false, with_opens, without}
+use Rattle.lease_laws.proofs.Words.{Rules}
 use Rattle.lease_laws.proofs.client.Forms.{commanded-stays, taken-stays}
 use Rattle.lease_laws.proofs.client.Thin.{put_same}
-use Rattle.lease_laws.proofs.server.Keys.{put_key-cases, key_eq-refl}
-use Rattle.lease_laws.proofs.server.Lists.{if_cases, either, clash, and_parts, not_parts}
+use Rattle.lease_laws.proofs.server.Keys.{key_eq-refl, put_key-cases}
+use Rattle.lease_laws.proofs.server.Lists.{and_parts, clash, either, if_cases, not_parts}
 use Rattle.lease_laws.proofs.world.Runs.{stepped_server}
 use Rattle.lease_coherence.specs.Names.{Each}
 use Rattle.lease_coherence.proofs.beliefs.Forms.{keys_apart}
-use Rattle.lease_coherence.proofs.beliefs.TrustStays.{own_create}
-use Rattle.lease_coherence.proofs.beliefs.Trust.{file_key}
 use Rattle.lease_coherence.proofs.beliefs.OneLease.{is_created}
+use Rattle.lease_coherence.proofs.beliefs.Trust.{file_key}
+use Rattle.lease_coherence.proofs.beliefs.TrustStays.{own_create}
 use Rattle.lease_coherence.proofs.creates.Creates.{stepped_machine}
-use Rattle.lease_coherence.proofs.moves.Deeds.{IsSource, told_to, without_opens, granted_in, granted_reply, reconnected_in}
-use Rattle.lease_coherence.proofs.moves.Deeds.{reconnected_reply, changed_in, leased_in, done_reply}
-use Rattle.lease_coherence.proofs.moves.Events.{Both, IsCarried, carried_both, runs_have, come_back, cut_off, timed_out}
-use Rattle.lease_coherence.proofs.moves.Events.{reply_gone}
+use Rattle.lease_coherence.proofs.layers.AllRuns.{layers_carried, run_layers}
+use Rattle.lease_coherence.proofs.layers.Layers.{HasLayers}
+use Rattle.lease_coherence.proofs.moves.Deeds.{IsSource, changed_in, done_reply, granted_in, granted_reply, leased_in}
+use Rattle.lease_coherence.proofs.moves.Deeds.{reconnected_in, reconnected_reply, told_to, without_opens}
+use Rattle.lease_coherence.proofs.moves.Events.{Both, IsCarried, carried_both, come_back, cut_off, reply_gone, runs_have}
+use Rattle.lease_coherence.proofs.moves.Events.{timed_out}
 use Rattle.lease_coherence.proofs.moves.Frames.{from_source, stepped_replies}
 use Rattle.lease_coherence.proofs.moves.Moves.{popped}
-use Rattle.lease_coherence.proofs.moves.Own.{IsOwnMoved, OfGood, own_moves}
-use Rattle.lease_coherence.proofs.told.AllRuns.{leases_carried, run_leases}
-use Rattle.lease_coherence.proofs.told.Leases.{HasLeases}
+use Rattle.lease_coherence.proofs.moves.Own.{Always, IsLinkMoved, IsOwnMoved, OfGood, is_bare, own_moves, told_bare}
 
 -- ---- one file
 
@@ -119,10 +119,9 @@ plain_lone world new c reply guid replies keeps none h = sent_lone world new c r
 off_lone : (world off : World) (c : ℕ) (request : FileRequest) → IsSource world off c request → HasLone world c → HasLone off c
 off_lone world off c request source h = from_source world off c request (λ o. HasLone o c) source h (λ at left. h)
 
-refusal_no_break : (request : FileRequest) (status : Status) (key : List ℕ)
-    → is_lone_break key (refusal_of request status) ≡ false
-refusal_no_break (FileRequest.Create file access share contexts) status key = refl
-refusal_no_break request status key = refl
+bare_no_break : (reply : Reply) → is_bare reply → (key : List ℕ) → is_lone_break key reply ≡ false
+bare_no_break (Reply.Break notice) bare key = absurd bare
+bare_no_break reply bare key = refl
 
 with_handles : (server : Server) (opens : List Open) (key : Key) → ((with_opens server opens).leases key).state.handle ≡ true
     → (server.leases key).state.handle ≡ true
@@ -233,49 +232,40 @@ timer_leases world c file key e =
 
 -- ---- all moves
 
-pub lone_moves : IsOwnMoved HasLeases HasLone
+pub lone_moves : IsOwnMoved HasLayers Always HasLone
 lone_moves = record {
-  unmoved = λ world new c v good u a. stays_lone world new c (ap (λ (m : Client). m.guid) u.machine) u.replies
+  unmoved = λ world new c k u a. stays_lone world new c (ap (λ (m : Client). m.guid) u.machine) u.replies
       (λ file e. ap (λ (l : Lease). l.state.handle) (sym (u.leases (machine_key world c file) refl)) ∙ e) a;
-  refused = λ world off c request status v good source may a. plain_lone off (told_to off c (refusal_of request status)) c
-      (refusal_of request status) refl refl (λ file e. e) (refusal_no_break request status)
-      (off_lone world off c request source a);
-  full = λ world off c file access share ask v good source a.
-      plain_lone off (told_to off c (Reply.CreateFailed file Status.InsufficientResources)) c
-      (Reply.CreateFailed file Status.InsufficientResources) refl refl (λ at e. e) (λ key. refl)
-      (off_lone world off c (FileRequest.Create file access share (Some ask)) source a);
-  granted = λ world off c file access share ask v good source none on free a.
-      let own = own_create world off c file access share ask source (v.structure.named c good) in
+  told = λ world off c request reply k source is a. plain_lone off (told_to off c reply) c reply refl refl (λ file e. e)
+      (bare_no_break reply (told_bare off c request reply is)) (off_lone world off c request source a);
+  granted = λ world off c file access share ask k source none on free a.
+      let own = own_create world off c file access share ask source (k.all.named c k.good) in
       granted_lone off c file access share ask own.lease own.asks own.key
       (off_lone world off c (FileRequest.Create file access share (Some ask)) source a);
-  reconnected = λ world off c file access share ask file_id v good source again on waits a.
+  reconnected = λ world off c file access share ask file_id k source again on waits a.
       plain_lone off (reconnected_in off c file ask file_id) c (reconnected_reply off.server c file ask file_id) refl refl
       (λ at e. e) (λ key. refl) (off_lone world off c (FileRequest.Create file access share (Some ask)) source a);
-  read = λ world off c file_id one v good source found may a.
-      plain_lone off (told_to off c (Reply.ReadDone file_id (off.server.contents one.file))) c
-      (Reply.ReadDone file_id (off.server.contents one.file)) refl refl (λ at e. e) (λ key. refl)
-      (off_lone world off c (FileRequest.Read file_id) source a);
-  changed = λ world off c file_id number patch one v good source found may a.
+  changed = λ world off c file_id number patch one k source found may a.
       plain_lone off (changed_in off c one.file file_id number patch) c (Reply.WriteDone file_id number) refl refl
       (λ at e. e) (λ key. refl) (off_lone world off c (FileRequest.Write file_id number patch) source a);
-  closed = λ world off c file_id one v good source found a.
+  closed = λ world off c file_id one k source found a.
       let test : Open → Bool = λ other. other.file_id == file_id in
       plain_lone off (told_to (without_opens off test) c (Reply.Closed file_id)) c (Reply.Closed file_id) refl refl
       (λ at e. with_handles off.server (without test off.server.opens) (machine_key off c at) e) (λ key. refl)
       (off_lone world off c (FileRequest.Close file_id) source a);
-  ack_failed = λ world c given status v good oldest why a.
+  ack_failed = λ world c given status k oldest why a.
       plain_lone (popped world c) (told_to (popped world c) c (Reply.AckFailed status)) c (Reply.AckFailed status) refl refl
       (λ at e. e) (λ key. refl) a;
-  ack_done = λ world c given lowered v good oldest there breaks within a.
+  ack_done = λ world c given lowered k oldest there breaks within a.
       put_lone (popped world c) (key_of c given.key) (record { state = granted_form_of given.state; broken_to = None })
       (done_reply given) (λ h. handles_within lowered (world.server.leases (key_of c given.key)).state
-      ((v.structure.ground.fine.sound.lawful (key_of c given.key)).is_broken_so lowered breaks).is_part
+      ((k.all.ground.fine.sound.lawful (key_of c given.key)).is_broken_so lowered breaks).is_part
       (handles_within given.state lowered within (form_handles given.state h)))
       (λ bytes is. absurd (true≢false (sym is))) a;
-  hold = λ world file one v good oldest may turn a. a;
-  dropped = λ world c test v good away a. stays_lone world (without_opens world test) c refl refl
+  hold = λ world file one k oldest may turn a. a;
+  dropped = λ world c test k away a. stays_lone world (without_opens world test) c refl refl
       (λ at e. with_handles world.server (without test world.server.opens) (machine_key world c at) e) a;
-  lower = λ world key lowered v good may light a.
+  lower = λ world key lowered k may light a.
       let state = (world.server.leases key).state in
       let less = handles_within lowered state may.is_lowered.is_part in
       put_lone world key (record { state = lowered; broken_to = None }) (break_notice key state lowered) less
@@ -283,20 +273,24 @@ lone_moves = record {
         (bytes_eq-Decides bytes key.bytes).0 (and_parts _ _ is).1,
         contra lowered.handle state.handle less (no_handles state light),
       )) a;
-  begin = λ world key lowered v good may heavy a.
+  begin = λ world key lowered k may heavy a.
       let state = (world.server.leases key).state in
       put_lone world key (record { state = state; broken_to = Some lowered }) (break_notice key state lowered) (λ e. e)
       (λ bytes is. clash (needs_acknowledgment state) heavy (not_parts (needs_acknowledgment state) (and_parts _ _ is).0)) a;
-  cut = λ world c v good up a file. by_guid world (cut_off world c) c file [] refl (put_same world.replies c []) tt;
-  timer = λ world c file v good on breaks a. stays_lone world (timed_out world c file) c refl refl
+  timer = λ world c file k on breaks a. stays_lone world (timed_out world c file) c refl refl
       (λ at e. timer_leases world c file (machine_key world c at) e) a;
-  connect = λ world c v good down a. step_lone world (come_back world c) c (connection_made (world.clients c))
-      (come_back_leases world c) (connected_guid (world.clients c)) refl a;
-  command = λ world c command v good a. step_lone world world c (commanded (world.clients c) command) (λ key e. e)
+  command = λ world c command k a. step_lone world world c (commanded (world.clients c) command) (λ key e. e)
       (commanded-stays (world.clients c) command).guid refl a;
-  take = λ world c reply queue v good first a.
+  take = λ world c reply queue k first a.
       step_lone (reply_gone world c queue) (reply_gone world c queue) c (taken (world.clients c) reply) (λ key e. e)
       (taken-stays (world.clients c) reply).guid refl (gone_lone world c reply queue first a);
+}
+
+pub lone_link : IsLinkMoved HasLayers HasLone
+lone_link = record {
+  cut = λ world c v good up a file. by_guid world (cut_off world c) c file [] refl (put_same world.replies c []) tt;
+  connect = λ world c v good down a. step_lone world (come_back world c) c (connection_made (world.clients c))
+      (come_back_leases world c) (connected_guid (world.clients c)) refl a;
   notice = λ world c v good cut a. step_lone world (record world { links = put world.links c Link.Down }) c
       (noticed (world.clients c)) (λ key e. e) (noticed_guid (world.clients c)) refl a;
 }
@@ -304,13 +298,13 @@ lone_moves = record {
 -- ---- all runs
 
 abbrev pub HasLones : World → Type 0
-HasLones = Both HasLeases (OfGood HasLone)
+HasLones = Both HasLayers (OfGood HasLone)
 
 pub lones_carried : IsCarried HasLones
-lones_carried = carried_both HasLeases (OfGood HasLone) leases_carried
-    (own_moves HasLeases HasLone (λ world v. v.structure.ground) lone_moves)
+lones_carried = carried_both HasLayers (OfGood HasLone) layers_carried
+    (own_moves HasLayers HasLone (λ world v. v.ground) lone_moves lone_link)
 
-pub run_lones : (setup : Setup) (events : List Event) → HasLones (after (first_world setup) events)
-unfolding first_world after
-run_lones setup events = runs_have HasLones (λ world v. v.0.structure.ground) lones_carried setup
-    (run_leases setup [], λ client good file. tt) events
+pub run_lones : (rules : Rules) (setup : Setup) (events : List Event) → HasLones (after (first_world_under rules setup) events)
+unfolding first_world_under after
+run_lones rules setup events = runs_have HasLones (λ world v. v.0.ground) lones_carried rules setup
+    (run_layers rules setup [], λ client good file. tt) events

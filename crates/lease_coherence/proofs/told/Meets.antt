@@ -1,25 +1,24 @@
 -- The break that is to be met is met: a client that takes what comes before it has a live entry then, and what it tells is the
 -- state that the lease is broken to.
 use Rattle.lease_laws.proofs.Words.{◌&&◌, ◌++◌, ◌+◌, ◌==◌, ◌||◌, ◌∙◌, ◌∷◌, ◌≡◌, ◌⊎◌, Bool, BreakNotice, Client, Link, List}
-use Rattle.lease_laws.proofs.Words.{LiveEntry, None, Phase, Reply, Server, Some, State, World, ℕ, ⊎_elim, [], ap, arith, bytes_eq}
-use Rattle.lease_laws.proofs.Words.{bytes_eq-Decides, false, has_strayed, is_up, key_of, lease_key, machine_key, not, refl, subst}
-use Rattle.lease_laws.proofs.Words.{sym, taken, true, true≢false}
-use Rattle.lease_laws.proofs.server.Lists.{clash, either, and_parts, and_both}
-use Rattle.lease_coherence.specs.Agreement.{taken_all, IsTold, lease_of_client}
-use Rattle.lease_coherence.specs.Creates.{answers, answer_of, asked_by, creates, one_if, has_asked}
-use Rattle.lease_coherence.specs.Names.{Each, IsNamedReply}
-use Rattle.lease_coherence.specs.Agreement.{asked_of}
-use Rattle.lease_coherence.proofs.agreed.Taken.{IsTaken, one_taken, left_behind_it, still_fresh}
-use Rattle.lease_coherence.proofs.beliefs.Trust.{file_key}
-use Rattle.lease_coherence.proofs.beliefs.OneLease.{is_created, is_ack_break}
+use Rattle.lease_laws.proofs.Words.{LiveEntry, None, Phase, Reply, Server, Some, State, World, ℕ, [], ⊎_elim, ap, arith}
+use Rattle.lease_laws.proofs.Words.{bytes_eq, bytes_eq-Decides, false, has_strayed, is_up, key_of, lease_key, machine_key, not}
+use Rattle.lease_laws.proofs.Words.{refl, subst, sym, taken, true, true≢false}
 use Rattle.lease_laws.proofs.client.cases.Replies.{any_reply, is_live}
+use Rattle.lease_laws.proofs.server.Lists.{and_both, and_parts, clash, either}
+use Rattle.lease_coherence.specs.Agreement.{IsTold, asked_of, lease_of_client, taken_all}
+use Rattle.lease_coherence.specs.Creates.{answer_of, answers, asked_by, creates, has_asked, one_if}
+use Rattle.lease_coherence.specs.Names.{Each, IsNamedReply}
+use Rattle.lease_coherence.proofs.agreed.Taken.{IsTaken, left_behind_it, one_taken, still_fresh}
+use Rattle.lease_coherence.proofs.beliefs.OneLease.{is_ack_break, is_created}
+use Rattle.lease_coherence.proofs.beliefs.Trust.{file_key}
 use Rattle.lease_coherence.proofs.covered.Moves.{FailsGone}
 use Rattle.lease_coherence.proofs.covered.OpensStayCovered.{counted_of}
-use Rattle.lease_coherence.proofs.moves.Events.{reply_taken, Move}
+use Rattle.lease_coherence.proofs.moves.Events.{Move, reply_taken}
+use Rattle.lease_coherence.proofs.told.BreaksMet.{HasMet, met_more}
+use Rattle.lease_coherence.proofs.told.BreaksStayTold.{known_here, live_not_failed}
 use Rattle.lease_coherence.proofs.told.Clients.{IsParkedBreak, TakeLives, takes_live, whole_of}
 use Rattle.lease_coherence.proofs.told.Lone.{AfterLone, HasLones, NoneCreated, holds_handles, is_lone_break, lones_carried}
-use Rattle.lease_coherence.proofs.told.BreaksStayTold.{known_here, live_not_failed}
-use Rattle.lease_coherence.proofs.told.BreaksMet.{HasMet, met_more}
 use Rattle.lease_coherence.proofs.within.BeliefsWithin.{BreaksTell, TellsState}
 
 -- ---- one reply
@@ -76,7 +75,7 @@ parked_asks world c file lowered reply queue w first b =
     let v = w.known in
     let key = file_key world c file in
     let phase = ((world.clients c).entries file).phase in
-    let held = ((((v.0.within c w.good w.up).files file w.fresh).own b.live b.was).0 b.handles).1 in
+    let held = ((((v.0.beliefs c w.good w.up).files file w.fresh).explained.within.own b.live b.was).0 b.handles).1 in
     either (b.notice).ack_required
     (λ asks. and_both (is_live phase) (is_ack_break key reply) (ap is_live b.was)
     (ap (is_ack_break key) b.is ∙ and_both (b.notice).ack_required (bytes_eq key (b.notice).key) asks b.own))
@@ -130,7 +129,7 @@ meets_now world c file lowered reply queue w first live is =
       asks = b.asks;
       tells = sym w.breaking ∙ told b.notice (subst (TellsState (file_key world c file) (lease_of_client world c file).broken_to)
           b.is (head (subst (BreaksTell (file_key world c file) file (lease_of_client world c file).broken_to
-          (is_live ((world.clients c).entries file).phase)) first ((w.known.0.within c w.good w.up).files file w.fresh).breaks)))
+          (is_live ((world.clients c).entries file).phase)) first ((w.known.0.beliefs c w.good w.up).files file w.fresh).explained.within.breaks)))
           (and_both (b.notice).ack_required (bytes_eq (file_key world c file) (b.notice).key) b.asks
           ((bytes_eq-Decides (file_key world c file) (b.notice).key).1 (sym b.key_is)));
       live = l.0;

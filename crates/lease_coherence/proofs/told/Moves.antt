@@ -1,26 +1,26 @@
 -- While a lease is breaking, its acknowledgment is on its way, or its break to an entry that is or will be live, or each of its
 -- opens is being closed; and what the server does leaves it so.
 use Rattle.lease_laws.proofs.Words.{◌++◌, ◌==◌, ◌∙◌, ◌∷◌, ◌≡◌, ◌⊎◌, Among, Bool, Client, FileRequest, Held, IsSound, Key, Lease}
-use Rattle.lease_laws.proofs.Words.{List, None, Open, Option, Phase, Reply, Request, Server, Some, World, ℕ, ⊎_elim, [], ap}
+use Rattle.lease_laws.proofs.Words.{List, None, Open, Option, Phase, Reply, Request, Server, Some, World, ℕ, [], ⊎_elim, ap}
 use Rattle.lease_laws.proofs.Words.{bytes_eq, eq-eqb, eqb-true, false, has_key, inl, inr, is_breaking, is_key, is_up, key_of}
 use Rattle.lease_laws.proofs.Words.{lease_key, list_any, machine_key, refl, subst, sym, true, true≢false}
 use Rattle.lease_laws.proofs.client.Thin.{put_same}
+use Rattle.lease_laws.proofs.client.cases.Replies.{is_live}
 use Rattle.lease_laws.proofs.server.Keys.{is_key-one}
-use Rattle.lease_laws.proofs.server.Lists.{either, clash, and_parts, any_has, not_false}
+use Rattle.lease_laws.proofs.server.Lists.{and_parts, any_has, clash, either, not_false}
+use Rattle.lease_coherence.specs.Agreement.{as_requests, asked_of}
 use Rattle.lease_coherence.specs.Creates.{held_by}
 use Rattle.lease_coherence.specs.Names.{IsOwnOpen}
 use Rattle.lease_coherence.specs.Standing.{IsNoClose}
 use Rattle.lease_coherence.proofs.beliefs.Forms.{keys_apart}
-use Rattle.lease_coherence.proofs.beliefs.Trust.{file_key, file_acks}
 use Rattle.lease_coherence.proofs.beliefs.OneLease.{acks}
-use Rattle.lease_laws.proofs.client.cases.Replies.{is_live}
+use Rattle.lease_coherence.proofs.beliefs.Trust.{file_acks, file_key}
 use Rattle.lease_coherence.proofs.covered.Asked.{off_closed}
 use Rattle.lease_coherence.proofs.covered.CoveredOpens.{ClosedBefore}
 use Rattle.lease_coherence.proofs.creates.Creates.{off_rest}
 use Rattle.lease_coherence.proofs.moves.Deeds.{IsSource}
 use Rattle.lease_coherence.proofs.moves.Frames.{from_source}
 use Rattle.lease_coherence.proofs.moves.Moves.{rest_of}
-use Rattle.lease_coherence.specs.Agreement.{as_requests, asked_of}
 use Rattle.lease_coherence.proofs.told.BreaksMet.{HasMet, met_behind}
 
 -- ---- one file

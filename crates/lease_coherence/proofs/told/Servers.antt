@@ -1,44 +1,42 @@
 -- What the server does leaves each break told, in its forms.
 use Rattle.lease_laws.proofs.Words.{◌&&◌, ◌++◌, ◌+◌, ◌==◌, ◌∙◌, ◌∷◌, ◌≡◌, Access, Among, Bool, CreateAsk, FileRequest, Held}
 use Rattle.lease_laws.proofs.Words.{IsInTurn, IsSound, Key, Lease, LeaseOf, List, MayLower, MayRefuse, None, Ok, Open, Option}
-use Rattle.lease_laws.proofs.Words.{Patch, Reply, Request, Server, Share, SmallStep, Some, State, Status, World, ℕ, ⊎_elim, []}
-use Rattle.lease_laws.proofs.Words.{ap, arith, break_notice, bytes_eq, bytes_eq-Decides, connected_again, eq-eqb, eqb-true, false}
-use Rattle.lease_laws.proofs.Words.{file_of_create, granted_form_of, has_file, has_key, has_lease, held_of, inl, inr}
-use Rattle.lease_laws.proofs.Words.{is_breaking, is_state_within, key_eq, key_of, lease_after, lease_granted}
-use Rattle.lease_laws.proofs.Words.{lease_key, lease_put, list_any, machine_key, needs_acknowledgment, new_open, no_lease, not}
-use Rattle.lease_laws.proofs.Words.{put, refl, refusal_of, subst, sym, true, true≢false, with_opens, without}
+use Rattle.lease_laws.proofs.Words.{Patch, Reply, Request, Server, Share, SmallStep, Some, State, Status, World, ℕ, [], ⊎_elim}
+use Rattle.lease_laws.proofs.Words.{ap, arith, break_notice, bytes_eq, bytes_eq-Decides, connected_again, eq-eqb, eqb-true}
+use Rattle.lease_laws.proofs.Words.{false, file_of_create, granted_form_of, has_file, has_key, has_lease, held_of, inl, inr}
+use Rattle.lease_laws.proofs.Words.{is_breaking, is_state_within, key_eq, key_of, lease_after, lease_granted, lease_key}
+use Rattle.lease_laws.proofs.Words.{lease_put, list_any, machine_key, needs_acknowledgment, new_open, no_lease, not, put, refl}
+use Rattle.lease_laws.proofs.Words.{refusal_of, subst, sym, true, true≢false, with_opens, without}
 use Rattle.lease_laws.proofs.client.Thin.{put_same}
+use Rattle.lease_laws.proofs.client.cases.Replies.{is_live}
 use Rattle.lease_laws.proofs.server.Goes.{one_id}
 use Rattle.lease_laws.proofs.server.Keys.{put_key-cases}
-use Rattle.lease_laws.proofs.server.Lists.{if_cases, either, clash, among_append, among_filter, among_map, among_behind}
-use Rattle.lease_laws.proofs.server.Lists.{and_parts, and_both, has_any, not_parts, not_true, true_or, or_of_true}
+use Rattle.lease_laws.proofs.server.Lists.{among_append, among_behind, among_filter, among_map, and_both, and_parts, clash}
+use Rattle.lease_laws.proofs.server.Lists.{either, has_any, if_cases, not_parts, not_true, or_of_true, true_or}
+use Rattle.lease_laws.proofs.server.cases.Judgements.{IsRefusedAck}
+use Rattle.lease_coherence.specs.Agreement.{as_requests, asked_of}
 use Rattle.lease_coherence.specs.Creates.{held_by, one_if}
 use Rattle.lease_coherence.specs.Names.{Each, IsOwnOpen}
+use Rattle.lease_coherence.specs.Names.{IsNamedAt}
 use Rattle.lease_coherence.specs.Standing.{IsNoClose}
-use Rattle.lease_coherence.proofs.beliefs.Forms.{keys_apart}
 use Rattle.lease_coherence.proofs.beliefs.Closed.{left_there}
+use Rattle.lease_coherence.proofs.beliefs.Forms.{keys_apart}
 use Rattle.lease_coherence.proofs.beliefs.Grants.{grant_settled}
-use Rattle.lease_coherence.proofs.beliefs.Trust.{file_key, file_acks}
-use Rattle.lease_coherence.proofs.beliefs.OneLease.{acks, is_created, is_ack_break}
-use Rattle.lease_laws.proofs.client.cases.Replies.{is_live}
-use Rattle.lease_coherence.proofs.covered.Asked.{popped_closed, held_closed, first_asked}
+use Rattle.lease_coherence.proofs.beliefs.OneLease.{acks, is_ack_break, is_created}
+use Rattle.lease_coherence.proofs.beliefs.Trust.{HasTrust, file_acks, file_key}
+use Rattle.lease_coherence.proofs.covered.Asked.{first_asked, held_closed, popped_closed}
+use Rattle.lease_coherence.proofs.covered.CoveredOpens.{ClosedBefore, HasGrant, IsGrantOf}
 use Rattle.lease_coherence.proofs.covered.Moves.{HasCovered, refusal_closes}
 use Rattle.lease_coherence.proofs.covered.OpensStayCovered.{own_place}
-use Rattle.lease_coherence.proofs.covered.CoveredOpens.{ClosedBefore, HasGrant, IsGrantOf}
-use Rattle.lease_coherence.proofs.moves.Deeds.{IsSource, told_to, held_in, granted_in, granted_reply}
-use Rattle.lease_coherence.proofs.moves.Deeds.{reconnected_in, reconnected_reply, changed_in, leased_in, without_opens}
-use Rattle.lease_coherence.proofs.moves.Deeds.{done_reply}
+use Rattle.lease_coherence.proofs.moves.Deeds.{IsSource, changed_in, done_reply, granted_in, granted_reply, held_in, leased_in}
+use Rattle.lease_coherence.proofs.moves.Deeds.{reconnected_in, reconnected_reply, told_to, without_opens}
 use Rattle.lease_coherence.proofs.moves.Events.{Ground, timed_out}
 use Rattle.lease_coherence.proofs.moves.Frames.{lease_put_rest}
-use Rattle.lease_coherence.proofs.moves.Moves.{IsOldest, rest_of, popped}
-use Rattle.lease_coherence.specs.Agreement.{as_requests, asked_of}
-use Rattle.lease_coherence.proofs.told.Moves.{ClosedIn, ToldBy, HasTold, told_map, kept_told, breaking_open, breaking_up}
-use Rattle.lease_coherence.proofs.told.Moves.{IsSameServer}
-use Rattle.lease_coherence.proofs.told.Moves.{open_place, off_server, answered_told, plain_answered}
-use Rattle.lease_coherence.proofs.told.BreaksMet.{HasMet, met_behind, met_last, is_granted, met_granted}
-use Rattle.lease_coherence.proofs.within.Moves.{HasWithin}
+use Rattle.lease_coherence.proofs.moves.Moves.{IsOldest, popped, rest_of}
+use Rattle.lease_coherence.proofs.told.BreaksMet.{HasMet, is_granted, met_behind, met_granted, met_last}
+use Rattle.lease_coherence.proofs.told.Moves.{ClosedIn, HasTold, IsSameServer, ToldBy, answered_told, breaking_open}
+use Rattle.lease_coherence.proofs.told.Moves.{breaking_up, kept_told, off_server, open_place, plain_answered, told_map}
 use Rattle.lease_coherence.proofs.within.BeliefsWithin.{AckFit, IsAckFit}
-use Rattle.lease_laws.proofs.server.cases.Judgements.{IsRefusedAck}
 
 -- ---- a reply, and nothing else
 
@@ -138,14 +136,14 @@ timer_told world c file t =
 -- ---- grants
 
 -- a create that is granted is the first that is asked of its file
-create_first : (world off : World) (c file : ℕ) (access : Access) (share : Share) (ask : CreateAsk)
+create_first : (world off : World) (c file : ℕ) (access : Access) (share : Share) (ask : CreateAsk) → IsNamedAt world c
     → IsSource world off c (FileRequest.Create file access share (Some ask)) → Ground world
     → has_file world.server file ≡ true → (id : ℕ) → ClosedBefore file id (asked_of world c file) → ⊥
-create_first world off c file access share ask source g on id closed =
-    first (first_asked world off c file (FileRequest.Create file access share (Some ask)) source asked
-    (λ h. sym (g.fine.orderly.held_about h.file (held_of c (FileRequest.Create file access share (Some ask)))
-    (subst (λ (l : List Held). Among (held_of c (FileRequest.Create file access share (Some ask))) l) (sym h.held)
-    (among_behind (held_of c (FileRequest.Create file access share (Some ask))) h.before (_ ∷ h.behind) (inl refl))))))
+create_first world off c file access share ask n source g on id closed =
+    first (first_asked world off c file (FileRequest.Create file access share (Some ask)) n source asked
+    (λ h. sym (g.fine.orderly.held_about h.file (held_of c (FileRequest.Create file access share (Some ask)) h.lane)
+    (subst (λ (l : List Held). Among (held_of c (FileRequest.Create file access share (Some ask)) h.lane) l) (sym h.held)
+    (among_behind (held_of c (FileRequest.Create file access share (Some ask)) h.lane) h.before (_ ∷ h.behind) (inl refl))))))
   where
     asked : file_of_create world.server file (Some ask) ≡ Ok file
     asked = rw (on) refl
@@ -158,11 +156,11 @@ create_first world off c file access share ask source g on id closed =
         never x = x.0 refl
 
 pub granted_told : (world off : World) (c file : ℕ) (access : Access) (share : Share) (ask : CreateAsk) (asked : LeaseOf)
-    → ask.lease ≡ Some asked → asked.key ≡ lease_key (world.clients c).guid file
+    → ask.lease ≡ Some asked → asked.key ≡ lease_key (world.clients c).guid file → IsNamedAt world c
     → IsSource world off c (FileRequest.Create file access share (Some ask)) → Ground world
     → has_file world.server file ≡ true → HasTold world c
     → HasTold (granted_in off c file access share ask (lease_after off.server c file ask.lease)) c
-granted_told world off c file access share ask asked e named source g on t =
+granted_told world off c file access share ask asked e named n source g on t =
     let request = FileRequest.Create file access share (Some ask) in
     let lease = lease_after off.server c file ask.lease in
     answered_told world off (granted_in off c file access share ask lease) c request
@@ -211,7 +209,7 @@ granted_told world off c file access share ask asked e named source g on t =
     new_open_closed at breaks closed has = either (at == file)
         (λ here. let at_file : at ≡ file = eqb-true at file here in
         let y = breaking_open world.server (machine_key world c at) g.fine.sound (breaks_before at breaks) in
-        create_first world off c file access share ask source g on (y.0).file_id
+        create_first world off c file access share ask n source g on (y.0).file_id
         (subst (λ f. ClosedBefore f (y.0).file_id (asked_of world c f)) at_file (closed y.0 y.1 y.2)))
         (λ there. clash (bytes_eq (file_key world c at) (lease_key (world.clients c).guid file))
         (of_file (subst (λ o. has_key (machine_key world c at)
@@ -401,7 +399,7 @@ acked_told world c file given oldest other t =
 -- one that is on its way is of a state that the lease is broken to, so it isn't refused
 pub failed_told : (world : World) (c : ℕ) (given : Option LeaseOf) (status : Status)
     → IsOldest world c (Request.Acknowledge given) → IsRefusedAck world.server c given → IsSound world.server
-    → HasWithin world c → HasTold world c → HasTold (told_to (popped world c) c (Reply.AckFailed status)) c
+    → HasTrust world c → HasTold world c → HasTold (told_to (popped world c) c (Reply.AckFailed status)) c
 failed_told world c given status oldest why sound w t =
     kept_told world (told_to (popped world c) c (Reply.AckFailed status)) c refl
     (λ file fresh breaks.
@@ -446,7 +444,7 @@ failed_told world c given status oldest why sound w t =
         ap (λ bytes. key_of c bytes) ((bytes_eq-Decides (file_key world c file) lease.key).0 own) in
         let fit = fit_of file lease is (subst (Each (AckFit (file_key world c file)
         (world.server.leases (machine_key world c file)) ((world.clients c).entries file).phase)) oldest.is_first
-        (w.files file fresh).acks) own in
+        (w.files file fresh).explained.within.acks) own in
         let y = breaking_open world.server (machine_key world c file) sound breaks in
         clash (is_state_within lease.state fit.lowered) fit.within
         (refused lease is (subst (λ k. has_lease world.server k ≡ true) same
@@ -494,5 +492,5 @@ held_told world at one oldest turn g own t =
     (λ m. inr (inl m))
     (λ closed x there has. held_closed world at one oldest file x.file_id
     (λ ne. own_place world.server c at one.request x
-    (λ a b p q e. one_id world.server.opens a b g.fine.sound.in_order p q e) there turn
+    (λ a b p q e. one_id world.server.opens a b g.fine.sound.in_order p q e) there turn.0
     (λ e. ne (sym (open_place world c file x (own x there) has).1 ∙ e))) (closed x there has)) (t file fresh breaks))

@@ -1,18 +1,17 @@
 -- The notes of a client name files that it knows, and writes that end within the limit.
 use Rattle.lease_laws.proofs.Words.{◌++◌, ◌∙◌, ◌∷◌, ◌≡◌, Access, Among, Bool, Client, ClientCall, Entry, IsSoundClient, List}
-use Rattle.lease_laws.proofs.Words.{LiveEntry, Note, Parted, Pending, Phase, Settlement, Share, State, Step, Turn, ℕ, ⊤, []}
-use Rattle.lease_laws.proofs.Words.{all_turned, ap, belief, belief_of, believes_noted, client_called}
-use Rattle.lease_laws.proofs.Words.{connect_turn, false, first_belief, flat_map}
-use Rattle.lease_laws.proofs.Words.{if◌then◌else◌, inl, inr, is_key_of, is_within_limit, knows_file, lease_key, notice_turn}
-use Rattle.lease_laws.proofs.Words.{numbers_to, promoted_belief}
-use Rattle.lease_laws.proofs.Words.{put, refl, same_state, settled_as, sym, true, turned}
-use Rattle.lease_laws.proofs.client.cases.Files.{numbers_known, found_known}
+use Rattle.lease_laws.proofs.Words.{LiveEntry, Note, Parted, Pending, Phase, Settlement, Share, State, Step, Turn, ℕ, [], ⊤}
+use Rattle.lease_laws.proofs.Words.{all_turned, ap, belief, belief_of, believes_noted, client_called, connect_turn, false}
+use Rattle.lease_laws.proofs.Words.{first_belief, flat_map, if◌then◌else◌, inl, inr, is_key_of, is_within_limit, knows_file}
+use Rattle.lease_laws.proofs.Words.{lease_key, notice_turn, numbers_to, promoted_belief, put, refl, same_state, settled_as, sym}
+use Rattle.lease_laws.proofs.Words.{true, turned}
 use Rattle.lease_laws.proofs.client.Thin.{put_same}
-use Rattle.lease_laws.proofs.server.Lists.{if_cases, not_false}
 use Rattle.lease_laws.proofs.client.cases.Commands.{HasCommands, any_command}
-use Rattle.lease_laws.proofs.client.cases.Replies.{HasTakes, any_reply}
+use Rattle.lease_laws.proofs.client.cases.Files.{found_known, numbers_known}
 use Rattle.lease_laws.proofs.client.cases.Links.{HasNotices, any_notice}
+use Rattle.lease_laws.proofs.client.cases.Replies.{HasTakes, any_reply}
 use Rattle.lease_laws.proofs.client.cases.Turns.{by_turn}
+use Rattle.lease_laws.proofs.server.Lists.{if_cases, not_false}
 
 abbrev pub EachNote : (Note → Type 0) → List Note → Type 0
 EachNote P [] = ⊤

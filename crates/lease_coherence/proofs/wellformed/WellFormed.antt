@@ -1,27 +1,26 @@
 -- Every record of a run is well formed.
 use Rattle.lease_laws.proofs.Words.{◌&&◌, ◌+◌, ◌<◌, ◌==◌, ◌||◌, ◌∙◌, ◌∷◌, ◌≡◌, ◌≢◌, ◌≤◌, ◌⊎◌, Among, Bool, Client, ClientCall}
 use Rattle.lease_laws.proofs.Words.{EachFact, Event, Fact, FileRequest, IsSoundClient, Link, List, Note, Reply, Server, Setup}
-use Rattle.lease_laws.proofs.Words.{TellNumbers, WellFormed, World, ℕ, ⊎_elim, [], after, ap, arith, client_called}
-use Rattle.lease_laws.proofs.Words.{eq-eqb, eqb-true, false, first_world, has_file, has_joined}
-use Rattle.lease_laws.proofs.Words.{inl, inr, is_allowed_setup, is_started, is_up, is_well_formed, is_within_limit}
-use Rattle.lease_laws.proofs.Words.{knows_file, last_file_number, lease_after, lease_put, length, nat_le, nat_lt}
-use Rattle.lease_laws.proofs.Words.{new_client, new_server, not, put, refl}
-use Rattle.lease_laws.proofs.Words.{reverse-reverse, reverse_aux, sendings, starts_from, stepped_in, subst, suc}
-use Rattle.lease_laws.proofs.Words.{sym, takings, true, true≢false}
+use Rattle.lease_laws.proofs.Words.{TellNumbers, WellFormed, World, ℕ, [], ⊎_elim, after, ap, arith, client_called, eq-eqb}
+use Rattle.lease_laws.proofs.Words.{eqb-true, false, first_world_under, has_file, has_joined, inl, inr, is_allowed_setup, is_started}
+use Rattle.lease_laws.proofs.Words.{is_up, is_well_formed, is_within_limit, knows_file, last_file_number, lease_after}
+use Rattle.lease_laws.proofs.Words.{lease_put, length, nat_le, nat_lt, new_client, new_server_under, not, put, refl, reverse-reverse}
+use Rattle.lease_laws.proofs.Words.{reverse_aux, sendings, starts_from, stepped_in, subst, suc, sym, takings, true, true≢false}
+use Rattle.lease_laws.proofs.Words.{Rules}
 use Rattle.lease_model.specs.records.Past.{has_number}
 use Rattle.lease_laws.proofs.client.Forms.{commanded-stays, taken-stays}
 use Rattle.lease_laws.proofs.client.Notes.{called_tells}
-use Rattle.lease_laws.proofs.client.Thin.{put_same, put_other}
-use Rattle.lease_laws.proofs.server.Lists.{either, clash, true_or, and_parts, and_both, or_true, not_true, not_false, find_has}
-use Rattle.lease_laws.proofs.world.InStep.{take_all, few_files}
+use Rattle.lease_laws.proofs.client.Thin.{put_other, put_same}
+use Rattle.lease_laws.proofs.server.Lists.{and_both, and_parts, clash, either, find_has, not_false, not_true, or_true, true_or}
+use Rattle.lease_laws.proofs.world.InStep.{few_files, take_all}
 use Rattle.lease_laws.proofs.world.Links.{by_client, stepped_links}
-use Rattle.lease_laws.proofs.world.Runs.{stepped_server, stepped_clients}
-use Rattle.lease_coherence.specs.Parts.{RunsAreWellFormed}
+use Rattle.lease_laws.proofs.world.Runs.{stepped_clients, stepped_server}
 use Rattle.lease_laws.proofs.world.cases.Events.{IsTold}
+use Rattle.lease_coherence.specs.Parts.{RunsAreWellFormed}
 use Rattle.lease_coherence.proofs.moves.Deeds.{HasDeeds, IsSource, step_deed}
-use Rattle.lease_coherence.proofs.moves.Events.{Ground, IsMoved, Both, carried_both, runs_have, reply_gone, come_back, Move}
+use Rattle.lease_coherence.proofs.moves.Events.{Both, Ground, IsMoved, Move, carried_both, come_back, reply_gone, runs_have}
 use Rattle.lease_coherence.proofs.moves.Frames.{from_source, lease_put_rest, stepped_past}
-use Rattle.lease_coherence.proofs.moves.Ground.{ground_carried, first_ground}
+use Rattle.lease_coherence.proofs.moves.Ground.{first_ground, ground_carried}
 use Rattle.lease_coherence.proofs.records.Later.{later_fact, later_noted, past_noted}
 use Rattle.lease_coherence.proofs.wellformed.Notes.{EachNote, IsFineNote, call_fine}
 
@@ -389,9 +388,9 @@ no_starts = record {
   unused = λ client number. refl;
 }
 
-pub first_well : (setup : Setup) → is_allowed_setup setup ≡ true → IsWell (first_world setup)
-unfolding first_world new_server is_allowed_setup new_client
-first_well setup allowed =
+pub first_well : (rules : Rules) (setup : Setup) → is_allowed_setup setup ≡ true → IsWell (first_world_under rules setup)
+unfolding first_world_under new_server_under is_allowed_setup new_client
+first_well rules setup allowed =
     let h = all_starts_well 1 setup.files [] no_starts in
     let few = (and_parts _ _ (and_parts _ _ (and_parts _ _ allowed).0).0).0 in
     let all = take_all last_file_number setup.files (few_files setup.files few) in record {
@@ -411,11 +410,11 @@ first_well setup allowed =
 
 -- ---- every run
 
-run_well : (setup : Setup) (events : List Event) → is_allowed_setup setup ≡ true
-    → Both Ground IsWell (after (first_world setup) events)
-run_well setup events allowed = runs_have (Both Ground IsWell) (λ world both. both.0)
-    (carried_both Ground IsWell ground_carried well_moves) setup (first_ground setup, first_well setup allowed) events
+run_well : (rules : Rules) (setup : Setup) (events : List Event) → is_allowed_setup setup ≡ true
+    → Both Ground IsWell (after (first_world_under rules setup) events)
+run_well rules setup events allowed = runs_have (Both Ground IsWell) (λ world both. both.0)
+    (carried_both Ground IsWell ground_carried well_moves) rules setup (first_ground rules setup, first_well rules setup allowed) events
 
 pub runs_are_well_formed : RunsAreWellFormed
-runs_are_well_formed setup events allowed = subst (EachFact WellFormed)
-    (sym (reverse-reverse (after (first_world setup) events).past)) (run_well setup events allowed).1.facts
+runs_are_well_formed rules setup events allowed = subst (EachFact WellFormed)
+    (sym (reverse-reverse (after (first_world_under rules setup) events).past)) (run_well rules setup events allowed).1.facts

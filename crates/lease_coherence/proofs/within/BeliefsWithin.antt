@@ -1,15 +1,15 @@
 -- What a client believes of reads and handles, and what breaks and acknowledgments on their way say of the lease: in words
 -- of one file's lease, entry and queues.
 use Rattle.lease_laws.proofs.Words.{◌&&◌, ◌++◌, ◌+◌, ◌==◌, ◌||◌, ◌∙◌, ◌∷◌, ◌≡◌, ◌⊎◌, Among, Bool, Lease, List, LiveEntry, None}
-use Rattle.lease_laws.proofs.Words.{Option, Phase, Reply, Request, Some, State, ℕ, ⊎_elim, ⊤, [], ap, arith, bytes_eq, eq-eqb}
+use Rattle.lease_laws.proofs.Words.{Option, Phase, Reply, Request, Some, State, ℕ, [], ⊎_elim, ⊤, ap, arith, bytes_eq, eq-eqb}
 use Rattle.lease_laws.proofs.Words.{false, inl, inr, is_state_within, refl, sym, true}
-use Rattle.lease_laws.proofs.server.Lists.{clash, or_true, among_before, among_behind}
+use Rattle.lease_laws.proofs.client.cases.Replies.{is_live}
+use Rattle.lease_laws.proofs.server.Lists.{among_before, among_behind, clash, or_true}
 use Rattle.lease_coherence.specs.Agreement.{lone_break}
 use Rattle.lease_coherence.specs.Creates.{one_if}
 use Rattle.lease_coherence.specs.Names.{Each}
 use Rattle.lease_coherence.proofs.beliefs.Leases.{given_all}
-use Rattle.lease_coherence.proofs.beliefs.OneLease.{acks, is_created, is_ack_break, OnGiven, IsMet, BreaksAreMet}
-use Rattle.lease_laws.proofs.client.cases.Replies.{is_live}
+use Rattle.lease_coherence.proofs.beliefs.OneLease.{BreaksAreMet, IsMet, OnGiven, acks, is_ack_break, is_created}
 
 -- ---- beliefs
 
@@ -39,10 +39,6 @@ abbrev pub BreaksTell : List ℕ → ℕ → Option State → Bool → List Repl
 BreaksTell key file broken_to live [] = ⊤
 BreaksTell key file broken_to live (reply ∷ queue) =
     (live ≡ true → TellsState key broken_to reply) × BreaksTell key file broken_to (live || is_created file reply) queue
-
-abbrev pub LowersFormed : Reply → Type 0
-LowersFormed (Reply.Break (Some notice)) = notice.lowered.handle ≡ true → notice.lowered.read ≡ true
-LowersFormed reply = ⊤
 
 -- ---- acknowledgments
 
@@ -131,19 +127,21 @@ tell_fewer key file broken_to live less (reply ∷ queue) fewer b = (
       (λ e. more_live less live (is_created file reply) fewer e) b.1,
 )
 
+-- one that asks for no acknowledgment of the key
+pub plain_tells : (key : List ℕ) (broken_to : Option State) (reply : Reply) → (is_ack_break key reply ≡ true → ⊥)
+    → TellsState key broken_to reply
+plain_tells key broken_to (Reply.Break (Some notice)) none = λ is. absurd (none is)
+plain_tells key broken_to reply none = tt
+
 -- where none can be met, any state will do
 pub tell_none : (key : List ℕ) (file : ℕ) (breaking : Bool) (count : ℕ) (broken_to : Option State) (live : Bool)
     (queue : List Reply) → ((rest : List Reply) → IsMet key file breaking count rest → ⊥)
     → BreaksAreMet key file breaking count live queue → BreaksTell key file broken_to live queue
 tell_none key file breaking count broken_to live [] never b = tt
 tell_none key file breaking count broken_to live (reply ∷ queue) never b = (
-  λ seen. not_told reply (λ is. never queue (b.0 seen is)),
+  λ seen. plain_tells key broken_to reply (λ is. never queue (b.0 seen is)),
   tell_none key file breaking count broken_to (live || is_created file reply) queue never b.1,
 )
-  where
-    not_told : (r : Reply) → (is_ack_break key r ≡ true → ⊥) → TellsState key broken_to r
-    not_told (Reply.Break (Some notice)) none = λ is. absurd (none is)
-    not_told reply none = tt
 
 pub tell_last : (key : List ℕ) (file : ℕ) (broken_to : Option State) (live : Bool) (queue : List Reply) (last : Reply)
     → TellsState key broken_to last → BreaksTell key file broken_to live queue

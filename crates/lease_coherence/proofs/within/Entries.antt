@@ -1,41 +1,25 @@
 -- What a client does keeps what it believes of a file's lease within it.
-use Rattle.lease_laws.proofs.Words.{◌&&◌, ◌++◌, ◌||◌, ◌∙◌, ◌∷◌, ◌≡◌, ◌⊎◌, Bool, BreakNotice, CreateAnswer, Lease, List, LiveEntry}
-use Rattle.lease_laws.proofs.Words.{Phase, Reply, Request, Some, State, ℕ, ⊎_elim, [], ap, bytes_eq, eq-eqb, false, given_state}
-use Rattle.lease_laws.proofs.Words.{inl, inr, is_state_within, meet, not, nothing_cached, refl, subst, sym, true, true≢false}
-use Rattle.lease_laws.proofs.server.Lists.{clash, and_parts, and_both}
+use Rattle.lease_laws.proofs.Words.{◌&&◌, ◌++◌, ◌||◌, ◌∙◌, ◌∷◌, ◌≡◌, ◌⊎◌, Bool, BreakNotice, CreateAnswer, Lease, List}
+use Rattle.lease_laws.proofs.Words.{LiveEntry, Phase, Reply, Request, Some, State, ℕ, [], ⊎_elim, ap, bytes_eq, eq-eqb, false}
+use Rattle.lease_laws.proofs.Words.{given_state, inl, inr, is_state_within, meet, not, nothing_cached, refl, subst, sym, true}
+use Rattle.lease_laws.proofs.client.cases.Replies.{is_live}
+use Rattle.lease_laws.proofs.server.Lists.{and_both, and_parts, clash}
 use Rattle.lease_coherence.specs.Agreement.{lone_break}
 use Rattle.lease_coherence.specs.Names.{Each}
-use Rattle.lease_coherence.proofs.beliefs.OneLease.{acks, is_created, IsBelieved}
-use Rattle.lease_laws.proofs.client.cases.Replies.{is_live}
+use Rattle.lease_coherence.proofs.beliefs.Entries.{WasLive, was_live}
+use Rattle.lease_coherence.proofs.beliefs.OneLease.{IsBelieved, LowersWell, acks, is_created}
 use Rattle.lease_coherence.proofs.names.NamedInRecord.{each_append, each_weaker}
-use Rattle.lease_coherence.proofs.within.BeliefsWithin.{IsWithin, LowersFormed, tell_fewer, no_acks_fit, fit_less, IsAckFit}
-use Rattle.lease_coherence.proofs.within.BeliefsWithin.{AckFit}
-use Rattle.lease_coherence.proofs.within.BeliefsWithin.{within_rest, IsWithinFor}
+use Rattle.lease_coherence.proofs.within.BeliefsWithin.{AckFit, IsAckFit, IsWithin, IsWithinFor, fit_less, no_acks_fit}
+use Rattle.lease_coherence.proofs.within.BeliefsWithin.{tell_fewer, within_rest}
 
--- an entry that is live was, and believes no more
-pub record IsLess (phase : Phase) (belief : State) : Type 0 where
-  pub live : LiveEntry
-  pub was : phase ≡ Phase.Live live
-  pub reads : belief.read ≡ true → live.belief.read ≡ true
-  pub handles : belief.handle ≡ true → live.belief.handle ≡ true
-  pub formed : belief.handle ≡ true → live.belief.read ≡ true → belief.read ≡ true
-
-live_phase : (phase : Phase) (P : Type 0) → is_live phase ≡ true → ((live : LiveEntry) → phase ≡ Phase.Live live → P) → P
-live_phase (Phase.Live live) P e k = k live refl
-live_phase phase P e k = absurd (true≢false (sym e))
-
-pub was_live : (old new : Phase) → ((live : LiveEntry) → new ≡ Phase.Live live → IsLess old live.belief)
-    → is_live new ≡ true → is_live old ≡ true
-was_live old new less e = live_phase new (is_live old ≡ true) e (λ live is. ap is_live (less live is).was)
-
-less_within : (key : List ℕ) (held : State) (queue : List Reply) (old : Phase) (belief : State) → IsLess old belief
+less_within : (key : List ℕ) (held : State) (queue : List Reply) (old : Phase) (belief : State) → WasLive old belief
     → ((live : LiveEntry) → old ≡ Phase.Live live → IsWithin key held queue live.belief) → IsWithin key held queue belief
 less_within key held queue old belief x own = let w = own x.live x.was in (
-  λ h. let held_so = w.0 (x.handles h) in (x.formed h held_so.0, held_so.1),
+  λ h. let held_so = w.0 (x.handles h) in (x.handles_read h held_so.0, held_so.1),
   λ r. w.1 (x.reads r),
 )
 
-less_fits : (lease : Lease) (old new : Phase) → ((live : LiveEntry) → new ≡ Phase.Live live → IsLess old live.belief)
+less_fits : (lease : Lease) (old new : Phase) → ((live : LiveEntry) → new ≡ Phase.Live live → WasLive old live.belief)
     → (state : State) → IsAckFit lease old state → IsAckFit lease new state
 less_fits lease old new less state a = record {
   lowered = a.lowered;
@@ -47,7 +31,7 @@ less_fits lease old new less state a = record {
 }
 
 more_acks : (key : List ℕ) (lease : Lease) (old new : Phase) (asked more : List Request)
-    → ((live : LiveEntry) → new ≡ Phase.Live live → IsLess old live.belief) → acks key more ≡ 0
+    → ((live : LiveEntry) → new ≡ Phase.Live live → WasLive old live.belief) → acks key more ≡ 0
     → Each (AckFit key lease old) asked → Each (AckFit key lease new) (asked ++ more)
 more_acks key lease old new asked more less none each = each_append (AckFit key lease new) asked more
     (each_weaker (AckFit key lease old) (AckFit key lease new) asked
@@ -55,7 +39,7 @@ more_acks key lease old new asked more less none each = each_append (AckFit key 
 
 -- a step that sends no acknowledgment of the key
 pub step_within : (key : List ℕ) (file : ℕ) (lease : Lease) (old new : Phase) (asked more : List Request)
-    (queue : List Reply) → ((live : LiveEntry) → new ≡ Phase.Live live → IsLess old live.belief)
+    (queue : List Reply) → ((live : LiveEntry) → new ≡ Phase.Live live → WasLive old live.belief)
     → acks key more ≡ 0 → IsWithinFor key file lease old asked queue → IsWithinFor key file lease new (asked ++ more) queue
 step_within key file lease old new asked more queue less none w = record {
   own = λ live is. less_within key lease.state queue old live.belief (less live is) w.own;
@@ -88,7 +72,7 @@ one_live live other e = cc
 -- the belief after a grant is what it gives, or no more than before
 pub created_within : (key : List ℕ) (file file_id : ℕ) (answer : CreateAnswer) (lease : Lease) (old : Phase)
     (new : LiveEntry) (asked more : List Request) (queue : List Reply)
-    → (new.belief ≡ given_state key answer.lease) ⊎ IsLess old new.belief
+    → (new.belief ≡ given_state key answer.lease) ⊎ WasLive old new.belief
     → acks key more ≡ 0 → IsBelieved key file lease old asked (Reply.Created file file_id (Some answer) ∷ queue)
     → IsWithinFor key file lease old asked (Reply.Created file file_id (Some answer) ∷ queue)
     → IsWithinFor key file lease (Phase.Live new) (asked ++ more) queue
@@ -148,11 +132,11 @@ meet_within a b = and_both _ _ (and_both _ _ (part a.read b.read) (part a.write 
 
 -- what is left of a belief
 pub met_within : (key : List ℕ) (held : State) (notice : BreakNotice) (belief : State) (queue : List Reply)
-    → LowersFormed (Reply.Break (Some notice)) → IsWithin key held (Reply.Break (Some notice) ∷ queue) belief
+    → LowersWell (Reply.Break (Some notice)) → IsWithin key held (Reply.Break (Some notice) ∷ queue) belief
     → IsWithin key held queue (meet belief notice.lowered)
 met_within key held notice belief queue formed w = (
   λ h. let parts = and_parts belief.handle notice.lowered.handle h in
-      let was = w.0 parts.0 in (and_both belief.read notice.lowered.read was.0 (formed parts.1), was.1),
+      let was = w.0 parts.0 in (and_both belief.read notice.lowered.read was.0 (formed.1 parts.1), was.1),
   λ r. let parts = and_parts belief.read notice.lowered.read r in
       ⊎_elim (λ h. inl h) (λ a. ⊎_elim
       (λ same. clash notice.lowered.read parts.1 (ap (λ (s : State). s.read) (lowered_of same))) (λ later. inr later) a)
@@ -163,19 +147,29 @@ met_within key held notice belief queue formed w = (
     lowered_of e = cc
 
 pub less_meet : (old : Phase) (live : LiveEntry) (notice : BreakNotice) → old ≡ Phase.Live live
-    → LowersFormed (Reply.Break (Some notice)) → IsLess old (meet live.belief notice.lowered)
+    → LowersWell (Reply.Break (Some notice)) → WasLive old (meet live.belief notice.lowered)
 less_meet old live notice is formed = record {
   live = live;
   was = is;
+  writes = λ w. (and_parts live.belief.write notice.lowered.write w).0;
   reads = λ r. (and_parts live.belief.read notice.lowered.read r).0;
   handles = λ h. (and_parts live.belief.handle notice.lowered.handle h).0;
-  formed = λ h r. and_both live.belief.read notice.lowered.read r
-      (formed (and_parts live.belief.handle notice.lowered.handle h).1);
+  writes_read = λ w r. and_both live.belief.read notice.lowered.read r
+      (formed.0 (and_parts live.belief.write notice.lowered.write w).1);
+  handles_read = λ h r. and_both live.belief.read notice.lowered.read r
+      (formed.1 (and_parts live.belief.handle notice.lowered.handle h).1);
 }
+
+-- an entry that is live after a break believes no more than before
+pub now_less : (old : Phase) (live new : LiveEntry) (notice : BreakNotice) → old ≡ Phase.Live live
+    → LowersWell (Reply.Break (Some notice)) → new.belief ≡ meet live.belief notice.lowered
+    → (now : LiveEntry) → Phase.Live new ≡ Phase.Live now → WasLive old now.belief
+now_less old live new notice is formed believes now e = subst (λ (l : LiveEntry). WasLive old l.belief) (one_live now new e)
+    (subst (WasLive old) (sym believes) (less_meet old live notice is formed))
 
 -- one that asks for no acknowledgment
 pub quiet_within : (key : List ℕ) (file : ℕ) (notice : BreakNotice) (lease : Lease) (old : Phase) (live new : LiveEntry)
-    (asked more : List Request) (queue : List Reply) → old ≡ Phase.Live live → LowersFormed (Reply.Break (Some notice))
+    (asked more : List Request) (queue : List Reply) → old ≡ Phase.Live live → LowersWell (Reply.Break (Some notice))
     → new.belief ≡ meet live.belief notice.lowered → acks key more ≡ 0
     → IsWithinFor key file lease old asked (Reply.Break (Some notice) ∷ queue)
     → IsWithinFor key file lease (Phase.Live new) (asked ++ more) queue
@@ -186,15 +180,13 @@ quiet_within key file notice lease old live new asked more queue is formed belie
   given = w.given.1;
   breaks = tell_fewer key file lease.broken_to (is_live old || false) true queue
       (λ e. rw (ap is_live is) refl) w.breaks.1;
-  acks = more_acks key lease old (Phase.Live new) asked more
-      (λ next e. subst (λ (l : LiveEntry). IsLess old l.belief) (one_live next new e)
-      (subst (IsLess old) (sym believes) (less_meet old live notice is formed))) none w.acks;
+  acks = more_acks key lease old (Phase.Live new) asked more (now_less old live new notice is formed believes) none w.acks;
 }
 
 -- one that asks for an acknowledgment, which is sent with what is then believed
 pub break_within : (key : List ℕ) (file : ℕ) (notice : BreakNotice) (lease : Lease) (old new : LiveEntry)
     (asked writes : List Request) (queue : List Reply) → notice.ack_required ≡ true → bytes_eq key notice.key ≡ true
-    → LowersFormed (Reply.Break (Some notice)) → new.belief ≡ meet old.belief notice.lowered → acks key writes ≡ 0
+    → LowersWell (Reply.Break (Some notice)) → new.belief ≡ meet old.belief notice.lowered → acks key writes ≡ 0
     → IsBelieved key file lease (Phase.Live old) asked (Reply.Break (Some notice) ∷ queue)
     → IsWithinFor key file lease (Phase.Live old) asked (Reply.Break (Some notice) ∷ queue)
     → IsWithinFor key file lease (Phase.Live new)

@@ -1,17 +1,16 @@
 -- What the server does to one file's lease, and sends to its client, keeps beliefs within it.
-use Rattle.lease_laws.proofs.Words.{◌++◌, ◌∙◌, ◌∷◌, ◌≡◌, Among, Lease, LeaseOf, List, None, Phase, Reply, Request, Some, State, ℕ}
-use Rattle.lease_laws.proofs.Words.{⊎_elim, [], ap, bytes_eq, false, granted_form_of, inl, inr, is_breaking, refl, sym, true}
+use Rattle.lease_laws.proofs.Words.{◌++◌, ◌∙◌, ◌∷◌, ◌≡◌, Among, Lease, LeaseOf, List, None, Phase, Reply, Request, Some, State}
+use Rattle.lease_laws.proofs.Words.{ℕ, [], ⊎_elim, ap, bytes_eq, false, granted_form_of, inl, inr, is_breaking, refl, sym, true}
 use Rattle.lease_laws.proofs.Words.{true≢false}
-use Rattle.lease_laws.proofs.server.Lists.{if_cases, clash, among_before}
+use Rattle.lease_laws.proofs.client.cases.Replies.{is_live}
+use Rattle.lease_laws.proofs.server.Lists.{among_before, clash, if_cases}
 use Rattle.lease_coherence.specs.Agreement.{lone_break}
 use Rattle.lease_coherence.specs.Names.{Each}
 use Rattle.lease_coherence.proofs.beliefs.Leases.{settled_none}
-use Rattle.lease_coherence.proofs.beliefs.OneLease.{acks, is_created, OnGiven, GivesNothing, IsMet, IsAnswering, IsBelieved}
-use Rattle.lease_laws.proofs.client.cases.Replies.{is_live}
-use Rattle.lease_coherence.proofs.within.BeliefsWithin.{IsWithin, AreGiven, within_in, given_last, given_changed, given_nowhere}
-use Rattle.lease_coherence.proofs.within.BeliefsWithin.{TellsState, tell_none, tell_last, tell_nowhere, no_acks_fit, IsAckFit}
-use Rattle.lease_coherence.proofs.within.BeliefsWithin.{AckFit}
-use Rattle.lease_coherence.proofs.within.BeliefsWithin.{IsWithinFor}
+use Rattle.lease_coherence.proofs.beliefs.OneLease.{GivesNothing, IsAnswering, IsBelieved, IsMet, OnGiven, acks, is_created}
+use Rattle.lease_coherence.proofs.within.BeliefsWithin.{AckFit, AreGiven, IsAckFit, IsWithin, IsWithinFor, TellsState}
+use Rattle.lease_coherence.proofs.within.BeliefsWithin.{given_changed, given_last, given_nowhere, no_acks_fit, tell_last}
+use Rattle.lease_coherence.proofs.within.BeliefsWithin.{tell_none, tell_nowhere, within_in}
 
 -- one more reply: a lease that is as it was
 pub plain_more : (key : List ℕ) (file : ℕ) (lease : Lease) (phase : Phase) (asked : List Request) (queue : List Reply)

@@ -1,30 +1,30 @@
 -- What is known of a client's writes before they are followed, and that a request that is answered leaves each sent write once.
 use Rattle.lease_laws.proofs.Words.{◌++◌, ◌+◌, ◌<◌, ◌==◌, ◌∙◌, ◌∷◌, ◌≡◌, ◌≢◌, ◌≤◌, Among, Client, FileRequest, Held, LeaseOf}
-use Rattle.lease_laws.proofs.Words.{List, Option, Patch, Reply, Request, World, ℕ, ⊎_elim, [], ap, arith, eq-eqb, eqb-true, false}
-use Rattle.lease_laws.proofs.Words.{has_strayed, has_written, held_of, inl, inr, knows_file, put, refl, subst, sym, true}
-use Rattle.lease_laws.proofs.client.Thin.{put_same, put_other}
-use Rattle.lease_laws.proofs.server.Lists.{either, clash, not_true, among_behind}
+use Rattle.lease_laws.proofs.Words.{List, Option, Patch, Reply, Request, World, ℕ, [], ⊎_elim, ap, arith, eq-eqb, eqb-true}
+use Rattle.lease_laws.proofs.Words.{false, has_strayed, has_written, held_of, inl, inr, knows_file, put, refl, subst, sym, true}
+use Rattle.lease_laws.proofs.client.Thin.{put_other, put_same}
+use Rattle.lease_laws.proofs.server.Lists.{among_behind, clash, either, not_true}
 use Rattle.lease_laws.proofs.server.PassWaits.{among_more}
 use Rattle.lease_coherence.specs.Creates.{held_by, one_if}
 use Rattle.lease_coherence.specs.Names.{IsNamedAt}
 use Rattle.lease_coherence.proofs.creates.Creates.{off_rest}
-use Rattle.lease_coherence.proofs.moves.Deeds.{IsSource, HasArrived, WasHeld, with_held}
+use Rattle.lease_coherence.proofs.layers.Layers.{HasRecord}
+use Rattle.lease_coherence.proofs.moves.Deeds.{HasArrived, IsSource, WasHeld, with_held}
 use Rattle.lease_coherence.proofs.moves.Events.{Ground}
 use Rattle.lease_coherence.proofs.moves.Ground.{among_put}
-use Rattle.lease_coherence.proofs.moves.Moves.{IsOldest, rest_of, popped}
-use Rattle.lease_coherence.proofs.records.Once.{written_once, written_number}
-use Rattle.lease_coherence.proofs.writes.Counts.{write_of, writes, held_writes, settles_of, settling, numbered_in, writes_left}
-use Rattle.lease_coherence.proofs.writes.Counts.{writes_under_way, settling_last, held_writes_among}
+use Rattle.lease_coherence.proofs.moves.Moves.{IsOldest, popped, rest_of}
+use Rattle.lease_coherence.proofs.records.Once.{written_number, written_once}
+use Rattle.lease_coherence.proofs.writes.Counts.{held_writes, held_writes_among, numbered_in, settles_of, settling}
+use Rattle.lease_coherence.proofs.writes.Counts.{settling_last, write_of, writes, writes_left, writes_under_way}
 use Rattle.lease_coherence.proofs.writes.Steps.{IsKnownBy, IsOwnNumber, IsSentOnce}
-use Rattle.lease_coherence.proofs.records.Known.{HasRecord}
 
 -- ---- what is known so far, with records that are well formed
 
 pub ground_of : (world : World) → HasRecord world → Ground world
-ground_of world v = v.leases.structure.ground
+ground_of world v = v.layers.ground
 
 pub names_of : (world : World) → HasRecord world → (c : ℕ) → has_strayed c world.past ≡ false → IsNamedAt world c
-names_of world v c good = v.leases.structure.named c good
+names_of world v c good = v.layers.named c good
 
 -- a client by the record
 pub known_by : (world : World) → HasRecord world → (c : ℕ)
@@ -97,7 +97,7 @@ source_left world off c request source s file number counts = ⊎_elim
           arith,
           ap (λ n. held_writes number (held_by c (world.server.held n))) same ∙ ap
               (λ (l : List Held). held_writes number (held_by c l)) h.held ∙ held_writes_among number c h.before h.behind
-              (held_of c request) (eq-eqb c c refl) ∙ ap (λ (l : List Held). write_of number request + held_writes number
+              (held_of c request h.lane) (eq-eqb c c refl) ∙ ap (λ (l : List Held). write_of number request + held_writes number
               (held_by c l))
               (sym (put_same world.server.held h.file (h.before ++ h.behind))) ∙ ap
               (λ n. write_of number request + held_writes number
@@ -108,9 +108,9 @@ source_left world off c request source s file number counts = ⊎_elim
         (omega (
           arith,
           not_counted world c file number request counts h.file (λ e. ne (sym e))
-              (λ file_id used patch is. s.held_on h.file (held_of c request)
-              (subst (λ (l : List Held). Among (held_of c request) l) (sym h.held)
-              (among_behind (held_of c request) h.before (held_of c request ∷ h.behind) (inl refl))) refl file_id used patch is),
+              (λ file_id used patch is. s.held_on h.file (held_of c request h.lane)
+              (subst (λ (l : List Held). Among (held_of c request h.lane) l) (sym h.held)
+              (among_behind (held_of c request h.lane) h.before (held_of c request h.lane ∷ h.behind) (inl refl))) refl file_id used patch is),
           ap
               (λ (l : List Held). writes number (world.requests c) + held_writes number (held_by c l))
               (sym (put_other world.server.held h.file (h.before ++ h.behind) file ne)),
@@ -126,7 +126,7 @@ off_held_on world off c request source s at one a own file_id number patch is = 
     (λ h. ⊎_elim (λ old. s.held_on at one old own file_id number patch is)
     (λ left. subst (λ n. has_written c n number patch world.past ≡ true) (sym left.0)
     (s.held_on h.file one (subst (λ (l : List Held). Among one l) (sym h.held)
-    (among_more one (held_of c request) h.before h.behind left.1)) own file_id number patch is))
+    (among_more one (held_of c request h.lane) h.before h.behind left.1)) own file_id number patch is))
     (among_put world.server.held h.file (h.before ++ h.behind) at one
     (subst (λ (o : World). Among one (o.server.held at)) h.is_off a))) source.from
 

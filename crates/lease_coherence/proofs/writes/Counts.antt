@@ -1,6 +1,6 @@
 -- How many writes of a number are under way: asked, held, or answered and not yet taken.
-use Rattle.lease_laws.proofs.Words.{◌++◌, ◌+◌, ◌==◌, ◌||◌, ◌∙◌, ◌∷◌, ◌≡◌, Bool, FileRequest, Held, List, Pending, Reply, Request}
-use Rattle.lease_laws.proofs.Words.{Status, World, ℕ, [], ap, ap₂, arith, eqb-true, false, is_numbered, list_any, refl}
+use Rattle.lease_laws.proofs.Words.{◌++◌, ◌+◌, ◌==◌, ◌||◌, ◌∙◌, ◌∷◌, ◌≡◌, Bool, FileRequest, Held, List, Pending, Reply}
+use Rattle.lease_laws.proofs.Words.{Request, Status, World, ℕ, [], ap, ap₂, arith, eqb-true, false, is_numbered, list_any, refl}
 use Rattle.lease_laws.proofs.Words.{refusal_of, sent_without, sym, true, true≢false, write_requests}
 use Rattle.lease_laws.proofs.server.Lists.{if_cases}
 use Rattle.lease_coherence.specs.Creates.{held_by, one_if}

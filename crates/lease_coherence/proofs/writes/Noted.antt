@@ -1,18 +1,19 @@
 -- What the notes of a client's step make of the unanswered writes of the record.
-use Rattle.lease_laws.proofs.Words.{◌&&◌, ◌++◌, ◌==◌, ◌||◌, ◌∙◌, ◌∷◌, ◌≡◌, ◌≢◌, Answer, Bool, Client, Entry, Fact, IsSoundClient}
-use Rattle.lease_laws.proofs.Words.{List, LiveEntry, Note, Patch, Pending, Phase, Settlement, Some, State, Step, Turn, ℕ, ⊤, []}
-use Rattle.lease_laws.proofs.Words.{ap, ap₂, are_rising, belief_of, believes_noted, eq-eqb, false, has_number, if◌then◌else◌}
-use Rattle.lease_laws.proofs.Words.{is_numbered, knows_file, not, open_writes, put, refl, same_state, settled_as, subst, sym}
-use Rattle.lease_laws.proofs.Words.{true, true≢false, turned, unanswered_in, view, without}
-use Rattle.lease_laws.proofs.client.Thin.{put_same, put_other}
-use Rattle.lease_laws.proofs.server.Lists.{if_cases, clash, not_true}
-use Rattle.lease_laws.proofs.world.Links.{by_client}
+use Rattle.lease_laws.proofs.Words.{◌&&◌, ◌++◌, ◌==◌, ◌||◌, ◌∙◌, ◌∷◌, ◌≡◌, ◌≢◌, Answer, Bool, Client, Entry, Fact}
+use Rattle.lease_laws.proofs.Words.{IsSoundClient, List, LiveEntry, Note, Patch, Pending, Phase, Settlement, Some, State, Step}
+use Rattle.lease_laws.proofs.Words.{Turn, ℕ, [], ⊤, ap, ap₂, are_rising, belief_of, believes_noted, eq-eqb, false, has_number}
+use Rattle.lease_laws.proofs.Words.{if◌then◌else◌, is_numbered, knows_file, not, open_writes, put, refl, same_state, settled_as}
+use Rattle.lease_laws.proofs.Words.{subst, sym, true, true≢false, turned, unanswered_in, view, without}
+use Rattle.lease_laws.proofs.client.Thin.{put_other, put_same}
 use Rattle.lease_laws.proofs.client.cases.Commands.{IsEntry, sent_of}
-use Rattle.lease_coherence.proofs.records.Later.{past_noted}
-use Rattle.lease_coherence.proofs.wellformed.Notes.{EachNote, notes_append, IsSettling, settles}
-use Rattle.lease_coherence.proofs.writes.Settled.{or_later, filter_same, filter_alike, filter_again, number_there, number_append}
-use Rattle.lease_coherence.proofs.writes.Settled.{settles_in, settles_append, settles_these, left_of, left_all, left_front}
 use Rattle.lease_laws.proofs.client.cases.Turns.{by_turn}
+use Rattle.lease_laws.proofs.server.Lists.{clash, if_cases, not_true}
+use Rattle.lease_laws.proofs.world.Links.{by_client}
+use Rattle.lease_coherence.proofs.records.Later.{past_noted}
+use Rattle.lease_coherence.proofs.wellformed.Notes.{EachNote, IsSettling, notes_append, settles}
+use Rattle.lease_coherence.proofs.writes.Settled.{filter_again, filter_alike, filter_same, left_all, left_front, left_of}
+use Rattle.lease_coherence.proofs.writes.Settled.{number_append, number_there, or_later, settles_append, settles_in}
+use Rattle.lease_coherence.proofs.writes.Settled.{settles_these}
 
 -- ---- notes in the record
 

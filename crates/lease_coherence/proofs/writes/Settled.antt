@@ -1,8 +1,9 @@
 -- Which writes are left once some are settled, by their numbers.
-use Rattle.lease_laws.proofs.Words.{◌&&◌, ◌++◌, ◌<◌, ◌==◌, ◌||◌, ◌∙◌, ◌∷◌, ◌≡◌, ◌≤◌, Among, Bool, List, Note, Pending, Settlement}
-use Rattle.lease_laws.proofs.Words.{ℕ, ⊎_elim, [], ap, ap₂, are_rising, arith, eq-eqb, eqb-true, false, filter, has_number, inl}
-use Rattle.lease_laws.proofs.Words.{inr, nat_le, nat_lt, not, refl, sent_without, settled_as, sym, true, true≢false, without}
-use Rattle.lease_laws.proofs.server.Lists.{either, clash, and_parts, or_true, true_or, not_true}
+use Rattle.lease_laws.proofs.Words.{◌&&◌, ◌++◌, ◌<◌, ◌==◌, ◌||◌, ◌∙◌, ◌∷◌, ◌≡◌, ◌≤◌, Among, Bool, List, Note, Pending}
+use Rattle.lease_laws.proofs.Words.{Settlement, ℕ, [], ⊎_elim, ap, ap₂, are_rising, arith, eq-eqb, eqb-true, false, filter}
+use Rattle.lease_laws.proofs.Words.{has_number, inl, inr, nat_le, nat_lt, not, refl, sent_without, settled_as, sym, true}
+use Rattle.lease_laws.proofs.Words.{true≢false, without}
+use Rattle.lease_laws.proofs.server.Lists.{and_parts, clash, either, not_true, or_true, true_or}
 
 -- ---- words
 

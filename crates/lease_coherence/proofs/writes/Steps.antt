@@ -1,29 +1,27 @@
 -- What a client's step adds to the writes under way, and what it takes.
 use Rattle.lease_laws.proofs.Words.{◌&&◌, ◌++◌, ◌+◌, ◌<◌, ◌==◌, ◌∙◌, ◌∷◌, ◌≡◌, ◌≢◌, ◌≤◌, ◌⊎◌, Among, Answer, Asked, Bool}
 use Rattle.lease_laws.proofs.Words.{BreakNotice, Client, Entry, Fact, FileRequest, Held, List, LiveEntry, None, Note, Option}
-use Rattle.lease_laws.proofs.Words.{Patch, Pending, Phase, Reply, Request, Some, State, Step, TellNumbers, Turn, World, ℕ, ⊎_elim}
-use Rattle.lease_laws.proofs.Words.{[], ap, ap₂, arith, belief_lowered, eqb-true, fact_of, false}
-use Rattle.lease_laws.proofs.Words.{file_where, flushed, gives_up, has_sent, has_written, if◌then◌else◌, inl, inr}
-use Rattle.lease_laws.proofs.Words.{is_numbered, is_up, knows_file, list_any, nat_le, next_write}
-use Rattle.lease_laws.proofs.Words.{put, quiet_step, refl}
-use Rattle.lease_laws.proofs.Words.{sent_without, subst, sym, true, true≢false, turned, without_open}
-use Rattle.lease_laws.proofs.Words.{write_requests, wrote_step}
+use Rattle.lease_laws.proofs.Words.{Patch, Pending, Phase, Reply, Request, Some, State, Step, TellNumbers, Turn, World, ℕ, []}
+use Rattle.lease_laws.proofs.Words.{⊎_elim, ap, ap₂, arith, belief_lowered, eqb-true, fact_of, false, file_where, flushed}
+use Rattle.lease_laws.proofs.Words.{gives_up, has_sent, has_written, if◌then◌else◌, inl, inr, is_numbered, is_up, knows_file}
+use Rattle.lease_laws.proofs.Words.{list_any, nat_le, next_write, put, quiet_step, refl, sent_without, subst, sym, true}
+use Rattle.lease_laws.proofs.Words.{true≢false, turned, without_open, write_requests, wrote_step}
 use Rattle.lease_model.specs.records.Past.{has_number}
-use Rattle.lease_laws.proofs.client.Thin.{put_same, put_other}
-use Rattle.lease_laws.proofs.server.Lists.{either, clash, or_true, and_parts, not_true}
-use Rattle.lease_laws.proofs.world.Links.{by_client}
-use Rattle.lease_coherence.specs.Creates.{one_if}
-use Rattle.lease_coherence.specs.Names.{Each, IsNamedPhase, WasWritten}
+use Rattle.lease_laws.proofs.client.Thin.{put_other, put_same}
 use Rattle.lease_laws.proofs.client.cases.Commands.{HasCommands, sent_of}
 use Rattle.lease_laws.proofs.client.cases.Files.{never_found}
 use Rattle.lease_laws.proofs.client.cases.Replies.{HasTakes, PassesOver}
+use Rattle.lease_laws.proofs.client.cases.Turns.{by_turn}
+use Rattle.lease_laws.proofs.server.Lists.{and_parts, clash, either, not_true, or_true}
+use Rattle.lease_laws.proofs.world.Links.{by_client}
+use Rattle.lease_coherence.specs.Creates.{one_if}
+use Rattle.lease_coherence.specs.Names.{Each, IsNamedPhase, WasWritten}
 use Rattle.lease_coherence.proofs.moves.Shift.{append_none}
 use Rattle.lease_coherence.proofs.names.Clients.{HasNames}
 use Rattle.lease_coherence.proofs.records.Later.{past_noted}
 use Rattle.lease_coherence.proofs.records.Once.{IsOneWrite, written_number}
-use Rattle.lease_coherence.proofs.writes.Counts.{writes, settles_of, numbered_in, writes_append, numbered_append, writes_asked}
-use Rattle.lease_coherence.proofs.writes.Counts.{numbered_without, none_numbered, writes_under_way}
-use Rattle.lease_laws.proofs.client.cases.Turns.{by_turn}
+use Rattle.lease_coherence.proofs.writes.Counts.{none_numbered, numbered_append, numbered_in, numbered_without, settles_of}
+use Rattle.lease_coherence.proofs.writes.Counts.{writes, writes_append, writes_asked, writes_under_way}
 
 -- what is known of a client by its record
 pub record IsKnownBy (c : ℕ) (client : Client) (past : List Fact) : Type 0 where

@@ -1,38 +1,36 @@
 -- The record has the unanswered writes of each client, in the order in which its entries have them.
 use Rattle.lease_laws.proofs.Words.{◌&&◌, ◌++◌, ◌==◌, ◌||◌, ◌∙◌, ◌∷◌, ◌≡◌, ◌≢◌, Among, Answer, Asked, Bool, Client, ClientCall}
 use Rattle.lease_laws.proofs.Words.{Entry, Fact, IsSoundClient, IsSoundLive, IsSoundPhase, Link, List, LiveEntry, None, Note}
-use Rattle.lease_laws.proofs.Words.{Option, Out, Pending, Phase, Settlement, Some, Step, Turn, World, ℕ, ⊎_elim, [], all_turned}
-use Rattle.lease_laws.proofs.Words.{ap, ap₂, are_rising, arith, begun, belief_of, client_called}
-use Rattle.lease_laws.proofs.Words.{connect_turn, eq-eqb, eqb-true, fact_of, false, filter}
-use Rattle.lease_laws.proofs.Words.{first_belief, flat_map, gives_up, has_number, if◌then◌else◌}
+use Rattle.lease_laws.proofs.Words.{Option, Out, Pending, Phase, Settlement, Some, Step, Turn, World, ℕ, [], ⊎_elim, all_turned}
+use Rattle.lease_laws.proofs.Words.{ap, ap₂, are_rising, arith, begun, belief_of, client_called, connect_turn, eq-eqb, eqb-true}
+use Rattle.lease_laws.proofs.Words.{fact_of, false, filter, first_belief, flat_map, gives_up, has_number, if◌then◌else◌}
 use Rattle.lease_laws.proofs.Words.{knows_file, lease_key, meet, next_write, not, notice_turn, numbers_to, offline_turn}
-use Rattle.lease_laws.proofs.Words.{open_writes, parted_from, phase_with}
-use Rattle.lease_laws.proofs.Words.{promoted_belief, put, refl}
-use Rattle.lease_laws.proofs.Words.{sent_without, settled_as, step_taken, stepped_in, subst, sym, true, true≢false, unanswered_in}
-use Rattle.lease_laws.proofs.Words.{unsent_in, without, without_open, wrote_step}
+use Rattle.lease_laws.proofs.Words.{open_writes, parted_from, phase_with, promoted_belief, put, refl, sent_without, settled_as}
+use Rattle.lease_laws.proofs.Words.{step_taken, stepped_in, subst, sym, true, true≢false, unanswered_in, unsent_in, without}
+use Rattle.lease_laws.proofs.Words.{without_open, wrote_step}
 use Rattle.lease_laws.proofs.client.Forms.{commanded-stays, taken-stays}
-use Rattle.lease_laws.proofs.client.Thin.{put_same, put_other}
-use Rattle.lease_laws.proofs.server.Lists.{if_cases, either, clash, or_true, true_or, not_true}
+use Rattle.lease_laws.proofs.client.Thin.{put_other, put_same}
+use Rattle.lease_laws.proofs.client.Words.{sound_as}
+use Rattle.lease_laws.proofs.client.cases.Commands.{HasCommands, any_command, sent_of}
+use Rattle.lease_laws.proofs.client.cases.Files.{among_numbers}
+use Rattle.lease_laws.proofs.client.cases.Links.{HasNotices, any_notice}
+use Rattle.lease_laws.proofs.client.cases.Replies.{HasTakes, any_reply}
+use Rattle.lease_laws.proofs.server.Lists.{clash, either, if_cases, not_true, or_true, true_or}
 use Rattle.lease_laws.proofs.world.FileIds.{told}
 use Rattle.lease_laws.proofs.world.Links.{by_client}
 use Rattle.lease_laws.proofs.world.Runs.{stepped_clients}
-use Rattle.lease_laws.proofs.client.cases.Commands.{HasCommands, any_command, sent_of}
-use Rattle.lease_laws.proofs.client.cases.Files.{among_numbers}
-use Rattle.lease_laws.proofs.client.cases.Replies.{HasTakes, any_reply}
 use Rattle.lease_laws.proofs.world.cases.Events.{IsTold}
-use Rattle.lease_coherence.proofs.moves.Events.{Ground, IsMoved, come_back, reply_gone, Move}
+use Rattle.lease_coherence.proofs.moves.Events.{Ground, IsMoved, Move, come_back, reply_gone}
 use Rattle.lease_coherence.proofs.moves.Frames.{stepped_past}
 use Rattle.lease_coherence.proofs.moves.Ground.{moved_clients, moved_past}
 use Rattle.lease_coherence.proofs.moves.Shift.{append_none}
 use Rattle.lease_coherence.proofs.records.Later.{past_noted}
-use Rattle.lease_coherence.proofs.wellformed.Notes.{EachNote, notes_append, IsSettling, settles}
-use Rattle.lease_coherence.proofs.writes.Settled.{filter_alike, left_buffered, left_of, left_one, left_one_front, number_append}
-use Rattle.lease_coherence.proofs.writes.Settled.{number_there, or_later, same_bool, settles_append, settles_in, settles_these}
+use Rattle.lease_coherence.proofs.wellformed.Notes.{EachNote, IsSettling, notes_append, settles}
 use Rattle.lease_coherence.proofs.writes.Noted.{IsPlainNote, LeavesWrites, TellsWrites, TurnLeaves, believed_none, front_leaves}
 use Rattle.lease_coherence.proofs.writes.Noted.{noted_left, quiet_leaves, same_leaves, settling_none, turn_notes, turn_settles}
 use Rattle.lease_coherence.proofs.writes.Noted.{turned_leaves, turned_tells}
-use Rattle.lease_laws.proofs.client.cases.Links.{HasNotices, any_notice}
-use Rattle.lease_laws.proofs.client.Words.{sound_as}
+use Rattle.lease_coherence.proofs.writes.Settled.{filter_alike, left_buffered, left_of, left_one, left_one_front, number_append}
+use Rattle.lease_coherence.proofs.writes.Settled.{number_there, or_later, same_bool, settles_append, settles_in, settles_these}
 
 -- ---- commands
 

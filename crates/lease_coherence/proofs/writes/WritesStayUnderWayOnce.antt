@@ -1,45 +1,42 @@
 -- While a client's link is up, each write that it has sent is under way once: asked, held, or answered and not yet taken.
 use Rattle.lease_laws.proofs.Words.{◌++◌, ◌+◌, ◌==◌, ◌∙◌, ◌∷◌, ◌≡◌, ◌≢◌, Among, Bool, Client, ClientCall, Command, Entry, Err}
 use Rattle.lease_laws.proofs.Words.{Fact, FileRequest, Held, IsSoundEntry, IsSoundPhase, Link, List, None, Ok, Open, Option}
-use Rattle.lease_laws.proofs.Words.{Patch, Pending, Phase, Reply, Request, Result, Server, Some, Status, Step, TellNumbers, World}
-use Rattle.lease_laws.proofs.Words.{ℕ, ⊎_elim, [], ap, ap₂, arith, break_notice, commanded, connect_turn}
-use Rattle.lease_laws.proofs.Words.{connected_open, connection_made, eq-eqb, eqb-true, false, file_asked, file_of_open, flat_map}
-use Rattle.lease_laws.proofs.Words.{granted_form_of, has_written, is_down, is_up, key_of, knows_file}
-use Rattle.lease_laws.proofs.Words.{lease_after, not, noticed, numbers_to, put, refl, refusal_of, sent_over}
-use Rattle.lease_laws.proofs.Words.{stepped_in, subst, sym, taken, true, true≢false, was_opened}
+use Rattle.lease_laws.proofs.Words.{Patch, Pending, Phase, Reply, Request, Result, Server, Some, Status, Step, TellNumbers}
+use Rattle.lease_laws.proofs.Words.{World, ℕ, [], ⊎_elim, ap, ap₂, arith, break_notice, commanded, connect_turn, connected_open}
+use Rattle.lease_laws.proofs.Words.{connection_made, eq-eqb, eqb-true, false, file_asked, file_of_open, flat_map}
+use Rattle.lease_laws.proofs.Words.{granted_form_of, has_written, is_down, is_up, key_of, knows_file, lease_after, not}
+use Rattle.lease_laws.proofs.Words.{numbers_to, put, refl, sent_over, stepped_in, subst, sym, taken, true, was_opened}
 use Rattle.lease_model.specs.records.Past.{has_number}
 use Rattle.lease_laws.proofs.client.Forms.{commanded-stays, taken-stays}
 use Rattle.lease_laws.proofs.client.Notes.{called_tells}
-use Rattle.lease_laws.proofs.client.Thin.{put_same, put_other}
-use Rattle.lease_laws.proofs.server.Lists.{either, clash, among_append, among_filter, among_filtered}
-use Rattle.lease_laws.proofs.world.Links.{stepped_links}
+use Rattle.lease_laws.proofs.client.Thin.{put_other, put_same}
+use Rattle.lease_laws.proofs.client.cases.Commands.{any_command}
+use Rattle.lease_laws.proofs.client.cases.Replies.{any_reply}
+use Rattle.lease_laws.proofs.server.Lists.{among_append, among_filter, among_filtered, clash, either}
+use Rattle.lease_laws.proofs.server.cases.Ends.{found_open}
 use Rattle.lease_laws.proofs.world.Runs.{stepped_server}
 use Rattle.lease_coherence.specs.Creates.{held_by}
 use Rattle.lease_coherence.specs.Names.{IsNamedOnFile, IsNamedRequest, WasWrittenOn}
-use Rattle.lease_laws.proofs.client.cases.Commands.{any_command}
-use Rattle.lease_laws.proofs.client.cases.Replies.{any_reply}
-use Rattle.lease_coherence.proofs.creates.Creates.{up_link, stepped_machine, none_held}
-use Rattle.lease_coherence.proofs.moves.Deeds.{told_to, held_in, granted_in, reconnected_in, changed_in, without_opens, leased_in}
-use Rattle.lease_coherence.proofs.moves.Deeds.{granted_reply, reconnected_reply, done_reply}
-use Rattle.lease_coherence.proofs.moves.Events.{Ground, timed_out, come_back, connected, reply_gone, reply_taken}
+use Rattle.lease_coherence.proofs.creates.Creates.{none_held, stepped_machine, up_link}
+use Rattle.lease_coherence.proofs.layers.Layers.{HasRecord}
+use Rattle.lease_coherence.proofs.moves.Deeds.{changed_in, done_reply, granted_in, granted_reply, held_in, leased_in}
+use Rattle.lease_coherence.proofs.moves.Deeds.{reconnected_in, reconnected_reply, told_to, without_opens}
+use Rattle.lease_coherence.proofs.moves.Events.{Ground, come_back, connected, reply_gone, reply_taken, timed_out}
 use Rattle.lease_coherence.proofs.moves.Foreign.{IsUnmoved}
-use Rattle.lease_coherence.proofs.moves.Frames.{lease_put_rest, stepped_past, stepped_requests, stepped_replies}
+use Rattle.lease_coherence.proofs.moves.Frames.{lease_put_rest, stepped_past, stepped_replies, stepped_requests}
 use Rattle.lease_coherence.proofs.moves.Ground.{among_put}
-use Rattle.lease_coherence.proofs.moves.Moves.{IsOldest, rest_of, popped}
-use Rattle.lease_coherence.proofs.moves.Own.{IsOwnMoved}
+use Rattle.lease_coherence.proofs.moves.Moves.{IsOldest, popped, rest_of}
+use Rattle.lease_coherence.proofs.moves.Own.{IsOwnMoved, IsToldOf, IsUp}
 use Rattle.lease_coherence.proofs.moves.Shift.{append_none}
 use Rattle.lease_coherence.proofs.names.NamedInRecord.{entry_later, opened_once}
 use Rattle.lease_coherence.proofs.records.Later.{later_fact, later_noted, past_noted}
-use Rattle.lease_coherence.proofs.standing.OpensStayStanding.{link_of, was_up}
 use Rattle.lease_coherence.proofs.standing.StandingOpens.{head_of}
-use Rattle.lease_coherence.proofs.writes.Counts.{write_of, writes, held_writes, settles_of, settling, numbered_in}
-use Rattle.lease_coherence.proofs.writes.Counts.{writes_under_way, writes_append, held_writes_among, refusal_settles}
-use Rattle.lease_coherence.proofs.writes.Steps.{IsKnownBy, IsOwnNumber, AddsUpWell, AddsUpTaken, no_answers, own_before}
-use Rattle.lease_coherence.proofs.writes.Steps.{commands_add, takes_add, IsSentOnce, IsUpSentOnce}
-use Rattle.lease_coherence.proofs.writes.Answered.{ground_of, names_of, known_by, own_counts, first_off, not_counted, same_once}
-use Rattle.lease_coherence.proofs.writes.Answered.{answered_once, told_once, ack_off}
-use Rattle.lease_coherence.proofs.records.Known.{HasRecord}
-use Rattle.lease_laws.proofs.server.cases.Ends.{found_open}
+use Rattle.lease_coherence.proofs.writes.Answered.{ack_off, answered_once, first_off, ground_of, known_by, names_of}
+use Rattle.lease_coherence.proofs.writes.Answered.{not_counted, own_counts, same_once, told_once}
+use Rattle.lease_coherence.proofs.writes.Counts.{held_writes, held_writes_among, numbered_in, refusal_settles, settles_of}
+use Rattle.lease_coherence.proofs.writes.Counts.{settling, write_of, writes, writes_append, writes_under_way}
+use Rattle.lease_coherence.proofs.writes.Steps.{AddsUpTaken, AddsUpWell, IsKnownBy, IsOwnNumber, IsSentOnce, commands_add}
+use Rattle.lease_coherence.proofs.writes.Steps.{no_answers, own_before, takes_add}
 
 -- ---- a request is held
 
@@ -237,7 +234,7 @@ connect_sent : (client : Client) (file : ℕ) (sent : List Pending) (phase : Pha
 connect_sent client file sent Phase.Closed = refl
 connect_sent client file sent phase = refl
 
-connect_once : (world : World) (c : ℕ) → Ground world → world.links c ≡ Link.Down → IsSentOnce (connected world c) c
+pub connect_once : (world : World) (c : ℕ) → Ground world → world.links c ≡ Link.Down → IsSentOnce (connected world c) c
 connect_once world c g down =
     let machine = world.clients c in
     let back = come_back world c in
@@ -277,75 +274,64 @@ unmoved_once world new c u s = same_once world new c u.machine u.spared.written
     (subst (λ (l : List Held). Among one l) (u.held at)
     (among_filtered (λ h. h.client == c) one (new.server.held at) a (eq-eqb one.client c own)))).0 own file_id number patch is) s
 
-pub once_moves : IsOwnMoved HasRecord IsUpSentOnce
+told_settles : (off : World) (c number : ℕ) (request : FileRequest) (reply : Reply) → IsToldOf off c request reply
+    → settles_of number reply ≡ write_of number request
+told_settles off c number request reply (IsToldOf.Refused asked status may) = refusal_settles number asked status
+told_settles off c number request reply (IsToldOf.Full file access share ask) = refl
+told_settles off c number request reply (IsToldOf.Read file_id one found may) = refl
+
+pub once_moves : IsOwnMoved HasRecord IsUp IsSentOnce
 unfolding has_written
 once_moves = record {
-  unmoved = λ world new c v good u a up. unmoved_once world new c u (a (ap is_up (sym u.link) ∙ up));
-  refused = λ world off c request status v good source may a up.
-      answered_once world off (told_to off c (refusal_of request status)) c request (refusal_of request status) source
-      (known_by world v c good) refl refl refl refl (λ f n p. refl) (λ n. refusal_settles n request status)
-      (a (link_of world off c request source up));
-  full = λ world off c file access share ask v good source a up.
-      answered_once world off (told_to off c (Reply.CreateFailed file Status.InsufficientResources)) c
-      (FileRequest.Create file access share (Some ask)) (Reply.CreateFailed file Status.InsufficientResources) source
-      (known_by world v c good) refl refl refl refl (λ f n p. refl) (λ n. refl) (a (link_of world off c _ source up));
-  granted = λ world off c file access share ask v good source none on free a up.
+  unmoved = λ world new c k u a. unmoved_once world new c u a;
+  told = λ world off c request reply k source is a. answered_once world off (told_to off c reply) c request reply source
+      (known_by world k.all c k.good) refl refl refl refl (λ f n p. refl) (λ n. told_settles off c n request reply is) a;
+  granted = λ world off c file access share ask k source none on free a.
       let lease = lease_after off.server c file ask.lease in
       answered_once world off (granted_in off c file access share ask lease) c
       (FileRequest.Create file access share (Some ask)) (granted_reply off.server file ask lease) source
-      (known_by world v c good) refl refl (lease_put_rest off.server c ask.lease (lease_after off.server c file ask.lease)
-      (λ s. s.held ≡ off.server.held) (λ l. refl)) refl (λ f n p. refl) (λ n. refl) (a (link_of world off c _ source up));
-  reconnected = λ world off c file access share ask file_id v good source again on waits a up.
+      (known_by world k.all c k.good) refl refl (lease_put_rest off.server c ask.lease (lease_after off.server c file ask.lease)
+      (λ s. s.held ≡ off.server.held) (λ l. refl)) refl (λ f n p. refl) (λ n. refl) a;
+  reconnected = λ world off c file access share ask file_id k source again on waits a.
       answered_once world off (reconnected_in off c file ask file_id) c (FileRequest.Create file access share (Some ask))
-      (reconnected_reply off.server c file ask file_id) source (known_by world v c good) refl refl refl refl
-      (λ f n p. refl) (λ n. refl) (a (link_of world off c _ source up));
-  read = λ world off c file_id one v good source found may a up.
-      answered_once world off (told_to off c (Reply.ReadDone file_id (off.server.contents one.file))) c
-      (FileRequest.Read file_id) (Reply.ReadDone file_id (off.server.contents one.file)) source
-      (known_by world v c good) refl refl refl refl (λ f n p. refl) (λ n. refl) (a (link_of world off c _ source up));
-  changed = λ world off c file_id number patch one v good source found may a up.
+      (reconnected_reply off.server c file ask file_id) source (known_by world k.all c k.good) refl refl refl refl
+      (λ f n p. refl) (λ n. refl) a;
+  changed = λ world off c file_id number patch one k source found may a.
       answered_once world off (changed_in off c one.file file_id number patch) c
       (FileRequest.Write file_id number patch) (Reply.WriteDone file_id number) source
-      (known_by world v c good) refl refl refl refl (λ f n p. refl) (λ n. refl) (a (link_of world off c _ source up));
-  closed = λ world off c file_id one v good source found a up.
+      (known_by world k.all c k.good) refl refl refl refl (λ f n p. refl) (λ n. refl) a;
+  closed = λ world off c file_id one k source found a.
       answered_once world off (told_to (without_opens off (λ other. other.file_id == file_id)) c (Reply.Closed file_id)) c
-      (FileRequest.Close file_id) (Reply.Closed file_id) source (known_by world v c good) refl refl refl refl
-      (λ f n p. refl) (λ n. refl) (a (link_of world off c _ source up));
-  ack_failed = λ world c given status v good oldest why a up. told_once world
+      (FileRequest.Close file_id) (Reply.Closed file_id) source (known_by world k.all c k.good) refl refl refl refl
+      (λ f n p. refl) (λ n. refl) a;
+  ack_failed = λ world c given status k oldest why a. told_once world
       (told_to (popped world c) c (Reply.AckFailed status)) c (Reply.AckFailed status) refl
-      (ack_off world c given oldest) refl refl (λ f n p. refl) (λ n. refl) (a up);
-  ack_done = λ world c given lowered v good oldest there breaks within a up. told_once world
+      (ack_off world c given oldest) refl refl (λ f n p. refl) (λ n. refl) a;
+  ack_done = λ world c given lowered k oldest there breaks within a. told_once world
       (leased_in (popped world c) (key_of c given.key) (record { state = granted_form_of given.state; broken_to = None })
       (done_reply given)) c (done_reply given) refl
-      (ack_off world c (Some given) oldest) refl refl (λ f n p. refl) (λ n. refl) (a up);
-  hold = λ world file one v good oldest may turn a up. hold_once world file one oldest
-      (asked_on world one.client file one.request (ground_of world v)
+      (ack_off world c (Some given) oldest) refl refl (λ f n p. refl) (λ n. refl) a;
+  hold = λ world file one k oldest may turn a. hold_once world file one oldest
+      (asked_on world one.client file one.request (ground_of world k.all)
       (head_of (IsNamedRequest one.client (world.clients one.client).guid world.past) (world.requests one.client)
-      oldest.queue (Request.OnFile one.request) oldest.is_first (names_of world v one.client good).requests) turn)
-      (known_by world v one.client good) (a up);
-  dropped = λ world c test v good away a up. same_once world (without_opens world test) c refl (λ f n p. refl)
-      (λ f n own. refl) (a up).held_on (a up);
-  lower = λ world key lowered v good may light a up. told_once world
+      oldest.queue (Request.OnFile one.request) oldest.is_first (names_of world k.all one.client k.good).requests) turn.0)
+      (known_by world k.all one.client k.good) a;
+  dropped = λ world c test k away a. same_once world (without_opens world test) c refl (λ f n p. refl)
+      (λ f n own. refl) a.held_on a;
+  lower = λ world key lowered k may light a. told_once world
       (leased_in world key (record { state = lowered; broken_to = None })
       (break_notice key (world.server.leases key).state lowered)) key.client
       (break_notice key (world.server.leases key).state lowered) refl (λ n. refl) refl refl
-      (λ f n p. refl) (λ n. refl) (a up);
-  begin = λ world key lowered v good may heavy a up. told_once world
+      (λ f n p. refl) (λ n. refl) a;
+  begin = λ world key lowered k may heavy a. told_once world
       (leased_in world key (record { state = (world.server.leases key).state; broken_to = Some lowered })
       (break_notice key (world.server.leases key).state lowered)) key.client
       (break_notice key (world.server.leases key).state lowered) refl (λ n. refl) refl refl
-      (λ f n p. refl) (λ n. refl) (a up);
-  cut = λ world c v good up a on. absurd (true≢false (sym on ∙ ap is_up (put_same world.links c Link.Cut)));
-  timer = λ world c file v good on breaks a up. same_once world (timed_out world c file) c refl (λ f n p. refl)
-      (λ f n own. refl) (a up).held_on (a up);
-  connect = λ world c v good down a up. connect_once world c (ground_of world v) down;
-  command = λ world c command v good a up.
-      let was = was_up world c (commanded (world.clients c) command) up in
-      command_once world c command was (ground_of world v) (known_by world v c good) (a was);
-  take = λ world c reply queue v good first a up.
-      let was : is_up (world.links c) ≡ true = was_up (reply_gone world c queue) c (taken (world.clients c) reply) up in
-      take_once world c reply queue was (ground_of world v) first (known_by world v c good) (a was);
-  notice = λ world c v good cut a on. absurd (true≢false (sym on
-      ∙ ap (λ (l : ℕ → Link). is_up (l c)) (stepped_links (record world { links = put world.links c Link.Down }) c
-      (noticed (world.clients c))) ∙ ap is_up (put_same world.links c Link.Down)));
+      (λ f n p. refl) (λ n. refl) a;
+  timer = λ world c file k on breaks a. same_once world (timed_out world c file) c refl (λ f n p. refl)
+      (λ f n own. refl) a.held_on a;
+  command = λ world c command k a.
+      command_once world c command k.when (ground_of world k.all) (known_by world k.all c k.good) a;
+  take = λ world c reply queue k first a.
+      take_once world c reply queue k.when (ground_of world k.all) first (known_by world k.all c k.good) a;
 }

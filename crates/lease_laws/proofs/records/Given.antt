@@ -2,9 +2,10 @@
 use Rattle.lease_laws.proofs.Words.{◌<◌, ◌==◌, ◌∷◌, ◌≡◌, ◌≢◌, ◌≤◌, Bool, Client, ClientCall, ClientsOfRunsAreSound, Event, Fact}
 use Rattle.lease_laws.proofs.Words.{IsSoundClient, List, Note, Out, Patch, Progress, RunsGiveFirst, Settlement, Setup, Step}
 use Rattle.lease_laws.proofs.Words.{TellNumbers, World, ℕ, [], after, all_delivered, arith, called, client_called, delivered}
-use Rattle.lease_laws.proofs.Words.{eq-eqb, eqb-true, fact_of, false, first_world, gives_first, happened, is_settled, is_start}
+use Rattle.lease_laws.proofs.Words.{eq-eqb, eqb-true, fact_of, false, first_world_under, gives_first, happened, is_settled, is_start}
 use Rattle.lease_laws.proofs.Words.{length, list_all, new_client, noted, put, refl, requests_sent, reverse, served, starts_from}
 use Rattle.lease_laws.proofs.Words.{stepped_in, subst, sym, true}
+use Rattle.lease_laws.proofs.Words.{Rules}
 use Rattle.lease_laws.proofs.client.Words.{put_each}
 use Rattle.lease_laws.proofs.records.Runs.{all_starts, all_reversed}
 use Rattle.lease_laws.proofs.client.Entries.{first_entries, called_entries}
@@ -200,22 +201,22 @@ started_numbered client last (Fact.Start file bytes ∷ past) all =
 started_numbered client last (_ ∷ past) all = clash false all refl
 
 -- where a run begins, every client is new
-pub first_given : (setup : Setup) → Given (first_world setup)
-unfolding first_world
-first_given setup = record {
+pub first_given : (rules : Rules) (setup : Setup) → Given (first_world_under rules setup)
+unfolding first_world_under
+first_given rules setup = record {
   sound = λ client. new_sound _ (length setup.files);
   numbered = λ client. started_numbered client _ (reverse (starts_from 1 setup.files))
       (all_reversed (starts_from 1 setup.files) [] (all_starts 1 setup.files) refl);
 }
 
 -- the world after any run
-run_given : (setup : Setup) (events : List Event) → Given (after (first_world setup) events)
-run_given setup events = after-kept Given given_kept (first_world setup) events (first_given setup)
+run_given : (rules : Rules) (setup : Setup) (events : List Event) → Given (after (first_world_under rules setup) events)
+run_given rules setup events = after-kept Given given_kept (first_world_under rules setup) events (first_given rules setup)
 
 -- so no write is settled before it is given
 pub runs_give_first : RunsGiveFirst
-runs_give_first setup events client = ((run_given setup events).numbered client).gives
+runs_give_first rules setup events client = ((run_given rules setup events).numbered client).gives
 
 -- and every client is sound
 pub clients_of_runs : ClientsOfRunsAreSound
-clients_of_runs setup events client = (run_given setup events).sound client
+clients_of_runs rules setup events client = (run_given rules setup events).sound client

@@ -1,7 +1,8 @@
 -- In the record of a run the files are started first.
 use Rattle.lease_laws.proofs.Words.{◌+◌, ◌∷◌, ◌≡◌, Fact, List, Note, Out, RunsStartFirst, Setup, World, ℕ, [], all_delivered}
-use Rattle.lease_laws.proofs.Words.{called, client_called, delivered, first_world, happened, is_start, list_all, noted, refl}
+use Rattle.lease_laws.proofs.Words.{called, client_called, delivered, first_world_under, happened, is_start, list_all, noted, refl}
 use Rattle.lease_laws.proofs.Words.{reverse, reverse_aux, starts_first, starts_from, true}
+use Rattle.lease_laws.proofs.Words.{Rules}
 use Rattle.std.proofs.Common.{arith}
 use Rattle.lease_laws.proofs.records.Content.{all_first}
 use Rattle.lease_laws.proofs.world.Kept.{IsKept, IsOfWorld, after-kept}
@@ -53,13 +54,13 @@ begun_kept = record {
 }
 
 -- where a run begins
-pub first_begun : (setup : Setup) → IsBegun (first_world setup)
-unfolding first_world
-first_begun setup = record {
+pub first_begun : (rules : Rules) (setup : Setup) → IsBegun (first_world_under rules setup)
+unfolding first_world_under
+first_begun rules setup = record {
   first = all_first (reverse (starts_from 1 setup.files))
       (all_reversed (starts_from 1 setup.files) [] (all_starts 1 setup.files) refl);
 }
 
 -- the record of any run
 pub runs_start_first : RunsStartFirst
-runs_start_first setup events = (after-kept IsBegun begun_kept (first_world setup) events (first_begun setup)).first
+runs_start_first rules setup events = (after-kept IsBegun begun_kept (first_world_under rules setup) events (first_begun rules setup)).first

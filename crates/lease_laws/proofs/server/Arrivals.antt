@@ -1,29 +1,37 @@
 -- A request that comes lets no first held request wait for nothing.
-use Rattle.lease_laws.proofs.Words.{◌++◌, ◌==◌, ◌∙◌, ◌∷◌, ◌≡◌, ◌≤◌, Among, CreateAsk, Decides-eqb, Err, FileRequest}
+use Rattle.lease_laws.proofs.Words.{◌++◌, ◌∙◌, ◌∷◌, ◌≡◌, ◌≤◌, Among, CreateAsk, Err, FileRequest}
 use Rattle.lease_laws.proofs.Words.{HasToWait, Held, IsAbout, IsAlone, IsOpenOn, IsOrderly, IsSound, LeaseOf, List, None, Ok}
 use Rattle.lease_laws.proofs.Words.{Open, Option, Outcome, Progress, Result, Server, Some, Status, Tried}
 use Rattle.lease_laws.proofs.Words.{ℕ, ⊎_elim, [], acknowledged, after_first_try, ap, arith, arrived_on}
 use Rattle.lease_laws.proofs.Words.{concluded, connected_open, false, file_asked, file_of_create, file_of_open}
-use Rattle.lease_laws.proofs.Words.{file_request_arrived, find, has_file, held_of, is_behind}
-use Rattle.lease_laws.proofs.Words.{list_any, new_server, put, refl, refused, request_held}
+use Rattle.lease_laws.proofs.Words.{file_request_arrived, has_file, is_behind}
+use Rattle.lease_laws.proofs.Words.{new_server_under, put, refl, refused, request_held}
 use Rattle.lease_laws.proofs.Words.{all_passes, subst, sym, tried, true}
+use Rattle.lease_laws.proofs.Words.{Rules, arrived_before, as_held}
+use Rattle.lease_laws.proofs.Words.{inl}
 use Rattle.lease_laws.proofs.server.Answers.{acknowledged-sound}
 use Rattle.lease_laws.proofs.server.FileReady.{ready-file}
 use Rattle.lease_laws.proofs.server.Goes.{file_frame, GoesOn, Goes, acknowledged-goes, one_id}
 use Rattle.lease_laws.proofs.server.Held.{SameHeld, concluded-held}
 use Rattle.lease_laws.proofs.server.Keeps.{Kept, Anywhere, connected_has, waits_keep, concluded-open}
-use Rattle.lease_laws.proofs.server.Lists.{if_cases, clash, among_append, find_has}
+use Rattle.lease_laws.proofs.server.Lists.{if_cases, clash, among_append}
+use Rattle.lease_laws.proofs.server.Lists.{among_behind}
+use Rattle.lease_laws.proofs.server.Lists.{split_more}
+use Rattle.lease_laws.proofs.server.Lists.{nothing_there}
 use Rattle.lease_laws.proofs.server.Orderly.{IsHeldWell, held_well, IsFine, IsTry, any_try, fine_try, fine_concluded}
 use Rattle.lease_laws.proofs.server.Orderly.{orderly_goes, all_wait-keep, about_goes}
-use Rattle.lease_laws.proofs.server.PassWaits.{EveryoneWaits, all_passes-wait, find_more}
+use Rattle.lease_laws.proofs.server.PassWaits.{EveryoneWaits, all_passes-wait}
 use Rattle.lease_laws.proofs.server.Progress.{request_held-sound}
 use Rattle.lease_laws.proofs.server.Ready.{ready-free}
 use Rattle.lease_laws.proofs.server.cases.Judgements.{any_judgement}
 
 -- the first server
-pub new_server-waits : (contents : List (List ℕ)) → EveryoneWaits (new_server contents)
-unfolding new_server
-new_server-waits contents = grind arith
+pub new_server-waits : (rules : Rules) (contents : List (List ℕ)) → EveryoneWaits (new_server_under rules contents)
+unfolding new_server_under
+new_server-waits rules contents = record {
+  fine = grind arith;
+  wait = λ file earlier one later split. absurd (nothing_there earlier one later split);
+}
 
 -- a file that was found
 abbrev file_of_open_ok : ℕ → Result ℕ Status
@@ -70,7 +78,7 @@ request_held-goes file one progress = grind arith
 
 -- to hold a request lets wait what has to wait
 request_held-kept : (file : ℕ) (one : Held) (progress : Progress) → Kept Anywhere progress (request_held file one progress)
-request_held-kept file one progress = record { stands = λ key x a k up b g. (a, refl); finds = λ c id x e g. e }
+request_held-kept file one progress = record { rules = refl; stands = λ key x a k up b g. (a, refl); finds = λ c id x e g. e }
 
 -- what holds of the requests of each file, once one more is held
 request_held-cases : (P : List Held → Type 0) (file : ℕ) (one : Held) (progress : Progress) (other : ℕ)
@@ -93,32 +101,35 @@ request_held-fine file one progress f well = record {
       (λ a. held_well progress.server other x f.orderly a));
 }
 
--- and then it waits behind another of its client, or has to wait itself
+-- and then it waits behind an earlier one, or has to wait itself
 request_held-waits : (file : ℕ) (one : Held) (progress : Progress) → EveryoneWaits progress.server
-    → IsHeldWell progress.server file one → (list_any (λ other. other.client == one.client) (progress.server.held file) ≡ false
+    → IsHeldWell progress.server file one → (is_behind progress.server.rules one (progress.server.held file) ≡ false
     → HasToWait progress.server one.client one.request) → EveryoneWaits (request_held file one progress).server
 request_held-waits file one progress e well new =
     let keeps = request_held-kept file one progress in
-    let go : (other client : ℕ) (x : Held) → IsAbout progress.server other x.request → HasToWait progress.server client x.request
-    → HasToWait (request_held file one progress).server client x.request =
-    λ other client x about w. waits_keep Anywhere progress.server (request_held file one progress).server
-    client other x.request keeps e.fine.sound about tt w in
+    let go : (other : ℕ) (x : Held) → IsAbout progress.server other x.request → HasToWait progress.server x.client x.request
+    → HasToWait (request_held file one progress).server x.client x.request =
+    λ other x about w. waits_keep Anywhere progress.server (request_held file one progress).server
+    x.client other x.request keeps e.fine.sound about tt w in
+    let old : (other : ℕ) (earlier : List Held) (x : Held) (later : List Held)
+    → progress.server.held other ≡ earlier ++ x ∷ later → is_behind progress.server.rules x earlier ≡ false
+    → HasToWait (request_held file one progress).server x.client x.request =
+    λ other earlier x later split first. go other x (e.fine.orderly.held_about other x
+    (subst (λ list. Among x list) (sym split) (among_behind x earlier (x ∷ later) (inl refl))))
+    (e.wait other earlier x later split first) in
     record {
       fine = request_held-fine file one progress e.fine well;
-      wait = λ other client x. request_held-cases
-          (λ list. find (λ h. h.client == client) list ≡ Some x
-          → HasToWait (request_held file one progress).server client x.request) file one progress other
-          (λ same first. ⊎_elim
-          (λ old. go file client x (e.fine.orderly.held_about file x
-          (find_has (λ h. h.client == client) x (progress.server.held file) old).0) (e.wait file client x old))
-          (λ last. let same_client : one.client ≡ client = (Decides-eqb one.client client).0 last.1 in
-          go file client x (subst (λ h. IsAbout progress.server file h.request) (sym last.2) well.about)
-          (subst (λ h. HasToWait progress.server client h.request) (sym last.2)
-          (subst (λ c. HasToWait progress.server c one.request) same_client
-          (new (subst (λ c. list_any (λ h. h.client == c) (progress.server.held file) ≡ false) (sym same_client) last.0)))))
-          (find_more (λ h. h.client == client) (progress.server.held file) one x first))
-          (λ first. go other client x (e.fine.orderly.held_about other x
-          (find_has (λ h. h.client == client) x (progress.server.held other) first).0) (e.wait other client x first));
+      wait = λ other earlier x later. request_held-cases
+          (λ list. list ≡ earlier ++ x ∷ later → is_behind progress.server.rules x earlier ≡ false
+          → HasToWait (request_held file one progress).server x.client x.request) file one progress other
+          (λ same split first. ⊎_elim
+          (λ found. old file earlier x found.0 found.1 first)
+          (λ last. go file x (subst (λ (h : Held). IsAbout progress.server file h.request) (sym last.1) well.about)
+          (subst (λ (h : Held). HasToWait progress.server h.client h.request) (sym last.1)
+          (new (subst (λ (h : Held). is_behind progress.server.rules h (progress.server.held file) ≡ false) last.1
+          (subst (λ list. is_behind progress.server.rules x list ≡ false) (sym last.0) first)))))
+          (split_more (progress.server.held file) one earlier x later split))
+          (λ split first. old other earlier x later split first);
     }
 
 -- a refusal leaves each first held request waiting
@@ -171,33 +182,33 @@ well_goes before after file one g well = record {
 }
 
 -- what follows a first try keeps the laws and the order
-first_try-fine : (client file : ℕ) (request : FileRequest) (before : Progress) (progress : Progress)
-    (outcome : Outcome) → IsFine before.server → IsHeldWell before.server file (held_of client request)
-    → IsTry client request before (record { progress = progress; outcome = outcome })
-    → IsFine (after_first_try client file request progress outcome).server
-first_try-fine client file request before progress Outcome.Waits f well t =
-    request_held-fine file (held_of client request) progress
-    (fine_try client request before (record { progress = progress; outcome = Outcome.Waits }) f t)
-    (well_goes before.server progress.server file (held_of client request) t.goes well)
-first_try-fine client file request before progress (Outcome.Refused status) f well t =
-    concluded_fine client request before (record { progress = progress; outcome = Outcome.Refused status }) f well.up t
-first_try-fine client file request before progress Outcome.Ready f well t =
-    concluded_fine client request before (record { progress = progress; outcome = Outcome.Ready }) f well.up t
+first_try-fine : (file : ℕ) (one : Held) (before : Progress) (progress : Progress)
+    (outcome : Outcome) → IsFine before.server → IsHeldWell before.server file one
+    → IsTry one.client one.request before (record { progress = progress; outcome = outcome })
+    → IsFine (after_first_try file one progress outcome).server
+first_try-fine file one before progress Outcome.Waits f well t =
+    request_held-fine file one progress
+    (fine_try one.client one.request before (record { progress = progress; outcome = Outcome.Waits }) f t)
+    (well_goes before.server progress.server file one t.goes well)
+first_try-fine file one before progress (Outcome.Refused status) f well t = concluded_fine one.client one.request before
+    (record { progress = progress; outcome = Outcome.Refused status }) f well.up t
+first_try-fine file one before progress Outcome.Ready f well t =
+    concluded_fine one.client one.request before (record { progress = progress; outcome = Outcome.Ready }) f well.up t
 
 -- what follows a first try leaves each first held request waiting
-first_try-waits : (client file : ℕ) (request : FileRequest) (before : Progress) (progress : Progress)
-    (outcome : Outcome) → EveryoneWaits before.server → IsHeldWell before.server file (held_of client request) → IsAlone request
-    → IsTry client request before (record { progress = progress; outcome = outcome })
-    → EveryoneWaits (after_first_try client file request progress outcome).server
-first_try-waits client file request before progress Outcome.Waits e well alone t =
-    request_held-waits file (held_of client request) progress
-    (try_waits client request before (record { progress = progress; outcome = Outcome.Waits }) e t)
-    (well_goes before.server progress.server file (held_of client request) t.goes well)
+first_try-waits : (file : ℕ) (one : Held) (before : Progress) (progress : Progress)
+    (outcome : Outcome) → EveryoneWaits before.server → IsHeldWell before.server file one → IsAlone one.request
+    → IsTry one.client one.request before (record { progress = progress; outcome = outcome })
+    → EveryoneWaits (after_first_try file one progress outcome).server
+first_try-waits file one before progress Outcome.Waits e well alone t =
+    request_held-waits file one progress
+    (try_waits one.client one.request before (record { progress = progress; outcome = Outcome.Waits }) e t)
+    (well_goes before.server progress.server file one t.goes well)
     (λ first. t.waits refl)
-first_try-waits client file request before progress (Outcome.Refused status) e well alone t =
-    concluded_waits client request before (record { progress = progress; outcome = Outcome.Refused status }) e well.up alone t
-first_try-waits client file request before progress Outcome.Ready e well alone t =
-    concluded_waits client request before (record { progress = progress; outcome = Outcome.Ready }) e well.up alone t
+first_try-waits file one before progress (Outcome.Refused status) e well alone t = concluded_waits one.client one.request before
+    (record { progress = progress; outcome = Outcome.Refused status }) e well.up alone t
+first_try-waits file one before progress Outcome.Ready e well alone t =
+    concluded_waits one.client one.request before (record { progress = progress; outcome = Outcome.Ready }) e well.up alone t
 
 -- a refusal keeps the laws and the order
 refused-fine : (client : ℕ) (request : FileRequest) (status : Status) (progress : Progress)
@@ -205,37 +216,49 @@ refused-fine : (client : ℕ) (request : FileRequest) (status : Status) (progres
 refused-fine client request status progress f = f
 
 -- a request on a file keeps the laws and the order
+arrived_before-fine : (one : Held) (progress : Progress) (asked : Result ℕ Status)
+    → IsFine progress.server → ((file : ℕ) → asked ≡ Ok file → IsHeldWell progress.server file one)
+    → IsFine (arrived_before one progress asked).server
+arrived_before-fine one progress (Err status) f well = refused-fine one.client one.request status progress f
+arrived_before-fine one progress (Ok file) f well =
+    let done = tried one.client one.request progress in
+    if_cases (λ p. IsFine p.server) (is_behind progress.server.rules one (progress.server.held file))
+    (request_held file one progress) (after_first_try file one done.progress done.outcome)
+    (λ e. request_held-fine file one progress f (well file refl))
+    (λ e. first_try-fine file one progress done.progress done.outcome f (well file refl)
+    (any_try one.client one.request progress f.sound))
+
 pub arrived_on-fine : (client : ℕ) (request : FileRequest) (progress : Progress) (asked : Result ℕ Status)
-    → IsFine progress.server → ((file : ℕ) → asked ≡ Ok file → IsHeldWell progress.server file (held_of client request))
+    → IsFine progress.server
+    → ((file : ℕ) → asked ≡ Ok file → IsHeldWell progress.server file (as_held progress.server client request))
     → IsFine (arrived_on client request progress asked).server
-arrived_on-fine client request progress (Err status) f well = refused-fine client request status progress f
-arrived_on-fine client request progress (Ok file) f well =
-    if_cases (λ p. IsFine p.server) (is_behind client (progress.server.held file))
-    (request_held file (held_of client request) progress)
-    (after_first_try client file request (tried client request progress).progress (tried client request progress).outcome)
-    (λ e. request_held-fine file (held_of client request) progress f (well file refl))
-    (λ e. first_try-fine client file request progress (tried client request progress).progress
-    (tried client request progress).outcome f (well file refl) (any_try client request progress f.sound))
+arrived_on-fine client request progress = arrived_before-fine (as_held progress.server client request) progress
 
 -- a request on a file leaves each first held request waiting
+arrived_before-waits : (one : Held) (progress : Progress) (asked : Result ℕ Status)
+    → EveryoneWaits progress.server → IsAlone one.request
+    → ((file : ℕ) → asked ≡ Ok file → IsHeldWell progress.server file one)
+    → EveryoneWaits (arrived_before one progress asked).server
+arrived_before-waits one progress (Err status) e alone well = refused_waits one.client one.request status progress e
+arrived_before-waits one progress (Ok file) e alone well =
+    let done = tried one.client one.request progress in
+    let is_held = is_behind progress.server.rules one (progress.server.held file) in
+    if_cases (λ p. EveryoneWaits p.server) is_held
+    (request_held file one progress) (after_first_try file one done.progress done.outcome)
+    (λ behind. request_held-waits file one progress e (well file refl) (λ first. clash is_held behind first))
+    (λ first. first_try-waits file one progress done.progress done.outcome e (well file refl) alone
+    (any_try one.client one.request progress e.fine.sound))
+
 arrived_on-waits : (client : ℕ) (request : FileRequest) (progress : Progress) (asked : Result ℕ Status)
     → EveryoneWaits progress.server → IsAlone request
-    → ((file : ℕ) → asked ≡ Ok file → IsHeldWell progress.server file (held_of client request))
+    → ((file : ℕ) → asked ≡ Ok file → IsHeldWell progress.server file (as_held progress.server client request))
     → EveryoneWaits (arrived_on client request progress asked).server
-arrived_on-waits client request progress (Err status) e alone well = refused_waits client request status progress e
-arrived_on-waits client request progress (Ok file) e alone well =
-    if_cases (λ p. EveryoneWaits p.server) (is_behind client (progress.server.held file))
-    (request_held file (held_of client request) progress)
-    (after_first_try client file request (tried client request progress).progress (tried client request progress).outcome)
-    (λ behind. request_held-waits file (held_of client request) progress e (well file refl)
-    (λ first. clash (is_behind client (progress.server.held file)) behind first))
-    (λ first. first_try-waits client file request progress (tried client request progress).progress
-    (tried client request progress).outcome e (well file refl) alone (any_try client request progress e.fine.sound))
+arrived_on-waits client request progress = arrived_before-waits (as_held progress.server client request) progress
 
 -- a request that comes may be held on its file
 pub asked_well : (client : ℕ) (request : FileRequest) (progress : Progress) → IsFine progress.server
     → progress.server.present client ≡ true → (file : ℕ) → file_asked progress.server client request ≡ Ok file
-    → IsHeldWell progress.server file (held_of client request)
+    → IsHeldWell progress.server file (as_held progress.server client request)
 asked_well client request progress f up file e =
     let x = asked_file progress.server client file request f.sound f.orderly e in
     record { up = up; on_file = x.0; about = x.1 }

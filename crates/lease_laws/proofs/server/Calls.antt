@@ -4,10 +4,12 @@ use Rattle.std.proofs.Common.{arith}
 use Rattle.lease_laws.proofs.Words.{IsSound, Key, List, None, Ok, Open, Option, Outcome, Progress, Result, Server, Some}
 use Rattle.lease_laws.proofs.Words.{Status, ℕ, acknowledged, after_first_try, ap, arrived_on, begun, called}
 use Rattle.lease_laws.proofs.Words.{client_forgotten, cond, disconnected, false, file_asked, file_request_arrived}
-use Rattle.lease_laws.proofs.Words.{has_key, held_of, if◌then◌else◌, is_behind, is_breaking, is_key, is_left_behind, is_lost}
-use Rattle.lease_laws.proofs.Words.{joined, key_expired, key_of, lease_by, lease_of_open, list_any, new_server, no_lease, not}
+use Rattle.lease_laws.proofs.Words.{has_key, if◌then◌else◌, is_behind, is_breaking, is_key, is_left_behind, is_lost}
+use Rattle.lease_laws.proofs.Words.{joined, key_expired, key_of, lease_by, lease_of_open, list_any, new_server_under, no_lease, not}
 use Rattle.lease_laws.proofs.Words.{opens_disconnected, opens_dropped, outlives_connection, put_key, refl, request_held}
 use Rattle.lease_laws.proofs.Words.{subst, sym, tried, true, true≢false, without}
+use Rattle.lease_laws.proofs.Words.{Held, Rules, as_held}
+use Rattle.lease_laws.proofs.Words.{arrived_before}
 use Rattle.lease_laws.proofs.server.Answers.{acknowledged-sound, refused-sound, concluded-sound, map_same, choose_connection}
 use Rattle.lease_laws.proofs.server.Keys.{put_key-cases, is_key-refl, lease_by-key}
 use Rattle.lease_laws.proofs.server.Lists.{if_cases, either, clash, and_both, and_parts, not_parts, not_false, among_filter}
@@ -20,9 +22,9 @@ use Rattle.lease_laws.proofs.server.Tries.{IsGoodTry, tried_for-good}
 use Rattle.lease_laws.proofs.server.cases.Calls.{any_call, lease_lost, links_lost}
 
 -- the first server
-pub new_server-sound : (contents : List (List ℕ)) → IsSound (new_server contents)
-unfolding new_server
-new_server-sound contents = grind arith
+pub new_server-sound : (rules : Rules) (contents : List (List ℕ)) → IsSound (new_server_under rules contents)
+unfolding new_server_under
+new_server-sound rules contents = grind arith
 
 -- a key that has no lease may be marked
 one_timer : (server : Server) (key : Key) → IsSound server → server.leases key ≡ no_lease
@@ -50,28 +52,30 @@ sound_cases : (b : Bool) (x y : Progress) → (b ≡ true → IsSound x.server) 
 sound_cases b x y at_true at_false = if_cases (λ p. IsSound p.server) b x y at_true at_false
 
 -- what follows a first try keeps the laws
-after_first_try-sound : (client file : ℕ) (request : FileRequest) (progress : Progress) (outcome : Outcome)
-    → IsGoodTry client request (record { progress = progress; outcome = outcome })
-    → IsSound (after_first_try client file request progress outcome).server
-after_first_try-sound client file request progress Outcome.Waits good = request_held-sound file
-    (held_of client request) progress good.sound
-after_first_try-sound client file request progress (Outcome.Refused status) good = concluded-sound client
-    request progress (Outcome.Refused status) good.sound
-    (λ r. absurd (cc))
-after_first_try-sound client file request progress Outcome.Ready good = concluded-sound client request
-    progress Outcome.Ready good.sound
-    (λ r. ready-free client request progress (good.found_ready r))
+after_first_try-sound : (file : ℕ) (one : Held) (progress : Progress) (outcome : Outcome)
+    → IsGoodTry one.client one.request (record { progress = progress; outcome = outcome })
+    → IsSound (after_first_try file one progress outcome).server
+after_first_try-sound file one progress Outcome.Waits good = request_held-sound file one progress good.sound
+after_first_try-sound file one progress (Outcome.Refused status) good =
+    concluded-sound one.client one.request progress (Outcome.Refused status) good.sound (λ r. absurd (cc))
+after_first_try-sound file one progress Outcome.Ready good =
+    concluded-sound one.client one.request progress Outcome.Ready good.sound
+    (λ r. ready-free one.client one.request progress (good.found_ready r))
 
 -- a request on a file keeps the laws
+arrived_before-sound : (one : Held) (progress : Progress) (asked : Result ℕ Status)
+    → IsSound progress.server → IsSound (arrived_before one progress asked).server
+arrived_before-sound one progress (Err status) s = refused-sound one.client one.request status progress s
+arrived_before-sound one progress (Ok file) s =
+    let done = tried one.client one.request progress in
+    sound_cases (is_behind progress.server.rules one (progress.server.held file))
+    (request_held file one progress) (after_first_try file one done.progress done.outcome)
+    (λ e. request_held-sound file one progress s)
+    (λ e. after_first_try-sound file one done.progress done.outcome (tried_for-good 3 one.client one.request progress s))
+
 pub arrived_on-sound : (client : ℕ) (request : FileRequest) (progress : Progress) (asked : Result ℕ Status)
     → IsSound progress.server → IsSound (arrived_on client request progress asked).server
-arrived_on-sound client request progress (Err status) s = refused-sound client request status progress s
-arrived_on-sound client request progress (Ok file) s = sound_cases (is_behind client (progress.server.held file))
-    (request_held file (held_of client request) progress)
-    (after_first_try client file request (tried client request progress).progress (tried client request progress).outcome)
-    (λ e. request_held-sound file (held_of client request) progress s)
-    (λ e. after_first_try-sound client file request (tried client request progress).progress
-    (tried client request progress).outcome (tried_for-good 3 client request progress s))
+arrived_on-sound client request progress = arrived_before-sound (as_held progress.server client request) progress
 
 -- a request about a file keeps the laws
 file_request-sound : (client : ℕ) (request : FileRequest) (progress : Progress) → IsSound progress.server

@@ -11,6 +11,7 @@ use Rattle.lease_laws.proofs.server.Leases.{MayBecome, MayOpen, put_sound, open_
 use Rattle.lease_laws.proofs.server.Lists.{if_cases, either, clash, and_both, not_true, not_false, none_has, has_any}
 use Rattle.lease_laws.proofs.server.Lists.{among_append, among_behind}
 use Rattle.lease_laws.proofs.server.States.{settled-lawful, handle_of_part}
+use Rattle.lease_laws.proofs.server.cases.Grants.{any_grant}
 
 -- what is allowed is a granted form
 allowed-form : (server : Server) (own : Option Key) (file : ℕ) (want : State)
@@ -141,12 +142,11 @@ granted_may : (server : Server) (client file : ℕ) (asked : LeaseOf) (new : Ope
 granted_may server client file asked new s more new_file new_up new_key home =
     let key : Key = key_of client asked.key in
     let keep = keep_may (server.opens ++ new ∷ []) server.leases server.expired (server.last_id + 1) key more in
-    if_cases (MayBecome (server.opens ++ new ∷ []) key) (is_breaking (server.leases key)) (server.leases key) _
-    (λ e. keep)
-    (λ e. if_cases (MayBecome (server.opens ++ new ∷ []) key)
-    (is_state_within (server.leases key).state (granted_form_of asked.state)) _ (server.leases key)
-    (λ part. offer_may server client file asked new s new_file new_up new_key home part)
-    (λ p. keep))
+    any_grant server key file asked.state (MayBecome (server.opens ++ new ∷ []) key) (record {
+      breaks = λ e. keep;
+      rises = λ e part. offer_may server client file asked new s new_file new_up new_key home part;
+      stays = λ e. keep;
+    })
 
 -- a lease of a state, not breaking
 abbrev pub settled : State → Lease

@@ -19,8 +19,9 @@ use Rattle.lease_laws.proofs.server.cases.Ends.{found_open, HasEnds, any_end}
 use Rattle.lease_laws.proofs.server.cases.Tries.{HasTries, any_try}
 
 -- On the files of a kind, connected opens of breaking keys stay, and the leases of these keys stay as they
--- are; and the open of a FileId that a client has stays it.
+-- are; the open of a FileId that a client has stays it; and the rules are the same.
 pub record Keeps (Guard : ℕ → Type 0) (before : Server) (after : Server) : Type 0 where
+  pub rules : after.rules ≡ before.rules
   pub stands : (key : Key) (one : Open) → Among one before.opens → has_key key one ≡ true → one.connected ≡ true
       → is_breaking (before.leases key) ≡ true → Guard one.file → (Among one after.opens) × (after.leases key ≡ before.leases key)
   pub finds : (client file_id : ℕ) (one : Open) → connected_open before client file_id ≡ Some one → Guard one.file
@@ -100,6 +101,7 @@ left_dropped-kept key progress =
     ap not (not_true (is_left_open key one)
     (λ left. clash one.connected up (not_parts one.connected (and_parts (has_key key one) (not one.connected) left).1))) in
     record {
+      rules = refl;
       stands = λ k one a h up b g.
           let there = among_filtered (λ x. not (is_left_open key x)) one progress.server.opens a (safe one up) in (
             there,
@@ -112,8 +114,10 @@ left_dropped-kept key progress =
 
 -- a lease that is put where none was breaking leaves one that is breaking as it is
 settled_put-kept : (key : Key) (lease : Lease) (before after : Server) → is_breaking (before.leases key) ≡ false
-    → after.opens ≡ before.opens → after.leases ≡ put_key before.leases key lease → Keeps Anywhere before after
-settled_put-kept key lease before after settled opens leases = record {
+    → after.rules ≡ before.rules → after.opens ≡ before.opens → after.leases ≡ put_key before.leases key lease
+    → Keeps Anywhere before after
+settled_put-kept key lease before after settled rules opens leases = record {
+  rules = rules;
   stands = λ other one a h up b g. (
     subst (λ os. Among one os) (sym opens) a,
     ap (λ (t : Key → Lease). t other) leases ∙ put_key-cases (λ l. l ≡ before.leases other) before.leases key lease other
@@ -128,8 +132,8 @@ tries_keep = record {
   same = λ progress. keeps-same Anywhere progress.server;
   behind = λ before next after. keeps-twice Anywhere before.server next.server after.server;
   drop = λ key progress. left_dropped-kept key progress;
-  lower = λ key lowered progress settled. settled_put-kept key _ progress.server _ settled refl refl;
-  begin = λ key lowered progress settled. settled_put-kept key _ progress.server _ settled refl refl;
+  lower = λ key lowered progress settled. settled_put-kept key _ progress.server _ settled refl refl refl;
+  begin = λ key lowered progress settled. settled_put-kept key _ progress.server _ settled refl refl refl;
 }
 
 -- a try
@@ -155,11 +159,13 @@ granted_with-kept : (client file : ℕ) (access : Access) (share : Share) (asked
     (durable : Bool) (progress : Progress) → Kept Anywhere progress (granted_with client file access share asked durable
     (lease_after progress.server client file asked) progress)
 granted_with-kept client file access share None durable progress = record {
+  rules = refl;
   stands = λ k one a h up b g. (among_before one progress.server.opens _ a, refl);
   finds = λ c file_id one e g. find_append (λ x. x.file_id == file_id && x.client == c && x.connected)
       progress.server.opens _ one e;
 }
 granted_with-kept client file access share (Some asked) durable progress = record {
+  rules = refl;
   stands = λ k one a h up b g. (
     among_before one progress.server.opens _ a,
     put_key-cases (λ l. l ≡ progress.server.leases k) progress.server.leases (key_of client asked.key) _ k
@@ -218,6 +224,7 @@ find_again file_id client id one (first ∷ opens) order e =
 reconnected-kept : (client file : ℕ) (asked : Option LeaseOf) (file_id : ℕ) (progress : Progress) → IsSound progress.server
     → Kept Anywhere progress (reconnected client file asked file_id progress)
 reconnected-kept client file asked file_id progress s = record {
+  rules = refl;
   stands = λ k one a h up b g. (among_again file_id one progress.server.opens up a, refl);
   finds = λ c id one e g. find_again file_id c id one progress.server.opens s.in_order e;
 }
@@ -237,6 +244,7 @@ closed-kept client file_id gone progress s e =
     let safe : (id : ℕ) → id ≢ file_id → not (id == file_id) ≡ true = λ id differs.
     ap not (not_true (id == file_id) (λ t. differs ((Decides-eqb id file_id).0 t))) in
     record {
+      rules = refl;
       stands = λ k one a h up b away.
           let there = among_filtered (λ y. not (y.file_id == file_id)) one progress.server.opens a
           (safe one.file_id (other one a away)) in (
@@ -272,7 +280,7 @@ ends_keep client progress s = record {
       (reconnected-kept client file ask.lease file_id progress s);
   read = λ file_id one own. kept_everywhere _ progress.server _ (keeps-same Anywhere progress.server);
   changed = λ file_id number patch one own. kept_everywhere _ progress.server _
-      (record { stands = λ key x a k up b g. (a, refl); finds = λ c id x e g. e });
+      (record { rules = refl; stands = λ key x a k up b g. (a, refl); finds = λ c id x e g. e });
   closed = λ file_id one own. record {
     elsewhere = λ file about. let dropped = opens_dropped (λ other. other.file_id == file_id) progress in
         subst (λ f. Keeps (Elsewhere f) progress.server dropped.server) (about.is_on_file one own.there own.id)

@@ -2,6 +2,7 @@
 use Rattle.lease_laws.proofs.Words.{◌&&◌, ◌++◌, ◌||◌, ◌∙◌, ◌∷◌, ◌≡◌, ◌⊎◌, Among, Bool, List, Some, ⊎_elim, [], ap, cond, false}
 use Rattle.std.proofs.Common.{arith}
 use Rattle.lease_laws.proofs.Words.{filter, find, inl, inr, list_all, list_any, map, not, refl, sym, true, true≢false}
+use Rattle.lease_laws.proofs.Words.{ap₂}
 
 -- to choose by a test keeps what holds of both
 pub if_cases : {X : Type 0} (P : X → Type 0) (b : Bool) (x y : X) → (b ≡ true → P x) → (b ≡ false → P y) → P (cond b x y)
@@ -129,3 +130,27 @@ pub all_each : {X : Type 0} (test : X → Bool) (x : X) (xs : List X) → list_a
 all_each test x [] all a = absurd a
 all_each test x (y ∷ xs) all a = let parts = and_parts (test y) (list_all test xs) all in
     ⊎_elim (λ same. ap test same ∙ parts.0) (λ later. all_each test x xs parts.1 later) a
+
+-- two lists that begin and go on are one: so are their beginnings
+heads : {X : Type 0} (x y : X) (xs ys : List X) → x ∷ xs ≡ y ∷ ys → x ≡ y
+heads x y xs ys e = cc
+
+-- and what they go on with
+tails : {X : Type 0} (x y : X) (xs ys : List X) → x ∷ xs ≡ y ∷ ys → xs ≡ ys
+tails x y xs ys e = cc
+
+-- there is nothing on an empty list
+pub nothing_there : {X : Type 0} (before : List X) (x : X) (behind : List X) → [] ≡ before ++ x ∷ behind → ⊥
+nothing_there [] x behind e = absurd (cc)
+nothing_there (y ∷ before) x behind e = absurd (cc)
+
+-- an element of a list with one more at its end stands on the list, or is that one
+pub split_more : {X : Type 0} (xs : List X) (y : X) (before : List X) (x : X) (behind : List X)
+    → xs ++ y ∷ [] ≡ before ++ x ∷ behind → ((more : List X) × (xs ≡ before ++ x ∷ more)) ⊎ ((xs ≡ before) × (x ≡ y))
+split_more [] y [] x behind e = inr (refl, sym (heads y x [] behind e))
+split_more [] y (b ∷ before) x behind e = absurd (nothing_there before x behind (tails y b [] (before ++ x ∷ behind) e))
+split_more (z ∷ xs) y [] x behind e = inl (xs, ap (λ h. h ∷ xs) (heads z x (xs ++ y ∷ []) behind e))
+split_more (z ∷ xs) y (b ∷ before) x behind e =
+    let first = heads z b (xs ++ y ∷ []) (before ++ x ∷ behind) e in
+    ⊎_elim (λ l. inl (l.0, ap₂ (λ h t. h ∷ t) first l.1)) (λ r. inr (ap₂ (λ h t. h ∷ t) first r.0, r.1))
+    (split_more xs y before x behind (tails z b (xs ++ y ∷ []) (before ++ x ∷ behind) e))

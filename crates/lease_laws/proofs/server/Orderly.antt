@@ -1,13 +1,13 @@
 -- Tries and their ends keep opens and held requests where they belong.
-use Rattle.lease_laws.proofs.Words.{◌==◌, ◌∙◌, ◌≡◌, AllWait, Among, CreateAsk, FileRequest, HasToWait, Held, IsAbout, IsOpenOn}
-use Rattle.lease_laws.proofs.Words.{IsOrderly, IsSound, List, Option, Outcome, Progress, Server, Some, Tried, ℕ, ⊎_elim, ap}
-use Rattle.lease_laws.proofs.Words.{arith, concluded, find, has_file, held_left, subst, sym, tried, true}
+use Rattle.lease_laws.proofs.Words.{◌∙◌, ◌∷◌, ◌≡◌, AllWait, Among, CreateAsk, FileRequest, HasToWait, Held, IsAbout, IsOpenOn}
+use Rattle.lease_laws.proofs.Words.{IsOrderly, IsSound, List, Option, Outcome, Progress, Server, Tried, ℕ, ⊎_elim, ap}
+use Rattle.lease_laws.proofs.Words.{arith, concluded, false, has_file, held_left, inl, is_behind, refl, subst, sym, tried, true}
 use Rattle.lease_laws.proofs.server.Answers.{concluded-sound}
 use Rattle.lease_laws.proofs.server.FileReady.{ContextsReady, FileReady}
 use Rattle.lease_laws.proofs.server.Goes.{GoesOn, Goes, file_frame, tried_for-goes, concluded-goes}
 use Rattle.lease_laws.proofs.server.Held.{SameHeld, tried_for-held, concluded-held}
 use Rattle.lease_laws.proofs.server.Keeps.{Keeps, Kept, Anywhere, waits_keep, tried_for-kept}
-use Rattle.lease_laws.proofs.server.Lists.{find_has}
+use Rattle.lease_laws.proofs.server.Lists.{among_behind}
 use Rattle.lease_laws.proofs.server.Ready.{RequestFree}
 use Rattle.lease_laws.proofs.server.Rounds.{tried-waits}
 use Rattle.lease_laws.proofs.server.Tries.{IsGoodTry, tried_for-good}
@@ -114,10 +114,11 @@ fine_concluded client request progress outcome f up free ready = record {
 -- what has to wait on a file
 pub all_wait-keep : (Guard : ℕ → Type 0) (before after : Server) (file : ℕ) → Keeps Guard before after
     → IsFine before → Guard file → after.held file ≡ before.held file → AllWait before file → AllWait after file
-all_wait-keep Guard before after file k f g same all client one first =
-    let was = subst (λ held. find (λ other. other.client == client) held ≡ Some one) same first in
-    let there = find_has (λ other. other.client == client) one (before.held file) was in
-    waits_keep Guard before after client file one.request k f.sound (f.orderly.held_about file one there.0) g (all client one was)
+all_wait-keep Guard before after file k f g same all earlier one later split first =
+    let was = sym same ∙ split in
+    let there = subst (λ list. Among one list) (sym was) (among_behind one earlier (one ∷ later) (inl refl)) in
+    waits_keep Guard before after one.client file one.request k f.sound (f.orderly.held_about file one there) g
+    (all earlier one later was (subst (λ rules. is_behind rules one earlier ≡ false) k.rules first))
 
 -- a create is ready whatever is held
 contexts_frame : (client at : ℕ) (contexts : Option CreateAsk) (file : ℕ) (left : List Held) (progress : Progress)

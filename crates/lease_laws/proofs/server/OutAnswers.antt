@@ -6,9 +6,11 @@ use Rattle.lease_laws.proofs.Words.{FileRequest, Finding, GoOn, IsAlone, IsBreak
 use Rattle.lease_laws.proofs.Words.{Option, Out, Outcome, Patch, Progress, Request, Result, Server, Some, State, Status, Want, ℕ}
 use Rattle.lease_laws.proofs.Words.{[], after_first_try, all_wants, ap, append-nil, arrived_on, begun, breaks_to_none}
 use Rattle.lease_laws.proofs.Words.{connected_open, false, file_asked, file_request_arrived, finding, has_own_key}
-use Rattle.lease_laws.proofs.Words.{held_of, holds_any, inl, inr, is_behind, is_other_on, key_of_open}
+use Rattle.lease_laws.proofs.Words.{holds_any, inl, inr, is_behind, is_other_on, key_of_open}
 use Rattle.lease_laws.proofs.Words.{lease_of_open, leaves_nothing, not, nothing_cached, receive, refl, refused}
 use Rattle.lease_laws.proofs.Words.{request_held, subst, sym, tried, true, ⊤}
+use Rattle.lease_laws.proofs.Words.{Held, as_held}
+use Rattle.lease_laws.proofs.Words.{arrived_before}
 use Rattle.lease_laws.proofs.server.Keys.{lease_by-key}
 use Rattle.lease_laws.proofs.server.EnoughRounds.{AllBreakToNone}
 use Rattle.lease_laws.proofs.server.KeyOrder.{wants_where-has}
@@ -40,28 +42,30 @@ no_breaks : GoOn IsBreak [] []
 no_breaks = record { more = []; are_more = refl; each = tt }
 
 -- what follows a first try gives out breaks first
-first_try-breaks : (client file : ℕ) (request : FileRequest) (progress : Progress) (outcome : Outcome)
-    → GoOn IsBreak [] progress.outs → AreBreaksFirst (after_first_try client file request progress outcome).outs
-first_try-breaks client file request progress Outcome.Waits b =
-    breaks_only progress.outs (request_held file (held_of client request) progress).outs b
-    (request_held-outs file (held_of client request) progress)
-first_try-breaks client file request progress outcome b =
-    breaks_then progress.outs _ b (concluded-answers client request progress outcome)
+first_try-breaks : (file : ℕ) (one : Held) (progress : Progress) (outcome : Outcome)
+    → GoOn IsBreak [] progress.outs → AreBreaksFirst (after_first_try file one progress outcome).outs
+first_try-breaks file one progress Outcome.Waits b =
+    breaks_only progress.outs (request_held file one progress).outs b (request_held-outs file one progress)
+first_try-breaks file one progress outcome b =
+    breaks_then progress.outs _ b (concluded-answers one.client one.request progress outcome)
 
 -- a request on a file gives out breaks first
+arrived_before-breaks : (one : Held) (server : Server) (asked : Result ℕ Status)
+    → AreBreaksFirst (arrived_before one (begun server) asked).outs
+arrived_before-breaks one server (Err status) =
+    let refusal = refused one.client one.request status (begun server) in
+    breaks_then [] refusal.outs no_breaks
+    (answers_go_on [] refusal.outs (refused-answered one.client one.request status (begun server)))
+arrived_before-breaks one server (Ok file) =
+    let done = tried one.client one.request (begun server) in
+    if_cases (λ p. AreBreaksFirst p.outs) (is_behind server.rules one (server.held file))
+    (request_held file one (begun server)) (after_first_try file one done.progress done.outcome)
+    (λ e. breaks_only [] (request_held file one (begun server)).outs no_breaks (request_held-outs file one (begun server)))
+    (λ e. first_try-breaks file one done.progress done.outcome (tried-breaks one.client one.request (begun server)))
+
 arrived_on-breaks : (client : ℕ) (request : FileRequest) (server : Server) (asked : Result ℕ Status)
     → AreBreaksFirst (arrived_on client request (begun server) asked).outs
-arrived_on-breaks client request server (Err status) = breaks_then []
-    (refused client request status (begun server)).outs no_breaks
-    (answers_go_on [] (refused client request status (begun server)).outs (refused-answered client request status (begun server)))
-arrived_on-breaks client request server (Ok file) = if_cases (λ p. AreBreaksFirst p.outs) (is_behind client (server.held file))
-    (request_held file (held_of client request) (begun server))
-    (after_first_try client file request (tried client request (begun server)).progress
-    (tried client request (begun server)).outcome)
-    (λ e. breaks_only [] (request_held file (held_of client request) (begun server)).outs no_breaks
-    (request_held-outs file (held_of client request) (begun server)))
-    (λ e. first_try-breaks client file request (tried client request (begun server)).progress
-    (tried client request (begun server)).outcome (tried-breaks client request (begun server)))
+arrived_on-breaks client request server = arrived_before-breaks (as_held server client request) server
 
 -- a request that comes gives out breaks first
 arrived-breaks : (client : ℕ) (request : FileRequest) (server : Server) → IsAlone request

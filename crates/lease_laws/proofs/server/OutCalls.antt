@@ -3,10 +3,11 @@ use Rattle.lease_laws.proofs.Words.{◌++◌, ◌≡◌, Call, Err, FileRequest,
 use Rattle.lease_laws.proofs.Words.{Ok, Out, Outcome, Pass, Progress, Result, Server, Status, Tried, ℕ, [], acknowledged}
 use Rattle.lease_laws.proofs.Words.{after_first_try, all_passes, append-nil, arrived_on, begun, called}
 use Rattle.lease_laws.proofs.Words.{client_forgotten, concluded, file_asked, file_request_arrived}
-use Rattle.lease_laws.proofs.Words.{has_key, held_left, held_of, is_behind, is_left_behind, is_lost, joined}
+use Rattle.lease_laws.proofs.Words.{has_key, held_left, is_behind, is_left_behind, is_lost, joined}
 use Rattle.lease_laws.proofs.Words.{key_expired, opens_disconnected}
 use Rattle.lease_laws.proofs.Words.{opens_dropped, pass_answered, refused}
 use Rattle.lease_laws.proofs.Words.{request_held, subst, sym, tried, tried_again}
+use Rattle.lease_laws.proofs.Words.{arrived_before, as_held}
 use Rattle.lease_laws.proofs.server.Lists.{if_cases}
 use Rattle.lease_laws.proofs.server.OutLists.{AreFair, IsGoodBreak, breaks_fair, answers_fair, answers_go_on, none_fair}
 use Rattle.lease_laws.proofs.server.OutLists.{go_on-weaker}
@@ -84,25 +85,27 @@ all_passes-fair : (progress : Progress) → Fair progress → Fair (all_passes p
 all_passes-fair = passes_keep Fair tried_again-fair
 
 -- what follows a first try keeps the outs fair
-after_first_try-fair : (client file : ℕ) (request : FileRequest) (progress : Progress) (outcome : Outcome) → Fair progress
-    → Fair (after_first_try client file request progress outcome)
-after_first_try-fair client file request progress Outcome.Waits fair =
-    silent_fair progress.outs (request_held file (held_of client request) progress).outs
-    (request_held-outs file (held_of client request) progress) fair
-after_first_try-fair client file request progress outcome fair = concluded-fair client request progress outcome fair
+after_first_try-fair : (file : ℕ) (one : Held) (progress : Progress) (outcome : Outcome) → Fair progress
+    → Fair (after_first_try file one progress outcome)
+after_first_try-fair file one progress Outcome.Waits fair =
+    silent_fair progress.outs (request_held file one progress).outs (request_held-outs file one progress) fair
+after_first_try-fair file one progress outcome fair = concluded-fair one.client one.request progress outcome fair
 
 -- a request on a file keeps the outs fair
+arrived_before-fair : (one : Held) (progress : Progress) (asked : Result ℕ Status)
+    → Fair progress → Fair (arrived_before one progress asked)
+arrived_before-fair one progress (Err status) fair = answers_fair progress.outs
+    (refused one.client one.request status progress).outs fair (refused-answered one.client one.request status progress)
+arrived_before-fair one progress (Ok file) fair =
+    let done = tried one.client one.request progress in
+    if_cases Fair (is_behind progress.server.rules one (progress.server.held file))
+    (request_held file one progress) (after_first_try file one done.progress done.outcome)
+    (λ e. silent_fair progress.outs (request_held file one progress).outs (request_held-outs file one progress) fair)
+    (λ e. after_first_try-fair file one done.progress done.outcome (tried-fair one.client one.request progress fair))
+
 arrived_on-fair : (client : ℕ) (request : FileRequest) (progress : Progress) (asked : Result ℕ Status)
     → Fair progress → Fair (arrived_on client request progress asked)
-arrived_on-fair client request progress (Err status) fair = answers_fair progress.outs
-    (refused client request status progress).outs fair (refused-answered client request status progress)
-arrived_on-fair client request progress (Ok file) fair = if_cases Fair (is_behind client (progress.server.held file))
-    (request_held file (held_of client request) progress)
-    (after_first_try client file request (tried client request progress).progress (tried client request progress).outcome)
-    (λ e. silent_fair progress.outs (request_held file (held_of client request) progress).outs
-    (request_held-outs file (held_of client request) progress) fair)
-    (λ e. after_first_try-fair client file request (tried client request progress).progress
-    (tried client request progress).outcome (tried-fair client request progress fair))
+arrived_on-fair client request progress = arrived_before-fair (as_held progress.server client request) progress
 
 -- a request about a file keeps the outs fair
 file_request-fair : (client : ℕ) (request : FileRequest) (progress : Progress) → Fair progress

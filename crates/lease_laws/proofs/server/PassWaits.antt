@@ -1,8 +1,8 @@
 -- After the passes each first held request has to wait.
-use Rattle.lease_laws.proofs.Words.{◌++◌, ◌<◌, ◌==◌, ◌||◌, ◌∙◌, ◌∷◌, ◌≡◌, ◌≢◌, ◌≤◌, ◌⊎◌, AllWait, Among, Bool, Decides-eqb}
-use Rattle.lease_laws.proofs.Words.{HasToWait, Held, List, None, Outcome, Pass, Progress, Server, Some, T, Tried, ℕ, ⊎_elim, []}
-use Rattle.lease_laws.proofs.Words.{all_passes, ap, append-nil, arith, concluded, cond, false, find, has_file}
-use Rattle.lease_laws.proofs.Words.{held_left, inl, inr, is_behind, leb→le, left_waiting, length, list_any, nat_le, numbers_to}
+use Rattle.lease_laws.proofs.Words.{◌++◌, ◌<◌, ◌==◌, ◌∙◌, ◌∷◌, ◌≡◌, ◌≢◌, ◌≤◌, ◌⊎◌, AllWait, Among, Decides-eqb}
+use Rattle.lease_laws.proofs.Words.{HasToWait, Held, List, Outcome, Pass, Progress, Server, T, Tried, ℕ, ⊎_elim, []}
+use Rattle.lease_laws.proofs.Words.{all_passes, ap, append-nil, arith, concluded, false, has_file}
+use Rattle.lease_laws.proofs.Words.{held_left, inl, inr, is_behind, leb→le, left_waiting, length, nat_le, numbers_to}
 use Rattle.lease_laws.proofs.Words.{pass_answered, put, refl, subst, suc}
 use Rattle.lease_laws.proofs.Words.{sym, tried, tried_again, true, true≢false, zero}
 use Rattle.lease_laws.proofs.server.FileReady.{ready-file}
@@ -10,7 +10,8 @@ use Rattle.lease_laws.proofs.server.Goes.{file_frame, Goes, concluded-goes, goes
 use Rattle.lease_laws.proofs.server.Held.{answered-fewer, begun-in, SameHeld, InPass, left_waiting-in, pass_answered-in}
 use Rattle.lease_laws.proofs.server.Held.{concluded-held}
 use Rattle.lease_laws.proofs.server.Keeps.{Kept, Anywhere, Elsewhere, waits_keep, concluded-kept, keeps-same}
-use Rattle.lease_laws.proofs.server.Lists.{if_cases, either, clash, and_parts, among_append, among_before, among_behind, find_has}
+use Rattle.lease_laws.proofs.server.Lists.{either, clash, and_parts, among_append, among_before, among_behind}
+use Rattle.lease_laws.proofs.server.Lists.{nothing_there, split_more}
 use Rattle.lease_laws.proofs.server.Orderly.{IsHeldWell, held_well, IsFine, IsTry, any_try, fine_try, fine_concluded}
 use Rattle.lease_laws.proofs.server.Orderly.{orderly_goes, all_wait-keep, held_left-ready, about_goes}
 use Rattle.lease_laws.proofs.server.Passes.{held_left-free}
@@ -65,52 +66,32 @@ pub record PassWaits (start : Progress) (file : ℕ) (count : ℕ) (waiting : Li
     pub fine : IsFine pass.progress.server
     pub files : pass.progress.server.files ≡ start.server.files
     pub in_pass : InPass file count waiting pass
-    pub kept_wait : pass.has_answered ≡ false → (client : ℕ) (one : Held)
-        → find (λ other. other.client == client) pass.passed ≡ Some one → HasToWait pass.progress.server client one.request
+    pub kept_wait : pass.has_answered ≡ false → (before : List Held) (one : Held) (behind : List Held)
+        → pass.passed ≡ before ++ one ∷ behind → is_behind pass.progress.server.rules one before ≡ false
+        → HasToWait pass.progress.server one.client one.request
     pub others : (other : ℕ) → other ≢ file → AllWait start.server other → AllWait pass.progress.server other
-
--- one request found is one request
-held_same : (x y : Held) → Some x ≡ Some y → x ≡ y
-held_same x y e = cc
-
--- neither is true
-or_none : (a b : Bool) → a ≡ false → b ≡ false → (a || b) ≡ false
-or_none a b e f = rw (e, f) refl
-
--- what is found once one more is on the list
-pub find_more : (test : Held → Bool) (xs : List Held) (y x : Held) → find test (xs ++ y ∷ []) ≡ Some x
-    → (find test xs ≡ Some x) ⊎ ((list_any test xs ≡ false) × (test y ≡ true) × (x ≡ y))
-find_more test [] y x e = if_cases (λ o. o ≡ Some x → (find test [] ≡ Some x)
-    ⊎ ((list_any test [] ≡ false) × (test y ≡ true) × (x ≡ y)))
-    (test y) (Some y) None (λ t same. inr (refl, t, held_same x y (sym same))) (λ t never. absurd (cc)) e
-find_more test (first ∷ xs) y x e = either (test first)
-    (λ t. inl (ap (λ b. cond b (Some first) (find test xs)) t
-    ∙ sym (ap (λ b. cond b (Some first) (find test (xs ++ y ∷ []))) t) ∙ e))
-    (λ t. let later = find_more test xs y x (sym (ap (λ b. cond b (Some first) (find test (xs ++ y ∷ []))) t) ∙ e) in
-    ⊎_elim (λ found. inl (ap (λ b. cond b (Some first) (find test xs)) t ∙ found))
-    (λ last. inr (or_none (test first) (list_any test xs) t last.0, last.1, last.2)) later)
 
 -- a request of the pass still waits
 kept_waits : (start : Progress) (file count : ℕ) (one : Held) (waiting : List Held) (pass : Pass) (progress : Progress)
     → PassWaits start file count (one ∷ waiting) pass → IsFine progress.server
     → SameHeld pass.progress progress → Goes pass.progress progress → Kept Anywhere pass.progress progress
-    → ((list_any (λ other. other.client == one.client) pass.passed ≡ false) → HasToWait progress.server one.client one.request)
+    → (is_behind pass.progress.server.rules one pass.passed ≡ false → HasToWait progress.server one.client one.request)
     → PassWaits start file count waiting (left_waiting one pass progress)
 kept_waits start file count one waiting pass progress p f same goes keeps new = record {
   fine = f;
   files = goes.files ∙ p.files;
   in_pass = left_waiting-in file count one waiting pass progress p.in_pass same;
-  kept_wait = λ none client x first. ⊎_elim
-      (λ old. let there = find_has (λ other. other.client == client) x pass.passed old in
-      let held : Among x (pass.progress.server.held file) = subst (λ list. Among x list) (sym p.in_pass.is_held)
-      (among_before x pass.passed (one ∷ waiting) there.0) in
-      waits_keep Anywhere pass.progress.server progress.server client file x.request keeps p.fine.sound
-      (p.fine.orderly.held_about file x held) tt (p.kept_wait none client x old))
-      (λ last. let same_client : one.client ≡ client = (Decides-eqb one.client client).0 last.1 in
-      subst (λ h. HasToWait progress.server client h.request) (sym last.2)
-      (subst (λ c. HasToWait progress.server c one.request) same_client
-      (new (subst (λ c. list_any (λ other. other.client == c) pass.passed ≡ false) (sym same_client) last.0))))
-      (find_more (λ other. other.client == client) pass.passed one x first);
+  kept_wait = λ none earlier x later split first.
+      let was_first = λ (before : List Held). subst (λ rules. is_behind rules x before ≡ false) keeps.rules in ⊎_elim
+      (λ old. let held : Among x (pass.progress.server.held file) = subst (λ list. Among x list) (sym p.in_pass.is_held)
+      (among_before x pass.passed (one ∷ waiting) (subst (λ list. Among x list) (sym old.1)
+      (among_behind x earlier (x ∷ old.0) (inl refl)))) in
+      waits_keep Anywhere pass.progress.server progress.server x.client file x.request keeps p.fine.sound
+      (p.fine.orderly.held_about file x held) tt (p.kept_wait none earlier x old.0 old.1 (was_first earlier first)))
+      (λ last. subst (λ (h : Held). HasToWait progress.server h.client h.request) (sym last.1)
+      (new (subst (λ (h : Held). is_behind pass.progress.server.rules h pass.passed ≡ false) last.1
+      (subst (λ list. is_behind pass.progress.server.rules x list ≡ false) (sym last.0) (was_first earlier first)))))
+      (split_more pass.passed one earlier x later split);
   others = λ other away all. all_wait-keep Anywhere pass.progress.server progress.server other keeps p.fine tt
       (ap (λ held. held other) same) (p.others other away all);
 }
@@ -160,7 +141,7 @@ tried_again-waits start file count one waiting pass p =
     any_try_again file one waiting pass (PassWaits start file count waiting) (record {
       behind = λ behind. kept_waits start file count one waiting pass pass.progress p p.fine refl
           (goes-same pass.progress.server) (keeps-same Anywhere pass.progress.server)
-          (λ first. clash (is_behind one.client pass.passed) behind first);
+          (λ first. clash (is_behind pass.progress.server.rules one pass.passed) behind first);
       waits = λ first waits. kept_waits start file count one waiting pass done.progress p
           (fine_try one.client one.request pass.progress done p.fine t) t.held t.goes t.keeps (λ e. t.waits waits);
       answers = λ first ends. answered_waits start file count one waiting pass done p t;
@@ -184,7 +165,7 @@ begun-waits file progress f = record {
   fine = f;
   files = refl;
   in_pass = begun-in file progress;
-  kept_wait = λ none client one never. absurd (cc);
+  kept_wait = λ none earlier one later never. absurd (nothing_there earlier one later never);
   others = λ other away all. all;
 }
 
@@ -205,8 +186,8 @@ pub last_waits : (file : ℕ) (start : Progress) (pass : Pass) → PassWaits sta
 last_waits file start pass p none = record {
   fine = p.fine;
   files = p.files;
-  here = λ client one first. p.kept_wait none client one
-      (subst (λ list. find (λ other. other.client == client) list ≡ Some one) (p.in_pass.is_held ∙ append-nil pass.passed) first);
+  here = λ earlier one later split. p.kept_wait none earlier one later
+      (sym (p.in_pass.is_held ∙ append-nil pass.passed) ∙ split);
   others = p.others;
 }
 
@@ -263,7 +244,7 @@ file_numbered server file e =
     let parts = and_parts (nat_le 1 file) (nat_le file server.files) e in
     numbered_to server.files file (leb→le 1 file (subst T (sym parts.0) tt)) (leb→le file server.files (subst T (sym parts.1) tt))
 
--- After passes over all files, wherever requests are held, the first of each client has to wait.
+-- After passes over all files each held request that waits behind none has to wait.
 pub record EveryoneWaits (server : Server) : Type 0 where
   pub fine : IsFine server
   pub wait : (file : ℕ) → AllWait server file
@@ -275,9 +256,9 @@ all_passes-wait progress f =
     let after = all_passes progress in
     record {
       fine = done.fine;
-      wait = λ file client one first.
-          let there = find_has (λ other. other.client == client) one (after.server.held file) first in
-          let on_file = done.fine.orderly.held_files file one there.0 in
+      wait = λ file earlier one later split.
+          let there = subst (λ list. Among one list) (sym split) (among_behind one earlier (one ∷ later) (inl refl)) in
+          let on_file = done.fine.orderly.held_files file one there in
           done.wait file (inl (file_numbered progress.server file
-          (file_frame after.server progress.server file (sym done.files) ∙ on_file))) client one first;
+          (file_frame after.server progress.server file (sym done.files) ∙ on_file))) earlier one later split;
     }

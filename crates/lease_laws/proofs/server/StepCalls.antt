@@ -1,4 +1,5 @@
 -- Passes and calls go by guarded small steps.
+use Rattle.lease_laws.proofs.Words.{None}
 use Rattle.lease_laws.proofs.Words.{◌∙◌, ◌∷◌, ◌≡◌, Among, Call, Err, FileRequest, GoesBySteps, Held}
 use Rattle.lease_laws.proofs.Words.{IsSound, List, MayEnd, MayRefuse, Ok, Open, Outcome, Pass, Progress, Request}
 use Rattle.lease_laws.proofs.Words.{Result, Server, SmallStep, Status, WaitsWell, ℕ, [], acknowledged, after_first_try}
@@ -9,6 +10,9 @@ use Rattle.lease_laws.proofs.Words.{is_behind, is_left_behind, joined}
 use Rattle.lease_laws.proofs.Words.{length, opens_dropped, own_steps}
 use Rattle.lease_laws.proofs.Words.{refl, request_held, subst}
 use Rattle.lease_laws.proofs.Words.{LeaseOf, Option, pass_answered, sym, tried, tried_again, true, ◌<◌}
+use Rattle.lease_laws.proofs.Words.{Some, as_held, lane_of}
+use Rattle.lease_laws.proofs.Words.{arrived_before, connected_open, file_of_open}
+use Rattle.lease_laws.proofs.Words.{lane_of_open}
 use Rattle.lease_laws.proofs.server.Answers.{acknowledged-sound}
 use Rattle.lease_laws.proofs.server.Calls.{joined-sound}
 use Rattle.lease_laws.proofs.server.Arrivals.{arrived_on-fine, asked_well, acknowledged-held, fine_goes}
@@ -32,7 +36,7 @@ MayEndAt progress one outcome = MayEnd progress.server one.client one.request ou
 
 -- the try of a held request, and then its answer
 answered-steps : (call : Call) (start : Progress) (file count : ℕ) (one : Held) (waiting : List Held) (pass : Pass)
-    → PassWaits start file count (one ∷ waiting) pass → is_behind one.client pass.passed ≡ false
+    → PassWaits start file count (one ∷ waiting) pass → is_behind pass.progress.server.rules one pass.passed ≡ false
     → ((tried one.client one.request pass.progress).outcome ≡ Outcome.Waits → ⊥)
     → GoesBySteps call 0 pass.progress
     (pass_answered file one waiting pass (tried one.client one.request pass.progress)).progress
@@ -45,7 +49,8 @@ answered-steps call start file count one waiting pass p first ends =
     tried-guarded one.client one.request pass.progress ends (t.goes.ups one.client ∙ well.up) in
     steps_then call 0 0 pass.progress done.progress _ (tried-steps call one.client one.request pass.progress p.fine.sound)
     (step_one call (SmallStep.AnswerHeld file pass.passed one waiting done.outcome) done.progress
-    (ap (λ h. h file) t.held ∙ p.in_pass.is_held, may) first tt)
+    (ap (λ h. h file) t.held ∙ p.in_pass.is_held, may)
+    (subst (λ rules. is_behind rules one pass.passed ≡ false) (sym t.keeps.rules) first) tt)
 
 -- a held request tried again
 tried_again-steps : (call : Call) (start : Progress) (file count : ℕ) (one : Held) (waiting : List Held) (pass : Pass)
@@ -109,47 +114,87 @@ no_file asked status file e f = cc
 one_file : (asked : Result ℕ Status) (file other : ℕ) → asked ≡ Ok file → asked ≡ Ok other → other ≡ file
 one_file asked file other e f = cc
 
--- no earlier request of the client is held there
-still_first : (client file : ℕ) (request : FileRequest) (before after : Progress) → SameHeld before after
-    → file_asked after.server client request ≡ Ok file → is_behind client (before.server.held file) ≡ false
-    → (other : ℕ) → file_asked after.server client request ≡ Ok other → is_behind client (after.server.held other) ≡ false
-still_first client file request before after same asked first other e = grind arith
+-- the lane of a request that finds its open stays
+open_lane : (file_id : ℕ) (before after : Option Open) (file : ℕ) → ((one : Open) → before ≡ Some one → after ≡ Some one)
+    → file_of_open before ≡ Ok file → lane_of_open file_id after ≡ lane_of_open file_id before
+open_lane file_id None after file stays never = absurd (cc)
+open_lane file_id (Some one) after file stays e = ap (lane_of_open file_id) (stays one refl)
+
+lane_stays : (before after : Server) (client : ℕ) (request : FileRequest) (file : ℕ) → Keeps Anywhere before after
+    → file_asked before client request ≡ Ok file → lane_of after client request ≡ lane_of before client request
+lane_stays before after client (FileRequest.Create at access share contexts) file k e = refl
+lane_stays before after client (FileRequest.Read file_id) file k e = open_lane file_id
+    (connected_open before client file_id) (connected_open after client file_id) file (λ one found. k.finds client file_id one found tt) e
+lane_stays before after client (FileRequest.Write file_id number patch) file k e = open_lane file_id
+    (connected_open before client file_id) (connected_open after client file_id) file (λ one found. k.finds client file_id one found tt) e
+lane_stays before after client (FileRequest.Close file_id) file k e = open_lane file_id
+    (connected_open before client file_id) (connected_open after client file_id) file (λ one found. k.finds client file_id one found tt) e
+
+-- no earlier request that it waits behind is held there
+still_first : (file : ℕ) (one : Held) (before after : Progress) → Keeps Anywhere before.server after.server
+    → SameHeld before after → one.lane ≡ lane_of before.server one.client one.request
+    → file_asked before.server one.client one.request ≡ Ok file
+    → file_asked after.server one.client one.request ≡ Ok file
+    → is_behind before.server.rules one (before.server.held file) ≡ false
+    → (other : ℕ) → file_asked after.server one.client one.request ≡ Ok other
+    → is_behind after.server.rules (as_held after.server one.client one.request) (after.server.held other) ≡ false
+still_first file one before after k same lane was asked first other e =
+    let here = one_file (file_asked after.server one.client one.request) file other asked e in
+    let same_lane = lane_stays before.server after.server one.client one.request file k was ∙ sym lane in
+    ap (λ rules. is_behind rules (as_held after.server one.client one.request) (after.server.held other)) k.rules
+    ∙ ap (λ lane. is_behind before.server.rules (held_of one.client one.request lane) (after.server.held other)) same_lane
+    ∙ ap (λ (held : ℕ → List Held). is_behind before.server.rules one (held other)) same
+    ∙ ap (λ at. is_behind before.server.rules one (before.server.held at)) here ∙ first
 
 -- what follows a first try
-first_try-steps : (call : Call) (client file : ℕ) (request : FileRequest) (before : Progress) (progress : Progress)
-    (outcome : Outcome) → call ≡ Call.Receive client (Request.OnFile request) → before.server.present client ≡ true
-    → IsTry client request before (record { progress = progress; outcome = outcome }) → GoesBySteps call 0 before progress
-    → ((outcome ≡ Outcome.Waits → ⊥) → MayEndAt progress (held_of client request) outcome)
-    → file_asked before.server client request ≡ Ok file → is_behind client (before.server.held file) ≡ false
-    → GoesBySteps call 1 before (after_first_try client file request progress outcome)
-first_try-steps call client file request before progress Outcome.Waits of up t go may asked first =
-    steps_then call 0 1 before progress (request_held file (held_of client request) progress) go
-    (step_one call (SmallStep.Hold file (held_of client request)) progress (t.goes.ups client ∙ up, inl (t.waits refl))
-    (asked_stays before.server progress.server client request file t.keeps t.goes.files asked) of)
-first_try-steps call client file request before progress outcome of up t go may asked first =
-    steps_then call 0 1 before progress (concluded client request progress outcome) go
-    (step_one call (SmallStep.Answer client request outcome) progress (may (λ never. absurd (cc)))
-    (still_first client file request before progress t.held
-    (asked_stays before.server progress.server client request file t.keeps t.goes.files asked) first) of)
+first_try-steps : (call : Call) (file : ℕ) (one : Held) (before : Progress) (progress : Progress)
+    (outcome : Outcome) → call ≡ Call.Receive one.client (Request.OnFile one.request)
+    → before.server.present one.client ≡ true
+    → IsTry one.client one.request before (record { progress = progress; outcome = outcome })
+    → GoesBySteps call 0 before progress
+    → ((outcome ≡ Outcome.Waits → ⊥) → MayEndAt progress one outcome)
+    → one.lane ≡ lane_of before.server one.client one.request
+    → file_asked before.server one.client one.request ≡ Ok file
+    → is_behind before.server.rules one (before.server.held file) ≡ false
+    → GoesBySteps call 1 before (after_first_try file one progress outcome)
+first_try-steps call file one before progress Outcome.Waits of up t go may lane asked first =
+    steps_then call 0 1 before progress (request_held file one progress) go
+    (step_one call (SmallStep.Hold file one) progress (t.goes.ups one.client ∙ up, inl (t.waits refl)) (
+      asked_stays before.server progress.server one.client one.request file t.keeps t.goes.files asked,
+      lane ∙ sym (lane_stays before.server progress.server one.client one.request file t.keeps asked),
+    ) of)
+first_try-steps call file one before progress outcome of up t go may lane asked first =
+    steps_then call 0 1 before progress (concluded one.client one.request progress outcome) go
+    (step_one call (SmallStep.Answer one.client one.request outcome) progress (may (λ never. absurd (cc)))
+    (still_first file one before progress t.keeps t.held lane asked
+    (asked_stays before.server progress.server one.client one.request file t.keeps t.goes.files asked) first) of)
 
 -- a request that comes
+arrived_before-steps : (call : Call) (one : Held) (progress : Progress) (asked : Result ℕ Status)
+    → call ≡ Call.Receive one.client (Request.OnFile one.request) → IsFine progress.server → WaitsWell progress.server
+    → progress.server.present one.client ≡ true → one.lane ≡ lane_of progress.server one.client one.request
+    → file_asked progress.server one.client one.request ≡ asked
+    → GoesBySteps call 1 progress (arrived_before one progress asked)
+arrived_before-steps call one progress (Err status) of f w up lane e =
+    step_one call (SmallStep.Answer one.client one.request (Outcome.Refused status)) progress
+    (up, asked-refuses progress.server one.client one.request status e) (λ file asked. absurd
+    (no_file (file_asked progress.server one.client one.request) status file e asked)) of
+arrived_before-steps call one progress (Ok file) of f w up lane e =
+    let done = tried one.client one.request progress in
+    let t = any_try one.client one.request progress f.sound in
+    if_cases (GoesBySteps call 1 progress) (is_behind progress.server.rules one (progress.server.held file))
+    (request_held file one progress) (after_first_try file one done.progress done.outcome)
+    (λ behind. step_one call (SmallStep.Hold file one) progress (up, inr (w, behind)) (e, lane) of)
+    (λ first. first_try-steps call file one progress done.progress done.outcome of up t
+    (tried-steps call one.client one.request progress f.sound)
+    (λ ends. tried-guarded one.client one.request progress ends (t.goes.ups one.client ∙ up)) lane e first)
+
 arrived_on-steps : (call : Call) (client : ℕ) (request : FileRequest) (progress : Progress) (asked : Result ℕ Status)
     → call ≡ Call.Receive client (Request.OnFile request) → IsFine progress.server → WaitsWell progress.server
     → progress.server.present client ≡ true → file_asked progress.server client request ≡ asked
     → GoesBySteps call 1 progress (arrived_on client request progress asked)
-arrived_on-steps call client request progress (Err status) of f w up e =
-    step_one call (SmallStep.Answer client request (Outcome.Refused status)) progress
-    (up, asked-refuses progress.server client request status e) (λ file asked. absurd
-    (no_file (file_asked progress.server client request) status file e asked)) of
-arrived_on-steps call client request progress (Ok file) of f w up e =
-    let done = tried client request progress in
-    let t = any_try client request progress f.sound in
-    if_cases (GoesBySteps call 1 progress) (is_behind client (progress.server.held file))
-    (request_held file (held_of client request) progress) (after_first_try client file request done.progress done.outcome)
-    (λ behind. step_one call (SmallStep.Hold file (held_of client request)) progress (up, inr (w, behind)) e of)
-    (λ first. first_try-steps call client file request progress done.progress done.outcome of up t
-    (tried-steps call client request progress f.sound)
-    (λ ends. tried-guarded client request progress ends (t.goes.ups client ∙ up)) e first)
+arrived_on-steps call client request progress asked of f w up =
+    arrived_before-steps call (as_held progress.server client request) progress asked of f w up refl
 
 -- and finds its own file
 asked-steps : (call : Call) (client : ℕ) (request : FileRequest) (progress : Progress)

@@ -15,6 +15,7 @@ use Rattle.lease_laws.proofs.server.Lists.{among_behind}
 use Rattle.lease_laws.proofs.server.StepKeeps.{step-sound, end_serves}
 use Rattle.lease_laws.proofs.server.Progress.{held_left-sound}
 use Rattle.lease_laws.proofs.server.StepOuts.{step-tells}
+use Rattle.lease_laws.proofs.server.cases.Grants.{any_grant}
 use Rattle.lease_laws.proofs.server.cases.Ends.{HasEnds, any_end}
 use Rattle.lease_laws.proofs.server.cases.Judgements.{any_judgement}
 
@@ -74,17 +75,15 @@ granted_rises : (server : Server) (key : Key) (file : ℕ) (access : Access) (sh
     → IsSound server → IsFree server.opens server.leases (Some key) file access share
     → (lease_granted server key file want ≡ server.leases key) ⊎ IsRaised (server.leases key) (lease_granted server key file want)
 granted_rises server key file access share want s free =
-    let Goal : Lease → Type 0 = λ l. (l ≡ server.leases key) ⊎ IsRaised (server.leases key) l in
-    if_cases Goal (is_breaking (server.leases key)) (server.leases key) _
-    (λ b. inl refl)
-    (λ settled. if_cases Goal (is_state_within (server.leases key).state (granted_form_of want))
-    (record { state = offered server key file want; broken_to = None }) (server.leases key)
-    (λ part. inr (record {
-      was_settled = settled;
-      is_settled = refl;
-      is_more = offered_more server key file access share want s free part;
-    }))
-    (λ part. inl refl))
+    any_grant server key file want (λ l. (l ≡ server.leases key) ⊎ IsRaised (server.leases key) l) (record {
+      breaks = λ b. inl refl;
+      rises = λ settled part. inr (record {
+        was_settled = settled;
+        is_settled = refl;
+        is_more = offered_more server key file access share want s free part;
+      });
+      stays = λ settled. inl refl;
+    })
 
 -- the lease of any key, once a create has made its open
 granted_with-lease : (client file : ℕ) (access : Access) (share : Share) (asked : Option LeaseOf) (durable : Bool)

@@ -3,17 +3,22 @@
 use Rattle.lease_laws.proofs.Words.{◌==◌, ◌∙◌, ◌≡◌, Among, Bool, Call, FileRequest, HasToWait, Held, IsAbout, IsBlocked, IsOpenOn}
 use Rattle.lease_laws.proofs.Words.{IsOrderly, IsSound, IsUnder, Key, List, None, Open, Option, Progress, Server, Some, WaitsWell}
 use Rattle.lease_laws.proofs.Words.{ℕ, ap, arith, begun, called, client_forgotten, cond, disconnected}
-use Rattle.lease_laws.proofs.Words.{false, find, has_file, has_key, has_own_key, is_key, is_left_behind}
-use Rattle.lease_laws.proofs.Words.{is_lost, joined, key_expired, key_of, key_of_open, key_under, map, new_server}
+use Rattle.lease_laws.proofs.Words.{false, has_file, has_key, has_own_key, is_key, is_left_behind}
+use Rattle.lease_laws.proofs.Words.{is_lost, joined, key_expired, key_of, key_of_open, key_under, map, new_server_under}
 use Rattle.lease_laws.proofs.Words.{not, opens_disconnected, opens_dropped, own_key, put, refl, subst, sym, true}
 use Rattle.lease_laws.proofs.Words.{without}
+use Rattle.lease_laws.proofs.Words.{Rules, ◌++◌}
+use Rattle.lease_laws.proofs.Words.{◌∷◌}
+use Rattle.lease_laws.proofs.Words.{is_behind}
+use Rattle.lease_laws.proofs.Words.{inl}
 use Rattle.lease_laws.proofs.server.Keys.{is_key-one, is_key-refl}
 use Rattle.lease_laws.proofs.server.Arrivals.{acknowledged-waits, everyone_keeps, file_request-waits, fine_goes, new_server-waits}
 use Rattle.lease_laws.proofs.server.Calls.{joined-sound, lease_lost-sound, links_lost-sound}
 use Rattle.lease_laws.proofs.server.Goes.{Goes, dropped-goes}
 use Rattle.lease_laws.proofs.server.Held.{SameHeld, dropped_held}
 use Rattle.lease_laws.proofs.server.Keeps.{Kept, Anywhere, connected_has}
-use Rattle.lease_laws.proofs.server.Lists.{if_cases, clash, not_parts, among_filter, among_map, find_has}
+use Rattle.lease_laws.proofs.server.Lists.{if_cases, clash, not_parts, among_filter, among_map}
+use Rattle.lease_laws.proofs.server.Lists.{among_behind}
 use Rattle.lease_laws.proofs.server.Orderly.{IsFine}
 use Rattle.lease_laws.proofs.server.PassWaits.{EveryoneWaits, all_passes-wait}
 use Rattle.lease_laws.proofs.server.Progress.{opens_dropped-sound}
@@ -49,7 +54,7 @@ joined-orderly client progress o = record {
 
 -- a join that applies lets wait what has to wait
 joined-kept : (client : ℕ) (progress : Progress) → Kept Anywhere progress (joined client progress)
-joined-kept client progress = record { stands = λ key one a k up b g. (a, refl); finds = λ c id one e g. e }
+joined-kept client progress = record { rules = refl; stands = λ key one a k up b g. (a, refl); finds = λ c id one e g. e }
 
 -- a join that applies leaves the held requests as they are
 joined-held : (client : ℕ) (progress : Progress) → SameHeld progress (joined client progress)
@@ -169,8 +174,8 @@ called-waits server call e = any_call server (λ call start after. EveryoneWaits
 }) call
 
 -- the first server waits well
-pub first-waits-well : (contents : List (List ℕ)) → WaitsWell (new_server contents)
-first-waits-well contents = let e = new_server-waits contents in
+pub first-waits-well : (rules : Rules) (contents : List (List ℕ)) → WaitsWell (new_server_under rules contents)
+first-waits-well rules contents = let e = new_server-waits rules contents in
     record { is_orderly = e.fine.orderly; all_wait = e.wait }
 
 -- every call lets requests wait well
@@ -220,10 +225,11 @@ writers-wait_not server key one client (FileRequest.Write file_id number patch) 
 writers-wait_not server key one client (FileRequest.Close file_id) s w a k about wait under = wait
 
 -- so no first held request is
-pub writers-dont-wait : (server : Server) (key : Key) (one : Open) (client : ℕ) (held : Held)
+pub writers-dont-wait : (server : Server) (key : Key) (one : Open) (before : List Held) (held : Held) (behind : List Held)
     → IsSound server → WaitsWell server → (server.leases key).state.write ≡ true → Among one server.opens → has_key key one ≡ true
-    → find (λ other. other.client == client) (server.held one.file) ≡ Some held → IsUnder server client held.request key → ⊥
-writers-dont-wait server key one client held s w writes a k first under =
-    writers-wait_not server key one client held.request s writes a k (w.is_orderly.held_about one.file held
-    (find_has (λ other. other.client == client) held (server.held one.file) first).0)
-    (w.all_wait one.file client held first) under
+    → server.held one.file ≡ before ++ held ∷ behind → is_behind server.rules held before ≡ false
+    → IsUnder server held.client held.request key → ⊥
+writers-dont-wait server key one before held behind s w writes a k split first under =
+    writers-wait_not server key one held.client held.request s writes a k (w.is_orderly.held_about one.file held
+    (subst (λ list. Among held list) (sym split) (among_behind held before (held ∷ behind) (inl refl))))
+    (w.all_wait one.file before held behind split first) under

@@ -1,5 +1,6 @@
 pub mod Calls
 pub mod Ends
+pub mod Grants
 pub mod Findings
 pub mod Judgements
 pub mod Passes

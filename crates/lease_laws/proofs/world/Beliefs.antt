@@ -1,9 +1,10 @@
 -- In every run the record says what clients believe.
 use Rattle.lease_laws.proofs.Words.{◌&&◌, ◌==◌, ◌∙◌, ◌∷◌, ◌≡◌, Client, Decides-eqb, Event, Fact, List, Note, Out, Progress, Setup}
 use Rattle.lease_laws.proofs.Words.{Step, World, ℕ, [], after, all_delivered, ap, belief, believed, believed_after, called}
-use Rattle.lease_laws.proofs.Words.{client_called, delivered, fact_of, false, first_world, happened, if◌then◌else◌, is_start}
+use Rattle.lease_laws.proofs.Words.{client_called, delivered, fact_of, false, first_world_under, happened, if◌then◌else◌, is_start}
 use Rattle.lease_laws.proofs.Words.{length, list_all, new_client, noted, nothing_cached, numbered, put, refl, requests_sent}
 use Rattle.lease_laws.proofs.Words.{reverse, served, starts_from, stepped_in, subst, sym, true}
+use Rattle.lease_laws.proofs.Words.{Rules}
 use Rattle.std.proofs.Common.{arith}
 use Rattle.lease_laws.proofs.client.AllBeliefs.{called-beliefs}
 use Rattle.lease_laws.proofs.client.InFiles.{InFiles, first_in_files, called_in_files}
@@ -114,15 +115,15 @@ started_believed client file [] all = refl
 started_believed client file (Fact.Start f bytes ∷ past) all = started_believed client file past all
 started_believed client file (_ ∷ past) all = clash false all refl
 
-pub first_agrees : (setup : Setup) → Agrees (first_world setup)
-unfolding first_world new_client
-first_agrees setup = record {
+pub first_agrees : (rules : Rules) (setup : Setup) → Agrees (first_world_under rules setup)
+unfolding first_world_under new_client
+first_agrees rules setup = record {
   in_files = λ client. first_in_files (numbered [] setup.clients client) (length setup.files);
   agrees = λ client file. started_believed client file (reverse (starts_from 1 setup.files))
       (all_reversed (starts_from 1 setup.files) [] (all_starts 1 setup.files) refl);
 }
 
-pub beliefs_of_runs : (setup : Setup) (events : List Event) (client file : ℕ)
-    → believed client file (after (first_world setup) events).past
-    ≡ belief ((after (first_world setup) events).clients client) file
-beliefs_of_runs setup events = (after-kept Agrees agrees_kept (first_world setup) events (first_agrees setup)).agrees
+pub beliefs_of_runs : (rules : Rules) (setup : Setup) (events : List Event) (client file : ℕ)
+    → believed client file (after (first_world_under rules setup) events).past
+    ≡ belief ((after (first_world_under rules setup) events).clients client) file
+beliefs_of_runs rules setup events = (after-kept Agrees agrees_kept (first_world_under rules setup) events (first_agrees rules setup)).agrees

@@ -3,11 +3,12 @@ use Rattle.lease_laws.proofs.Words.{◌&&◌, ◌++◌, ◌+◌, ◌==◌, ◌||
 use Rattle.lease_laws.proofs.Words.{Event, Fact, FileIdsAreCounted, IsGuarded, IsSound, List, Note, Open, OpensAreTold, Out}
 use Rattle.lease_laws.proofs.Words.{Progress, Server, Setup, SmallStep, Step, WaitsWell, World, ℕ, ⊎_elim, [], after}
 use Rattle.lease_laws.proofs.Words.{all_delivered, ap, arith, call_begun, called, client_called}
-use Rattle.lease_laws.proofs.Words.{delivered, disconnected, eq-eqb, fact_of, false, first_world, happened, has_key}
+use Rattle.lease_laws.proofs.Words.{delivered, disconnected, eq-eqb, fact_of, false, first_world_under, happened, has_key}
 use Rattle.lease_laws.proofs.Words.{is_left_behind, is_lost, is_start, list_all, map}
-use Rattle.lease_laws.proofs.Words.{new_server, not, noted, opened_count, refl, requests_sent}
+use Rattle.lease_laws.proofs.Words.{new_server_under, not, noted, opened_count, refl, requests_sent}
 use Rattle.lease_laws.proofs.Words.{reverse, served, starts_from, step_taken, stepped_in, steps_taken, subst, sym, true}
 use Rattle.lease_laws.proofs.Words.{was_opened, without}
+use Rattle.lease_laws.proofs.Words.{Rules}
 use Rattle.lease_laws.proofs.records.Runs.{all_starts, all_reversed}
 use Rattle.lease_laws.proofs.server.Calls.{new_server-sound, called-sound}
 use Rattle.lease_laws.proofs.server.Goes.{IsOld, IsNew}
@@ -281,11 +282,11 @@ starts_open [] all = refl
 starts_open (Fact.Start file bytes ∷ past) all = starts_open past all
 starts_open (_ ∷ past) all = let c : ⊥ = cc in absurd c
 
-pub first_counted : (setup : Setup) → IsCountedWorld (first_world setup)
-unfolding first_world new_server
-first_counted setup = record {
-  sound = new_server-sound setup.files;
-  waits = first-waits-well setup.files;
+pub first_counted : (rules : Rules) (setup : Setup) → IsCountedWorld (first_world_under rules setup)
+unfolding first_world_under new_server_under
+first_counted rules setup = record {
+  sound = new_server-sound rules setup.files;
+  waits = first-waits-well rules setup.files;
   counted = record {
     last = sym (starts_open (reverse (starts_from 1 setup.files))
         (all_reversed (starts_from 1 setup.files) [] (all_starts 1 setup.files) refl));
@@ -293,11 +294,11 @@ first_counted setup = record {
   };
 }
 
-pub run_counted : (setup : Setup) (events : List Event) → IsCountedWorld (after (first_world setup) events)
-run_counted setup events = after-kept IsCountedWorld counted_kept (first_world setup) events (first_counted setup)
+pub run_counted : (rules : Rules) (setup : Setup) (events : List Event) → IsCountedWorld (after (first_world_under rules setup) events)
+run_counted rules setup events = after-kept IsCountedWorld counted_kept (first_world_under rules setup) events (first_counted rules setup)
 
 pub file_ids_are_counted : FileIdsAreCounted
-file_ids_are_counted setup events = (run_counted setup events).counted.last
+file_ids_are_counted rules setup events = (run_counted rules setup events).counted.last
 
 pub opens_are_told : OpensAreTold
-opens_are_told setup events one a = (run_counted setup events).counted.opens one a
+opens_are_told rules setup events one a = (run_counted rules setup events).counted.opens one a

@@ -2,10 +2,11 @@
 use Rattle.lease_laws.proofs.Words.{◌+◌, ◌<◌, ◌==◌, ◌∙◌, ◌∷◌, ◌≡◌, ◌≤◌, Call, ClientCall, ContentsAreTold, Event, Fact, Link}
 use Rattle.lease_laws.proofs.Words.{List, Note, RepliesAreOfTheirPlaces, Server, Setup, Step, World, ℕ, [], after, all_delivered}
 use Rattle.lease_laws.proofs.Words.{ap, arith, called, client_called, content_of, eq-eqb, eqb-true, fact_of, files_limit}
-use Rattle.lease_laws.proofs.Words.{first_world, happened, if◌then◌else◌, is_allowed_setup, is_up, last_file_number, length}
-use Rattle.lease_laws.proofs.Words.{machine_key, nat_le, new_server, noted, numbered, put, refl, requests_sent, reverse_aux}
+use Rattle.lease_laws.proofs.Words.{first_world_under, happened, if◌then◌else◌, is_allowed_setup, is_up, last_file_number, length}
+use Rattle.lease_laws.proofs.Words.{machine_key, nat_le, new_server_under, noted, numbered, put, refl, requests_sent, reverse_aux}
 use Rattle.lease_laws.proofs.Words.{sendings, served, slice_get, starts_from, stepped_in, subst, suc, sym, take, takings, true}
 use Rattle.lease_laws.proofs.Words.{true≢false, unwrap_or, zero}
+use Rattle.lease_laws.proofs.Words.{Rules}
 use Rattle.lease_laws.proofs.server.Lists.{either, and_parts}
 use Rattle.lease_laws.proofs.client.Thin.{put_other}
 use Rattle.lease_laws.proofs.world.Contents.{HasContents, called-fits, called-contents}
@@ -209,29 +210,29 @@ pub few_files : (files : List (List ℕ)) → nat_le (length files) files_limit 
 unfolding files_limit last_file_number
 few_files files e = grind arith
 
-first_contents : (setup : Setup) → is_allowed_setup setup ≡ true → HasContents (first_world setup).past (first_world setup).server
-unfolding first_world new_server is_allowed_setup content_of
-first_contents setup allowed file =
+first_contents : (rules : Rules) (setup : Setup) → is_allowed_setup setup ≡ true → HasContents (first_world_under rules setup).past (first_world_under rules setup).server
+unfolding first_world_under new_server_under is_allowed_setup content_of
+first_contents rules setup allowed file =
     let few = (and_parts _ _ (and_parts _ _ (and_parts _ _ allowed).0).0).0 in
     ap (λ (files : List (List ℕ)). numbered [] files file) (take_all last_file_number setup.files (few_files setup.files few))
     ∙ numbered_found setup.files file ∙ sym (found_starts setup.files 1 file [])
 
-first_idle : (setup : Setup) (c : ℕ) → KeepsStep (first_world setup) c
-unfolding first_world
-first_idle setup c up = absurd (true≢false (sym up))
+first_idle : (rules : Rules) (setup : Setup) (c : ℕ) → KeepsStep (first_world_under rules setup) c
+unfolding first_world_under
+first_idle rules setup c up = absurd (true≢false (sym up))
 
-first_telling : (setup : Setup) → is_allowed_setup setup ≡ true → Both IsReady IsTrue (first_world setup)
-first_telling setup allowed = (
-  (first_linked setup, first_counted setup),
-  record { contents = first_contents setup allowed; in_step = first_idle setup },
+first_telling : (rules : Rules) (setup : Setup) → is_allowed_setup setup ≡ true → Both IsReady IsTrue (first_world_under rules setup)
+first_telling rules setup allowed = (
+  (first_linked rules setup, first_counted rules setup),
+  record { contents = first_contents rules setup allowed; in_step = first_idle rules setup },
 )
 
-run_telling : (setup : Setup) (events : List Event) → is_allowed_setup setup ≡ true → IsTrue (after (first_world setup) events)
-run_telling setup events allowed =
-    (kept_by_run (Both IsReady IsTrue) telling_forms (first_world setup) events (first_telling setup allowed)).1
+run_telling : (rules : Rules) (setup : Setup) (events : List Event) → is_allowed_setup setup ≡ true → IsTrue (after (first_world_under rules setup) events)
+run_telling rules setup events allowed =
+    (kept_by_run (Both IsReady IsTrue) telling_forms (first_world_under rules setup) events (first_telling rules setup allowed)).1
 
 pub contents_are_told : ContentsAreTold
-contents_are_told setup events allowed file = (run_telling setup events allowed).contents file
+contents_are_told rules setup events allowed file = (run_telling rules setup events allowed).contents file
 
 pub replies_are_of_their_places : RepliesAreOfTheirPlaces
-replies_are_of_their_places setup events allowed client up = ((run_telling setup events allowed).in_step client up).in_step
+replies_are_of_their_places rules setup events allowed client up = ((run_telling rules setup events allowed).in_step client up).in_step

@@ -2,10 +2,11 @@
 use Rattle.lease_laws.proofs.Words.{◌++◌, ◌+◌, ◌==◌, ◌∙◌, ◌∷◌, ◌≡◌, ◌≢◌, Call, Client, ClientCall, EachOut, Fact, IsOnline}
 use Rattle.lease_laws.proofs.Words.{IsSound, IsTied, IsToPresent, Link, LinksOfRuns, List, Note, Out, Progress, Reply, Request}
 use Rattle.lease_laws.proofs.Words.{Server, Setup, Step, WaitsWell, World, ℕ, ⊤, [], all_delivered, ap, arith, called}
-use Rattle.lease_laws.proofs.Words.{client_called, connection_made, cut, delivered, eq-eqb, fact_of, false, first_world, happened}
+use Rattle.lease_laws.proofs.Words.{client_called, connection_made, cut, delivered, eq-eqb, fact_of, false, first_world_under, happened}
 use Rattle.lease_laws.proofs.Words.{is_down, is_served, is_start, is_up, join, length, length-append, list_all, machine_key}
-use Rattle.lease_laws.proofs.Words.{new_client, new_server, not, noted, put, refl, requests_sent, reverse, sendings}
+use Rattle.lease_laws.proofs.Words.{new_client, new_server_under, not, noted, put, refl, requests_sent, reverse, sendings}
 use Rattle.lease_laws.proofs.Words.{sent_over, served, starts_from, stepped_in, subst, sym, takings, true, true≢false}
+use Rattle.lease_laws.proofs.Words.{Rules}
 use Rattle.lease_laws.proofs.client.Forms.{commanded-stays, taken-stays}
 use Rattle.lease_laws.proofs.client.Thin.{put_same, put_other}
 use Rattle.lease_laws.proofs.records.Runs.{all_starts, all_reversed}
@@ -397,11 +398,11 @@ starts_serve client [] all = refl
 starts_serve client (Fact.Start file bytes ∷ past) all = starts_serve client past all
 starts_serve client (_ ∷ past) all = let c : ⊥ = cc in absurd c
 
-pub first_linked : (setup : Setup) → IsLinked (first_world setup)
-unfolding first_world new_server new_client
-first_linked setup = record {
-  sound = new_server-sound setup.files;
-  waits = first-waits-well setup.files;
+pub first_linked : (rules : Rules) (setup : Setup) → IsLinked (first_world_under rules setup)
+unfolding first_world_under new_server_under new_client
+first_linked rules setup = record {
+  sound = new_server-sound rules setup.files;
+  waits = first-waits-well rules setup.files;
   tied = λ c. record {
     present = refl;
     requests = λ down. refl;
@@ -415,5 +416,5 @@ first_linked setup = record {
 }
 
 pub links_of_runs : LinksOfRuns
-links_of_runs setup events client =
-    let l = kept_by_run IsLinked linked_forms (first_world setup) events (first_linked setup) in (l.tied client, l.online client)
+links_of_runs rules setup events client =
+    let l = kept_by_run IsLinked linked_forms (first_world_under rules setup) events (first_linked rules setup) in (l.tied client, l.online client)

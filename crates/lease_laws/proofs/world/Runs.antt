@@ -3,13 +3,14 @@ use Rattle.lease_laws.proofs.Words.{◌++◌, ◌+◌, ◌∷◌, ◌≡◌, ◌
 use Rattle.lease_laws.proofs.Words.{IsGuarded, IsSound, Lease, LeaseOf, List, MayServe, Note, Option, Outcome, Patch}
 use Rattle.lease_laws.proofs.Words.{Progress, Server, Setup, SmallStep, Step, WaitsWell, World, ℕ, [], acknowledged, after}
 use Rattle.lease_laws.proofs.Words.{arith, call_begun, called, client_called}
-use Rattle.lease_laws.proofs.Words.{concluded, fact_of, first_world, happened, held_left}
+use Rattle.lease_laws.proofs.Words.{concluded, fact_of, first_world_under, happened, held_left}
 use Rattle.lease_laws.proofs.Words.{is_allowed_setup, is_content, is_within_limit}
 use Rattle.lease_laws.proofs.Words.{last_file_number, lease_put, length, length-written}
-use Rattle.lease_laws.proofs.Words.{list_all, max, nat_le, new_server, noted, numbered}
+use Rattle.lease_laws.proofs.Words.{list_all, max, nat_le, new_server_under, noted, numbered}
 use Rattle.lease_laws.proofs.Words.{patch, patch_at, put, refl, requests_sent, served}
 use Rattle.lease_laws.proofs.Words.{slice_get, step_taken, stepped_in, steps_taken, subst, suc, sym, take, true, unwrap_or}
 use Rattle.lease_laws.proofs.Words.{with_number, zero}
+use Rattle.lease_laws.proofs.Words.{Rules}
 use Rattle.lease_laws.proofs.server.Calls.{new_server-sound, called-sound}
 use Rattle.lease_laws.proofs.server.Lists.{and_parts}
 use Rattle.lease_laws.proofs.server.StepCalls.{called-steps}
@@ -63,16 +64,16 @@ sound_kept = record {
       (stepped_server world client (client_called (world.clients client) call)) p.sound p.waits;
 }
 
-first_sound : (setup : Setup) → IsSoundWorld (first_world setup)
-unfolding first_world
-first_sound setup = record { sound = new_server-sound setup.files; waits = first-waits-well setup.files }
+first_sound : (rules : Rules) (setup : Setup) → IsSoundWorld (first_world_under rules setup)
+unfolding first_world_under
+first_sound rules setup = record { sound = new_server-sound rules setup.files; waits = first-waits-well rules setup.files }
 
-run_sound : (setup : Setup) (events : List Event) → IsSoundWorld (after (first_world setup) events)
-run_sound setup events = after-kept IsSoundWorld sound_kept (first_world setup) events (first_sound setup)
+run_sound : (rules : Rules) (setup : Setup) (events : List Event) → IsSoundWorld (after (first_world_under rules setup) events)
+run_sound rules setup events = after-kept IsSoundWorld sound_kept (first_world_under rules setup) events (first_sound rules setup)
 
-pub servers_of_runs : (setup : Setup) (events : List Event)
-    → IsSound (after (first_world setup) events).server × WaitsWell (after (first_world setup) events).server
-servers_of_runs setup events = let r = run_sound setup events in (r.sound, r.waits)
+pub servers_of_runs : (rules : Rules) (setup : Setup) (events : List Event)
+    → IsSound (after (first_world_under rules setup) events).server × WaitsWell (after (first_world_under rules setup) events).server
+servers_of_runs rules setup events = let r = run_sound rules setup events in (r.sound, r.waits)
 
 -- ---- contents fit
 
@@ -216,15 +217,15 @@ unfolding numbered
 numbered_fit files e zero = omega arith
 numbered_fit files e (suc n) = got_fits files n e
 
-first_fit : (setup : Setup) → is_allowed_setup setup ≡ true → IsFitWorld (first_world setup)
-unfolding first_world new_server is_allowed_setup
-first_fit setup allowed = record {
-  sound = first_sound setup;
+first_fit : (rules : Rules) (setup : Setup) → is_allowed_setup setup ≡ true → IsFitWorld (first_world_under rules setup)
+unfolding first_world_under new_server_under is_allowed_setup
+first_fit rules setup allowed = record {
+  sound = first_sound rules setup;
   fit = numbered_fit (with_number setup.files) (taken_fit last_file_number setup.files
       (and_parts _ (list_all is_content setup.files) (and_parts _ _ (and_parts _ _ allowed).0).0).1);
 }
 
-pub contents_of_runs_fit : (setup : Setup) (events : List Event) → is_allowed_setup setup ≡ true
-    → (file : ℕ) → length ((after (first_world setup) events).server.contents file) ≤ FILE_LIMIT
-contents_of_runs_fit setup events allowed =
-    (after-kept IsFitWorld fit_kept (first_world setup) events (first_fit setup allowed)).fit
+pub contents_of_runs_fit : (rules : Rules) (setup : Setup) (events : List Event) → is_allowed_setup setup ≡ true
+    → (file : ℕ) → length ((after (first_world_under rules setup) events).server.contents file) ≤ FILE_LIMIT
+contents_of_runs_fit rules setup events allowed =
+    (after-kept IsFitWorld fit_kept (first_world_under rules setup) events (first_fit rules setup allowed)).fit

@@ -1,9 +1,10 @@
 -- In every run the record doesn't call a client served whose timer ran out since it connected.
 use Rattle.lease_laws.proofs.Words.{◌&&◌, ◌==◌, ◌∙◌, ◌∷◌, ◌≡◌, Bool, Call, ClientCall, Fact, Key, Link, List, Note, Out, Setup}
 use Rattle.lease_laws.proofs.Words.{Step, TimersAreTold, World, ℕ, ⊎_elim, [], all_delivered, ap, called, client_called}
-use Rattle.lease_laws.proofs.Words.{delivered, eq-eqb, fact_of, false, first_world, happened, if◌then◌else◌, is_served, is_up}
-use Rattle.lease_laws.proofs.Words.{machine_key, new_server, not, noted, put, refl, requests_sent, served, stepped_in, sym, true}
+use Rattle.lease_laws.proofs.Words.{delivered, eq-eqb, fact_of, false, first_world_under, happened, if◌then◌else◌, is_served, is_up}
+use Rattle.lease_laws.proofs.Words.{machine_key, new_server_under, not, noted, put, refl, requests_sent, served, stepped_in, sym, true}
 use Rattle.lease_laws.proofs.Words.{true≢false}
+use Rattle.lease_laws.proofs.Words.{Rules}
 use Rattle.std.proofs.Common.{arith}
 use Rattle.lease_laws.proofs.server.Expired.{called-expired, cut-expired, scavenge-expired, join-expired, expire-expired}
 use Rattle.lease_laws.proofs.server.Keys.{put_key-cases}
@@ -137,9 +138,9 @@ IsTimely world = Both IsLinked AreToldOf world
 pub timely_forms : HasForms (Keeps IsTimely)
 timely_forms = both_forms IsLinked AreToldOf linked_forms told_forms
 
-pub first_timely : (setup : Setup) → IsTimely (first_world setup)
-unfolding first_world new_server
-first_timely setup = (first_linked setup, λ key e. absurd (true≢false (sym e)))
+pub first_timely : (rules : Rules) (setup : Setup) → IsTimely (first_world_under rules setup)
+unfolding first_world_under new_server_under
+first_timely rules setup = (first_linked rules setup, λ key e. absurd (true≢false (sym e)))
 
 -- a client that is served has no timer that ran out
 pub unexpired : (world : World) → IsTimely world → (c file : ℕ) → is_served c world.past ≡ true
@@ -148,5 +149,5 @@ unexpired world t c file served = not_true (world.server.expired (machine_key wo
     (λ out. clash (is_served c world.past) served (t.1 (machine_key world c file) out))
 
 pub timers_are_told : TimersAreTold
-timers_are_told setup events key e =
-    (kept_by_run IsTimely timely_forms (first_world setup) events (first_timely setup)).1 key e
+timers_are_told rules setup events key e =
+    (kept_by_run IsTimely timely_forms (first_world_under rules setup) events (first_timely rules setup)).1 key e

@@ -3,6 +3,7 @@
 use Rattle.std.specs.Prelude.{◌≡◌, ℕ, Bool, true, false, List, [], ◌∷◌, ◌==◌, if◌then◌else◌, ◌++◌, ◌&&◌, not}
 use Rattle.std.specs.List.{list_all}
 use Rattle.lease_laws.specs.client.Laws.{IsSoundClient}
+use Rattle.lease_state.specs.declared.rules.Rules.{Rules}
 use Rattle.lease_model.specs.client.Taken.{is_numbered}
 use Rattle.lease_model.specs.client.State.{Pending, patches_of}
 use Rattle.lease_model.specs.values.Lists.{without}
@@ -11,7 +12,7 @@ use Rattle.lease_model.specs.world.Events.{Event, after}
 use Rattle.lease_model.specs.records.Facts.{Fact}
 use Rattle.lease_model.specs.records.Past.{content_at, sendings, is_settled, unanswered}
 use Rattle.lease_laws.specs.server.Laws.{Among}
-use Rattle.lease_model.specs.world.World.{Setup, first_world}
+use Rattle.lease_model.specs.world.World.{Setup, first_world_under}
 
 abbrev pub is_start : Fact → Bool
 is_start (Fact.Start file bytes) = true
@@ -33,8 +34,8 @@ content_of file (_ ∷ past) = content_of file past
 
 -- In the record of a run, nothing stands before a Start but others.
 abbrev pub RunsStartFirst : Type 0
-RunsStartFirst = (setup : Setup) (events : List Event)
-    → starts_first (after (first_world setup) events).past ≡ true
+RunsStartFirst = (rules : Rules) (setup : Setup) (events : List Event)
+    → starts_first (after (first_world_under rules setup) events).past ≡ true
 
 -- In such a record the content of a file now is that of the facts so far,
 abbrev pub ContentNow : Type 0
@@ -72,10 +73,10 @@ WritesNow = (client file : ℕ) (past : List Fact) → gives_first client past �
 
 -- In the record of a run no write of a client is settled before it is given.
 abbrev pub RunsGiveFirst : Type 0
-RunsGiveFirst = (setup : Setup) (events : List Event) (client : ℕ)
-    → gives_first client (after (first_world setup) events).past ≡ true
+RunsGiveFirst = (rules : Rules) (setup : Setup) (events : List Event) (client : ℕ)
+    → gives_first client (after (first_world_under rules setup) events).past ≡ true
 
 -- And every client is as the laws of clients say.
 abbrev pub ClientsOfRunsAreSound : Type 0
-ClientsOfRunsAreSound = (setup : Setup) (events : List Event) (client : ℕ)
-    → IsSoundClient ((after (first_world setup) events).clients client)
+ClientsOfRunsAreSound = (rules : Rules) (setup : Setup) (events : List Event) (client : ℕ)
+    → IsSoundClient ((after (first_world_under rules setup) events).clients client)

@@ -16,9 +16,9 @@ use Rattle.lease_model.specs.server.Calls.{Call, called, join, file_asked, is_lo
 use Rattle.lease_model.specs.server.Calls.{key_expired, is_left_behind}
 use Rattle.lease_model.specs.server.Findings.{awaits, connected_open}
 use Rattle.lease_model.specs.server.Naming.{own_key}
-use Rattle.lease_model.specs.server.Passes.{is_behind}
 use Rattle.lease_model.specs.server.Progress.{Progress, begun, opens_dropped, lease_lowered, break_begun, request_held, held_left}
 use Rattle.lease_model.specs.server.State.{Server, Open, Lease, Held, has_file, has_key, has_own_key, has_lease, is_breaking}
+use Rattle.lease_model.specs.server.Lanes.{as_held, is_behind, lane_of}
 use Rattle.lease_model.specs.values.Keys.{Key}
 use Rattle.lease_model.specs.values.LeaseStates.{same_state}
 use Rattle.lease_model.specs.values.Patches.{is_within_limit}
@@ -132,11 +132,11 @@ pub record MayLower (server : Server) (key : Key) (lowered : State) : Type 0 whe
   pub is_settled : is_breaking (server.leases key) ≡ false
   pub is_lowered : IsLowered (server.leases key).state lowered
 
--- A held request has to wait itself, or stands after an earlier one of its client, where requests wait well.
+-- A held request has to wait itself, or waits behind an earlier one, where requests wait well.
 abbrev pub MayHold : Server → ℕ → Held → Type 0
 MayHold server file one = (server.present one.client ≡ true)
     × (HasToWait server one.client one.request
-    ⊎ (WaitsWell server × (is_behind one.client (server.held file) ≡ true)))
+    ⊎ (WaitsWell server × (is_behind server.rules one (server.held file) ≡ true)))
 
 abbrev pub IsGuarded : SmallStep → Server → Type 0
 IsGuarded (SmallStep.Answer client request outcome) server = MayEnd server client request outcome
@@ -172,13 +172,16 @@ abbrev pub AreOf : Call → List SmallStep → Type 0
 AreOf call [] = ⊤
 AreOf call (step ∷ steps) = IsOfCall call step × AreOf call steps
 
--- Requests have their turn. One that is answered as it comes has no earlier one of its client held on its
--- file, nor has one that was held; and one is held on its own file.
+-- Requests have their turn. One that is answered as it comes waits behind none that is held on its file, nor
+-- does one that was held; and one is held on its own file, with its lane.
 abbrev pub IsInTurn : SmallStep → Server → Type 0
 IsInTurn (SmallStep.Answer client request outcome) server = (file : ℕ)
-    → file_asked server client request ≡ Ok file → is_behind client (server.held file) ≡ false
-IsInTurn (SmallStep.AnswerHeld file before one behind outcome) server = is_behind one.client before ≡ false
-IsInTurn (SmallStep.Hold file one) server = file_asked server one.client one.request ≡ Ok file
+    → file_asked server client request ≡ Ok file
+    → is_behind server.rules (as_held server client request) (server.held file) ≡ false
+IsInTurn (SmallStep.AnswerHeld file before one behind outcome) server =
+    is_behind server.rules one before ≡ false
+IsInTurn (SmallStep.Hold file one) server = (file_asked server one.client one.request ≡ Ok file)
+    × (one.lane ≡ lane_of server one.client one.request)
 IsInTurn step server = ⊤
 
 abbrev pub AreInTurn : List SmallStep → Progress → Type 0

@@ -1,10 +1,11 @@
 -- The laws of waiting: who is connected, where requests are held, and that each waits for a break.
-use Rattle.std.specs.Prelude.{◌≡◌, ℕ, ◌≤◌, true, Some, None, find, ◌==◌}
+use Rattle.std.specs.Prelude.{◌≡◌, ℕ, ◌≤◌, true, false, Some, None, List, ◌∷◌, ◌++◌}
 use Rattle.lease_model.specs.messages.Requests.{FileRequest}
 use Rattle.lease_laws.specs.server.Laws.{Among, HasToWait, IsSound}
 use Rattle.lease_model.specs.server.State.{Server, Open, Held, has_file, has_key}
 use Rattle.lease_model.specs.server.Findings.{connected_open}
 use Rattle.lease_model.specs.server.Naming.{own_key}
+use Rattle.lease_model.specs.server.Lanes.{is_behind}
 use Rattle.lease_model.specs.values.Keys.{Key}
 
 -- a FileId that was given, and whose open, if it is there yet, is on the file
@@ -33,11 +34,11 @@ pub record IsOrderly (server : Server) : Type 0 where
   pub held_files : (file : ℕ) (one : Held) → Among one (server.held file) → has_file server file ≡ true
   pub held_about : (file : ℕ) (one : Held) → Among one (server.held file) → IsAbout server file one.request
 
--- On the file, the first held request of each client has to wait.
+-- On the file, a held request that waits behind none has to wait.
 abbrev pub AllWait : Server → ℕ → Type 0
-AllWait server file = (client : ℕ) (one : Held)
-    → find (λ other. other.client == client) (server.held file) ≡ Some one
-    → HasToWait server client one.request
+AllWait server file = (before : List Held) (one : Held) (behind : List Held)
+    → server.held file ≡ before ++ one ∷ behind → is_behind server.rules one before ≡ false
+    → HasToWait server one.client one.request
 
 -- an open of the client that has the key
 pub record IsOpenUnder (server : Server) (client : ℕ) (file_id : ℕ) (key : Key) : Type 0 where
@@ -58,11 +59,11 @@ IsUnder server client (FileRequest.Read file_id) key = IsOpenUnder server client
 IsUnder server client (FileRequest.Write file_id number patch) key = IsOpenUnder server client file_id key
 IsUnder server client (FileRequest.Close file_id) key = IsOpenUnder server client file_id key
 
--- Where a key that holds W has an open, no first held request of a client stands under it there. (One behind
--- another may.)
+-- Where a key that holds W has an open, no held request that waits behind none stands under it there. (One
+-- behind another may.)
 abbrev pub WritersDontWait : Type 0
-WritersDontWait = (server : Server) (key : Key) (one : Open) (client : ℕ) (held : Held)
+WritersDontWait = (server : Server) (key : Key) (one : Open) (before : List Held) (held : Held) (behind : List Held)
     → IsSound server → WaitsWell server → (server.leases key).state.write ≡ true
     → Among one server.opens → has_key key one ≡ true
-    → find (λ other. other.client == client) (server.held one.file) ≡ Some held
-    → IsUnder server client held.request key → ⊥
+    → server.held one.file ≡ before ++ held ∷ behind → is_behind server.rules held before ≡ false
+    → IsUnder server held.client held.request key → ⊥

@@ -1,8 +1,9 @@
 -- What holds in every run of links, queues and connections, and what the record says of them.
 use Rattle.std.specs.Prelude.{◌≡◌, ℕ, ◌+◌, Bool, true, false, not, List, [], length}
+use Rattle.lease_state.specs.declared.rules.Rules.{Rules}
 use Rattle.lease_model.specs.records.Past.{is_served, sendings, takings}
 use Rattle.lease_model.specs.world.Events.{Event, after}
-use Rattle.lease_model.specs.world.World.{World, Link, Setup, first_world}
+use Rattle.lease_model.specs.world.World.{World, Link, Setup, first_world_under}
 
 abbrev pub is_up : Link → Bool
 is_up Link.Up = true
@@ -28,5 +29,5 @@ abbrev pub IsOnline : World → ℕ → Type 0
 IsOnline world client = (world.clients client).is_online ≡ not (is_down (world.links client))
 
 abbrev pub LinksOfRuns : Type 0
-LinksOfRuns = (setup : Setup) (events : List Event) (client : ℕ)
-    → IsTied (after (first_world setup) events) client × IsOnline (after (first_world setup) events) client
+LinksOfRuns = (rules : Rules) (setup : Setup) (events : List Event) (client : ℕ)
+    → IsTied (after (first_world_under rules setup) events) client × IsOnline (after (first_world_under rules setup) events) client

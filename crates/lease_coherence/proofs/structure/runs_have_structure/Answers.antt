@@ -1,4 +1,4 @@
-use Rattle.lease_coherence.proofs.standing.AllRuns.{names_of_runs, creates_of_runs, opens_of_runs}
+use Rattle.lease_coherence.proofs.layers.AllRuns.{names_of_runs, creates_of_runs, opens_of_runs}
 use Rattle.lease_coherence.proofs.structure.runs_have_structure.Goals as goal
 
 pub returns-clause-names : goal.returns-clause-names

@@ -7,11 +7,11 @@ use Rattle.lease_coherence.proofs.wellformed.WellFormed as well
 
 pub returns : goal.returns
 returns c = record {
-  safe = λ setup events allowed. record {
-    well_formed = well.runs_are_well_formed setup events allowed;
-    one_write_cache = caches.runs_have_one_write_cache setup events;
-    fresh_reads = reads.reads_are_fresh setup events allowed;
-    no_late_write = late.no_write_is_late setup events allowed;
-    no_false_done = done.nothing_is_falsely_done setup events allowed;
+  safe = λ rules setup events allowed. record {
+    well_formed = well.runs_are_well_formed rules setup events allowed;
+    one_write_cache = caches.runs_have_one_write_cache rules setup events;
+    fresh_reads = reads.reads_are_fresh rules setup events allowed;
+    no_late_write = late.no_write_is_late rules setup events allowed;
+    no_false_done = done.nothing_is_falsely_done rules setup events allowed;
   };
 }

@@ -7,25 +7,25 @@ use Rattle.lease_laws.proofs.server.Lists.{either}
 
 -- ---- a held request tried again
 
-pub is_passed_over : (file : ℕ) (one : Held) (waiting : List Held) (pass : Pass) → is_behind one.client pass.passed ≡ true
+pub is_passed_over : (file : ℕ) (one : Held) (waiting : List Held) (pass : Pass) → is_behind pass.progress.server.rules one pass.passed ≡ true
     → tried_again file one waiting pass ≡ left_waiting one pass pass.progress
 unfolding tried_again
 is_passed_over file one waiting pass behind = rw (behind) refl
 
-pub is_tried : (file : ℕ) (one : Held) (waiting : List Held) (pass : Pass) → is_behind one.client pass.passed ≡ false
+pub is_tried : (file : ℕ) (one : Held) (waiting : List Held) (pass : Pass) → is_behind pass.progress.server.rules one pass.passed ≡ false
     → tried_again file one waiting pass ≡ after_try file one waiting pass (tried one.client one.request pass.progress).progress
     (tried one.client one.request pass.progress).outcome
 unfolding tried_again
 is_tried file one waiting pass first = rw (first) refl
 
--- behind: an earlier request of its client waits, so it isn't tried
+-- behind: an earlier request that it waits behind still waits, so it isn't tried
 -- waits: it has still to wait
 -- answers: it is answered, or refused
 pub record HasTriesAgain (file : ℕ) (one : Held) (waiting : List Held) (pass : Pass) (P : Pass → Type 0) : Type 0 where
-  pub behind : is_behind one.client pass.passed ≡ true → P (left_waiting one pass pass.progress)
-  pub waits : is_behind one.client pass.passed ≡ false → (tried one.client one.request pass.progress).outcome ≡ Outcome.Waits
+  pub behind : is_behind pass.progress.server.rules one pass.passed ≡ true → P (left_waiting one pass pass.progress)
+  pub waits : is_behind pass.progress.server.rules one pass.passed ≡ false → (tried one.client one.request pass.progress).outcome ≡ Outcome.Waits
       → P (left_waiting one pass (tried one.client one.request pass.progress).progress)
-  pub answers : is_behind one.client pass.passed ≡ false
+  pub answers : is_behind pass.progress.server.rules one pass.passed ≡ false
       → ((tried one.client one.request pass.progress).outcome ≡ Outcome.Waits → ⊥)
       → P (pass_answered file one waiting pass (tried one.client one.request pass.progress))
 
@@ -43,7 +43,7 @@ ended_so file one waiting pass P done outcome e waits answers =
 
 pub any_try_again : (file : ℕ) (one : Held) (waiting : List Held) (pass : Pass) (P : Pass → Type 0)
     → HasTriesAgain file one waiting pass P → P (tried_again file one waiting pass)
-any_try_again file one waiting pass P h = either (is_behind one.client pass.passed)
+any_try_again file one waiting pass P h = either (is_behind pass.progress.server.rules one pass.passed)
     (λ behind. subst P (sym (is_passed_over file one waiting pass behind)) (h.behind behind))
     (λ first. let done = tried one.client one.request pass.progress in
     subst P (sym (is_tried file one waiting pass first))

@@ -1,0 +1,2 @@
+pub mod AllRuns
+pub mod Layers
