@@ -1,5 +1,6 @@
 -- A server with the opens and the leases of two tables. Its one file is the file of the tables, and has the number 1.
 use Rattle.std.specs.Prelude.{ℕ, Bool, true, false, List, [], ◌∷◌, Option, Some, None, is_some, replicate, if◌then◌else◌}
+use Rattle.lease_state.specs.Rules.{profile_rules}
 use Rattle.lease_state.specs.State.{State, state_of_bits, bits_of_state}
 use Rattle.lease_state.specs.declared.access.Access.{Access}
 use Rattle.lease_model.specs.server.State.{Server, Open, Lease, no_lease}
@@ -76,6 +77,7 @@ is_expired_among (entry ∷ entries) key =
 
 abbrev pub server_with : List LeaseOpen → List LeaseEntry → Server
 server_with opens entries = record {
+  rules = profile_rules;
   files = 1;
   contents = λ file. [];
   opens = opens_held opens;

@@ -1,11 +1,12 @@
 ghost use Rattle.std.specs.Prelude.{◌≡◌, ◌≢◌, [], None, is_some, IfSome};
 ghost use Rattle.lease_state.specs.State.{state_of, state_of_bits, bits_of_state};
 ghost use Rattle.lease_model.specs.server.Allowed.{allowed};
-ghost use Rattle.lease_model.specs.server.Grant as rules;
 ghost use Rattle.decisions_c.specs.Findings.{own_held};
 ghost use Rattle.decisions_c.specs.Judged.{acknowledged_status, lease_acknowledged, IsAnsweredByAll};
 ghost use Rattle.decisions_c.specs.Leases.{lease_of};
 ghost use Rattle.decisions_c.specs.Tables.{server_of, server_with, key_held, lease_held, entry_fields};
+ghost use Rattle.lease_model.specs.server.State.{is_breaking};
+ghost use Rattle.lease_model.specs.server.Grant as rules;
 
 use crate::key::Key;
 use crate::tables::{Lease, LeaseEntry, LeaseOpen, Tables};
@@ -13,8 +14,6 @@ use crate::wants::LeaseRequest;
 use lease_state::{LeaseState, Status};
 
 impl Lease {
-    ghost use Rattle.lease_model.specs.server.State.{is_breaking};
-
     // Whether a break of the lease waits for its acknowledgment.
     fn is_breaking(&self) -> bool
         ensures { result ≡ is_breaking (lease_of self.now) }

@@ -4,12 +4,13 @@ ghost use Rattle.std.specs.Option.{option_map};
 ghost use Rattle.lease_state.specs.State.{state_of, state_of_bits};
 ghost use Rattle.lease_model.specs.server.Allowed.{is_other_on, conflicts_on};
 ghost use Rattle.lease_model.specs.server.Naming.{key_under, key_of_open};
-ghost use Rattle.lease_model.specs.server.Naming as naming;
-ghost use Rattle.lease_model.specs.server.State.{has_key};
+ghost use Rattle.lease_model.specs.server.State.{has_key, no_lease};
 ghost use Rattle.decisions_c.specs.Numbers.{is_set};
 ghost use Rattle.decisions_c.specs.Tables.{entry_fields, bytes_if, open_held, key_held, lease_held, lease_among};
 ghost use Rattle.decisions_c.specs.Tables.{is_expired_among, server_of, holds_at};
 ghost use Rattle.decisions_c.specs.Wishes.{is_wanted, is_key_wanted};
+ghost use Rattle.decisions_c.specs.Leases.{lease_of};
+ghost use Rattle.lease_model.specs.server.Naming as naming;
 
 use crate::key::Key;
 use crate::numbers::{access_of_bits, share_of_bits};
@@ -189,9 +190,6 @@ pub(crate) struct Lease {
 }
 
 impl Lease {
-    ghost use Rattle.lease_model.specs.server.State.{no_lease};
-    ghost use Rattle.decisions_c.specs.Leases.{lease_of};
-
     /// What a key without an entry has.
     pub(crate) fn none() -> Lease
         ensures { lease_of result ≡ no_lease }
@@ -204,8 +202,6 @@ impl Lease {
 }
 
 impl LeaseEntry {
-    ghost use Rattle.decisions_c.specs.Leases.{lease_of};
-
     /// The key of the lease.
     pub(crate) fn key(&self) -> Key
         ensures { result ≡ key_held self.now }
@@ -250,6 +246,7 @@ impl LeaseEntry {
 }
 
 /// The opens and the leases of a file.
+// docs/DECISIONS.md: "Decisions are made over the tables of one file".
 #[derive(Clone, Copy, Debug)]
 pub(crate) struct Tables<'a> {
     pub(crate) opens: &'a [LeaseOpen],
@@ -257,8 +254,6 @@ pub(crate) struct Tables<'a> {
 }
 
 impl<'a> Tables<'a> {
-    ghost use Rattle.decisions_c.specs.Leases.{lease_of};
-
     /// The lease of a key: that of its first entry.
     pub(crate) fn lease(&self, key: Key) -> Lease
         ensures { lease_of result ≡ (server_of self.now).leases key }

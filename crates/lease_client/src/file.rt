@@ -12,6 +12,7 @@ use std::alloc::Global;
 use std::marker::Model;
 
 /// The base with the first unsent writes.
+// docs/DECISIONS.md: "What a client has seen is kept, and cached reads share it".
 #[derive(Debug, Drop)]
 struct Seen {
     bytes: SharedBytes,
@@ -21,6 +22,7 @@ struct Seen {
 
 /// What a client keeps of the bytes of a file that is open: the file as last known, and the buffered
 /// writes that aren't sent. What was seen of both stays, so that reads in turn share it.
+// docs/DECISIONS.md: "The file as last known is bytes of its own".
 #[derive(Debug, Drop)]
 pub struct File {
     base: Option<Bytes>,

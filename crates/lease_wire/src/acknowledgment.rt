@@ -2,8 +2,11 @@ ghost use Rattle.std.specs.Prelude.{◌≡◌, length, take, drop, IfOk};
 ghost use Rattle.std.specs.Result.{result_err};
 ghost use Rattle.lease_state.specs.State.{state_of};
 ghost use Rattle.lease_wire.specs.Acknowledgment.{IsAcknowledgment, acknowledgment_bytes, AcknowledgmentReadsBack};
-ghost use Rattle.lease_wire.specs.Acknowledgment.{AcknowledgmentIsUnique, AcknowledgmentFreeFields};
+ghost use Rattle.lease_wire.specs.Acknowledgment.{AcknowledgmentIsUnique, AcknowledgmentFreeFields, acknowledged_of};
+ghost use Rattle.lease_wire.specs.Acknowledgment.{acknowledgment_due, responded_of};
 ghost use Rattle.lease_wire.specs.WireFaults.{message_fault};
+ghost use Rattle.std.specs.Option.{option_map};
+ghost use Rattle.lease_wire.specs.Notification.{notice_of};
 
 use crate::fault::WireFault;
 use crate::field::{key_at, state_at};
@@ -27,10 +30,6 @@ pub struct Acknowledgment {
 }
 
 impl Acknowledgment {
-    ghost use Rattle.std.specs.Option.{option_map};
-    ghost use Rattle.lease_wire.specs.Acknowledgment.{acknowledged_of, acknowledgment_due};
-    ghost use Rattle.lease_wire.specs.Notification.{notice_of};
-
     /// The acknowledgment that a break asks for (MS-SMB2 3.2.5.19.2): of the notification's key,
     /// with the state that the lease is broken to. None where ACK_REQUIRED is not set.
     pub fn due(notification: &Notification) -> Option<Acknowledgment>
@@ -81,8 +80,6 @@ pub struct BreakResponse {
 }
 
 impl BreakResponse {
-    ghost use Rattle.lease_wire.specs.Acknowledgment.{responded_of};
-
     /// How many bytes a response takes, without the SMB2 header.
     pub const SIZE: usize = SIZE;
 

@@ -2,7 +2,9 @@ ghost use Rattle.std.specs.Prelude.{[], ◌∷◌, ◌≡◌, ◌≢◌, ◌+◌
 ghost use Rattle.std.specs.Result.{result_err};
 ghost use Rattle.lease_wire.specs.Field.{bytes_at};
 ghost use Rattle.lease_wire.specs.Chain.{next_of};
-ghost use Rattle.lease_wire.specs.Reading.{items_of, items_behind, items_after, context_at, layout_fault};
+ghost use Rattle.lease_wire.specs.Reading.{items_of, items_behind, items_after, context_at, layout_fault, header_of};
+ghost use Rattle.lease_wire.specs.Reading.{header_fault, size_of, has_bad_next, has_bad_name, has_bad_data};
+ghost use Rattle.lease_wire.specs.Reading.{HasFieldsInRange};
 ghost use Rattle.lease_wire.specs.Contexts.{view_of, items_left};
 ghost use Rattle.lease_wire.specs.Faults.{AreItemsOf, ItemsAreRead};
 
@@ -56,9 +58,6 @@ pub(crate) struct Header {
 }
 
 impl Header {
-    ghost use Rattle.lease_wire.specs.Reading.{header_of, header_fault, size_of, has_bad_next, has_bad_name, has_bad_data};
-    ghost use Rattle.lease_wire.specs.Reading.{HasFieldsInRange};
-
     /// The header that the bytes begin with.
     #[tactic(auto, unfolding(crate::specs::Chain::next_of, crate::specs::Chain::name_offset_of, crate::specs::Chain::name_length_of, crate::specs::Chain::data_offset_of, crate::specs::Chain::data_length_of))]
     pub(crate) fn read(bytes: &[u8]) -> Header

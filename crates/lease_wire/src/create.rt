@@ -34,6 +34,7 @@ pub struct CreateAnswer {
 
 /// Whether create contexts are those of a CREATE request or of its response: contracts of the
 /// readers and writers name it (profile).
+// docs/DECISIONS.md: "One reader for requests and responses".
 #[derive(Clone, Copy, Debug, PartialEq, Eq)]
 pub enum Direction {
     Request,

@@ -1,3 +1,6 @@
+ghost use Rattle.std.specs.Prelude.{◌≡◌};
+ghost use Rattle.lease_wire.specs.WireFaults.{fault_number, fault_name, fault_place, fault_at};
+
 use std::fmt;
 
 /// Why bytes are refused. Each fault has the place, counted in bytes from 0, where the create
@@ -22,9 +25,6 @@ pub enum WireFault {
 }
 
 impl WireFault {
-    ghost use Rattle.std.specs.Prelude.{◌≡◌};
-    ghost use Rattle.lease_wire.specs.WireFaults.{fault_number, fault_name, fault_place, fault_at};
-
     /// The number of the fault's kind, from 1 to 7.
     pub fn number(self) -> u8
         ensures { result ≡ fault_number self }

@@ -17,6 +17,7 @@ const PROTOCOL_ID: [u8; 4] = [0xfe, b'S', b'M', b'B'];
 const NEXT_COMMAND_OFFSET: usize = 20;
 
 /// Whether bytes begin with the ProtocolId of an SMB2 message.
+// docs/DECISIONS.md: "show reads a whole message".
 pub fn begins_message(bytes: &[u8]) -> bool
     ensures { result ≡ begins_message bytes.now }
 {

@@ -2,6 +2,7 @@ ghost use Rattle.std.specs.Prelude.{◌≡◌, length, take, drop, IfOk};
 ghost use Rattle.std.specs.Result.{result_err};
 ghost use Rattle.lease_wire.specs.WireFaults.{message_fault};
 ghost use Rattle.lease_wire.specs.Notification.{NotificationReadsBack, NotificationIsUnique, NotificationFreeFields};
+ghost use Rattle.lease_wire.specs.Notification.{IsNotification, notice_of, notification_bytes};
 
 use crate::fault::WireFault;
 use crate::field::{key_at, state_at};
@@ -33,8 +34,6 @@ pub struct Notification {
 }
 
 impl Notification {
-    ghost use Rattle.lease_wire.specs.Notification.{IsNotification, notice_of, notification_bytes};
-
     /// How many bytes a notification takes, without the SMB2 header.
     pub const SIZE: usize = 44;
 

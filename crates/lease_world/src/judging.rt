@@ -32,6 +32,7 @@ mod writes;
 /// started, its changes and how many good clients may cache something of it, for each client its
 /// beliefs, its writes, the numbers that were settled and the messages on their way, and for each
 /// client and file that the client read from its cache the file as it stood and the writes over it.
+// docs/DECISIONS.md: "How a judge's time and memory grow".
 #[derive(Debug, Drop)]
 pub struct Judge {
     verdict: Verdict,
@@ -69,6 +70,7 @@ impl Judge {
     /// # Errors
     ///
     /// `Memory` where there is none left for what is kept, or no number of 64 bits for the fact's place.
+    // docs/DECISIONS.md: "Memory means a refused allocation".
     pub fn take(self, fact: &Fact) -> Result<Judge, Memory>
         ensures { IfOk result (λ judge. JudgesOneMore self (fact_of fact.now) judge) }
     {
@@ -82,6 +84,7 @@ impl Judge {
     /// # Errors
     ///
     /// Those of `take`; what the judge knows then is no longer said.
+    // docs/DECISIONS.md: "A judge takes a fact in two ways".
     pub fn add(&mut self, fact: &Fact) -> Result<(), Memory>
         ensures { OnOk result (JudgesOneMore self.old (fact_of fact.now) self.new) }
     {

@@ -25,7 +25,7 @@ mod world;
 
 pub use judging::Judge;
 pub use lease_facts::{Event, Fact, Setup};
-pub use running::{run, run_with_messages};
+pub use running::{run, run_under, run_with_messages, run_with_messages_under};
 pub use setup::RunFault;
 pub use verdict::{Rule, Verdict};
 pub use whole::{judge, judge_each};

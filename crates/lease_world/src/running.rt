@@ -3,11 +3,11 @@ ghost use Rattle.lease_model.specs.messages.FromBytes.{reply_of};
 ghost use Rattle.lease_model.specs.records.Safe.{Safe};
 ghost use Rattle.lease_model.specs.records.Verdict.{Verdict, verdict};
 ghost use Rattle.lease_model.specs.world.Allowed.{is_allowed_setup, are_too_many};
-ghost use Rattle.lease_model.specs.world.Events.{after, recorded};
-ghost use Rattle.lease_model.specs.world.World.{first_world};
+ghost use Rattle.lease_model.specs.world.Events.{after, recorded, recorded_under};
+ghost use Rattle.lease_model.specs.world.World.{first_world_under};
 ghost use Rattle.lease_facts.specs.Facts.{fact_of};
 ghost use Rattle.lease_facts.specs.Setups.{setup_of, event_of};
-ghost use Rattle.lease_world.specs.world.Messages.{messages_told, speaking};
+ghost use Rattle.lease_world.specs.world.Messages.{messages_told, messages_told_under, speaking};
 ghost use Rattle.lease_world.specs.world.Stands.{Stands};
 ghost use Rattle.lease_world.specs.world.Worlds.{KeepsBehind};
 
@@ -17,7 +17,7 @@ use crate::world::messages::Messages;
 use lease_coherence::coherent;
 use lease_facts::{Event, Fact, Setup};
 use lease_laws::verdict_decides;
-use lease_state::{Memory, Reply};
+use lease_state::{Memory, Reply, Rules};
 use std::alloc::Global;
 
 // The most events of a run.
@@ -47,6 +47,29 @@ pub fn run(alloc: Global, setup: &Setup, events: &[Event]) -> Result<Vec<Fact>, 
     ensures safe { IfOk result (λ facts. Safe (map fact_of facts.items)) }
     ensures judged { IfOk result (λ facts. verdict (map fact_of facts.items) ≡ Verdict.Safe) }
 {
+    run_under(alloc, Rules::profile(), setup, events)
+}
+
+/// The record of a run with a server of these rules, as `run` gives it, whose server has the profile's. It is safe under
+/// all of them.
+///
+/// # Errors
+///
+/// Those of `run`, in the same cases.
+pub fn run_under(
+    alloc: Global,
+    rules: Rules,
+    setup: &Setup,
+    events: &[Event],
+) -> Result<Vec<Fact>, RunFault>
+    ensures bad_setup { (result ≡ Err RunFault.BadSetup) ↔ (is_allowed_setup (setup_of setup.now) ≡ false) }
+    ensures too_many { (result ≡ Err RunFault.TooMany)
+        ↔ ((is_allowed_setup (setup_of setup.now) ≡ true) × (are_too_many (map event_of events.now) ≡ true)) }
+    ensures record { IfOk result (λ facts. map fact_of facts.items
+        ≡ recorded_under rules (setup_of setup.now) (map event_of events.now)) }
+    ensures safe { IfOk result (λ facts. Safe (map fact_of facts.items)) }
+    ensures judged { IfOk result (λ facts. verdict (map fact_of facts.items) ≡ Verdict.Safe) }
+{
     coherent();
     verdict_decides();
     if !is_allowed(setup) {
@@ -55,7 +78,7 @@ pub fn run(alloc: Global, setup: &Setup, events: &[Event]) -> Result<Vec<Fact>, 
     if are_too_many(events) {
         return Err(RunFault::TooMany);
     }
-    match play(alloc, setup, events, Messages::unkept()) {
+    match play(alloc, rules, setup, events, Messages::unkept()) {
         Ok(world) => Ok(world.into_parts().0),
         Err(Memory) => Err(RunFault::Memory),
     }
@@ -68,7 +91,6 @@ pub fn run(alloc: Global, setup: &Setup, events: &[Event]) -> Result<Vec<Fact>, 
 /// # Errors
 ///
 /// Those of `run`, in the same cases.
-#[tactic(auto, using(crate::proofs::worlds::Speaking::each_told))]
 pub fn run_with_messages(
     alloc: Global,
     setup: &Setup,
@@ -84,6 +106,32 @@ pub fn run_with_messages(
     ensures each { IfOk result (λ told. speaking (map fact_of told.0.items) ≡ length told.1.items) }
     ensures safe { IfOk result (λ told. Safe (map fact_of told.0.items)) }
 {
+    run_with_messages_under(alloc, Rules::profile(), setup, events)
+}
+
+/// The record of a run with a server of these rules, and its messages, as `run_with_messages` gives them, whose server has
+/// the profile's.
+///
+/// # Errors
+///
+/// Those of `run`, in the same cases.
+#[tactic(auto, using(crate::proofs::worlds::Speaking::each_told))]
+pub fn run_with_messages_under(
+    alloc: Global,
+    rules: Rules,
+    setup: &Setup,
+    events: &[Event],
+) -> Result<(Vec<Fact>, Vec<Reply>), RunFault>
+    ensures bad_setup { (result ≡ Err RunFault.BadSetup) ↔ (is_allowed_setup (setup_of setup.now) ≡ false) }
+    ensures too_many { (result ≡ Err RunFault.TooMany)
+        ↔ ((is_allowed_setup (setup_of setup.now) ≡ true) × (are_too_many (map event_of events.now) ≡ true)) }
+    ensures record { IfOk result (λ told. map fact_of told.0.items
+        ≡ recorded_under rules (setup_of setup.now) (map event_of events.now)) }
+    ensures messages { IfOk result (λ told. map reply_of told.1.items
+        ≡ messages_told_under rules (setup_of setup.now) (map event_of events.now)) }
+    ensures each { IfOk result (λ told. speaking (map fact_of told.0.items) ≡ length told.1.items) }
+    ensures safe { IfOk result (λ told. Safe (map fact_of told.0.items)) }
+{
     coherent();
     if !is_allowed(setup) {
         return Err(RunFault::BadSetup);
@@ -91,7 +139,7 @@ pub fn run_with_messages(
     if are_too_many(events) {
         return Err(RunFault::TooMany);
     }
-    match play(alloc, setup, events, Messages::new(alloc)) {
+    match play(alloc, rules, setup, events, Messages::new(alloc)) {
         Ok(world) => {
             let (facts, messages) = world.into_parts();
             Ok((facts, messages.into_list(alloc)))
@@ -107,13 +155,19 @@ fn are_too_many(events: &[Event]) -> bool
 }
 
 // The world after a run whose setup has few files. It keeps messages after these, or none.
-fn play(alloc: Global, setup: &Setup, events: &[Event], messages: Messages) -> Result<World, Memory>
+fn play(
+    alloc: Global,
+    rules: Rules,
+    setup: &Setup,
+    events: &[Event],
+    messages: Messages,
+) -> Result<World, Memory>
     requires { length setup.now.files.items ≤ 255 }
-    ensures stands { IfOk result (λ world. Stands world (after (first_world (setup_of setup.now)) (map event_of events.now))) }
+    ensures stands { IfOk result (λ world. Stands world (after (first_world_under rules (setup_of setup.now)) (map event_of events.now))) }
     ensures kept { IfOk result
-        (λ world. KeepsBehind messages (messages_told (setup_of setup.now) (map event_of events.now)) world) }
+        (λ world. KeepsBehind messages (messages_told_under rules (setup_of setup.now) (map event_of events.now)) world) }
 {
-    let mut world = World::new(alloc, setup, messages)?;
+    let mut world = World::new(alloc, rules, setup, messages)?;
     for event in events {
         world.happen(event)?;
     }

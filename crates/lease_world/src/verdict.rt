@@ -1,4 +1,8 @@
+ghost use Rattle.std.specs.Prelude.{◌≡◌};
+ghost use Rattle.lease_world.specs.Verdicts.{rule_number};
+
 /// What is promised of every run's record (profile).
+// docs/DECISIONS.md: "Rules are an enum, and faults write their text themselves".
 #[derive(Clone, Copy, Debug, PartialEq, Eq, Hash)]
 pub enum Rule {
     /// Where a good client believes that it may cache writes of a file, no other good client believes that it may
@@ -26,9 +30,6 @@ impl Rule {
         }
     }
 }
-
-ghost use Rattle.std.specs.Prelude.{◌≡◌};
-ghost use Rattle.lease_world.specs.Verdicts.{rule_number};
 
 /// What a record is (profile): safe, or where it first goes wrong. Places count facts from 1.
 #[derive(Clone, Copy, Debug, PartialEq, Eq, Hash)]

@@ -14,7 +14,7 @@ ghost use Rattle.share_server.specs.Table.{server_of};
 ghost use Rattle.lease_client.specs.Answers.{command_of};
 ghost use Rattle.lease_facts.specs.Facts.{fact_of};
 ghost use Rattle.lease_facts.specs.Setups.{event_of, setup_of};
-ghost use Rattle.lease_model.specs.world.World.{first_world};
+ghost use Rattle.lease_model.specs.world.World.{first_world_under};
 
 use crate::copies::{copy_command, copy_request};
 use crate::world::delivering::{deliver, tell_notes};
@@ -23,7 +23,7 @@ use crate::world::messages::Messages;
 use crate::world::seat::Seat;
 use lease_client::{Command, Given, lease_key};
 use lease_facts::{Event, Fact, Setup};
-use lease_state::{ClientNo, FileId, FileNo, LeaseKey, Memory, Reply, Request};
+use lease_state::{ClientNo, FileId, FileNo, LeaseKey, Memory, Reply, Request, Rules};
 use share_server::{Out, Server};
 use std::alloc::Global;
 use std::marker::Model;
@@ -36,6 +36,7 @@ mod seat;
 
 /// A server, clients, and what lies between them, with the record of what happened, and the messages that it speaks of where
 /// they are kept.
+// docs/DECISIONS.md: "What a world keeps".
 #[derive(Debug, Drop)]
 pub struct World {
     server: Server,
@@ -50,7 +51,7 @@ pub struct World {
 impl Model for World {
     ghost use Rattle.lease_world.specs.world.Stands as stands;
 
-    ghost Value = { stands.Seen };
+    ghost Value = { stands.CodeWorld };
 
     ghost view = { λ world. record {
       server = world.server;
@@ -62,19 +63,24 @@ impl Model for World {
 }
 
 impl World {
-    /// A world in which nothing happened yet, and these messages.
+    /// A world with a server of these rules in which nothing happened yet, and these messages.
     ///
     /// # Errors
     ///
     /// `Memory` where there is none left.
-    pub fn new(alloc: Global, setup: &Setup, messages: Messages) -> Result<World, Memory>
+    pub fn new(
+        alloc: Global,
+        rules: Rules,
+        setup: &Setup,
+        messages: Messages,
+    ) -> Result<World, Memory>
         requires { length setup.now.files.items ≤ 255 }
-        ensures stands { IfOk result (λ world. Stands world (first_world (setup_of setup.now))) }
+        ensures stands { IfOk result (λ world. Stands world (first_world_under rules (setup_of setup.now))) }
         ensures messages { IfOk result (λ world. world.messages ≡ messages) }
     {
         let contents = setup.files.as_slice();
         let facts = first::starts(alloc, contents)?;
-        let server = Server::new(alloc, first::copy_contents(alloc, contents)?)?;
+        let server = Server::with_rules(alloc, rules, first::copy_contents(alloc, contents)?)?;
         let seats = first::seats(alloc, &setup.clients, contents.len() as u8)?;
         Ok(World {
             server,
@@ -91,6 +97,7 @@ impl World {
     /// # Errors
     ///
     /// `Memory` where there is none left.
+    // docs/DECISIONS.md: "What an event is about".
     pub fn happen(&mut self, event: &Event) -> Result<(), Memory>
         ensures { OnOk result (Happens (event_of event.now) self.old self.new) }
     {

@@ -93,8 +93,8 @@ known_counted server files i place before after put is inside stays known = grin
 -- ---- what is known of the server
 
 server_decides : (table : Table) (summaries : Summaries) → table.leases ≡ listed summaries
-    → deciding table.count table.opens (lease_in summaries) ≡ decider (server_of table)
-server_decides table summaries same = ap (deciding table.count table.opens) (sym (leases_are summaries) ∙ ap lease_at (sym same))
+    → deciding table.rules table.count table.opens (lease_in summaries) ≡ decider (server_of table)
+server_decides table summaries same = ap (deciding table.rules table.count table.opens) (sym (leases_are summaries) ∙ ap lease_at (sym same))
 
 no_spare : (table : Table) (summaries : Summaries) → AreKept table.opens summaries table.last_id
     → table.leases ≡ listed summaries → HasNoSpare (server_of table)
@@ -127,7 +127,7 @@ home_of opens summaries file key agree some =
 
 pub wait_still : (table : Table) (summaries : Summaries) (file count : ℕ) → AreKept table.opens summaries table.last_id
     → table.leases ≡ listed summaries
-    → AreCounted (deciding table.count table.opens (lease_in summaries)) file (file_in table.files file).held count
+    → AreCounted (deciding table.rules table.count table.opens (lease_in summaries)) file (file_in table.files file).held count
     → WaitStill (server_of table) file count
 wait_still table summaries file count kept same known = record {
   within = known.within;
@@ -136,21 +136,21 @@ wait_still table summaries file count kept same known = record {
       (λ has. inr (in_vain (server_of table) file one.client one.request (no_spare table summaries kept same)
       (waits_really (server_of table) file one.client one.request
       (subst (λ server. HasOnlyToWait server file one.client one.request) (server_decides table summaries same)
-      (waits_there_too file (deciding table.count table.opens (lease_in summaries)) one.client one.request
+      (waits_there_too file (deciding table.rules table.count table.opens (lease_in summaries)) one.client one.request
       (λ key some. home_of table.opens summaries file key kept.agree some) has.1 has.0))))) (known.each place one less is);
 }
 
 pub stays_decided : (table : Table) (summaries : Summaries) (file : ℕ) (queue : List Held) (place : ℕ)
     → table.leases ≡ listed summaries → StaysAt (server_of table) file queue place
     → (one : Held) → slice_get queue place ≡ Some one
-    → StaysLocally (deciding table.count table.opens (lease_in summaries)) file (take place queue) one
+    → StaysLocally (deciding table.rules table.count table.opens (lease_in summaries)) file (take place queue) one
 stays_decided table summaries file queue place same stays = λ one is. ⊎_elim
     (λ behind. inl behind)
     (λ has.
-    let about = about_same (server_of table) (deciding table.count table.opens (lease_in summaries)) file one.client
+    let about = about_same (server_of table) (deciding table.rules table.count table.opens (lease_in summaries)) file one.client
     one.request refl has.1 in
     inr (
-      waits_here_only file (deciding table.count table.opens (lease_in summaries)) one.client one.request about
+      waits_here_only file (deciding table.rules table.count table.opens (lease_in summaries)) one.client one.request about
           (subst (λ server. HasOnlyToWait server file one.client one.request) (sym (server_decides table summaries same))
           (waits_decided (server_of table) file one.client one.request has.0)),
       about,

@@ -85,13 +85,13 @@ left_here file place has before after one inside is same step = ap (λ (q : List
 
 pub behind_here : (file place : ℕ) (has : Bool) (before : Progress) (one : Held)
     → place < length (before.server.held file) → one ≡ get_or (before.server.held file) place one
-    → is_behind one.client (take place (before.server.held file)) ≡ true
+    → is_behind before.server.rules one (take place (before.server.held file)) ≡ true
     → pass_at file (place + 1) has before ≡ pass_at file place has before
 behind_here file place has before one inside is behind =
     left_here file place has before before one inside is refl (is_passed_over file one _ (so_far file place has before) behind)
 
 tried_then : (file place : ℕ) (has : Bool) (before after : Progress) (one : Held) (outcome : Outcome)
-    → is_behind one.client (take place (before.server.held file)) ≡ false
+    → is_behind before.server.rules one (take place (before.server.held file)) ≡ false
     → ended after outcome ≡ tried one.client one.request before → next_step file place has before one
     ≡ after_try file one (drop (place + 1) (before.server.held file)) (so_far file place has before) after outcome
 tried_then file place has before after one outcome first end =
@@ -115,7 +115,7 @@ answer_is file one waiting pass after outcome e = grind arith
 
 pub waits_here : (file place : ℕ) (has : Bool) (before after : Progress) (one : Held) (outcome : Outcome)
     → place < length (before.server.held file) → one ≡ get_or (before.server.held file) place one
-    → is_behind one.client (take place (before.server.held file)) ≡ false
+    → is_behind before.server.rules one (take place (before.server.held file)) ≡ false
     → ended after outcome ≡ tried one.client one.request before → is_waiting outcome ≡ true
     → pass_at file (place + 1) has after ≡ pass_at file place has before
 waits_here file place has before after one outcome inside is first end waits = left_here file place has before after one inside is
@@ -142,7 +142,7 @@ pub record IsAnswered (file place : ℕ) (before : Progress) (last : Progress) :
 pub answered_here : (file place : ℕ) (before : Progress) (one again : Held) (during after : Table)
     (outs : List Out) (outcome : Outcome) (last : Progress)
     → place < length (before.server.held file) → one ≡ get_or (before.server.held file) place one
-    → is_behind one.client (take place (before.server.held file)) ≡ false
+    → is_behind before.server.rules one (take place (before.server.held file)) ≡ false
     → ended (progress_of during outs) outcome ≡ tried one.client one.request before → is_waiting outcome ≡ false
     → server_of after ≡ record (server_of during) {
       held = put (server_of during).held file (remove ((server_of during).held file) place);

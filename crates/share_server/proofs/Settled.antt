@@ -4,6 +4,8 @@ use Rattle.lease_laws.proofs.Words.{List, None, Open, Option, Server, Some, ℕ,
 use Rattle.lease_laws.proofs.Words.{has_key, has_own_key, if◌then◌else◌, inl, inr, is_key, is_leased_elsewhere, key_eq}
 use Rattle.lease_laws.proofs.Words.{key_of_open, key_under, list_any, no_lease, not, option_map, own_key, refl, subst, suc, sym}
 use Rattle.lease_laws.proofs.Words.{true, without, zero}
+use Rattle.lease_laws.proofs.Words.{Rules, is_behind}
+use Rattle.lease_laws.proofs.Words.{take}
 use Rattle.std.specs.List.{slice_get}
 use Rattle.lease_laws.proofs.server.Keys.{key_eq-same}
 use Rattle.lease_laws.proofs.server.Lists.{either, clash, and_both, not_true, any_has, none_has, has_none, find_has, among_filter}
@@ -40,7 +42,7 @@ known_settled files waiting now before after settled known = λ file. ⊎_elim
     (λ same. subst (AreCounted after file (file_in files file).held) (sym same.0) (record {
       within = (known file).within;
       each = λ place one less is. ⊎_elim
-          (λ behind. inl behind)
+          (λ behind. inl (ap (λ (server : Server). is_behind server.rules one (take place (file_in files file).held)) same.1 ∙ behind))
           (λ has. inr (
             subst (λ server. HasOnlyToWait server file one.client one.request) (sym same.1) has.0,
             same.2 one (among_got (file_in files file).held place one is) has.1,
@@ -66,17 +68,17 @@ none_on : (file : ℕ) (test : Open → Bool) (opens : List Open)
 none_on file test opens none = has_none test (on_file file opens)
     (λ one a. let there = among_filter (is_on file) one opens a in none one there.0 there.1)
 
-pub settled_put : (files : List File) (waiting now : Waiting) (count : ℕ) (opens : List Open) (key : Key) (lease : Lease)
+pub settled_put : (files : List File) (waiting now : Waiting) (rules : Rules) (count : ℕ) (opens : List Open) (key : Key) (lease : Lease)
     (leases later : Key → Lease) → ((other : Key) → later other ≡ (if key_eq other key then lease else leases other))
     → HaveForgotten (has_key key) opens waiting now
-    → IsSettled files waiting now (deciding count opens leases) (deciding count opens later)
-settled_put files waiting now count opens key lease leases later put forgotten = λ file. ⊎_elim
+    → IsSettled files waiting now (deciding rules count opens leases) (deciding rules count opens later)
+settled_put files waiting now rules count opens key lease leases later put forgotten = λ file. ⊎_elim
     (λ none. inl none)
     (λ same. inr (
       same.0,
-      ap (deciding count (on_file file opens)) (fun_ext (leases_put (on_file file opens) key lease leases later put
+      ap (deciding rules count (on_file file opens)) (fun_ext (leases_put (on_file file opens) key lease leases later put
           (none_on file (has_key key) opens same.1))),
-      λ one a about. about_same (deciding count opens leases) (deciding count opens later) file one.client one.request refl about,
+      λ one a about. about_same (deciding rules count opens leases) (deciding rules count opens later) file one.client one.request refl about,
     )) (forgotten file)
 
 -- opens that are closed, none of them on the file
@@ -86,20 +88,20 @@ on_left : (file : ℕ) (test : Open → Bool) (opens : List Open)
 on_left file test [] none = refl
 on_left file test (one ∷ opens) none = let later = on_left file test opens (λ other a. none other (inr a)) in grind arith
 
-about_left : (file : ℕ) (test : Open → Bool) (count : ℕ) (opens : List Open) (leases later : Key → Lease) (client : ℕ)
+about_left : (file : ℕ) (test : Open → Bool) (rules : Rules) (count : ℕ) (opens : List Open) (leases later : Key → Lease) (client : ℕ)
     (request : FileRequest) → ((one : Open) → Among one opens → is_on file one ≡ true → test one ≡ false)
-    → IsOnlyAbout (deciding count opens leases) file client request
-    → IsOnlyAbout (deciding count (without test opens) later) file client request
-about_left file test count opens leases later client (FileRequest.Create other access share None) none about = absurd about
-about_left file test count opens leases later client (FileRequest.Create other access share (Some ask)) none about =
+    → IsOnlyAbout (deciding rules count opens leases) file client request
+    → IsOnlyAbout (deciding rules count (without test opens) later) file client request
+about_left file test rules count opens leases later client (FileRequest.Create other access share None) none about = absurd about
+about_left file test rules count opens leases later client (FileRequest.Create other access share (Some ask)) none about =
     (about.0, away (own_key client ask.lease) about.1)
   where
-    away : (own : Option Key) → is_leased_elsewhere (deciding count opens leases) own file ≡ false
-        → is_leased_elsewhere (deciding count (without test opens) later) own file ≡ false
+    away : (own : Option Key) → is_leased_elsewhere (deciding rules count opens leases) own file ≡ false
+        → is_leased_elsewhere (deciding rules count (without test opens) later) own file ≡ false
     away None e = refl
     away (Some key) e = none_within (λ one. has_key key one && not (one.file == file)) (λ x. not (test x)) opens e
-about_left file test count opens leases later client (FileRequest.Read file_id) none about = absurd about
-about_left file test count opens leases later client (FileRequest.Write file_id number patch) none about =
+about_left file test rules count opens leases later client (FileRequest.Read file_id) none about = absurd about
+about_left file test rules count opens leases later client (FileRequest.Write file_id number patch) none about =
     go (find (λ one. one.file_id == file_id && one.client == client && one.connected) opens) refl about
   where
     go : (found : Option Open) → find (λ one. one.file_id == file_id && one.client == client && one.connected) opens ≡ found
@@ -113,27 +115,27 @@ about_left file test count opens leases later client (FileRequest.Write file_id 
         let stays = none one among ((Decides-eqb one.file file).1 same) in
         ap (option_map (λ x. x.file)) (found_on (λ x. x.file_id == file_id && x.client == client && x.connected)
         (λ x. not (test x)) opens one is (ap not stays)) ∙ there
-about_left file test count opens leases later client (FileRequest.Close file_id) none about = absurd about
+about_left file test rules count opens leases later client (FileRequest.Close file_id) none about = absurd about
 
-pub settled_closed : (files : List File) (waiting now : Waiting) (count : ℕ) (opens left : List Open) (ids : List ℕ)
+pub settled_closed : (files : List File) (waiting now : Waiting) (rules : Rules) (count : ℕ) (opens left : List Open) (ids : List ℕ)
     (summaries after : Summaries) → HaveClosed opens ids summaries left after → HaveForgotten (is_one_of ids) opens waiting now
-    → IsSettled files waiting now (deciding count opens (lease_in summaries)) (deciding count left (lease_in after))
-settled_closed files waiting now count opens left ids summaries after closed forgotten = λ file. ⊎_elim
+    → IsSettled files waiting now (deciding rules count opens (lease_in summaries)) (deciding rules count left (lease_in after))
+settled_closed files waiting now rules count opens left ids summaries after closed forgotten = λ file. ⊎_elim
     (λ none. inl none)
     (λ same.
     let kept : on_file file left ≡ on_file file opens =
     ap (on_file file) closed.opens_left ∙ on_left file (is_one_of ids) opens same.1 in
     inr (
       same.0,
-      ap (λ os. deciding count os (λ key. if list_any (has_key key) os then lease_in after key else no_lease)) kept
-          ∙ ap (deciding count (on_file file opens)) (fun_ext (λ key. either (list_any (has_key key) (on_file file opens))
+      ap (λ os. deciding rules count os (λ key. if list_any (has_key key) os then lease_in after key else no_lease)) kept
+          ∙ ap (deciding rules count (on_file file opens)) (fun_ext (λ key. either (list_any (has_key key) (on_file file opens))
           (λ some.
           let there = any_once (is_on file) (has_key key) left (ap (list_any (has_key key)) kept ∙ some) in
           rw some (closed.leases key ∙ ap (λ b. if b then lease_in summaries key else no_lease) there))
           (λ some. rw some refl))),
-      λ one a about. subst (λ os. IsOnlyAbout (deciding count os (lease_in after)) file one.client one.request)
+      λ one a about. subst (λ os. IsOnlyAbout (deciding rules count os (lease_in after)) file one.client one.request)
           (sym closed.opens_left)
-          (about_left file (is_one_of ids) count opens (lease_in summaries) (lease_in after) one.client one.request same.1 about),
+          (about_left file (is_one_of ids) rules count opens (lease_in summaries) (lease_in after) one.client one.request same.1 about),
     )) (forgotten file)
 
 -- an open that comes on another file
@@ -175,19 +177,19 @@ found_before test (first ∷ opens) one found is = either (test first)
     (λ t. rw t (rw t at is))
     (λ t. rw t (found_before test opens one found (rw t at is)))
 
-about_more : (file count : ℕ) (opens : List Open) (one : Open) (leases later : Key → Lease) (held : Held)
-    → asks_with one held ≡ false → IsOnlyAbout (deciding count opens leases) file held.client held.request
-    → IsOnlyAbout (deciding count (opens ++ one ∷ []) later) file held.client held.request
-about_more file count opens one leases later held apart about = go held.client held.request apart about
+about_more : (file : ℕ) (rules : Rules) (count : ℕ) (opens : List Open) (one : Open) (leases later : Key → Lease) (held : Held)
+    → asks_with one held ≡ false → IsOnlyAbout (deciding rules count opens leases) file held.client held.request
+    → IsOnlyAbout (deciding rules count (opens ++ one ∷ []) later) file held.client held.request
+about_more file rules count opens one leases later held apart about = go held.client held.request apart about
   where
-    away : (own : Option Key) → has_own_key own one ≡ false → is_leased_elsewhere (deciding count opens leases) own file ≡ false
-        → is_leased_elsewhere (deciding count (opens ++ one ∷ []) later) own file ≡ false
+    away : (own : Option Key) → has_own_key own one ≡ false → is_leased_elsewhere (deciding rules count opens leases) own file ≡ false
+        → is_leased_elsewhere (deciding rules count (opens ++ one ∷ []) later) own file ≡ false
     away None none e = refl
     away (Some key) none e = any_more (λ x. has_key key x && not (x.file == file)) opens one e (rw none refl)
 
     go : (client : ℕ) (request : FileRequest) → has_own_key (own_asked client request) one ≡ false
-        → IsOnlyAbout (deciding count opens leases) file client request
-        → IsOnlyAbout (deciding count (opens ++ one ∷ []) later) file client request
+        → IsOnlyAbout (deciding rules count opens leases) file client request
+        → IsOnlyAbout (deciding rules count (opens ++ one ∷ []) later) file client request
     go client (FileRequest.Create other access share None) none told = absurd told
     go client (FileRequest.Create other access share (Some ask)) none told = (told.0, away (own_key client ask.lease) none told.1)
     go client (FileRequest.Read file_id) none told = absurd told
@@ -203,23 +205,23 @@ about_more file count opens one leases later held apart about = go held.client h
             (found_before (λ x. x.file_id == file_id && x.client == client && x.connected) opens one found is) ∙ there
     go client (FileRequest.Close file_id) none told = absurd told
 
-pub settled_opened : (files : List File) (waiting now : Waiting) (count : ℕ) (opens more : List Open) (one : Open)
+pub settled_opened : (files : List File) (waiting now : Waiting) (rules : Rules) (count : ℕ) (opens more : List Open) (one : Open)
     (lease : Lease) (leases later : Key → Lease) → more ≡ opens ++ one ∷ []
     → ((key : Key) → later key ≡ (if has_key key one then lease else leases key))
     → IsAtHome (key_of_open one) one.file opens → HaveForgottenFor one files waiting now
-    → IsSettled files waiting now (deciding count opens leases) (deciding count more later)
-settled_opened files waiting now count opens more one lease leases later is put home forgotten = λ file. ⊎_elim
+    → IsSettled files waiting now (deciding rules count opens leases) (deciding rules count more later)
+settled_opened files waiting now rules count opens more one lease leases later is put home forgotten = λ file. ⊎_elim
     (λ none. inl none)
     (λ same.
     let kept : on_file file more ≡ on_file file opens = ap (on_file file) is ∙ on_more file one opens same.1 in
     inr (
       same.0,
-      ap (λ os. deciding count os (λ key. if list_any (has_key key) os then later key else no_lease)) kept
-          ∙ ap (deciding count (on_file file opens)) (fun_ext (λ key. either (list_any (has_key key) (on_file file opens))
+      ap (λ os. deciding rules count os (λ key. if list_any (has_key key) os then later key else no_lease)) kept
+          ∙ ap (deciding rules count (on_file file opens)) (fun_ext (λ key. either (list_any (has_key key) (on_file file opens))
           (λ some.
           let apart = apart_here file one opens key same.1 home some in
           rw some (put key ∙ rw apart refl))
           (λ some. rw some refl))),
-      λ held a about. subst (λ os. IsOnlyAbout (deciding count os later) file held.client held.request) (sym is)
-          (about_more file count opens one leases later held (same.2 held a) about),
+      λ held a about. subst (λ os. IsOnlyAbout (deciding rules count os later) file held.client held.request) (sym is)
+          (about_more file rules count opens one leases later held (same.2 held a) about),
     )) (forgotten file)

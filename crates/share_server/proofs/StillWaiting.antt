@@ -79,7 +79,7 @@ in_vain server file client request spare has outs = waits 2 client request (at_c
 -- ---- what decides a try
 
 abbrev pub decider : Server → Server
-decider server = deciding server.files server.opens server.leases
+decider server = deciding server.rules server.files server.opens server.leases
 
 pub decided : (server : Server) (client : ℕ) (request : FileRequest)
     → finding (decider server) client request ≡ finding server client request
@@ -195,10 +195,10 @@ skipped file place has server outs count still less =
     let within = still.within in
     let inside : place < length (server.held file) = omega (arith, less, within) in
     let found = there (server.held file) place inside in
-    either (is_behind found.0.client (take place (server.held file)))
+    either (is_behind server.rules found.0 (take place (server.held file)))
     (λ behind. behind_here file place has (at_call server outs) found.0 inside found.2 behind)
     (λ first. ⊎_elim
-    (λ behind. clash (is_behind found.0.client (take place (server.held file))) behind first)
+    (λ behind. clash (is_behind server.rules found.0 (take place (server.held file))) behind first)
     (λ vain. waits_here file place has (at_call server outs) (at_call server outs) found.0 Outcome.Waits inside found.2 first
     (sym (vain outs)) refl) (still.each place found.0 less found.1))
 

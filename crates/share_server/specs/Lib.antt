@@ -4,6 +4,7 @@ pub mod Findings
 pub mod Hindering
 pub mod Kept
 pub mod KeyOrder
+pub mod Lanes
 pub mod Laws
 pub mod Leases
 pub mod LeftOpens

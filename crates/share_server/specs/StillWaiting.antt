@@ -2,11 +2,12 @@
 use Rattle.std.specs.Prelude.{◌≡◌, ◌≤◌, ◌<◌, ◌⊎◌, ℕ, Bool, true, false, Option, Some, None, List, [], length, take, not, ◌&&◌}
 use Rattle.std.specs.List.{list_any, list_all, slice_get}
 use Rattle.std.specs.BTreeMap.{get}
+use Rattle.lease_state.specs.declared.rules.Rules.{Rules}
 use Rattle.lease_model.specs.messages.Replies.{Out}
 use Rattle.lease_model.specs.messages.Requests.{FileRequest}
 use Rattle.lease_model.specs.server.Attempt.{Outcome, ended, tried, is_left_open}
 use Rattle.lease_model.specs.server.Findings.{Finding, finding}
-use Rattle.lease_model.specs.server.Passes.{is_behind}
+use Rattle.lease_model.specs.server.Lanes.{is_behind}
 use Rattle.lease_model.specs.server.Progress.{Progress}
 use Rattle.lease_model.specs.server.Ready.{is_ready, waits_for}
 use Rattle.lease_model.specs.server.State.{Server, Open, Lease, Held, has_key, is_breaking}
@@ -27,12 +28,12 @@ abbrev pub IsTriedInVain : Server → ℕ → FileRequest → Type 0
 IsTriedInVain server client request =
     (outs : List Out) → tried client request (at_call server outs) ≡ ended (at_call server outs) Outcome.Waits
 
--- The first requests of the file's queue, so many, wait still: each is behind an earlier one of its client, and so isn't
--- tried, or is tried in vain.
+-- The first requests of the file's queue, so many, wait still: each waits behind an earlier one, and so isn't tried,
+-- or is tried in vain.
 pub record WaitStill (server : Server) (file : ℕ) (count : ℕ) : Type 0 where
   pub within : count ≤ length (server.held file)
   pub each : (place : ℕ) (one : Held) → place < count → slice_get (server.held file) place ≡ Some one
-      → (is_behind one.client (take place (server.held file)) ≡ true) ⊎ IsTriedInVain server one.client one.request
+      → (is_behind server.rules one (take place (server.held file)) ≡ true) ⊎ IsTriedInVain server one.client one.request
 
 -- ---- why a try is in vain
 
@@ -65,8 +66,9 @@ abbrev pub count_in : Waiting → ℕ → ℕ
 count_in waiting file = counted (get file_order waiting.counts (record { 0 = file }))
 
 -- of a server that which decides how a try ends
-abbrev pub deciding : ℕ → List Open → (Key → Lease) → Server
-deciding files opens leases = record {
+abbrev pub deciding : Rules → ℕ → List Open → (Key → Lease) → Server
+deciding rules files opens leases = record {
+  rules = rules;
   files = files;
   contents = λ file. [];
   opens = opens;
@@ -77,9 +79,9 @@ deciding files opens leases = record {
   last_id = 0;
 }
 
--- a request behind these is behind one of its client, or is about the file alone and has only to wait
+-- a request behind these waits behind one of them, or is about the file alone and has only to wait
 abbrev pub Stays : Server → ℕ → List Held → Held → Type 0
-Stays server file before one = (is_behind one.client before ≡ true)
+Stays server file before one = (is_behind server.rules one before ≡ true)
     ⊎ (HasOnlyToWait server file one.client one.request × IsOnlyAbout server file one.client one.request)
 
 -- the request at the place of the file's queue stays
@@ -89,7 +91,7 @@ StaysAt server file queue place =
 
 -- the same by what of the server its look sees
 abbrev pub StaysLocally : Server → ℕ → List Held → Held → Type 0
-StaysLocally server file before one = (is_behind one.client before ≡ true)
+StaysLocally server file before one = (is_behind server.rules one before ≡ true)
     ⊎ (HasOnlyToWait (local file server) file one.client one.request × IsOnlyAbout server file one.client one.request)
 
 -- The first requests of the file's queue, so many, stay.
@@ -99,9 +101,9 @@ pub record AreCounted (server : Server) (file : ℕ) (queue : List Held) (count 
       → StaysLocally server file (take place queue) one
 
 -- In each file's queue the counted requests wait still.
-abbrev pub AreKnown : Waiting → ℕ → List File → List Open → (Key → Lease) → Type 0
-AreKnown waiting count files opens leases = (file : ℕ)
-    → AreCounted (deciding count opens leases) file (file_in files file).held (count_in waiting file)
+abbrev pub AreKnown : Waiting → Rules → ℕ → List File → List Open → (Key → Lease) → Type 0
+AreKnown waiting rules count files opens leases = (file : ℕ)
+    → AreCounted (deciding rules count opens leases) file (file_in files file).held (count_in waiting file)
 
 -- What is known of a file's count is forgotten, or nothing that it rests on has changed.
 abbrev pub HaveForgotten : (Open → Bool) → List Open → Waiting → Waiting → Type 0

@@ -2,6 +2,7 @@
 use Rattle.std.specs.Prelude.{ℕ, List, [], ◌∷◌, if◌then◌else◌, ◌==◌, unwrap_or}
 use Rattle.std.specs.List.{list_any, slice_get}
 use Rattle.lease_state.specs.declared.number.ClientNo.{ClientNo}
+use Rattle.lease_state.specs.declared.rules.Rules.{Rules}
 use Rattle.lease_model.specs.values.Keys.{Key, key_eq}
 use Rattle.lease_model.specs.values.Lists.{without}
 use Rattle.lease_model.specs.server.State.{Server, Open, Lease, Held, no_lease}
@@ -15,10 +16,11 @@ pub record KeyedLease : Type 0 where
   pub key : Key
   pub lease : Lease
 
--- `files` has a place for each number that a file can be asked by, of which those from 1 to `count` are files;
+-- `rules` are those that the server was given. `files` has a place for each number that a file can be asked by, of which those from 1 to `count` are files;
 -- `present` are the clients whose connection the server has, `expired` the keys whose break timer ran out since
 -- their client joined.
 pub record Table : Type 0 where
+  pub rules : Rules
   pub files : List File
   pub count : ℕ
   pub opens : List Open
@@ -43,6 +45,7 @@ lease_at (one ∷ leases) key = if key_eq key one.key then one.lease else lease_
 -- the server that the lists stand for
 abbrev pub server_of : Table → Server
 server_of table = record {
+  rules = table.rules;
   files = table.count;
   contents = λ n. (file_in table.files n).content;
   opens = table.opens;

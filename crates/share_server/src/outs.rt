@@ -40,6 +40,7 @@ impl Model for Outs {
 
 impl Outs {
     /// Nothing yet, in the memory of a list, whatever was on it.
+    // docs/DECISIONS.md: "Calls in place give out into a value of their caller".
     pub fn over(list: Vec<Out>) -> Outs
         ensures { result ≡ [] }
     {

@@ -7,7 +7,7 @@ ghost use Rattle.lease_model.specs.server.Allowed as grants;
 ghost use Rattle.lease_model.specs.server.Calls as rules;
 ghost use Rattle.lease_model.specs.server.Naming.{key_of, key_under};
 ghost use Rattle.lease_model.specs.server.Queries as queries;
-ghost use Rattle.lease_model.specs.server.State.{new_server};
+ghost use Rattle.lease_model.specs.server.State.{new_server, new_server_under};
 ghost use Rattle.share_server.specs.Laws.{HasOneWriter, HasNoConflict, KeepsWhatLasts, BreaksToLess};
 ghost use Rattle.share_server.specs.Outs.{IsAfter};
 ghost use Rattle.share_server.specs.Table.{server_of};
@@ -18,7 +18,9 @@ use crate::tables::Tables;
 use crate::values::key::Key;
 use crate::values::out::Out;
 use lease_laws::laws_of_servers;
-use lease_state::{ClientNo, Content, FileId, FileNo, LeaseKey, LeaseState, Memory, Request};
+use lease_state::{
+    ClientNo, Content, FileId, FileNo, LeaseKey, LeaseState, Memory, Request, Rules,
+};
 use std::alloc::Global;
 use std::marker::Model;
 use std::mem;
@@ -51,9 +53,27 @@ impl Server {
     pub fn new(alloc: Global, files: Vec<Content>) -> Result<Server, Memory>
         ensures { IfOk result (λ server. server_of server ≡ new_server files.items) }
     {
+        Server::with_rules(alloc, Rules::profile(), files)
+    }
+
+    /// A server of these rules with these files, as by `new`, which has the profile's.
+    ///
+    /// # Errors
+    ///
+    /// `Memory` where there is none left for the list of files.
+    pub fn with_rules(alloc: Global, rules: Rules, files: Vec<Content>) -> Result<Server, Memory>
+        ensures { IfOk result (λ server. server_of server ≡ new_server_under rules files.items) }
+    {
         laws_of_servers();
-        let tables = Tables::new(alloc, files)?;
+        let tables = Tables::new(alloc, rules, files)?;
         Ok(Server { tables })
+    }
+
+    /// The rules that the server was given.
+    pub fn rules(&self) -> Rules
+        ensures { result ≡ (server_of self.now).rules }
+    {
+        self.tables.rules()
     }
 
     /// A client connects (MS-SMB2 3.3.5.1). The keys of its leases whose timer ran out may be

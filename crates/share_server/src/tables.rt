@@ -1,12 +1,20 @@
-ghost use Rattle.std.specs.Prelude.{◌≡◌, ◌≤◌, ◌<◌, ℕ, ◌==◌, ◌++◌, [], ◌∷◌, IfOk, OnOk, OnErr, map, filter, not, length, vec_len};
+ghost use Rattle.std.specs.Prelude.{◌≡◌, ◌≤◌, ◌<◌, ℕ, ◌==◌, ◌++◌, [], ◌∷◌, IfOk, OnOk, OnErr, map, filter, not, length};
+ghost use Rattle.std.specs.Prelude.{vec_len, Some, true};
 ghost use Rattle.std.specs.List.{remove, slice_get, list_any};
-ghost use Rattle.std.specs.Prelude.{Some, true};
 ghost use Rattle.lease_model.specs.values.Tables.{numbered};
 ghost use Rattle.lease_state.specs.Content.{patch as patched};
 ghost use Rattle.lease_model.specs.values.Lists.{without};
 ghost use Rattle.lease_model.specs.values.Patches.{is_within_limit};
 ghost use Rattle.share_server.specs.OneFile.{asks_with};
-ghost use Rattle.share_server.specs.Table.{no_file, file_in, fresh_file};
+ghost use Rattle.share_server.specs.Table.{no_file, file_in, fresh_file, server_of};
+ghost use Rattle.std.specs.Option.{option_map};
+ghost use Rattle.lease_state.specs.State.{state_of};
+ghost use Rattle.lease_model.specs.server.Calls.{joined};
+ghost use Rattle.lease_model.specs.server.State.{has_file, new_server_under};
+ghost use Rattle.share_server.specs.Leases.{lease_of};
+ghost use Rattle.share_server.specs.Outs.{progress_of};
+ghost use Rattle.lease_model.specs.server.Allowed as allowed;
+ghost use Rattle.lease_model.specs.server.Queries as queries;
 
 use crate::tables::opens::Opens;
 use crate::tables::summaries::Summaries;
@@ -16,7 +24,8 @@ use crate::values::lease::Lease;
 use crate::values::open::Open;
 use crate::values::request::Held;
 use lease_state::{
-    Access, ClientNo, Content, ContentFault, FileId, FileNo, LeaseState, Memory, Patch, Share,
+    Access, ClientNo, Content, ContentFault, FileId, FileNo, LeaseState, Memory, Patch, Rules,
+    Share,
 };
 use std::alloc::{AllocError, Global};
 use std::marker::Model;
@@ -37,6 +46,7 @@ mod wants;
 const LAST_FILE_NUMBER: usize = 255;
 
 /// As many places as there are numbers of one byte.
+// docs/DECISIONS.md: "A place for each number of a file".
 const PLACES: usize = 256;
 
 /// A file: its bytes, and the requests that wait there, in order of arrival.
@@ -122,8 +132,11 @@ impl File {
 }
 
 /// What a server knows.
+// docs/DECISIONS.md: "The server's rules use its tables by methods".
 #[derive(Debug, Drop)]
 pub struct Tables {
+    /// The rules that the server was given.
+    rules: Rules,
     /// A place for each number that a file can be asked by: its number is its place.
     files: Vec<File>,
     /// How many of them are files: those from 1 on.
@@ -151,6 +164,7 @@ impl Model for Tables {
     ghost Value = { table.Table };
 
     ghost view = { λ tables. record {
+      rules = tables.rules;
       files = tables.files.items;
       count = tables.count;
       opens = tables.opens;
@@ -162,30 +176,19 @@ impl Model for Tables {
 
     ghost invariant = { λ tables. (vec_len tables.files ≡ 256)
         × AreKept tables.opens tables.summaries tables.last_id
-        × AreKnown tables.waiting tables.count tables.files.items tables.opens (lease_in tables.summaries) };
+        × AreKnown tables.waiting tables.rules tables.count tables.files.items tables.opens (lease_in tables.summaries) };
 }
 
 impl Tables {
-    ghost use Rattle.std.specs.Prelude.{◌≡◌, [], IfOk, OnOk};
-    ghost use Rattle.std.specs.List.{list_any};
-    ghost use Rattle.std.specs.Option.{option_map};
-    ghost use Rattle.lease_state.specs.State.{state_of};
-    ghost use Rattle.lease_model.specs.server.Allowed as allowed;
-    ghost use Rattle.lease_model.specs.server.Calls.{joined};
-    ghost use Rattle.lease_model.specs.server.Queries as queries;
-    ghost use Rattle.lease_model.specs.server.State.{has_file, new_server};
-    ghost use Rattle.share_server.specs.Leases.{lease_of};
-    ghost use Rattle.share_server.specs.Outs.{progress_of};
-    ghost use Rattle.share_server.specs.Table.{server_of, file_in};
-
-    /// The tables of files with these contents, in order, of which those past the last file number
-    /// have none.
-    pub fn new(alloc: Global, mut contents: Vec<Content>) -> Result<Tables, Memory>
-        ensures { IfOk result (λ tables. server_of tables ≡ new_server contents.items) }
+    /// The tables of a server of these rules, and of files with these contents, in order, of which those
+    /// past the last file number have none.
+    pub fn new(alloc: Global, rules: Rules, mut contents: Vec<Content>) -> Result<Tables, Memory>
+        ensures { IfOk result (λ tables. server_of tables ≡ new_server_under rules contents.items) }
     {
         contents.truncate(LAST_FILE_NUMBER);
         let count = contents.len() as u8;
         Ok(Tables {
+            rules,
             files: places_of(alloc, contents)?,
             count,
             opens: Opens::new(alloc),
@@ -210,6 +213,13 @@ impl Tables {
     /// The allocator of the tables.
     pub fn alloc(&self) -> Global {
         *self.present.allocator()
+    }
+
+    /// The rules that the server was given.
+    pub fn rules(&self) -> Rules
+        ensures { result ≡ (server_of self.now).rules }
+    {
+        self.rules
     }
 
     /// How many files there are.

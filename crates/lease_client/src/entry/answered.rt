@@ -224,6 +224,7 @@ impl Live {
 
     // The server has the open no more, and the unsent writes have failed. An entry that asked for more
     // waits for that create.
+    // docs/DECISIONS.md: "FILE_CLOSED".
     #[tactic(auto)]
     fn closed_by_server(
         self,

@@ -231,6 +231,7 @@ impl Live {
         }
     }
 
+    // docs/DECISIONS.md: "The order of refusals".
     #[tactic(auto, unfolding(lease_model::specs::client::Commanded::read_sent_turn, lease_model::specs::values::Limits::count_limit))]
     fn send_read(&mut self, given: &mut Given) -> Result<(), Memory>
         ensures turn { (sent : List Pending) → OnOk result (turned_to (live_entry self.new sent) given.new

@@ -160,6 +160,7 @@ impl Live {
 }
 
 // The buffered writes, and the others.
+// docs/DECISIONS.md: "Writes that are kept at a notice".
 fn split_buffered(writes: Vec<Pending>) -> Result<(Vec<Pending>, Vec<Pending>), Memory>
     ensures buffered { IfOk result (λ r. r.0.items ≡ filter (λ write. write.buffered) writes.items) }
     ensures others { IfOk result (λ r. r.1.items ≡ without (λ write. write.buffered) writes.items) }

@@ -110,6 +110,7 @@ fn first_belief(key: LeaseKey, lease: Granted) -> LeaseState
 
 // What an entry that asked for more believes: what it believed while a break is in progress, and else
 // the state of the reply, or nothing without RqLs or under another key.
+// docs/DECISIONS.md: "A Created while asking".
 fn promoted_belief(key: LeaseKey, belief: LeaseState, lease: Granted) -> LeaseState
     ensures { state_of result
         ≡ rules.promoted_belief key.0 (state_of belief) (option_map lease_read (option_map granted_view lease)) }
@@ -149,6 +150,7 @@ fn opened(
 impl Parted {
     // The open is connected again, without a base. The kept writes are unsent again under W, and else
     // given up.
+    // docs/DECISIONS.md: "A reconnect keeps its own FileId".
     #[tactic(auto)]
     fn connected(self, sent: Vec<Pending>, belief: LeaseState) -> Result<Turn, Memory>
         ensures { IfOk result (λ turn.

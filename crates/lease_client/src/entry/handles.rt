@@ -5,6 +5,7 @@ use std::marker::Model;
 
 /// How many handles applications have on an open, and the second create, if one is under way, that
 /// asks for one more on other terms.
+// docs/DECISIONS.md: "A handle count that can't run over".
 #[derive(Clone, Copy, Debug)]
 pub struct Handles {
     count: u32,

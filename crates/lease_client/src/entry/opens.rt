@@ -56,6 +56,7 @@ impl Entry {
     }
 
     // An Open of a file that isn't open.
+    // docs/DECISIONS.md: "An open between a cut and its notice".
     fn open_first(
         &mut self,
         is_online: bool,
@@ -219,6 +220,7 @@ impl Live {
     }
 
     // A second create under the entry's key; the entry goes on until it is answered.
+    // docs/DECISIONS.md: "The order of refusals".
     #[tactic(auto, unfolding(lease_model::specs::client::Commanded::more_turn, lease_model::specs::values::Limits::count_limit))]
     fn ask_for_more(
         &mut self,

@@ -42,6 +42,7 @@ impl Model for Turn {
 /// What a call of a client gives out (profile): the answer to the application, the requests to be sent to the server and the
 /// notes for the program, each in order. A call that is passed it puts there what it gives out, whatever was there. Its lists
 /// keep their memory from call to call.
+// docs/DECISIONS.md: "Calls in place give out into a value of their caller".
 #[derive(Debug, Drop)]
 pub struct Given {
     pub answer: Answer,

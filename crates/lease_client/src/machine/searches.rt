@@ -10,6 +10,7 @@ use lease_state::{FileId, FileNo, LeaseKey};
 
 impl Machine {
     /// The file whose open has this FileId and waits for a Read.
+    // docs/DECISIONS.md: "The file that a read reply is about".
     pub fn file_read_under(&self, file_id: FileId) -> Option<FileNo>
         ensures found { option_map (λ file. file.0) result
             ≡ file_where (client_of self.now) (is_read_under (client_of self.now) file_id.0) }

@@ -1,3 +1,7 @@
+ghost use Rattle.std.specs.Prelude.{◌≡◌};
+ghost use Rattle.lease_model.specs.client.Commanded.{file_of};
+ghost use Rattle.lease_client.specs.Answers.{command_of};
+
 use lease_state::{Access, Bytes, FileNo, LeaseState, Patch, Share, Status};
 
 /// What an application asks of a client machine (profile).
@@ -45,10 +49,6 @@ impl Command {
     }
 }
 
-ghost use Rattle.std.specs.Prelude.{◌≡◌};
-ghost use Rattle.lease_model.specs.client.Commanded.{file_of};
-ghost use Rattle.lease_client.specs.Answers.{command_of};
-
 /// Why a command is refused (profile). It then changes nothing and sends nothing.
 #[derive(Clone, Copy, Debug, PartialEq, Eq, Hash)]
 pub enum Refusal {
@@ -57,6 +57,7 @@ pub enum Refusal {
     /// An answer of the server has to come first.
     Busy,
     /// Another access or share than that of the open; no command is answered so any more.
+    // docs/DECISIONS.md: "Differs is never answered".
     Differs,
     /// The client isn't connected, or the file's open isn't connected again yet.
     Offline,

@@ -44,9 +44,9 @@ impl<'a> Contexts<'a> {
 }
 
 impl<'a> Iterator for Contexts<'a> {
-    type Item = Result<Context<'a>, WireFault>;
-
     ghost use Rattle.lease_wire.specs.Contexts.{items_left, item_view};
+
+    type Item = Result<Context<'a>, WireFault>;
 
     ghost next_gives = { YieldsFirstBy item_view items_left };
 

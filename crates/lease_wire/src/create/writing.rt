@@ -13,6 +13,7 @@ use arrayvec::ArrayVec;
 use lease_state::Memory;
 
 // Appends all of the canonical text, or nothing.
+// docs/DECISIONS.md: "Canonical texts are made in an array".
 #[inline(always)]
 fn append(out: &mut Vec<u8>, direction: Direction, values: &ContextValues) -> Result<(), Memory>
     ensures ok { OnOk result (out.new.items ≡ out.old.items ++ canonical_text direction (values_of values.now)) }

@@ -15,7 +15,7 @@ use Rattle.lease_world.specs.judge.Clients.{Believes, Sees}
 use Rattle.lease_world.specs.judge.Holders.{is_newcomer, Leaves}
 use Rattle.lease_world.specs.judge.Judged.{is_safe}
 use Rattle.lease_world.specs.judge.Knows.{KnowsFile, KnowsClient, HasContents, RisesTo, KnowsHolders, Knows}
-use Rattle.lease_world.specs.judge.Seen.{Seen, SeenFile, SeenClient, SeenWrite, joined, touched, file_in, client_in}
+use Rattle.lease_world.specs.judge.Seen.{KeptFacts, SeenFile, SeenClient, SeenWrite, joined, touched, file_in, client_in}
 use Rattle.lease_world.specs.judge.Seen.{cache_in, write_in, is_good_client, is_conflict}
 use Rattle.lease_world.specs.judge.Tables.{is_started_in, HasSameFiles}
 use Rattle.lease_world.proofs.records.Clients.{client_joins, client_drops, client_expires, client_strays, client_sent}
@@ -37,7 +37,7 @@ use Rattle.lease_world.proofs.records.Writes.{number-told, accepted-told, touche
 use Rattle.lease_world.proofs.records.Written.{client_believes, client_accepts, client_settles, client_writes}
 
 -- The verdict is that of the definitions, and where it is Safe, what is kept is what the record with the fact says.
-pub record Judges (place : ℕ) (fact : Fact) (past : List Fact) (new : Seen) (verdict : Verdict) : Type 0 where
+pub record Judges (place : ℕ) (fact : Fact) (past : List Fact) (new : KeptFacts) (verdict : Verdict) : Type 0 where
   pub told : verdict_of verdict ≡ flaw_at place fact past
   pub known : is_safe verdict ≡ true → Knows new (fact ∷ past)
 
@@ -156,7 +156,7 @@ own_belief client file state past = rw (self client, self file) refl
 
 -- ---- one fact more
 
-module _ (place : ℕ) (old new : Seen) (v : Verdict) (past : List Fact) (k : Knows old past) where
+module _ (place : ℕ) (old new : KeptFacts) (v : Verdict) (past : List Fact) (k : Knows old past) where
   abbrev pub Judged : Fact → Type 0
   Judged fact = Judges place fact past new v
 

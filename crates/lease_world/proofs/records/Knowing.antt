@@ -3,7 +3,7 @@ use Rattle.lease_laws.proofs.Words.{◌==◌, ◌∙◌, ◌∷◌, ◌≡◌, �
 use Rattle.lease_laws.proofs.Words.{is_started, refl, true}
 use Rattle.std.specs.Prelude.{MatchBool}
 use Rattle.lease_world.specs.judge.Knows.{KnowsFile, KnowsClient, HasContents, Knows}
-use Rattle.lease_world.specs.judge.Seen.{Seen, SeenFile, SeenClient, file_in, client_in, cache_in, is_good_client}
+use Rattle.lease_world.specs.judge.Seen.{KeptFacts, SeenFile, SeenClient, file_in, client_in, cache_in, is_good_client}
 use Rattle.lease_world.specs.judge.Tables.{HasClient, HasFile, HasSameClients, HasSameFiles, is_started_in}
 use Rattle.lease_world.proofs.records.Others.{file_stays, client_stays}
 use Rattle.lease_world.proofs.records.Skips.{touches, concerns}
@@ -39,23 +39,23 @@ file-others old new file seen has n ne = has n ∙ off_place n file seen (file_i
 
 -- ---- all files, all clients
 
-pub same_files : (old new : Seen) (fact : Fact) (past : List Fact) → HasSameFiles old.files new.files
+pub same_files : (old new : KeptFacts) (fact : Fact) (past : List Fact) → HasSameFiles old.files new.files
     → ((f : ℕ) → touches f fact ≡ false) → Knows old past → (f : ℕ) → KnowsFile f (file_in new.files f) (fact ∷ past)
 same_files old new fact past same quiet k f = rw (same f) (file_stays f (file_in old.files f) fact past (quiet f) (k.files f))
 
-pub one_file : (old new : Seen) (file : ℕ) (fact : Fact) (past : List Fact)
+pub one_file : (old new : KeptFacts) (file : ℕ) (fact : Fact) (past : List Fact)
     → ((n : ℕ) → n ≢ file → file_in new.files n ≡ file_in old.files n) → ((f : ℕ) → f ≢ file → touches f fact ≡ false)
     → KnowsFile file (file_in new.files file) (fact ∷ past)
     → Knows old past → (f : ℕ) → KnowsFile f (file_in new.files f) (fact ∷ past)
 one_file old new file fact past others quiet here k = each_place (λ n. KnowsFile n (file_in new.files n) (fact ∷ past)) file here
     (λ n ne. rw (others n ne) (file_stays n (file_in old.files n) fact past (quiet n ne) (k.files n)))
 
-pub same_clients : (old new : Seen) (fact : Fact) (past : List Fact) → HasSameClients old.clients new.clients
+pub same_clients : (old new : KeptFacts) (fact : Fact) (past : List Fact) → HasSameClients old.clients new.clients
     → ((c : ℕ) → concerns c fact ≡ false) → Knows old past → (c : ℕ) → KnowsClient c (client_in new.clients c) (fact ∷ past)
 same_clients old new fact past same quiet k c =
     rw (same c) (client_stays c (client_in old.clients c) fact past (quiet c) (k.clients c))
 
-pub one_client : (old new : Seen) (client : ℕ) (fact : Fact) (past : List Fact)
+pub one_client : (old new : KeptFacts) (client : ℕ) (fact : Fact) (past : List Fact)
     → ((n : ℕ) → n ≢ client → client_in new.clients n ≡ client_in old.clients n)
     → ((c : ℕ) → c ≢ client → concerns c fact ≡ false) → KnowsClient client (client_in new.clients client) (fact ∷ past)
     → Knows old past → (c : ℕ) → KnowsClient c (client_in new.clients c) (fact ∷ past)
@@ -70,14 +70,14 @@ Holds files clients client file =
     HasContents (file_in files file) (client_in clients client).taken (cache_in (client_in clients client).caches file)
 
 -- files as before, and one client
-pub holds_client : (old new : Seen) (client : ℕ) (past : List Fact) → HasSameFiles old.files new.files
+pub holds_client : (old new : KeptFacts) (client : ℕ) (past : List Fact) → HasSameFiles old.files new.files
     → ((n : ℕ) → n ≢ client → client_in new.clients n ≡ client_in old.clients n)
     → ((f : ℕ) → HasContents (file_in old.files f) (client_in new.clients client).taken
     (cache_in (client_in new.clients client).caches f)) → Knows old past → (c f : ℕ) → Holds new.files new.clients c f
 holds_client old new client past same others here k c f = grind arith
 
 -- clients as before, and one file
-pub holds_file : (old new : Seen) (file : ℕ) (past : List Fact) → HasSameClients old.clients new.clients
+pub holds_file : (old new : KeptFacts) (file : ℕ) (past : List Fact) → HasSameClients old.clients new.clients
     → ((n : ℕ) → n ≢ file → file_in new.files n ≡ file_in old.files n)
     → ((c : ℕ) → HasContents (file_in new.files file) (client_in old.clients c).taken
     (cache_in (client_in old.clients c).caches file)) → Knows old past → (c f : ℕ) → Holds new.files new.clients c f
@@ -85,7 +85,7 @@ holds_file old new file past same others here k c f = grind arith
 
 -- ---- what is asked of the tables, and what the record says
 
-pub started_told : (seen : Seen) (file : ℕ) (past : List Fact) → Knows seen past
+pub started_told : (seen : KeptFacts) (file : ℕ) (past : List Fact) → Knows seen past
     → is_started_in seen.files file ≡ is_started file past
 started_told seen file past k = (k.files file).started
 

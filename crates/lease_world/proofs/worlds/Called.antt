@@ -3,7 +3,7 @@ use Rattle.lease_laws.proofs.Words.{◌++◌, ◌≡◌, Call, ClientCall, List,
 use Rattle.lease_facts.specs.Facts.{fact_of}
 use Rattle.lease_model.specs.world.World as model
 use Rattle.lease_world.specs.world.Seats.{IsPresent, ChangesSeat, StepsSeat}
-use Rattle.lease_world.specs.world.Stands.{Seen}
+use Rattle.lease_world.specs.world.Stands.{CodeWorld}
 use Rattle.lease_world.specs.world.Worlds.{Delivers, Serves, StepsIn}
 use Rattle.lease_world.proofs.worlds.Kept.{served_keeps}
 use Rattle.lease_world.proofs.worlds.Standing.{served_stands, stepped_stands}
@@ -12,7 +12,7 @@ use Rattle.share_server.specs.Table.{Table, server_of}
 use Rattle.share_server.specs.declared.values.out.Out.{Out}
 
 -- the server was called in its place, and what it gave out is delivered
-pub served_by : (old new : Seen) (call : Call) (after : Table) (outs : List Out)
+pub served_by : (old new : CodeWorld) (call : Call) (after : Table) (outs : List Out)
     → IsAfter after outs (called (server_of old.server) call) → Delivers (record old { server = after; outs = outs }) new
     → Serves call old new
 served_by old new call after outs is delivers keyed world s =
@@ -23,7 +23,7 @@ served_by old new call after outs is delivers keyed world s =
     )
 
 -- a client was called in its seat, and what it noted is recorded
-pub steps_in : (old new : Seen) (number : ℕ) (call : ClientCall) (notes : List Note) → new.server ≡ old.server
+pub steps_in : (old new : CodeWorld) (number : ℕ) (call : ClientCall) (notes : List Note) → new.server ≡ old.server
     → new.messages ≡ old.messages → ChangesSeat (StepsSeat call notes) number old.seats new.seats
     → map fact_of new.facts ≡ map fact_of old.facts ++ map (model.fact_of number) notes
     → IsPresent number old.seats → StepsIn number call old new

@@ -14,7 +14,7 @@ use Rattle.lease_world.specs.declared.world.link.Link as code
 use Rattle.lease_world.specs.world.Messages.{sent_by, sent_by_oldest, oldest, sent_by_cut, sent_by_join, sent_by_scavenge}
 use Rattle.lease_world.specs.world.Messages.{messages_of, messages_in}
 use Rattle.lease_world.specs.world.Seats.{Seat, HasKept, seat_in, is_link, IsPresent, ChangesSeat, PopsRequest, PopsReply}
-use Rattle.lease_world.specs.world.Stands.{Seen, link_of, Stands}
+use Rattle.lease_world.specs.world.Stands.{CodeWorld, link_of, Stands}
 use Rattle.lease_world.specs.world.Worlds.{Keeps, Happens, Tells, Serves, StepsIn, Links, CutsLink, Sends, Applies}
 use Rattle.lease_world.proofs.worlds.Delivered.{delivers}
 use Rattle.lease_world.proofs.worlds.Happening.{OnlySeats, no_request, popped_request, no_reply, popped_reply}
@@ -24,12 +24,12 @@ use Rattle.share_server.specs.Table.{server_of}
 
 -- ---- queues
 
-same_seats : (old new : Seen) (number : ℕ) (Changes : Seat → Seat → Type 0) → OnlySeats old new
+same_seats : (old new : CodeWorld) (number : ℕ) (Changes : Seat → Seat → Type 0) → OnlySeats old new
     → ChangesSeat Changes number old.seats new.seats → seat_in new.seats number ≡ seat_in old.seats number
     → (world : World) → Stands old world → Stands new world
 same_seats old new number Changes only seats same world s = grind arith
 
-pub server_took_nothing : (old new : Seen) (number : ℕ) → OnlySeats old new
+pub server_took_nothing : (old new : CodeWorld) (number : ℕ) → OnlySeats old new
     → ChangesSeat (PopsRequest None) number old.seats new.seats → IsPresent number old.seats
     → Applies (Event.ServerTakes number) old new
 unfolding messages_of
@@ -39,7 +39,7 @@ server_took_nothing old new number only seats there world s =
     (sym (no_request old new number seats there world s))
     (same_seats old new number (PopsRequest None) only seats same world s, quiet_keeps old new only.2)
 
-pub server_took : (old middle new : Seen) (number : ℕ) (request : code_request.Request) → OnlySeats old middle
+pub server_took : (old middle new : CodeWorld) (number : ℕ) (request : code_request.Request) → OnlySeats old middle
     → ChangesSeat (PopsRequest (Some request)) number old.seats middle.seats → IsPresent number old.seats
     → Serves (Call.Receive number (request_of request)) middle new → Applies (Event.ServerTakes number) old new
 unfolding messages_of
@@ -49,7 +49,7 @@ server_took old middle new number request only seats there serves world s =
     subst (λ (rs : List Request). Stands new (server_takes world number rs) × Keeps (sent_by_oldest world number rs) old new)
     (sym p.0) (served.0, quiet_first old middle new _ only.2 served.1)
 
-pub client_took_nothing : (old new : Seen) (number : ℕ) → OnlySeats old new
+pub client_took_nothing : (old new : CodeWorld) (number : ℕ) → OnlySeats old new
     → ChangesSeat (PopsReply None) number old.seats new.seats → IsPresent number old.seats
     → Applies (Event.ClientTakes number) old new
 unfolding messages_of
@@ -60,11 +60,11 @@ client_took_nothing old new number only seats there world s =
     (same_seats old new number (PopsReply None) only seats same world s, quiet_keeps old new only.2)
 
 -- a message is kept, and nothing else changes
-kept_stands : (old new : Seen) → new ≡ record old { messages = new.messages } → (world : World) → Stands old world
+kept_stands : (old new : CodeWorld) → new ≡ record old { messages = new.messages } → (world : World) → Stands old world
     → Stands new world
 kept_stands old new same world s = grind arith
 
-pub client_took : (old middle kept told new : Seen) (number : ℕ) (reply : code_reply.Reply) → OnlySeats old middle
+pub client_took : (old middle kept told new : CodeWorld) (number : ℕ) (reply : code_reply.Reply) → OnlySeats old middle
     → ChangesSeat (PopsReply (Some reply)) number old.seats middle.seats → IsPresent number old.seats
     → CallHasFileId (ClientCall.Taken (reply_of reply))
     → kept ≡ record middle { messages = kept.messages } → HasKept middle.messages kept.messages (reply ∷ [])
@@ -84,24 +84,24 @@ client_took old middle kept told new number reply only seats there fits alike ke
 link_is : (one other : code.Link) → is_link one other ≡ true → one ≡ other
 link_is one other e = grind arith
 
-known_link : (old : Seen) (number : ℕ) (link : code.Link) → IsPresent number old.seats → (world : World) → Stands old world
+known_link : (old : CodeWorld) (number : ℕ) (link : code.Link) → IsPresent number old.seats → (world : World) → Stands old world
     → is_link (seat_in old.seats number).link link ≡ true → world.links number ≡ link_of link
 known_link old number link there world s e = grind arith
 
-not_cut : (old : Seen) (world : World) (number : ℕ) (l : code.Link) → is_link l code.TheVariants.Up ≡ false → Stands old world
+not_cut : (old : CodeWorld) (world : World) (number : ℕ) (l : code.Link) → is_link l code.TheVariants.Up ≡ false → Stands old world
     → Stands old (cut_over world number (link_of l)) × Keeps (sent_by_cut world number (link_of l)) old old
 not_cut old world number code.TheVariants.Down e s = (s, quiet_keeps old old refl)
 not_cut old world number code.TheVariants.Up e s = let c : ⊥ = cc in absurd c
 not_cut old world number code.TheVariants.Cut e s = (s, quiet_keeps old old refl)
 
-pub cut_nothing : (old : Seen) (number : ℕ) → IsPresent number old.seats
+pub cut_nothing : (old : CodeWorld) (number : ℕ) → IsPresent number old.seats
     → is_link (seat_in old.seats number).link code.TheVariants.Up ≡ false → Applies (Event.Cut number) old old
 unfolding messages_of
 cut_nothing old number there e world s =
     subst (λ (l : Link). Stands old (cut_over world number l) × Keeps (sent_by_cut world number l) old old)
     (s.seats number there).link (not_cut old world number (seat_in old.seats number).link e s)
 
-pub cut_one : (old middle told new : Seen) (number : ℕ) → IsPresent number old.seats
+pub cut_one : (old middle told new : CodeWorld) (number : ℕ) → IsPresent number old.seats
     → is_link (seat_in old.seats number).link code.TheVariants.Up ≡ true
     → CutsLink number old middle → Tells (Fact.Dropped number) middle told → Serves (Call.Cut number) told new
     → Applies (Event.Cut number) old new
@@ -112,11 +112,11 @@ cut_one old middle told new number there e cuts tells serves world s =
     (sym (known_link old number code.TheVariants.Up there world s e))
     (served.0, quiet_first old middle new _ cuts.0 (quiet_first middle told new _ tells.0 served.1))
 
-not_noticed : (old : Seen) (world : World) (number : ℕ) (l : code.Link) → is_link l code.TheVariants.Cut ≡ false
+not_noticed : (old : CodeWorld) (world : World) (number : ℕ) (l : code.Link) → is_link l code.TheVariants.Cut ≡ false
     → Stands old world → Stands old (notice_over world number (link_of l))
 not_noticed old world number l e s = grind arith
 
-pub notice_nothing : (old : Seen) (number : ℕ) → IsPresent number old.seats
+pub notice_nothing : (old : CodeWorld) (number : ℕ) → IsPresent number old.seats
     → is_link (seat_in old.seats number).link code.TheVariants.Cut ≡ false → Applies (Event.Notice number) old old
 unfolding messages_of
 notice_nothing old number there e world s = (
@@ -125,7 +125,7 @@ notice_nothing old number there e world s = (
   quiet_keeps old old refl,
 )
 
-pub notice_one : (old middle new : Seen) (number : ℕ) → IsPresent number old.seats
+pub notice_one : (old middle new : CodeWorld) (number : ℕ) → IsPresent number old.seats
     → is_link (seat_in old.seats number).link code.TheVariants.Cut ≡ true
     → Links number Link.Down old middle → StepsIn number ClientCall.Noticed middle new → Applies (Event.Notice number) old new
 unfolding messages_of
@@ -135,14 +135,14 @@ notice_one old middle new number there e links steps world s = (
   quiet_last old middle new [] (quiet_keeps old middle links.0) steps.0,
 )
 
-not_connected : (old : Seen) (world : World) (number : ℕ) (l : code.Link) → is_link l code.TheVariants.Down ≡ false
+not_connected : (old : CodeWorld) (world : World) (number : ℕ) (l : code.Link) → is_link l code.TheVariants.Down ≡ false
     → Stands old world
     → Stands old (connect_over world number (link_of l)) × Keeps (sent_by_join world number (link_of l)) old old
 not_connected old world number code.TheVariants.Down e s = let c : ⊥ = cc in absurd c
 not_connected old world number code.TheVariants.Up e s = (s, quiet_keeps old old refl)
 not_connected old world number code.TheVariants.Cut e s = (s, quiet_keeps old old refl)
 
-pub connect_nothing : (old : Seen) (number : ℕ) → IsPresent number old.seats
+pub connect_nothing : (old : CodeWorld) (number : ℕ) → IsPresent number old.seats
     → is_link (seat_in old.seats number).link code.TheVariants.Down ≡ false → Applies (Event.Connect number) old old
 unfolding messages_of
 connect_nothing old number there e world s =
@@ -153,7 +153,7 @@ connect_nothing old number there e world s =
 same_clients : (world : World) (progress : Progress) → (served world progress).clients ≡ world.clients
 same_clients world progress = (delivers (record world { server = progress.server }) progress.outs).clients
 
-pub connect_one : (old middle told joined new : Seen) (number : ℕ) → IsPresent number old.seats
+pub connect_one : (old middle told joined new : CodeWorld) (number : ℕ) → IsPresent number old.seats
     → is_link (seat_in old.seats number).link code.TheVariants.Down ≡ true
     → Links number Link.Up old middle → Tells (Fact.Joined number) middle told → Serves (Call.Join number) told joined
     → StepsIn number ClientCall.Connected joined new → Applies (Event.Connect number) old new
@@ -174,11 +174,11 @@ connect_one old middle told joined new number there e links tells serves steps w
 
 -- ---- strays
 
-not_strayed : (old : Seen) (world : World) (number : ℕ) (request : Request) (l : code.Link)
+not_strayed : (old : CodeWorld) (world : World) (number : ℕ) (request : Request) (l : code.Link)
     → is_link l code.TheVariants.Up ≡ false → Stands old world → Stands old (strayed_over world number request (link_of l))
 not_strayed old world number request l e s = grind arith
 
-pub stray_nothing : (old : Seen) (number : ℕ) (request : Request) → IsPresent number old.seats
+pub stray_nothing : (old : CodeWorld) (number : ℕ) (request : Request) → IsPresent number old.seats
     → is_link (seat_in old.seats number).link code.TheVariants.Up ≡ false → Applies (Event.Raw number request) old old
 unfolding messages_of
 stray_nothing old number request there e world s = (
@@ -187,7 +187,7 @@ stray_nothing old number request there e world s = (
   quiet_keeps old old refl,
 )
 
-pub stray_one : (old told new : Seen) (number : ℕ) (request : Request) → IsPresent number old.seats
+pub stray_one : (old told new : CodeWorld) (number : ℕ) (request : Request) → IsPresent number old.seats
     → is_link (seat_in old.seats number).link code.TheVariants.Up ≡ true
     → Tells (Fact.Strayed number) old told → Sends number request told new → Applies (Event.Raw number request) old new
 unfolding messages_of
@@ -203,7 +203,7 @@ both_so : (a b : Bool) → (a && b) ≡ true → (a ≡ true) × (b ≡ true)
 both_so a b e = grind arith
 
 -- the key that was made is that of the client's machine
-same_key : (old : Seen) (number file : ℕ) (key : List ℕ) → IsPresent number old.seats
+same_key : (old : CodeWorld) (number file : ℕ) (key : List ℕ) → IsPresent number old.seats
     → key ≡ lease_key (seat_in old.seats number).guid file → (world : World) → Stands old world
     → key_of number key ≡ machine_key world number file
 same_key old number file key there e world s = grind arith
@@ -216,14 +216,14 @@ something_expires : {X : Type 0} (b c : Bool) (one other : X) → (b && c) ≡ t
     → (if b then (if c then other else one) else one) ≡ other
 something_expires b c one other e = grind arith
 
-waits : (old : Seen) (number file : ℕ) (key : List ℕ) (b : Bool) → IsPresent number old.seats
+waits : (old : CodeWorld) (number file : ℕ) (key : List ℕ) (b : Bool) → IsPresent number old.seats
     → key ≡ lease_key (seat_in old.seats number).guid file
     → (is_some (content (server_of old.server) file) && breaking (server_of old.server) (key_of number key)) ≡ b
     → (world : World) → Stands old world
     → (has_file world.server file && breaking world.server (machine_key world number file)) ≡ b
 waits old number file key b there k e world s = grind arith
 
-pub expire_nothing : (old : Seen) (number file : ℕ) (key : List ℕ) → IsPresent number old.seats
+pub expire_nothing : (old : CodeWorld) (number file : ℕ) (key : List ℕ) → IsPresent number old.seats
     → key ≡ lease_key (seat_in old.seats number).guid file
     → (is_some (content (server_of old.server) file) && breaking (server_of old.server) (key_of number key)) ≡ false
     → Applies (Event.Expire number file) old old
@@ -238,7 +238,7 @@ expire_nothing old number file key there k e world s =
           (quiet_keeps old old refl),
     )
 
-pub expire_one : (old told new : Seen) (number file : ℕ) (key : List ℕ) → IsPresent number old.seats
+pub expire_one : (old told new : CodeWorld) (number file : ℕ) (key : List ℕ) → IsPresent number old.seats
     → key ≡ lease_key (seat_in old.seats number).guid file
     → (is_some (content (server_of old.server) file) && breaking (server_of old.server) (key_of number key)) ≡ true
     → Tells (Fact.Expired number file) old told → Serves (Call.Expire (key_of number key)) told new
@@ -259,7 +259,7 @@ expire_one old told new number file key there k e tells serves world s =
           (quiet_first old told new _ tells.0 served.1),
     )
 
-pub scavenge_nothing : (old : Seen) (number file : ℕ) → kept (server_of old.server) number file ≡ None
+pub scavenge_nothing : (old : CodeWorld) (number file : ℕ) → kept (server_of old.server) number file ≡ None
     → Applies (Event.Scavenge number file) old old
 unfolding messages_of
 scavenge_nothing old number file e world s =
@@ -267,18 +267,18 @@ scavenge_nothing old number file e world s =
     subst (λ (o : Option ℕ). Stands old (scavenged world o) × Keeps (sent_by_scavenge world o) old old) (sym none)
     (s, quiet_keeps old old refl)
 
-pub scavenge_one : (old new : Seen) (number file fid : ℕ) → kept (server_of old.server) number file ≡ Some fid
+pub scavenge_one : (old new : CodeWorld) (number file fid : ℕ) → kept (server_of old.server) number file ≡ Some fid
     → Serves (Call.Scavenge fid) old new → Applies (Event.Scavenge number file) old new
 unfolding messages_of
 scavenge_one old new number file fid e serves world s = grind arith
 
 -- ---- any event
 
-has_it : (old : Seen) (number : ℕ) (b : Bool) → (nat_le 1 number && nat_le number (length old.seats)) ≡ b
+has_it : (old : CodeWorld) (number : ℕ) (b : Bool) → (nat_le 1 number && nat_le number (length old.seats)) ≡ b
     → (world : World) → Stands old world → (nat_le 1 number && nat_le number world.count) ≡ b
 has_it old number b e world s = rw s.count e
 
-pub nothing_happens : (old : Seen) (number : ℕ) (event : Event) → number ≡ client_of event
+pub nothing_happens : (old : CodeWorld) (number : ℕ) (event : Event) → number ≡ client_of event
     → (nat_le 1 number && nat_le number (length old.seats)) ≡ false → Happens event old old
 unfolding messages_in
 nothing_happens old number event n e world s =
@@ -286,13 +286,13 @@ nothing_happens old number event n e world s =
     subst (λ (m : ℕ). (nat_le 1 m && nat_le m world.count) ≡ false) n (has_it old number false e world s) in
     rw has (s, quiet_keeps old old refl)
 
-pub event_happens : (old new : Seen) (number : ℕ) (event : Event) → number ≡ client_of event
+pub event_happens : (old new : CodeWorld) (number : ℕ) (event : Event) → number ≡ client_of event
     → (nat_le 1 number && nat_le number (length old.seats)) ≡ true → Applies event old new → Happens event old new
 unfolding messages_in
 event_happens old new number event n e applies world s = grind arith
 
 -- the same of an event that names the number of its client, where a call says so if it succeeds
-pub told_happens : {T E : Type 0} (result : Result T E) (old new : Seen) (number client : ℕ) (tells : ℕ → Event)
+pub told_happens : {T E : Type 0} (result : Result T E) (old new : CodeWorld) (number client : ℕ) (tells : ℕ → Event)
     → number ≡ client → number ≡ client_of (tells client)
     → (nat_le 1 number && nat_le number (length old.seats)) ≡ true → OnOk result (Applies (tells number) old new)
     → OnOk result (Happens (tells client) old new)
@@ -300,7 +300,7 @@ told_happens result old new number client tells same named has applies = on_ok_w
     (λ does. event_happens old new number (tells client) named has (subst (λ (n : ℕ). Applies (tells n) old new) same does))
     applies
 
-pub command_applies : (old new : Seen) (number : ℕ) (command : Command) → StepsIn number (ClientCall.Commanded command) old new
+pub command_applies : (old new : CodeWorld) (number : ℕ) (command : Command) → StepsIn number (ClientCall.Commanded command) old new
     → Applies (Event.App number command) old new
 unfolding messages_of
 command_applies old new number command steps world s = (steps.1 tt world s, quiet_keeps old new steps.0)

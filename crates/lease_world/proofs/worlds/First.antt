@@ -1,9 +1,9 @@
 -- Where a run begins, and its events one after another.
 use Rattle.lease_laws.proofs.Words.{◌&&◌, ◌++◌, ◌+◌, ◌-◌, ◌<◌, ◌∙◌, ◌∷◌, ◌≡◌, ◌≤◌, Bool, Event, FILE_LIMIT, Fact, HaveFullKeys}
 use Rattle.lease_laws.proofs.Words.{List, Option, Reply, Setup, World, ℕ, [], after, ap, append-nil, append_assoc, arith}
-use Rattle.lease_laws.proofs.Words.{bytes_eq, drop, false, files_limit, first_world, get_or, happens, is_allowed_setup}
+use Rattle.lease_laws.proofs.Words.{bytes_eq, drop, false, files_limit, first_world_under, get_or, happens, is_allowed_setup}
 use Rattle.lease_laws.proofs.Words.{is_content, length, length-drop, length-map, list_all, list_any, map, map-append, nat_le}
-use Rattle.lease_laws.proofs.Words.{nat_lt, nat_tests, new_client, new_server, numbered, refl, reply_of, request_of}
+use Rattle.lease_laws.proofs.Words.{nat_lt, nat_tests, new_client, new_server_under, Rules, numbered, refl, reply_of, request_of}
 use Rattle.lease_laws.proofs.Words.{reverse-reverse, slice_get, starts_from, subst, suc, sym, take, true, unwrap_or, zero}
 use Rattle.std.proofs.Math.Seq.{take-suc}
 use Rattle.std.proofs.lemmas.Bool.{le-leb}
@@ -18,7 +18,7 @@ use Rattle.lease_facts.specs.Setups.{event_of}
 use Rattle.lease_facts.specs.declared.setup.Event as code_event
 use Rattle.lease_world.specs.world.Messages.{messages_in, messages_from}
 use Rattle.lease_world.specs.world.Seats.{Seat, seat_in, no_seat, IsPresent}
-use Rattle.lease_world.specs.world.Stands.{Seen, link_of, Stands}
+use Rattle.lease_world.specs.world.Stands.{CodeWorld, link_of, Stands}
 use Rattle.lease_world.specs.world.Worlds.{Happens, KeepsBehind}
 use Rattle.lease_world.proofs.worlds.Kept.{behind_none, behind_more}
 use Rattle.share_server.specs.Table.{server_of}
@@ -172,15 +172,15 @@ new_count files [] (s ∷ seats) all = absurd all
 new_count files (g ∷ guids) [] all = absurd all
 new_count files (g ∷ guids) (s ∷ seats) all = ap suc (new_count files guids seats all.1)
 
-new_keys : (contents : List (List ℕ)) → HaveFullKeys (new_server contents)
-unfolding new_server
-new_keys contents = record { opens = λ one bytes a e. absurd a; held = λ file one a. absurd a }
+new_keys : (rules : Rules) (contents : List (List ℕ)) → HaveFullKeys (new_server_under rules contents)
+unfolding new_server_under
+new_keys rules contents = record { opens = λ one bytes a e. absurd a; held = λ file one a. absurd a }
 
-pub first_stands : (new : Seen) (setup : Setup) → server_of new.server ≡ new_server setup.files
+pub first_stands : (rules : Rules) (new : CodeWorld) (setup : Setup) → server_of new.server ≡ new_server_under rules setup.files
     → AreNew (length setup.files) setup.clients new.seats → map fact_of new.facts ≡ starts_from 1 setup.files
-    → Stands new (first_world setup)
-unfolding first_world new_client
-first_stands new setup server all facts =
+    → Stands new (first_world_under rules setup)
+unfolding first_world_under new_client
+first_stands rules new setup server all facts =
     let is_new : (n : ℕ) → IsPresent n new.seats
     → IsNew (length setup.files) (numbered [] setup.clients n) (seat_in new.seats n) =
     λ n p. new_seat (length setup.files) setup.clients new.seats all n p in
@@ -195,9 +195,9 @@ first_stands new setup server all facts =
         replies = ap (map reply_of) one.replies;
       };
       facts = facts ∙ sym (reverse-reverse (starts_from 1 setup.files));
-      sound = new_server-sound setup.files;
-      waiting = first-waits-well setup.files;
-      keys = new_keys setup.files;
+      sound = new_server-sound rules setup.files;
+      waiting = first-waits-well rules setup.files;
+      keys = new_keys rules setup.files;
       writing = λ n p. record { guid = (is_new n p).full; file_ids = λ file. tt };
     }
 
@@ -224,12 +224,12 @@ messages_one_more first (e ∷ events) event =
     ∙ sym (append_assoc (messages_in first e) (messages_from (happens first e) events)
     (messages_in (after (happens first e) events) event))
 
-pub no_event : (old : Seen) (first : World) (kept : Option (List code_reply.Reply)) (events : List Event) → Stands old first
+pub no_event : (old : CodeWorld) (first : World) (kept : Option (List code_reply.Reply)) (events : List Event) → Stands old first
     → old.messages ≡ kept → Stands old (after first (take 0 events)) × KeepsBehind kept (messages_from first (take 0 events)) old
 unfolding after messages_from
 no_event old first kept events s e = (s, behind_none old kept e)
 
-pub one_more_event : (old new : Seen) (first : World) (kept : Option (List code_reply.Reply)) (events : List code_event.Event)
+pub one_more_event : (old new : CodeWorld) (first : World) (kept : Option (List code_reply.Reply)) (events : List code_event.Event)
     → (n : ℕ) (d : code_event.Event) → n < length events → Stands old (after first (take n (map event_of events)))
     × KeepsBehind kept (messages_from first (take n (map event_of events))) old → Happens (event_of (get_or events n d)) old new
     → Stands new (after first (take (n + 1) (map event_of events)))
@@ -249,7 +249,7 @@ one_more_event old new first kept events n d lt held happens =
     )
 
 -- a run ends where no event is left
-pub no_event_left : (code : Seen) (first : World) (events : List code_event.Event) (index : ℕ) → length events ≤ index
+pub no_event_left : (code : CodeWorld) (first : World) (events : List code_event.Event) (index : ℕ) → length events ≤ index
     → Stands code (after first (take index (map event_of events))) → Stands code (after first (map event_of events))
 no_event_left code first events index end stands =
     rw (take_all (map event_of events) index (omega (arith, end, length-map events event_of))) at stands

@@ -7,14 +7,14 @@ use Rattle.lease_world.specs.declared.world.link.Link as code
 use Rattle.lease_facts.specs.Facts.{fact_of}
 use Rattle.share_server.specs.Table.{server_of}
 use Rattle.lease_world.specs.world.Seats.{seat_in, IsPresent, ChangesSeat, PopsRequest, PopsReply, with_requests}
-use Rattle.lease_world.specs.world.Stands.{Seen, link_of, IsSeat, Stands}
+use Rattle.lease_world.specs.world.Stands.{CodeWorld, link_of, IsSeat, Stands}
 use Rattle.lease_world.proofs.worlds.Standing.{one_seat, at_place, off_place, sent_requests}
 
 -- seats that changed, and nothing else
-abbrev pub OnlySeats : Seen → Seen → Type 0
+abbrev pub OnlySeats : CodeWorld → CodeWorld → Type 0
 OnlySeats old new = (new.server ≡ old.server) × (new.facts ≡ old.facts) × (new.messages ≡ old.messages)
 
-pub linked_stands : (old new : Seen) (number : ℕ) (link : code.Link) → OnlySeats old new
+pub linked_stands : (old new : CodeWorld) (number : ℕ) (link : code.Link) → OnlySeats old new
     → ChangesSeat (λ before after. after ≡ record before { link = link }) number old.seats new.seats
     → (world : World) → Stands old world → Stands new (record world { links = put world.links number (link_of link) })
 unfolding put
@@ -39,7 +39,7 @@ linked_stands old new number link only seats world s = record {
   writing = λ n p. s.writing n (p.0, omega (arith, p.1, seats.2));
 }
 
-pub cut_stands : (old new : Seen) (number : ℕ) → OnlySeats old new
+pub cut_stands : (old new : CodeWorld) (number : ℕ) → OnlySeats old new
     → ChangesSeat (λ before after. after ≡ record before { link = code.TheVariants.Cut; requests = []; replies = [] }) number
     old.seats new.seats → (world : World) → Stands old world → Stands new (record world {
       links = put world.links number Link.Cut;
@@ -51,12 +51,12 @@ cut_stands old new number only seats world s = grind arith
 
 -- ---- queues
 
-pub no_request : (old new : Seen) (number : ℕ) → ChangesSeat (PopsRequest None) number old.seats new.seats
+pub no_request : (old new : CodeWorld) (number : ℕ) → ChangesSeat (PopsRequest None) number old.seats new.seats
     → IsPresent number old.seats → (world : World) → Stands old world → world.requests number ≡ []
 no_request old new number ((same, none), others, count) p world s = sym (s.seats number p).requests ∙ ap (map request_of) none
 
 -- the oldest request is taken out of its queue
-pub popped_request : (old new : Seen) (number : ℕ) (request : code_request.Request) → OnlySeats old new
+pub popped_request : (old new : CodeWorld) (number : ℕ) (request : code_request.Request) → OnlySeats old new
     → ChangesSeat (PopsRequest (Some request)) number old.seats new.seats
     → IsPresent number old.seats → (world : World) → Stands old world
     → (world.requests number ≡ request_of request ∷ map request_of (seat_in new.seats number).requests)
@@ -64,11 +64,11 @@ pub popped_request : (old new : Seen) (number : ℕ) (request : code_request.Req
 unfolding put
 popped_request old new number request only seats there world s = grind arith
 
-pub no_reply : (old new : Seen) (number : ℕ) → ChangesSeat (PopsReply None) number old.seats new.seats
+pub no_reply : (old new : CodeWorld) (number : ℕ) → ChangesSeat (PopsReply None) number old.seats new.seats
     → IsPresent number old.seats → (world : World) → Stands old world → world.replies number ≡ []
 no_reply old new number ((same, none), others, count) p world s = sym (s.seats number p).replies ∙ ap (map reply_of) none
 
-pub popped_reply : (old new : Seen) (number : ℕ) (reply : code_reply.Reply) → OnlySeats old new
+pub popped_reply : (old new : CodeWorld) (number : ℕ) (reply : code_reply.Reply) → OnlySeats old new
     → ChangesSeat (PopsReply (Some reply)) number old.seats new.seats
     → IsPresent number old.seats → (world : World) → Stands old world
     → (world.replies number ≡ reply_of reply ∷ map reply_of (seat_in new.seats number).replies)
@@ -77,7 +77,7 @@ unfolding put
 popped_reply old new number reply only seats there world s = grind arith
 
 -- a request is sent in a client's name
-pub sent_stands : (old new : Seen) (number : ℕ) (request : code_request.Request) → OnlySeats old new
+pub sent_stands : (old new : CodeWorld) (number : ℕ) (request : code_request.Request) → OnlySeats old new
     → ChangesSeat (λ before after. after ≡ with_requests (request ∷ []) before) number old.seats new.seats
     → (world : World) → Stands old world → Stands new (requests_sent world number (request_of request ∷ []))
 unfolding put

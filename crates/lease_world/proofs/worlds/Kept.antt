@@ -6,7 +6,7 @@ use Rattle.lease_laws.proofs.messages.ServerBytes.{replies_have_bytes}
 use Rattle.lease_state.specs.declared.reply.Reply as code
 use Rattle.lease_world.specs.world.Messages.{sent_by}
 use Rattle.lease_world.specs.world.Seats.{HasKept, replies_among}
-use Rattle.lease_world.specs.world.Stands.{Seen, Stands}
+use Rattle.lease_world.specs.world.Stands.{CodeWorld, Stands}
 use Rattle.lease_world.specs.world.Worlds.{messages_kept, Keeps, KeepsBehind, IsQuiet}
 use Rattle.lease_world.proofs.worlds.Delivered.{replies_given}
 use Rattle.share_server.specs.Outs.{IsAfter}
@@ -18,7 +18,7 @@ with_none : (o : Option (List Reply)) → o ≡ option_map (λ replies. replies 
 with_none None = refl
 with_none (Some replies) = ap (λ (rs : List Reply). Some rs) (sym (append-nil replies))
 
-pub quiet_keeps : (old new : Seen) → IsQuiet old new → Keeps [] old new
+pub quiet_keeps : (old new : CodeWorld) → IsQuiet old new → Keeps [] old new
 quiet_keeps old new quiet =
     ap (λ (o : Option (List code.Reply)). option_map (map reply_of) o) quiet ∙ with_none (messages_kept old)
 
@@ -29,17 +29,17 @@ behind_both None xs ys = refl
 behind_both (Some replies) xs ys = ap (λ (rs : List Reply). Some rs) (append_assoc replies xs ys)
 
 -- what is kept with one thing, and then with another
-pub keeps_both : (old middle new : Seen) (xs ys : List Reply) → Keeps xs old middle → Keeps ys middle new
+pub keeps_both : (old middle new : CodeWorld) (xs ys : List Reply) → Keeps xs old middle → Keeps ys middle new
     → Keeps (xs ++ ys) old new
 keeps_both old middle new xs ys a b =
     b ∙ (ap (λ (o : Option (List Reply)). option_map (λ replies. replies ++ ys) o) a ∙ behind_both (messages_kept old) xs ys)
 
 -- nothing is kept before it
-pub quiet_first : (old middle new : Seen) (more : List Reply) → IsQuiet old middle → Keeps more middle new → Keeps more old new
+pub quiet_first : (old middle new : CodeWorld) (more : List Reply) → IsQuiet old middle → Keeps more middle new → Keeps more old new
 quiet_first old middle new more quiet keeps = keeps_both old middle new [] more (quiet_keeps old middle quiet) keeps
 
 -- nothing is kept after it
-pub quiet_last : (old middle new : Seen) (more : List Reply) → Keeps more old middle → IsQuiet middle new → Keeps more old new
+pub quiet_last : (old middle new : CodeWorld) (more : List Reply) → Keeps more old middle → IsQuiet middle new → Keeps more old new
 quiet_last old middle new more keeps quiet = grind arith
 
 as_rules : (o : Option (List code.Reply)) (more : List code.Reply)
@@ -48,21 +48,21 @@ as_rules : (o : Option (List code.Reply)) (more : List code.Reply)
 as_rules None more = refl
 as_rules (Some kept) more = ap (λ (rs : List Reply). Some rs) (map-append reply_of kept more)
 
-pub kept_keeps : (old new : Seen) (more : List code.Reply) → HasKept old.messages new.messages more
+pub kept_keeps : (old new : CodeWorld) (more : List code.Reply) → HasKept old.messages new.messages more
     → Keeps (map reply_of more) old new
 kept_keeps old new more kept =
     ap (λ (o : Option (List code.Reply)). option_map (map reply_of) o) kept ∙ as_rules old.messages more
 
 -- ---- behind messages that were kept first
 
-pub behind_none : (old : Seen) (kept : Option (List code.Reply)) → old.messages ≡ kept → KeepsBehind kept [] old
+pub behind_none : (old : CodeWorld) (kept : Option (List code.Reply)) → old.messages ≡ kept → KeepsBehind kept [] old
 behind_none old kept e = ap (λ (o : Option (List code.Reply)). option_map (map reply_of) o) e ∙ go kept
   where
     go : (o : Option (List code.Reply)) → option_map (map reply_of) o ≡ option_map (λ kept. map reply_of kept ++ []) o
     go None = refl
     go (Some replies) = ap (λ (rs : List Reply). Some rs) (sym (append-nil (map reply_of replies)))
 
-pub behind_more : (old new : Seen) (kept : Option (List code.Reply)) (xs ys : List Reply) → KeepsBehind kept xs old
+pub behind_more : (old new : CodeWorld) (kept : Option (List code.Reply)) (xs ys : List Reply) → KeepsBehind kept xs old
     → Keeps ys old new → KeepsBehind kept (xs ++ ys) new
 behind_more old new kept xs ys a b = b ∙ (ap (λ (o : Option (List Reply)). option_map (λ replies. replies ++ ys) o) a ∙ go kept)
   where
@@ -74,7 +74,7 @@ behind_more old new kept xs ys a b = b ∙ (ap (λ (o : Option (List Reply)). op
 -- ---- the server
 
 -- a call of the server, which keeps what it sends
-pub served_keeps : (old new : Seen) (call : Call) (outs : List out.Out)
+pub served_keeps : (old new : CodeWorld) (call : Call) (outs : List out.Out)
     → IsAfter new.server outs (called (server_of old.server) call) → HasKept old.messages new.messages (replies_among outs)
     → CallHasFullKey call → (world : World) → Stands old world → Keeps (sent_by world call) old new
 served_keeps old new call outs after kept keyed world s =

@@ -2,17 +2,17 @@
 use Rattle.lease_laws.proofs.Words.{◌++◌, ◌+◌, ◌∙◌, ◌∷◌, ◌≡◌, Bool, Call, ClientCall, Event, Fact, Link, List, None, Note, Option}
 use Rattle.lease_laws.proofs.Words.{Out, Progress, Reply, Request, Setup, Some, Step, World, ℕ, [], after, ap, applied, arith}
 use Rattle.lease_laws.proofs.Words.{breaking, called, client_called, client_of, client_takes, connect_over, cut_over, fact_of}
-use Rattle.lease_laws.proofs.Words.{false, first_world, happened, happens, has_client, has_file, if◌then◌else◌, kept, length}
+use Rattle.lease_laws.proofs.Words.{false, first_world_under, happened, happens, has_client, has_file, if◌then◌else◌, kept, length}
 use Rattle.lease_laws.proofs.Words.{length-append, length-map, machine_key, map}
 use Rattle.lease_laws.proofs.Words.{notice_over, put, refl, reply_of, requests_sent, reverse, reverse-append, reverse-reverse}
 use Rattle.lease_laws.proofs.Words.{scavenged, served, server_takes, starts_from, stepped_in, strayed_over, suc, sym}
-use Rattle.lease_laws.proofs.Words.{timer_expired, true}
-use Rattle.lease_model.specs.world.Events.{recorded}
+use Rattle.lease_laws.proofs.Words.{timer_expired, true, Rules}
+use Rattle.lease_model.specs.world.Events.{recorded_under}
 use Rattle.lease_facts.specs.Facts.{fact_of as fact_told}
 use Rattle.lease_facts.specs.declared.fact.Fact as code_fact
 use Rattle.lease_state.specs.declared.reply.Reply as code_reply
 use Rattle.lease_world.specs.world.Messages.{sent_among, sent_by_oldest, oldest, sent_by_cut, sent_by_join, sent_by_scavenge}
-use Rattle.lease_world.specs.world.Messages.{messages_of, messages_in, messages_from, messages_told, speaking}
+use Rattle.lease_world.specs.world.Messages.{messages_of, messages_in, messages_from, messages_told_under, speaking}
 use Rattle.lease_world.proofs.worlds.Delivered.{told, delivers, notes_told}
 
 speaking_both : (xs ys : List Fact) → speaking (xs ++ ys) ≡ speaking xs + speaking ys
@@ -167,15 +167,15 @@ starts_are_silent file [] = refl
 starts_are_silent file (bytes ∷ files) = starts_are_silent (file + 1) files
 
 -- as many messages as facts that speak of one
-pub each_has_one : (setup : Setup) (events : List Event) → speaking (recorded setup events) ≡ length (messages_told setup events)
-unfolding first_world
-each_has_one setup events = after_says (first_world setup) events
-    ∙ (ap (λ (facts : List Fact). speaking facts + length (messages_told setup events))
+pub each_has_one : (rules : Rules) (setup : Setup) (events : List Event) → speaking (recorded_under rules setup events) ≡ length (messages_told_under rules setup events)
+unfolding first_world_under
+each_has_one rules setup events = after_says (first_world_under rules setup) events
+    ∙ (ap (λ (facts : List Fact). speaking facts + length (messages_told_under rules setup events))
     (reverse-reverse (starts_from 1 setup.files))
-    ∙ (ap (λ (n : ℕ). n + length (messages_told setup events)) (starts_are_silent 1 setup.files) ∙ omega arith))
+    ∙ (ap (λ (n : ℕ). n + length (messages_told_under rules setup events)) (starts_are_silent 1 setup.files) ∙ omega arith))
 
-pub each_told : (facts : List code_fact.Fact) (replies : List code_reply.Reply) (setup : Setup) (events : List Event)
-    → map fact_told facts ≡ recorded setup events → map reply_of replies ≡ messages_told setup events
+pub each_told : (facts : List code_fact.Fact) (replies : List code_reply.Reply) (rules : Rules) (setup : Setup) (events : List Event)
+    → map fact_told facts ≡ recorded_under rules setup events → map reply_of replies ≡ messages_told_under rules setup events
     → speaking (map fact_told facts) ≡ length replies
-each_told facts replies setup events same messages =
-    ap speaking same ∙ (each_has_one setup events ∙ (ap length (sym messages) ∙ length-map replies reply_of))
+each_told facts replies rules setup events same messages =
+    ap speaking same ∙ (each_has_one rules setup events ∙ (ap length (sym messages) ∙ length-map replies reply_of))

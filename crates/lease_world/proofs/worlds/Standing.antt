@@ -20,7 +20,7 @@ use Rattle.lease_facts.specs.declared.fact.Fact as code_fact
 use Rattle.lease_world.specs.declared.world.link.Link as code
 use Rattle.lease_world.specs.world.Seats.{Seat, seat_at, seat_in, no_seat, IsPresent, HasReplies, fact_given, replies_to}
 use Rattle.lease_world.specs.world.Seats.{with_replies, queued, ChangesSeat, StepsSeat}
-use Rattle.lease_world.specs.world.Stands.{Seen, link_of, IsSeat, Stands}
+use Rattle.lease_world.specs.world.Stands.{CodeWorld, link_of, IsSeat, Stands}
 use Rattle.lease_world.proofs.worlds.Delivered.{IsDelivered, delivers, given_told, given_replies, IsNoted, notes_told}
 use Rattle.lease_world.proofs.worlds.Delivered.{requests_back}
 use Rattle.share_server.specs.Outs.{IsAfter}
@@ -46,7 +46,7 @@ seat_replied old new outs n has p = ap (λ (o : Option Seat). unwrap_or o no_sea
 
 -- ---- a fact
 
-pub told_stands : (old : Seen) (fact : code_fact.Fact) (world : World) → Stands old world
+pub told_stands : (old : CodeWorld) (fact : code_fact.Fact) (world : World) → Stands old world
     → Stands (record old { facts = old.facts ++ fact ∷ [] }) (happened world (fact_of fact))
 told_stands old fact world s = record {
   count = s.count;
@@ -68,7 +68,7 @@ told_stands old fact world s = record {
 
 -- ---- a call of the server
 
-pub served_stands : (old new : Seen) (call : Call) (outs : List out.Out)
+pub served_stands : (old new : CodeWorld) (call : Call) (outs : List out.Out)
     → IsAfter new.server outs (called (server_of old.server) call)
     → HasReplies old.seats new.seats outs → length new.seats ≡ length old.seats
     → map fact_of new.facts ≡ map fact_of old.facts ++ map fact_given outs
@@ -141,7 +141,7 @@ same_guid client (ClientCall.Taken reply) = (taken-stays client reply).guid
 same_guid client ClientCall.Noticed = refl
 same_guid client ClientCall.Connected = refl
 
-pub stepped_stands : (old new : Seen) (number : ℕ) (call : ClientCall) (notes : List Note) → new.server ≡ old.server
+pub stepped_stands : (old new : CodeWorld) (number : ℕ) (call : ClientCall) (notes : List Note) → new.server ≡ old.server
     → ChangesSeat (StepsSeat call notes) number old.seats new.seats
     → map fact_of new.facts ≡ map fact_of old.facts ++ map (fact_noted number) notes
     → IsPresent number old.seats → CallHasFileId call → (world : World) → Stands old world

@@ -6,13 +6,13 @@ use Rattle.lease_world.specs.Verdicts.{verdict_of}
 use Rattle.lease_world.specs.declared.verdict.Verdict.{Verdict}
 use Rattle.lease_world.specs.judge.Added.{Adds}
 use Rattle.lease_world.specs.judge.Knows.{Knows}
-use Rattle.lease_world.specs.judge.Seen.{Seen}
+use Rattle.lease_world.specs.judge.Seen.{KeptFacts}
 
 -- what a judge has told so far, how many facts it took, and what it keeps of them
 pub record Judging : Type 0 where
   pub verdict : Verdict
   pub count : ℕ
-  pub known : Seen
+  pub known : KeptFacts
 
 abbrev pub is_safe : Verdict → Bool
 is_safe Verdict.Safe = true

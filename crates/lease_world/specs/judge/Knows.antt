@@ -12,7 +12,7 @@ use Rattle.lease_model.specs.records.Safe.{EachFact, WellFormed, OneWriteCache}
 use Rattle.lease_world.specs.judge.Before.{before, patches_of}
 use Rattle.lease_world.specs.judge.Clients.{taken_of}
 use Rattle.lease_world.specs.judge.Covers.{layers_at, stack_in}
-use Rattle.lease_world.specs.judge.Seen.{Seen, SeenFile, SeenCache, SeenClient, Snapshot, Holders, file_in, client_in, cache_in}
+use Rattle.lease_world.specs.judge.Seen.{KeptFacts, SeenFile, SeenCache, SeenClient, Snapshot, Holders, file_in, client_in, cache_in}
 use Rattle.lease_world.specs.judge.Seen.{holders_in, touched_by_others, write_in, has_settled}
 use Rattle.lease_world.specs.judge.Told.{placed_changes, last_touch, write_of, pending, place_of, sent_places, is_unsettled}
 
@@ -75,7 +75,7 @@ pub record KnowsHolders (holders : List Holders) (past : List Fact) : Type 0 whe
   pub few : (client : ℕ) → 256 ≤ client → is_good client past ≡ false
   pub counted : (file : ℕ) → IsCounted (held file past) (holders_in holders file)
 
-pub record Knows (seen : Seen) (past : List Fact) : Type 0 where
+pub record Knows (seen : KeptFacts) (past : List Fact) : Type 0 where
   pub files : (file : ℕ) → KnowsFile file (file_in seen.files file) past
   pub clients : (client : ℕ) → KnowsClient client (client_in seen.clients client) past
   pub contents : (client file : ℕ) → HasContents (file_in seen.files file) (client_in seen.clients client).taken

@@ -83,7 +83,8 @@ pub record Holders : Type 0 where
   pub any : ℕ
   pub writing : ℕ
 
-pub record Seen : Type 0 where
+-- all that a judge keeps of the facts that it was given
+pub record KeptFacts : Type 0 where
   pub files : List SeenFile
   pub clients : List SeenClient
   pub holders : List Holders

@@ -1,5 +1,7 @@
 -- The messages that the facts of a run speak of: the reply of each `sent` and of each `took`, in the order of the facts.
 use Rattle.std.specs.Prelude.{ℕ, suc, Option, Some, None, List, [], ◌∷◌, ◌++◌, if◌then◌else◌}
+use Rattle.lease_state.specs.Rules.{profile_rules}
+use Rattle.lease_state.specs.declared.rules.Rules.{Rules}
 use Rattle.lease_model.specs.messages.Replies.{Reply, Out}
 use Rattle.lease_model.specs.messages.Requests.{Request}
 use Rattle.lease_model.specs.records.Facts.{Fact}
@@ -7,7 +9,7 @@ use Rattle.lease_model.specs.server.Calls.{Call, called}
 use Rattle.lease_model.specs.server.Queries.{breaking, kept}
 use Rattle.lease_model.specs.server.State.{has_file}
 use Rattle.lease_model.specs.world.Events.{Event, client_of, happens, machine_key}
-use Rattle.lease_model.specs.world.World.{World, Setup, Link, has_client, first_world}
+use Rattle.lease_model.specs.world.World.{World, Setup, Link, has_client, first_world_under}
 
 -- the replies among what a server gives out
 abbrev pub sent_among : List Out → List Reply
@@ -63,8 +65,12 @@ messages_from world [] = []
 messages_from world (event ∷ events) = messages_in world event ++ messages_from (happens world event) events
 
 -- of a run, in the order of its record
+abbrev pub messages_told_under : Rules → Setup → List Event → List Reply
+messages_told_under rules setup events = messages_from (first_world_under rules setup) events
+
+-- the same with the profile's rules
 abbrev pub messages_told : Setup → List Event → List Reply
-messages_told setup events = messages_from (first_world setup) events
+messages_told setup events = messages_told_under profile_rules setup events
 
 -- how many facts speak of a message
 unfoldable pub speaking : List Fact → ℕ

@@ -14,7 +14,7 @@ use Rattle.lease_state.specs.declared.reply.Reply.{Reply}
 use Rattle.share_server.specs.Table.{Table, server_of}
 use Rattle.share_server.specs.declared.values.out.Out.{Out}
 
-pub record Seen : Type 0 where
+pub record CodeWorld : Type 0 where
   pub server : Table
   pub seats : List Seat
   pub facts : List Fact
@@ -36,7 +36,7 @@ pub record IsSeat (seat : Seat) (world : model.World) (number : ℕ) : Type 0 wh
 
 -- The world of the code stands for the other one, in which all that is sent has bytes. Of numbers that no client has
 -- nothing is said.
-pub record Stands (code : Seen) (world : model.World) : Type 0 where
+pub record Stands (code : CodeWorld) (world : model.World) : Type 0 where
   pub count : world.count ≡ length code.seats
   pub server : server_of code.server ≡ world.server
   pub seats : (n : ℕ) → IsPresent n code.seats → IsSeat (seat_in code.seats n) world n

@@ -15,68 +15,68 @@ use Rattle.lease_facts.specs.Facts.{fact_of}
 use Rattle.lease_state.specs.declared.reply.Reply as code
 use Rattle.lease_world.specs.world.Messages.{sent_by, messages_of, messages_in}
 use Rattle.lease_world.specs.world.Seats.{HasReplies, HasKept, fact_given, replies_among}
-use Rattle.lease_world.specs.world.Stands.{Seen, Stands}
+use Rattle.lease_world.specs.world.Stands.{CodeWorld, Stands}
 
 -- ---- messages
 
 -- the messages that are kept, where they are
-abbrev pub messages_kept : Seen → Option (List Reply)
+abbrev pub messages_kept : CodeWorld → Option (List Reply)
 messages_kept code = option_map (map reply_of) code.messages
 
 -- these are kept after those that were, where messages are kept
-abbrev pub Keeps : List Reply → Seen → Seen → Type 0
+abbrev pub Keeps : List Reply → CodeWorld → CodeWorld → Type 0
 Keeps more old new = messages_kept new ≡ option_map (λ replies. replies ++ more) (messages_kept old)
 
 -- the same after messages of the code
-abbrev pub KeepsBehind : Option (List code.Reply) → List Reply → Seen → Type 0
+abbrev pub KeepsBehind : Option (List code.Reply) → List Reply → CodeWorld → Type 0
 KeepsBehind first more new =
     messages_kept new ≡ option_map (λ kept. map reply_of kept ++ more) first
 
 -- no message is kept with it
-abbrev pub IsQuiet : Seen → Seen → Type 0
+abbrev pub IsQuiet : CodeWorld → CodeWorld → Type 0
 IsQuiet old new = new.messages ≡ old.messages
 
 -- ---- what happens
 
 -- what the server gave out is recorded, delivered and kept, where messages are
-pub record Delivers (old new : Seen) : Type 0 where
+pub record Delivers (old new : CodeWorld) : Type 0 where
   pub server : new.server ≡ old.server
   pub replies : HasReplies old.seats new.seats old.outs
   pub count : length new.seats ≡ length old.seats
   pub facts : map fact_of new.facts ≡ map fact_of old.facts ++ map fact_given old.outs
   pub kept : HasKept old.messages new.messages (replies_among old.outs)
 
-abbrev pub Tells : Fact → Seen → Seen → Type 0
+abbrev pub Tells : Fact → CodeWorld → CodeWorld → Type 0
 Tells fact old new = IsQuiet old new × ((world : World) → Stands old world → Stands new (happened world fact))
 
-abbrev pub Serves : Call → Seen → Seen → Type 0
+abbrev pub Serves : Call → CodeWorld → CodeWorld → Type 0
 Serves call old new = CallHasFullKey call → (world : World) → Stands old world
     → Stands new (served world (called world.server call)) × Keeps (sent_by world call) old new
 
-abbrev pub StepsIn : ℕ → ClientCall → Seen → Seen → Type 0
+abbrev pub StepsIn : ℕ → ClientCall → CodeWorld → CodeWorld → Type 0
 StepsIn number call old new = IsQuiet old new × (CallHasFileId call → (world : World) → Stands old world
     → Stands new (stepped_in world number (client_called (world.clients number) call)))
 
-abbrev pub Links : ℕ → Link → Seen → Seen → Type 0
+abbrev pub Links : ℕ → Link → CodeWorld → CodeWorld → Type 0
 Links number link old new = IsQuiet old new × ((world : World) → Stands old world
     → Stands new (record world { links = put world.links number link }))
 
-abbrev pub CutsLink : ℕ → Seen → Seen → Type 0
+abbrev pub CutsLink : ℕ → CodeWorld → CodeWorld → Type 0
 CutsLink number old new = IsQuiet old new × ((world : World) → Stands old world → Stands new (record world {
   links = put world.links number Link.Cut;
   requests = put world.requests number [];
   replies = put world.replies number [];
 }))
 
-abbrev pub Sends : ℕ → Request → Seen → Seen → Type 0
+abbrev pub Sends : ℕ → Request → CodeWorld → CodeWorld → Type 0
 Sends number request old new = IsQuiet old new × ((world : World) → Stands old world
     → Stands new (requests_sent world number (request ∷ [])))
 
 -- an event of a client that there is
-abbrev pub Applies : Event → Seen → Seen → Type 0
+abbrev pub Applies : Event → CodeWorld → CodeWorld → Type 0
 Applies event old new = (world : World) → Stands old world
     → Stands new (applied world event) × Keeps (messages_of world event) old new
 
-abbrev pub Happens : Event → Seen → Seen → Type 0
+abbrev pub Happens : Event → CodeWorld → CodeWorld → Type 0
 Happens event old new = (world : World) → Stands old world
     → Stands new (happens world event) × Keeps (messages_in world event) old new

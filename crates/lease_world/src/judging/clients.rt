@@ -39,6 +39,7 @@ impl Clients {
     /// # Errors
     ///
     /// `Memory` where there is none left for what is kept of the client.
+    // docs/DECISIONS.md: "A judge's tables lend what they keep".
     pub fn get_mut(&mut self, client: ClientNo) -> Result<&mut ClientSeen, Memory>
         ensures* lends { sem 𝓛 (LendsClient self.entry client.0 result) }
         ensures value { IfOk result (λ seen. seen.now ≡ client_in self.old client.0) }

@@ -26,6 +26,7 @@ struct Cover {
 }
 
 /// For each position of a file, as far as writes cover it, the bytes of these writes there, the last on top.
+// docs/DECISIONS.md: "Writes cover positions, as stacks that are linked".
 #[derive(Debug, Drop)]
 pub struct Covers {
     covers: Vec<Cover>,

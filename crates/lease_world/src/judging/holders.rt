@@ -85,6 +85,7 @@ impl Holders {
 }
 
 /// The holders of files, by their numbers.
+// docs/DECISIONS.md: "A judge counts who may cache a file".
 #[derive(Debug, Drop)]
 pub struct FileHolders {
     seen: Vec<Holders>,

@@ -18,6 +18,7 @@ use std::alloc::Global;
 use std::marker::Model;
 
 /// What a judge keeps of the facts that it was given.
+// docs/DECISIONS.md: "What a judge keeps".
 #[derive(Debug, Drop)]
 pub struct Known {
     files: Files,
@@ -28,7 +29,7 @@ pub struct Known {
 impl Model for Known {
     ghost use Rattle.lease_world.specs.judge.Seen as seen;
 
-    ghost Value = { seen.Seen };
+    ghost Value = { seen.KeptFacts };
 
     ghost view = { λ known. record {
       files = known.files;

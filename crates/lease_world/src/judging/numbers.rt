@@ -10,6 +10,7 @@ use std::marker::Model;
 const GAP: usize = 64;
 
 /// A set of numbers of writes. Those of a client machine have 1, 2, 3 and so on; whoever writes a record may choose any.
+// docs/DECISIONS.md: "Numbers of writes aren't hashed".
 #[derive(Debug, Drop)]
 pub struct Numbers {
     /// Whether each number from 0 on is in it.

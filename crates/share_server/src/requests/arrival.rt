@@ -3,19 +3,24 @@ ghost use Rattle.lease_model.specs.messages.FromBytes.{request_of, ask_found};
 ghost use Rattle.lease_model.specs.messages.Requests as model;
 ghost use Rattle.lease_model.specs.server.Calls as rules;
 ghost use Rattle.lease_model.specs.server.Findings.{connected_open};
+ghost use Rattle.lease_model.specs.server.Lanes.{lane_of, lane_under};
+ghost use Rattle.std.specs.Option.{option_map};
+ghost use Rattle.share_server.specs.Lanes.{lane_like};
 ghost use Rattle.lease_wire.specs.Gathering.{value_of};
 ghost use Rattle.share_server.specs.Outs.{progress_of};
-ghost use Rattle.share_server.specs.Requests.{file_request_of, file_result};
+ghost use Rattle.share_server.specs.Requests.{file_request_of, file_result, lease_asked};
 ghost use Rattle.share_server.specs.Table.{server_of};
 
 use crate::outs::Outs;
 use crate::requests::acknowledge::acknowledge;
 use crate::requests::answer::conclude;
 use crate::requests::attempt::attempt;
-use crate::requests::passes::{is_behind, try_all};
+use crate::requests::passes::try_all;
 use crate::tables::Tables;
-use crate::values::request::{FileRequest, Held};
-use lease_state::{Access, Bytes, ClientNo, FileId, FileNo, Memory, Request, Share, Status};
+use crate::values::request::{FileRequest, Held, Lane};
+use lease_state::{
+    Access, Bytes, ClientNo, FileId, FileNo, LeaseKey, LeaseState, Memory, Request, Share, Status,
+};
 use lease_wire::{Direction, read_create};
 
 /// A request of a connected client comes (MS-SMB2 3.3.5). After an acknowledgment or a close held
@@ -149,7 +154,29 @@ fn file_of_open(tables: &Tables, client: ClientNo, fid: FileId) -> Result<FileNo
     }
 }
 
-// A request waits after an earlier one of its client and file (profile), and else is tried.
+// The lane of a request, as it comes.
+fn lane_of(tables: &Tables, client: ClientNo, request: &FileRequest) -> Lane
+    ensures { lane_like result ≡ lane_of (server_of tables.now) client.0 (file_request_of request.now) }
+{
+    match request {
+        FileRequest::Create { ask, .. } => lane_under(ask.lease),
+        FileRequest::Read { fid } => tables.lane_of_open(client, *fid),
+        FileRequest::Write { fid, .. } => tables.lane_of_open(client, *fid),
+        FileRequest::Close { fid } => tables.lane_of_open(client, *fid),
+    }
+}
+
+// The lane of a create.
+fn lane_under(asked: Option<(LeaseKey, LeaseState)>) -> Lane
+    ensures { lane_like result ≡ lane_under (option_map lease_asked asked) }
+{
+    match asked {
+        Some((key, _)) => Lane::Leased(key),
+        None => Lane::Alone,
+    }
+}
+
+// A request waits after an earlier one that it waits behind (profile), and else is tried.
 fn try_on(
     tables: &mut Tables,
     outs: &mut Outs,
@@ -160,15 +187,21 @@ fn try_on(
     ensures { OnOk result (progress_of tables.new outs.new
         ≡ rules.arrived_on client.0 (file_request_of request) (progress_of tables.old outs.old) (Ok file.0)) }
 {
-    if is_behind(client, tables.held(file)) {
-        tables.hold(file, Held { client, request })?;
+    let lane = lane_of(tables, client, &request);
+    let one = Held {
+        client,
+        request,
+        lane,
+    };
+    if one.is_behind(tables.rules(), tables.held(file)) {
+        tables.hold(file, one)?;
         return Ok(());
     }
-    let outcome = attempt(tables, outs, client, request.ask())?;
+    let outcome = attempt(tables, outs, client, one.request.ask())?;
     if outcome.waits() {
-        tables.hold(file, Held { client, request })?;
+        tables.hold(file, one)?;
         return Ok(());
     }
-    conclude(tables, outs, client, request, outcome)?;
+    conclude(tables, outs, client, one.request, outcome)?;
     Ok(())
 }

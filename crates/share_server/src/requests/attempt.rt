@@ -24,6 +24,7 @@ use lease_state::{ClientNo, FileNo, LeaseState, Memory, Status};
 
 /// How many rounds a try takes at most: one may break handles, one writes, and the last finds nothing
 /// more.
+// docs/DECISIONS.md: "A try or a pass ends when nothing is left to do".
 const ROUNDS: u8 = 3;
 
 /// How a try of a request ends.
@@ -70,6 +71,7 @@ pub fn attempt(
 }
 
 // One round; none of the outcomes where another round is due.
+// docs/DECISIONS.md: "Wants are found before disconnected opens are closed".
 fn round(
     tables: &mut Tables,
     outs: &mut Outs,

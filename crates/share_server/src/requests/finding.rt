@@ -110,6 +110,7 @@ impl Tables {
 
     // What a write needs under this key, or under none: nothing where each lease of another key on the
     // file that holds something is breaking to nothing.
+    // docs/DECISIONS.md: "A write whose wanted keys already break to none".
     fn write_needs(&self, own: Option<Key>, file: FileNo) -> Result<Finding, Memory>
         ensures look { IfOk result (λ found. look_of found ≡ looked
             (λ wants. list_all (λ want. ready.breaks_to_none ((server_of self.now).leases want.key)) wants)

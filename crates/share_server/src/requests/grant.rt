@@ -1,9 +1,11 @@
-ghost use Rattle.std.specs.Prelude.{◌≡◌, ◌+◌, ◌<◌, ◌^◌, false, OnOk};
+ghost use Rattle.std.specs.Prelude.{◌≡◌, ◌+◌, ◌<◌, ◌^◌, ◌||◌, false, not, OnOk};
 ghost use Rattle.lease_model.specs.server.Findings.{is_leased_elsewhere};
 ghost use Rattle.lease_model.specs.server.Naming.{own_key};
 ghost use Rattle.std.specs.Option.{option_map};
 ghost use Rattle.lease_model.specs.server.Grant as rules;
-ghost use Rattle.lease_state.specs.State.{state_of};
+ghost use Rattle.lease_model.specs.server.State.{has_lease};
+ghost use Rattle.lease_state.specs.Rules.{is_as_free};
+ghost use Rattle.lease_state.specs.State.{granted_form_of, is_state_within, state_of};
 ghost use Rattle.share_server.specs.Leases.{lease_of};
 ghost use Rattle.share_server.specs.Outs.{progress_of};
 ghost use Rattle.share_server.specs.Requests.{lease_asked};
@@ -15,7 +17,9 @@ use crate::tables::Tables;
 use crate::values::key::Key;
 use crate::values::lease::Lease;
 use crate::values::open::Open;
-use lease_state::{Access, ClientNo, FileId, FileNo, LeaseKey, LeaseState, Memory, Share, Status};
+use lease_state::{
+    Access, ClientNo, FileId, FileNo, LeaseKey, LeaseState, Memory, Rise, Share, Status,
+};
 use lease_wire::{CreateAnswer, CreateAsk};
 
 /// A create that is ready, with its client.
@@ -34,6 +38,7 @@ pub struct Opening {
 /// # Errors
 ///
 /// `Memory` where there is none left.
+// docs/DECISIONS.md: "A lease belongs to one file".
 #[tactic(auto, unfolding(lease_model::specs::values::Limits::last_file_id))]
 pub fn grant(tables: &mut Tables, outs: &mut Outs, opening: Opening) -> Result<(), Memory>
     requires { is_leased_elsewhere (server_of tables.old)
@@ -50,6 +55,7 @@ pub fn grant(tables: &mut Tables, outs: &mut Outs, opening: Opening) -> Result<(
 }
 
 // Grants a new open with this lease.
+// docs/DECISIONS.md: "A durable grant looks at the lease's state alone".
 #[tactic(auto)]
 fn grant_with(
     tables: &mut Tables,
@@ -132,8 +138,8 @@ fn lease_after(
     }
 }
 
-// One that is breaking stays; one within the granted form of the want becomes what is offered, as a
-// new one does; any other stays (profile).
+// One that is breaking stays; one within the granted form of the want, a new one too, becomes what is
+// offered where it may; any other stays (profile).
 #[tactic(auto)]
 fn lease_granted(tables: &Tables, key: Key, file: FileNo, want: LeaseState) -> Lease
     ensures { lease_of result ≡ rules.lease_granted (server_of tables.now) key file.0 (state_of want) }
@@ -142,13 +148,29 @@ fn lease_granted(tables: &Tables, key: Key, file: FileNo, want: LeaseState) -> L
     if lease.is_breaking() || !lease.state.is_within(want.granted_form()) {
         return lease;
     }
+    let state = offered(tables, key, file, want);
+    if !may_rise(tables, key, state, want) {
+        return lease;
+    }
     Lease {
-        state: offered(tables, key, file, want),
+        state,
         broken_to: None,
     }
 }
 
+// A lease becomes what it is offered, or, by the rule, does so only where it is new or all of the want is
+// offered.
+fn may_rise(tables: &Tables, key: Key, offer: LeaseState, want: LeaseState) -> bool
+    ensures { result ≡ (is_as_free (server_of tables.now).rules.rise || not (has_lease (server_of tables.now) key)
+        || is_state_within (granted_form_of (state_of want)) (state_of offer)) }
+{
+    tables.rules().rise == Rise::AsFree
+        || !tables.has_lease(key)
+        || want.granted_form().is_within(offer)
+}
+
 // What a key is offered: nothing where its timer ran out (profile).
+// docs/DECISIONS.md: "Expired keys count in a grant only".
 #[tactic(auto)]
 fn offered(tables: &Tables, key: Key, file: FileNo, want: LeaseState) -> LeaseState
     ensures { state_of result ≡ rules.offered (server_of tables.now) key file.0 (state_of want) }

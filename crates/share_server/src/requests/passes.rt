@@ -8,7 +8,6 @@ use crate::outs::Outs;
 use crate::requests::answer::conclude;
 use crate::requests::attempt::attempt;
 use crate::tables::Tables;
-use crate::values::request::Held;
 use lease_laws::rounds_and_passes_end;
 use lease_state::{ClientNo, FileNo, Memory};
 
@@ -18,6 +17,7 @@ use lease_state::{ClientNo, FileNo, Memory};
 /// # Errors
 ///
 /// `Memory` where there is none left.
+// docs/DECISIONS.md: "Calls that start passes".
 pub fn try_all(tables: &mut Tables, outs: &mut Outs) -> Result<(), Memory>
     ensures { OnOk result (progress_of tables.new outs.new ≡ rules.all_passes (progress_of tables.old outs.old)) }
 {
@@ -56,7 +56,8 @@ fn pass(tables: &mut Tables, outs: &mut Outs, file: FileNo) -> Result<bool, Memo
     Ok(answered)
 }
 
-// Tries a held request again, unless an earlier one of its client still waits: whether it was answered.
+// Tries a held request again, unless it waits behind an earlier one: whether it was answered.
+// docs/DECISIONS.md: "A held request's turn is judged at the moment".
 fn try_again(
     tables: &mut Tables,
     outs: &mut Outs,
@@ -74,7 +75,7 @@ fn try_again(
     let one = &held[place];
     let client = one.client;
     let ask = one.request.ask();
-    if is_behind(client, &held[..place]) {
+    if one.is_behind(tables.rules(), &held[..place]) {
         tables.count_still(file, place)?;
         return Ok(false);
     }
@@ -89,11 +90,4 @@ fn try_again(
     let one = tables.release(file, place);
     conclude(tables, outs, one.client, one.request, outcome)?;
     Ok(true)
-}
-
-/// Whether a request of the client is among the held ones.
-pub fn is_behind(client: ClientNo, held: &[Held]) -> bool
-    ensures { result ≡ rules.is_behind client.0 held.now }
-{
-    held.iter().any(|one| one.client == client)
 }

@@ -206,6 +206,7 @@ impl Tables {
 }
 
 // No open is left: so a call ends that finds no memory, and with which its server is dropped.
+// docs/DECISIONS.md: "No memory within a call of the server".
 fn forget_opens(opens: &mut Opens, summaries: &mut Summaries, alloc: Global)
     ensures opens { opens.new ≡ [] }
     ensures agrees { Agrees summaries.new [] }

@@ -19,6 +19,7 @@ use std::collections::BTreeSet;
 
 /// What a server keeps of a file that is open: counts of the opens on it, and their keys. An open
 /// without a key counts as a key of its own (profile).
+// docs/DECISIONS.md: "Counts and sets of a file's summary".
 #[derive(Debug, Drop)]
 pub struct FileSummary {
     pub tally: Tally,
@@ -146,6 +147,7 @@ impl FileSummary {
     }
 
     /// Whether the lease of another key than the request's hinders writes.
+    // docs/DECISIONS.md: "The leases that hinder no write are a set".
     pub fn is_hindered(&self, own: Option<Key>) -> bool
         ensures { (file : ℕ) (opens : List ModelOpen) (leases : ModelKey → ModelLease) → SumsUp file opens leases self.now
             → result ≡ list_any (λ key. not (is_own_key own key) && is_hindering self.now key) self.now.keys.keys }

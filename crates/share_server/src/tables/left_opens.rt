@@ -18,6 +18,7 @@ pub struct Owner {
 }
 
 /// The FileIds of the opens that wait for their clients (MS-SMB2 3.3.7.1), by client and file.
+// docs/DECISIONS.md: "Opens that wait for their clients".
 #[derive(Debug, Drop)]
 pub struct LeftOpens {
     by_owner: BTreeMap<Owner, BTreeSet<FileId>>,

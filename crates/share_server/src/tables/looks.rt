@@ -3,14 +3,16 @@ ghost use Rattle.std.specs.List.{list_any};
 ghost use Rattle.std.specs.Option.{option_map};
 ghost use Rattle.lease_model.specs.server.Calls.{is_left_behind};
 ghost use Rattle.lease_model.specs.server.Findings as findings;
+ghost use Rattle.lease_model.specs.server.Lanes as lanes;
 ghost use Rattle.lease_model.specs.server.State.{has_lease};
+ghost use Rattle.share_server.specs.Lanes.{lane_like};
 ghost use Rattle.share_server.specs.Table.{server_of};
 
 use crate::tables::Tables;
 use crate::values::key::Key;
 use crate::values::open::Open;
-use crate::values::request::Held;
-use lease_state::{Bytes, ClientNo, FileId, FileNo, Memory};
+use crate::values::request::{Held, Lane};
+use lease_state::{Bytes, ClientNo, FileId, FileNo, LeaseKey, Memory};
 
 impl Tables {
     /// The client's connected open of this FileId.
@@ -31,6 +33,16 @@ impl Tables {
         match self.connected_open(client, fid) {
             Some(one) => Some(one.file),
             None => None,
+        }
+    }
+
+    /// The lane of a request of the client by the FileId.
+    pub fn lane_of_open(&self, client: ClientNo, fid: FileId) -> Lane
+        ensures { lane_like result ≡ lanes.lane_of_open fid.0 (findings.connected_open (server_of self.now) client.0 fid.0) }
+    {
+        match self.connected_open(client, fid) {
+            Some(one) => lane_by(fid, one.lease_key),
+            None => Lane::Opened(fid),
         }
     }
 
@@ -102,5 +114,15 @@ impl Tables {
         ensures { result.now ≡ (server_of self.now).held file.0 }
     {
         self.place(file).held.as_slice()
+    }
+}
+
+// The lane of a request by an open of the key.
+fn lane_by(fid: FileId, key: Option<LeaseKey>) -> Lane
+    ensures { lane_like result ≡ lanes.lane_by fid.0 (option_map (λ key. key.0) key) }
+{
+    match key {
+        Some(key) => Lane::Leased(key),
+        None => Lane::Opened(fid),
     }
 }

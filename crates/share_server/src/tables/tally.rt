@@ -1,4 +1,5 @@
-ghost use Rattle.std.specs.Prelude.{◌≡◌, nat_eq};
+ghost use Rattle.std.specs.Prelude.{◌≡◌, nat_eq, [], Bool};
+ghost use Rattle.lease_model.specs.server.State.{Open as ModelOpen};
 ghost use Rattle.share_server.specs.Tallies as spec;
 
 use crate::values::open::Open;
@@ -16,9 +17,6 @@ pub struct Tally {
 }
 
 impl Tally {
-    ghost use Rattle.std.specs.Prelude.{[], Bool};
-    ghost use Rattle.lease_model.specs.server.State.{Open as ModelOpen};
-
     /// No open is counted.
     pub fn none() -> Tally
         ensures { (test : ModelOpen → Bool) → result ≡ spec.tally_of test [] }

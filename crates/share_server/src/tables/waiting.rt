@@ -6,6 +6,7 @@ use std::alloc::Global;
 use std::collections::BTreeMap;
 
 /// How many requests at the front of each file's queue are known to wait still.
+// docs/DECISIONS.md: "A pass begins after the requests that still wait".
 #[derive(Debug, Drop)]
 pub struct Waiting {
     /// Of the files where some are.

@@ -2,7 +2,7 @@ use Rattle.lease_laws.proofs.Words.{ClientCall, on_ok_weaker, refl, slice_set, s
 use Rattle.lease_client.specs.Answers.{command_of}
 use Rattle.lease_world.specs.contracts.world.World.{the_view}
 use Rattle.lease_world.specs.world.Seats.{IsPresent, StepsSeat}
-use Rattle.lease_world.specs.world.Stands.{Seen}
+use Rattle.lease_world.specs.world.Stands.{CodeWorld}
 use Rattle.lease_world.proofs.worlds.Called.{steps_in}
 use Rattle.lease_world.proofs.worlds.Events.{command_applies}
 use Rattle.lease_world.proofs.worlds.Seats.{seat_changed}
@@ -10,10 +10,10 @@ use Rattle.lease_world.proofs.world.World.command.Goals as goal
 
 pub returns : goal.returns
 returns c =
-    let old : Seen = the_view c.self.inside in
+    let old : CodeWorld = the_view c.self.inside in
     let there : IsPresent c.args.client.0 old.seats =
-    subst (λ (w : Seen). IsPresent c.args.client.0 w.seats) (sym c.self.view_is) c.requires in
-    let new : Seen = record old {
+    subst (λ (w : CodeWorld). IsPresent c.args.client.0 w.seats) (sym c.self.view_is) c.requires in
+    let new : CodeWorld = record old {
       seats = slice_set old.seats c.place_of.result c.app.new.self;
       facts = c.tell_notes.new.facts.items;
     } in

@@ -1,7 +1,7 @@
 use Rattle.lease_laws.proofs.Words.{◌∙◌, Call, ClientCall, ap, length, on_ok_weaker, refl, slice_set, subst, sym}
 use Rattle.lease_world.specs.contracts.world.World.{the_view}
 use Rattle.lease_world.specs.world.Seats.{IsPresent, StepsSeat}
-use Rattle.lease_world.specs.world.Stands.{Seen}
+use Rattle.lease_world.specs.world.Stands.{CodeWorld}
 use Rattle.lease_world.specs.world.Worlds.{Serves, StepsIn}
 use Rattle.lease_world.proofs.worlds.Called.{served_by, steps_in}
 use Rattle.lease_world.proofs.worlds.Events.{connect_one, connect_nothing}
@@ -15,15 +15,15 @@ returns-then-not-has_link c =
 pub returns : goal.returns
 returns c =
     let call : Call = Call.Join c.args.client.0 in
-    let told : Seen = the_view c.self.inside in
-    let joined : Seen = the_view c.self-2.inside in
+    let told : CodeWorld = the_view c.self.inside in
+    let joined : CodeWorld = the_view c.self-2.inside in
     let delivers = c.in_ok-deliver.ensures in
-    let count = delivers.count ∙ ap (λ (w : Seen). length w.seats) c.self.view_is
+    let count = delivers.count ∙ ap (λ (w : CodeWorld). length w.seats) c.self.view_is
     ∙ c.in_ok-tell.ensures.count ∙ c.set_link.ensures.count in
     let there : IsPresent c.args.client.0 joined.seats =
-    subst (λ (w : Seen). IsPresent c.args.client.0 w.seats) (sym c.self-2.view_is)
+    subst (λ (w : CodeWorld). IsPresent c.args.client.0 w.seats) (sym c.self-2.view_is)
     (still_there c.args.self.now.seats c.deliver.new.self.seats c.args.client.0 count c.requires) in
-    let new : Seen = record joined {
+    let new : CodeWorld = record joined {
       seats = slice_set joined.seats c.place_of.result c.connect.new.self;
       facts = c.tell_notes.new.facts.items;
     } in
@@ -33,9 +33,9 @@ returns c =
     on_ok_weaker c.tell_notes.result (λ noted.
     connect_one c.args.self.now c.set_link.new.self c.tell.new.self c.deliver.new.self new c.args.client.0 c.requires
     (sym c.has_link.ensures ∙ c.if-not-has_link.false) c.set_link.ensures.becomes c.in_ok-tell.ensures.becomes
-    (subst (λ (w : Seen). Serves call w c.deliver.new.self) c.self.view_is
+    (subst (λ (w : CodeWorld). Serves call w c.deliver.new.self) c.self.view_is
     (served_by told c.deliver.new.self call c.join_in_place.new.self c.join_in_place.new.outs.items
     c.in_ok-join_in_place.ensures.after delivers))
-    (subst (λ (w : Seen). StepsIn c.args.client.0 ClientCall.Connected w new) c.self-2.view_is
+    (subst (λ (w : CodeWorld). StepsIn c.args.client.0 ClientCall.Connected w new) c.self-2.view_is
     (steps_in joined new c.args.client.0 ClientCall.Connected c.connect.new.given.notes refl refl changed noted there)))
     c.tell_notes.ensures

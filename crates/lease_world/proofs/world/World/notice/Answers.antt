@@ -1,7 +1,7 @@
 use Rattle.lease_laws.proofs.Words.{◌∙◌, ClientCall, on_ok_weaker, refl, slice_set, subst, sym}
 use Rattle.lease_world.specs.contracts.world.World.{the_view}
 use Rattle.lease_world.specs.world.Seats.{IsPresent, StepsSeat}
-use Rattle.lease_world.specs.world.Stands.{Seen}
+use Rattle.lease_world.specs.world.Stands.{CodeWorld}
 use Rattle.lease_world.specs.world.Worlds.{StepsIn}
 use Rattle.lease_world.proofs.worlds.Called.{steps_in}
 use Rattle.lease_world.proofs.worlds.Events.{notice_one, notice_nothing}
@@ -14,11 +14,11 @@ returns-then-not-has_link c =
 
 pub returns : goal.returns
 returns c =
-    let linked : Seen = the_view c.self.inside in
+    let linked : CodeWorld = the_view c.self.inside in
     let there : IsPresent c.args.client.0 linked.seats =
-    subst (λ (w : Seen). IsPresent c.args.client.0 w.seats) (sym c.self.view_is)
+    subst (λ (w : CodeWorld). IsPresent c.args.client.0 w.seats) (sym c.self.view_is)
     (still_there c.args.self.now.seats c.set_link.new.self.seats c.args.client.0 c.set_link.ensures.count c.requires) in
-    let new : Seen = record linked {
+    let new : CodeWorld = record linked {
       seats = slice_set linked.seats c.place_of.result c.notice.new.self;
       facts = c.tell_notes.new.facts.items;
     } in
@@ -27,6 +27,6 @@ returns c =
     c.in_ok-notice.ensures in
     on_ok_weaker c.tell_notes.result (λ told. notice_one c.args.self.now c.set_link.new.self new c.args.client.0 c.requires
     (sym c.has_link.ensures ∙ c.if-not-has_link.false) c.set_link.ensures.becomes
-    (subst (λ (w : Seen). StepsIn c.args.client.0 ClientCall.Noticed w new) c.self.view_is
+    (subst (λ (w : CodeWorld). StepsIn c.args.client.0 ClientCall.Noticed w new) c.self.view_is
     (steps_in linked new c.args.client.0 ClientCall.Noticed c.notice.new.given.notes refl refl changed told there)))
     c.tell_notes.ensures

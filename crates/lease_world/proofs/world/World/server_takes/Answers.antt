@@ -1,7 +1,7 @@
 use Rattle.lease_laws.proofs.Words.{Call, None, Some, on_ok_weaker, refl, request_of, slice_set, subst, sym}
 use Rattle.lease_world.specs.contracts.world.World.{the_view}
 use Rattle.lease_world.specs.world.Seats.{IsPresent, PopsRequest}
-use Rattle.lease_world.specs.world.Stands.{Seen}
+use Rattle.lease_world.specs.world.Stands.{CodeWorld}
 use Rattle.lease_world.proofs.worlds.Called.{served_by}
 use Rattle.lease_world.proofs.worlds.Events.{server_took, server_took_nothing}
 use Rattle.lease_world.proofs.worlds.Seats.{seat_changed}
@@ -9,10 +9,10 @@ use Rattle.lease_world.proofs.world.World.server_takes.Goals as goal
 
 pub returns-in_ok-receive_in_place-in-Some : goal.returns-in_ok-receive_in_place-in-Some
 returns-in_ok-receive_in_place-in-Some c =
-    let old : Seen = the_view c.self.inside in
+    let old : CodeWorld = the_view c.self.inside in
     let there : IsPresent c.args.client.0 old.seats =
-    subst (λ (w : Seen). IsPresent c.args.client.0 w.seats) (sym c.self.view_is) c.requires in
-    let popped : Seen = record old { seats = slice_set old.seats c.place_of.result c.pop_request.new.self } in
+    subst (λ (w : CodeWorld). IsPresent c.args.client.0 w.seats) (sym c.self.view_is) c.requires in
+    let popped : CodeWorld = record old { seats = slice_set old.seats c.place_of.result c.pop_request.new.self } in
     let changed = seat_changed (PopsRequest (Some c.in-Some.request)) old.seats c.args.client.0 c.place_of.result
     c.index_mut-seat.result.now c.pop_request.new.self c.place_of.ensures there c.index_mut-seat.ensures.value
     c.in-Some.ensures in
@@ -24,10 +24,10 @@ returns-in_ok-receive_in_place-in-Some c =
 
 pub returns-in-None : goal.returns-in-None
 returns-in-None c =
-    let old : Seen = the_view c.self.inside in
+    let old : CodeWorld = the_view c.self.inside in
     let there : IsPresent c.args.client.0 old.seats =
-    subst (λ (w : Seen). IsPresent c.args.client.0 w.seats) (sym c.self.view_is) c.requires in
-    let popped : Seen = record old { seats = slice_set old.seats c.place_of.result c.pop_request.new.self } in
+    subst (λ (w : CodeWorld). IsPresent c.args.client.0 w.seats) (sym c.self.view_is) c.requires in
+    let popped : CodeWorld = record old { seats = slice_set old.seats c.place_of.result c.pop_request.new.self } in
     rw (← c.self.view_is) (server_took_nothing old popped c.args.client.0 (refl, refl, refl)
     (seat_changed (PopsRequest None) old.seats c.args.client.0 c.place_of.result c.index_mut-seat.result.now
     c.pop_request.new.self c.place_of.ensures there c.index_mut-seat.ensures.value c.in-None.ensures) there)

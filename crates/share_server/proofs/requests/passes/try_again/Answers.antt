@@ -15,14 +15,14 @@ returns-then-is_behind-clause-step c = λ has.
     c.in_ok-count_still.ensures
     ∙ behind_here c.args.file.0 c.args.place has (progress_of c.args.tables.now c.args.outs.now) (the_view c.one.inside)
     c.requires (rw (← c.one.view_is, c.held-held.ensures) at c.index-held-place.is)
-    (rw c.held-held.ensures at (sym c.is_behind.ensures ∙ c.if-is_behind.true))
+    (rw (← c.one.view_is, c.held-held.ensures, c.rules.ensures) at (sym c.is_behind.ensures ∙ c.if-is_behind.true))
 
 pub returns-then-waits-clause-step : goal.returns-then-waits-clause-step
 returns-then-waits-clause-step c = λ has.
     waits_here c.args.file.0 c.args.place has (progress_of c.args.tables.now c.args.outs.now)
     (progress_of c.attempt.new.tables c.attempt.new.outs) (the_view c.one.inside) (outcome_of c.in_ok-outcome.outcome)
     c.requires (rw (← c.one.view_is, c.held-held.ensures) at c.index-held-place.is)
-    (rw c.held-held.ensures at (sym c.is_behind.ensures ∙ c.if-is_behind.false)) (c.in_ok-outcome.ensures.ended
+    (rw (← c.one.view_is, c.held-held.ensures, c.rules.ensures) at (sym c.is_behind.ensures ∙ c.if-is_behind.false)) (c.in_ok-outcome.ensures.ended
     ∙ c.ask-ask.ensures.tried c.one.inside.client.0 (progress_of c.args.tables.now c.args.outs.now))
     (sym c.waits.ensures ∙ c.if-waits.true)
 
@@ -44,7 +44,7 @@ returns-clause-step c =
     (the_view c.one-2.inside) c.attempt.new.tables c.release-one.new.self c.attempt.new.outs
     (outcome_of c.in_ok-outcome.outcome) (progress_of c.conclude.new.tables c.conclude.new.outs)
     c.requires (rw (← c.one.view_is, c.held-held.ensures) at c.index-held-place.is)
-    (rw c.held-held.ensures at (sym c.is_behind.ensures ∙ c.if-is_behind.false)) (c.in_ok-outcome.ensures.ended
+    (rw (← c.one.view_is, c.held-held.ensures, c.rules.ensures) at (sym c.is_behind.ensures ∙ c.if-is_behind.false)) (c.in_ok-outcome.ensures.ended
     ∙ c.ask-ask.ensures.tried c.one.inside.client.0 (progress_of c.args.tables.now c.args.outs.now))
     (sym c.waits.ensures ∙ c.if-waits.false) c.release-one.ensures.left
     (rw (← c.one-2.view_is) at c.release-one.ensures.taken) c.in_ok-conclude.ensures).step
@@ -55,7 +55,7 @@ returns-clause-fewer c =
     (the_view c.one-2.inside) c.attempt.new.tables c.release-one.new.self c.attempt.new.outs
     (outcome_of c.in_ok-outcome.outcome) (progress_of c.conclude.new.tables c.conclude.new.outs)
     c.requires (rw (← c.one.view_is, c.held-held.ensures) at c.index-held-place.is)
-    (rw c.held-held.ensures at (sym c.is_behind.ensures ∙ c.if-is_behind.false)) (c.in_ok-outcome.ensures.ended
+    (rw (← c.one.view_is, c.held-held.ensures, c.rules.ensures) at (sym c.is_behind.ensures ∙ c.if-is_behind.false)) (c.in_ok-outcome.ensures.ended
     ∙ c.ask-ask.ensures.tried c.one.inside.client.0 (progress_of c.args.tables.now c.args.outs.now))
     (sym c.waits.ensures ∙ c.if-waits.false) c.release-one.ensures.left
     (rw (← c.one-2.view_is) at c.release-one.ensures.taken) c.in_ok-conclude.ensures).fewer
@@ -100,7 +100,7 @@ returns-then-branch-clause-step c = λ has.
     c.in_ok-count_still-2.ensures ∙ waits_here c.args.file.0 c.args.place has (progress_of c.args.tables.now c.args.outs.now)
     (progress_of c.args.tables.now c.args.outs.now) (the_view c.one.inside) Outcome.Waits
     c.requires (rw (← c.one.view_is, c.held-held.ensures) at c.index-held-place.is)
-    (rw c.held-held.ensures at (sym c.is_behind.ensures ∙ c.if-is_behind.false))
+    (rw (← c.one.view_is, c.held-held.ensures, c.rules.ensures) at (sym c.is_behind.ensures ∙ c.if-is_behind.false))
     (sym (c.in_ok-has_only_to_wait.ensures.vain c.if-branch.true c.args.outs.now)
     ∙ c.ask-ask.ensures.tried c.one.inside.client.0 (progress_of c.args.tables.now c.args.outs.now)) refl
 

@@ -10,7 +10,7 @@ returns c =
     let many : c.len-count.result ≡ length c.truncate.new.self.items = omega (arith, c.len-count.ensures) in
     let counted : c.len-count.result ≡ length (take 255 c.args.contents.items) = rw c.truncate.ensures.items at many in
     rw (c.new.ensures, c.new-2.ensures.leases, c.new-3.ensures.items, c.new-4.ensures.items)
-    (new_tables_are_new c.args.contents.items c.len-count.result c.in_ok-places_of.field-0.items counted
+    (new_tables_are_new c.args.rules c.args.contents.items c.len-count.result c.in_ok-places_of.field-0.items counted
     (λ n. rw c.truncate.ensures.items at (c.in_ok-places_of.ensures.places n)))
 
 pub invariant_of-result : goal.invariant_of-result

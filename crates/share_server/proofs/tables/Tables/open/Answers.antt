@@ -23,7 +23,7 @@ invariant_of-self c = (
       c.self.inside.last_id c.self.invariant.1 (rw (← c.self.view_is) at c.requires.next) c.in-Ok.ensures.opens
       (c.in-Ok.ensures.agrees (rw (← c.self.view_is) at c.requires.home) c.self.invariant.1.agree)),
   known_settled c.self.inside.files.items c.self.inside.waiting c.forget_for.new.waiting _ _
-      (settled_opened c.self.inside.files.items c.self.inside.waiting c.forget_for.new.waiting c.self.inside.count
+      (settled_opened c.self.inside.files.items c.self.inside.waiting c.forget_for.new.waiting c.self.inside.rules c.self.inside.count
       c.self.inside.opens c.add.new.opens c.args.one (lease_of c.args.lease) _ _ c.in-Ok.ensures.opens
       c.in-Ok.ensures.leases (rw (← c.self.view_is) at c.requires.home)
       (rw c.deref.ensures.value at c.forget_for.ensures)) c.self.invariant.2,

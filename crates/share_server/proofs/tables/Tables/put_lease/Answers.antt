@@ -22,7 +22,7 @@ invariant_of-self c =
         numbered = c.self.invariant.1.numbered;
       },
       known_settled c.self.inside.files.items c.self.inside.waiting c.forget_home.new.waiting _ _
-          (settled_put c.self.inside.files.items c.self.inside.waiting c.forget_home.new.waiting c.self.inside.count
+          (settled_put c.self.inside.files.items c.self.inside.waiting c.forget_home.new.waiting c.self.inside.rules c.self.inside.count
           c.self.inside.opens c.args.key (lease_of c.args.lease) _ _
           (c.in-Ok.ensures.leases c.self.inside.opens there c.self.invariant.1.agree)
           (c.forget_home.ensures c.self.inside.opens c.self.invariant.1.agree)) c.self.invariant.2,
