@@ -32,6 +32,7 @@ pub note_written : (client : ClientNo) (one : Note) → fact_line (fact_noted cl
 note_written client (note.Settled number outcome) = line_written (fact_said (fact.Settled client number outcome))
     ∙ ap (λ (word : List ℕ). codes "settled" ++ spaced (decimal client.0 ∷ decimal number ∷ word ∷ []) ++ 10 ∷ [])
     (outcome_told outcome)
-note_written client (note.Wrote file number patch buffered) = line_written (fact_said (fact.Wrote client file number patch buffered))
+note_written client (note.Wrote file number patch buffered) =
+    line_written (fact_said (fact.Wrote client file number patch buffered))
 note_written client (note.Believes file state) = line_written (fact_said (fact.Believes client file state))
 note_written client (note.CachedRead file bytes) = line_written (fact_said (fact.CachedRead client file bytes))

@@ -22,7 +22,8 @@ call_of (call.Receive client request) = Call.Receive client.0 (request_of reques
 
 abbrev pub server_kinds : List (Kind ServerLine)
 server_kinds =
-    kind (codes "file") (field.Content ∷ []) line.File
+    kind (codes "rules") (field.Rules ∷ []) line.Rules
+    ∷ kind (codes "file") (field.Content ∷ []) line.File
     ∷ kind (codes "join") (field.Client ∷ []) (λ client. line.Call (call.Join client))
     ∷ kind (codes "cut") (field.Client ∷ []) (λ client. line.Call (call.Cut client))
     ∷ kind (codes "expire") (field.Client ∷ field.Key ∷ []) (λ client key. line.Call (call.Expire client key))

@@ -1,11 +1,13 @@
 -- A server that is given lines.
 use Rattle.std.specs.Prelude.{ℕ, ◌++◌, Bool, not, List, [], ◌∷◌, length, nat_lt, if◌then◌else◌, Option, Some, None}
 use Rattle.std.specs.List.{list_any}
+use Rattle.lease_state.specs.Rules.{profile_rules}
+use Rattle.lease_state.specs.declared.rules.Rules.{Rules}
 use Rattle.lease_model.specs.server.Calls.{called, is_left_behind}
 use Rattle.lease_model.specs.server.Naming.{key_of}
 use Rattle.lease_model.specs.server.Progress.{Progress}
 use Rattle.lease_model.specs.server.Queries as queries
-use Rattle.lease_model.specs.server.State.{Server, new_server}
+use Rattle.lease_model.specs.server.State.{Server, new_server, new_server_under}
 use Rattle.lease_texts.specs.Reading.{is_passed_over}
 use Rattle.lease_lines.specs.ClientTables.{Told, quietly, or_fault}
 use Rattle.lease_lines.specs.ServerAnswers.{out_lines, answer, done_word, yes_word, fid_words, bytes_words}
@@ -17,19 +19,28 @@ use Rattle.lease_lines.specs.declared.server_lines.ServerCall.TheVariants as cal
 use Rattle.lease_lines.specs.declared.server_lines.ServerLine.{ServerLine}
 use Rattle.lease_lines.specs.declared.server_lines.ServerLine.TheVariants as line
 
--- files are told first; with the first other line the server begins
+-- the server's rules are told first, where they aren't the profile's, and then files; with the first other line the
+-- server begins
 pub data Stage : Type 0 where
-  Filling : (files : List (List ℕ)) → Stage
+  Fresh : Stage
+  Filling : (rules : Rules) (files : List (List ℕ)) → Stage
   Serving : (server : Server) → Stage
 
 abbrev pub server_in : Stage → Server
-server_in (Stage.Filling files) = new_server files
+server_in Stage.Fresh = new_server []
+server_in (Stage.Filling rules files) = new_server_under rules files
 server_in (Stage.Serving server) = server
+
+-- rules before all else
+abbrev pub with_rules : Stage → Rules → Option (Told Stage)
+with_rules Stage.Fresh rules = quietly (Stage.Filling rules [])
+with_rules stage rules = None
 
 -- at most 255 files, all before the server begins
 abbrev pub with_file : Stage → List ℕ → Option (Told Stage)
-with_file (Stage.Filling files) content =
-    if nat_lt (length files) 255 then quietly (Stage.Filling (files ++ content ∷ [])) else None
+with_file Stage.Fresh content = quietly (Stage.Filling profile_rules (content ∷ []))
+with_file (Stage.Filling rules files) content =
+    if nat_lt (length files) 255 then quietly (Stage.Filling rules (files ++ content ∷ [])) else None
 with_file (Stage.Serving server) content = None
 
 -- a call of the server, and whether it applied
@@ -58,6 +69,7 @@ abbrev pub asked : Server → Query → Told Stage
 asked server query = record { state = Stage.Serving server; text = answer (found server query) }
 
 unfoldable pub line_told : Stage → ServerLine → Option (Told Stage)
+line_told stage (line.Rules rules) = with_rules stage rules
 line_told stage (line.File content) = with_file stage content
 line_told stage (line.Call call) = Some (after_call (applies (server_in stage) call) (called (server_in stage) (call_of call)))
 line_told stage (line.Query query) = Some (asked (server_in stage) query)

@@ -15,7 +15,8 @@ abbrev pub clients_of : ClientTable → Clients
 clients_of table = record { files = table.files; guids = table.guids.items; clients = map client_of table.clients.items }
 
 abbrev pub stage_of : Stage → rules_stage.Stage
-stage_of (stage.Filling files) = rules_stage.Stage.Filling files.items
+stage_of stage.Fresh = rules_stage.Stage.Fresh
+stage_of (stage.Filling rules files) = rules_stage.Stage.Filling rules files.items
 stage_of (stage.Serving server) = rules_stage.Stage.Serving (server_of server)
 
 abbrev pub machines_of : Machines → rules.Machines

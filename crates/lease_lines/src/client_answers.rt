@@ -13,24 +13,20 @@ use lease_client::{Answer, Client, Note, Refusal, Step};
 use lease_facts::Fact;
 use lease_state::{Bytes, ClientNo, Request};
 use lease_texts::{Said, digits_of, push_fact, push_given, push_line};
-use std::alloc::{AllocError, Global};
+use std::alloc::AllocError;
 
-fn push_request_line(alloc: Global, text: &mut String, request: &Request) -> Result<(), AllocError>
+fn push_request_line(text: &mut String, request: &Request) -> Result<(), AllocError>
     ensures { OnOk result (string_bytes text.new ≡ string_bytes text.old ++ request_line request.now) }
 {
-    push_line(alloc, text, "request", &[Said::Request(request)])
+    push_line(text, "request", &[Said::Request(request)])
 }
 
 /// Adds the lines of requests.
-pub fn push_requests(
-    alloc: Global,
-    text: &mut String,
-    requests: &[Request],
-) -> Result<(), AllocError>
+pub fn push_requests(text: &mut String, requests: &[Request]) -> Result<(), AllocError>
     ensures { OnOk result (string_bytes text.new ≡ string_bytes text.old ++ flat_map request_line requests.now) }
 {
     for request in requests {
-        push_request_line(alloc, text, request)?;
+        push_request_line(text, request)?;
     }
     Ok(())
 }
@@ -50,17 +46,12 @@ fn fact_noted(client: ClientNo, note: Note) -> Fact
 }
 
 /// Adds the lines of a client's notes.
-pub fn push_notes(
-    alloc: Global,
-    text: &mut String,
-    client: ClientNo,
-    notes: Vec<Note>,
-) -> Result<(), AllocError>
+pub fn push_notes(text: &mut String, client: ClientNo, notes: Vec<Note>) -> Result<(), AllocError>
     ensures { OnOk result (string_bytes text.new
         ≡ string_bytes text.old ++ flat_map (note_line client.0) (map note_of notes.items)) }
 {
     for note in notes {
-        push_fact(alloc, text, &fact_noted(client, note))?;
+        push_fact(text, &fact_noted(client, note))?;
     }
     Ok(())
 }
@@ -80,22 +71,16 @@ fn refusal_word(refusal: Refusal) -> &'static str
 }
 
 // The bytes of a file, and where they come from.
-fn push_bytes(
-    alloc: Global,
-    text: &mut String,
-    bytes: &Bytes,
-    cached: bool,
-) -> Result<(), AllocError>
+fn push_bytes(text: &mut String, bytes: &Bytes, cached: bool) -> Result<(), AllocError>
     ensures { OnOk result (string_bytes text.new
         ≡ string_bytes text.old ++ answer_words None (model.Answer.Bytes bytes.now cached)) }
 {
-    let digits = digits_of(alloc, bytes.as_slice())?;
+    let digits = digits_of(*text.allocator(), bytes.as_slice())?;
     let source = if cached { "cached" } else { "served" };
     write!(text, "bytes {digits} {source}")
 }
 
 fn push_answer_words(
-    alloc: Global,
     text: &mut String,
     answer: &Answer,
     other: Option<u32>,
@@ -105,14 +90,14 @@ fn push_answer_words(
     match answer {
         Answer::Done => text.push_str("done"),
         Answer::Waiting => text.push_str("waiting"),
-        Answer::Bytes(bytes, cached) => push_bytes(alloc, text, bytes, *cached),
+        Answer::Bytes(bytes, cached) => push_bytes(text, bytes, *cached),
         Answer::Refused(refusal) => {
             let name = refusal_word(*refusal);
             write!(text, "refused {name}")
         }
         Answer::Failed(status) => {
             text.push_str("failed ")?;
-            push_given(alloc, text, *status, other)
+            push_given(text, *status, other)
         }
         Answer::Quiet => text.push_str("quiet"),
     }
@@ -120,22 +105,16 @@ fn push_answer_words(
 
 /// Adds the line of an answer. Where it reports a failure, `other` is the number of a status that
 /// was given by its number.
-pub fn push_answer(
-    alloc: Global,
-    text: &mut String,
-    answer: &Answer,
-    other: Option<u32>,
-) -> Result<(), AllocError>
+pub fn push_answer(text: &mut String, answer: &Answer, other: Option<u32>) -> Result<(), AllocError>
     ensures { OnOk result (string_bytes text.new ≡ string_bytes text.old ++ answer_line other (answer_of answer.now)) }
 {
     text.push_str("answer ")?;
-    push_answer_words(alloc, text, answer, other)?;
+    push_answer_words(text, answer, other)?;
     text.push_str("\n")
 }
 
 /// Adds what a step of a client comes to, and gives the client after it.
 pub fn push_step(
-    alloc: Global,
     text: &mut String,
     number: ClientNo,
     other: Option<u32>,
@@ -150,8 +129,8 @@ pub fn push_step(
         requests,
         notes,
     } = step;
-    push_requests(alloc, text, requests.as_slice())?;
-    push_notes(alloc, text, number, notes)?;
-    push_answer(alloc, text, &answer, other)?;
+    push_requests(text, requests.as_slice())?;
+    push_notes(text, number, notes)?;
+    push_answer(text, &answer, other)?;
     Ok(client)
 }

@@ -1,6 +1,6 @@
 ghost use Rattle.std.specs.Prelude.{◌≡◌, Some, None, MatchResult};
 ghost use Rattle.lease_texts.specs.Takes.{Takes, Reads};
-ghost use Rattle.lease_lines.specs.ClientLines.{asked_of, client_line_in, client_line_named, client_line_told, other_of};
+ghost use Rattle.lease_lines.specs.ClientLines.{asked_of, client_line_in, client_line_named, other_of};
 
 use lease_client::Command;
 use lease_facts::Event;
@@ -74,13 +74,6 @@ fn read_named(alloc: Global, word: &[u8], fields: &mut Fields) -> Result<ClientL
     }
 }
 
-fn read_told(alloc: Global, fields: &mut Fields) -> Result<ClientLine, LineFault>
-    ensures { Takes client_line_told fields.old fields.new result }
-{
-    let word = fields.next()?;
-    read_named(alloc, word, fields)
-}
-
 /// What a line asks of client machines.
 ///
 /// # Errors
@@ -91,7 +84,8 @@ pub fn read_client_line(alloc: Global, text: &[u8]) -> Result<ClientLine, LineFa
     ensures { Reads client_line_in text.now result }
 {
     let mut fields = Fields::of(text);
-    let line = read_told(alloc, &mut fields)?;
+    let word = fields.next()?;
+    let line = read_named(alloc, word, &mut fields)?;
     fields.end()?;
     Ok(line)
 }

@@ -41,25 +41,18 @@ fn call(client: Client, asked: Asked) -> Result<Step, Memory>
 }
 
 // Asks something of a client, adds what it answers, and gives the client after it.
-fn step(
-    alloc: Global,
-    number: ClientNo,
-    client: Client,
-    asked: Asked,
-    text: &mut String,
-) -> Result<Client, Memory>
+fn step(number: ClientNo, client: Client, asked: Asked, text: &mut String) -> Result<Client, Memory>
     ensures { IfOk result
         (λ after. HasStepped number.0 asked (client_of client) (client_of after) (string_bytes text.old)
         (string_bytes text.new)) }
 {
     let other = asked.other();
     let step = call(client, asked)?;
-    Ok(push_step(alloc, text, number, other, step)?)
+    Ok(push_step(text, number, other, step)?)
 }
 
 // Asks something of the client of a number, and adds what it answers.
 fn ask(
-    alloc: Global,
     clients: &mut Vec<Client>,
     number: ClientNo,
     asked: Asked,
@@ -70,9 +63,9 @@ fn ask(
         (string_bytes text.old) (string_bytes text.new)) }
 {
     let place = usize::from(number.0) - 1;
-    let idle = Client::new(alloc, [0; 16], 0)?;
+    let idle = Client::new(*text.allocator(), [0; 16], 0)?;
     let client = mem::replace(&mut clients[place], idle);
-    clients[place] = step(alloc, number, client, asked, text)?;
+    clients[place] = step(number, client, asked, text)?;
     Ok(())
 }
 
@@ -141,38 +134,33 @@ impl ClientTable {
     }
 
     #[tactic(auto, unfolding(crate::specs::ClientTables::line_told))]
-    fn take_line(
-        &mut self,
-        alloc: Global,
-        line: ClientLine,
-        text: &mut String,
-    ) -> Result<bool, Memory>
+    fn take_line(&mut self, line: ClientLine, text: &mut String) -> Result<bool, Memory>
         ensures { IfOk result
             (λ taken. Takes (line_told (clients_of self.old) line) taken (clients_of self.old) (clients_of self.new)
             (string_bytes text.old) (string_bytes text.new)) }
     {
         match line {
             ClientLine::Files(count) => Ok(self.set_files(count)),
-            ClientLine::Client(guid) => self.add_client(alloc, guid),
+            ClientLine::Client(guid) => self.add_client(*text.allocator(), guid),
             ClientLine::Asks(number, asked) => {
                 if !self.has(number) {
                     return Ok(false);
                 }
-                ask(alloc, &mut self.clients, number, asked, text)?;
+                ask(&mut self.clients, number, asked, text)?;
                 Ok(true)
             }
         }
     }
 
     // Takes a line where it is one.
-    fn take_text(&mut self, alloc: Global, line: &[u8], text: &mut String) -> Result<bool, Memory>
+    fn take_text(&mut self, line: &[u8], text: &mut String) -> Result<bool, Memory>
         ensures { IfOk result
             (λ taken. Takes (told_of (clients_of self.old) (client_line_in line.now)) taken (clients_of self.old)
             (clients_of self.new)
             (string_bytes text.old) (string_bytes text.new)) }
     {
-        match read_client_line(alloc, line) {
-            Ok(asked) => self.take_line(alloc, asked, text),
+        match read_client_line(*text.allocator(), line) {
+            Ok(asked) => self.take_line(asked, text),
             Err(LineFault::Refused) => Ok(false),
             Err(LineFault::Memory) => Err(Memory),
         }
@@ -184,13 +172,7 @@ impl ClientTable {
     ///
     /// `Memory` where there is none left; the clients are lost then.
     #[tactic(auto, unfolding(crate::specs::ClientTables::client_answered))]
-    pub fn answer(
-        self,
-        alloc: Global,
-        number: u64,
-        line: &[u8],
-        text: &mut String,
-    ) -> Result<ClientTable, Memory>
+    pub fn answer(self, number: u64, line: &[u8], text: &mut String) -> Result<ClientTable, Memory>
         ensures { IfOk result (λ after. Adds (client_answered (clients_of self) number line.now) (clients_of after)
             (string_bytes text.old) (string_bytes text.new)) }
     {
@@ -198,7 +180,7 @@ impl ClientTable {
             return Ok(self);
         }
         let mut table = self;
-        if !table.take_text(alloc, line, text)? {
+        if !table.take_text(line, text)? {
             push_fault(text, number)?;
         }
         Ok(table)

@@ -26,11 +26,11 @@ impl Machines {
         Machines::Clients(ClientTable::new(alloc))
     }
 
-    /// A server, to which no file has been added yet.
-    pub fn server(alloc: Global) -> Machines
-        ensures { machines_of result ≡ rules.Machines.IsServer (tables.Stage.Filling []) }
+    /// A server that was told nothing yet. Allocates nothing.
+    pub fn server() -> Machines
+        ensures { machines_of result ≡ rules.Machines.IsServer tables.Stage.Fresh }
     {
-        Machines::Server(Stage::new(alloc))
+        Machines::Server(Stage::Fresh)
     }
 
     /// A line of this number comes, without its line feed: what it is answered is added to a text. A line that is refused is
@@ -39,23 +39,13 @@ impl Machines {
     /// # Errors
     ///
     /// `Memory` where there is none left; the machines are lost then, and the text may have got some of the answer.
-    pub fn answer(
-        self,
-        alloc: Global,
-        number: u64,
-        line: &[u8],
-        text: &mut String,
-    ) -> Result<Machines, Memory>
+    pub fn answer(self, number: u64, line: &[u8], text: &mut String) -> Result<Machines, Memory>
         ensures { IfOk result (λ after. Adds (answered (machines_of self) number line.now) (machines_of after)
             (string_bytes text.old) (string_bytes text.new)) }
     {
         match self {
-            Machines::Clients(table) => {
-                Ok(Machines::Clients(table.answer(alloc, number, line, text)?))
-            }
-            Machines::Server(stage) => {
-                Ok(Machines::Server(stage.answer(alloc, number, line, text)?))
-            }
+            Machines::Clients(table) => Ok(Machines::Clients(table.answer(number, line, text)?)),
+            Machines::Server(stage) => Ok(Machines::Server(stage.answer(number, line, text)?)),
         }
     }
 }

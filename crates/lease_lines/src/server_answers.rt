@@ -5,47 +5,32 @@ ghost use Rattle.std.specs.String.{string_bytes};
 ghost use Rattle.lease_lines.specs.ServerAnswers.{out_line, answer, done_word, yes_word, fid_words, bytes_words};
 
 use lease_state::FileId;
-use lease_texts::{Said, digits_of, push_line};
+use lease_texts::{Said, digits_of, push_changed, push_line, push_opened};
 use share_server::Out;
-use std::alloc::{AllocError, Global};
+use std::alloc::AllocError;
 
-fn push_out(alloc: Global, text: &mut String, given: &Out) -> Result<(), AllocError>
+fn push_out(text: &mut String, given: &Out) -> Result<(), AllocError>
     ensures { OnOk result (string_bytes text.new ≡ string_bytes text.old ++ out_line given.now) }
 {
     match given {
         Out::Sent(client, told) => push_line(
-            alloc,
             text,
             "sent",
             &[Said::Client(*client), Said::Reply(told)],
         ),
-        Out::Opened(file, client) => push_line(
-            alloc,
-            text,
-            "opened",
-            &[Said::File(*file), Said::Client(*client)],
-        ),
-        Out::Changed(file, client, number, patch) => push_line(
-            alloc,
-            text,
-            "changed",
-            &[
-                Said::File(*file),
-                Said::Client(*client),
-                Said::Number(*number),
-                Said::Offset(patch.offset),
-                Said::Bytes(patch.bytes.as_slice()),
-            ],
+        Out::Opened(file, client) => push_opened(text, *file, *client),
+        Out::Changed(file, client, number, patch) => push_changed(
+            text, *file, *client, *number, patch,
         ),
     }
 }
 
 /// Adds the lines of what a call gives out.
-pub fn push_outs(alloc: Global, text: &mut String, outs: &[Out]) -> Result<(), AllocError>
+pub fn push_outs(text: &mut String, outs: &[Out]) -> Result<(), AllocError>
     ensures { OnOk result (string_bytes text.new ≡ string_bytes text.old ++ flat_map out_line outs.now) }
 {
     for given in outs {
-        push_out(alloc, text, given)?;
+        push_out(text, given)?;
     }
     Ok(())
 }
@@ -83,17 +68,13 @@ pub fn push_fid(text: &mut String, kept: Option<FileId>) -> Result<(), AllocErro
 }
 
 /// Adds the answer of a file's bytes, or that there are none.
-pub fn push_content(
-    alloc: Global,
-    text: &mut String,
-    content: Option<&[u8]>,
-) -> Result<(), AllocError>
+pub fn push_content(text: &mut String, content: Option<&[u8]>) -> Result<(), AllocError>
     ensures { OnOk result (string_bytes text.new
         ≡ string_bytes text.old ++ answer (bytes_words (option_map (λ bytes. bytes.now) content.entry))) }
 {
     match content {
         Some(bytes) => {
-            let digits = digits_of(alloc, bytes)?;
+            let digits = digits_of(*text.allocator(), bytes)?;
             writeln!(text, "answer bytes {digits}")
         }
         None => text.push_str("answer none\n"),

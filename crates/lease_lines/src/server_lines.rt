@@ -1,16 +1,18 @@
 ghost use Rattle.std.specs.Prelude.{◌≡◌, Some, None, MatchResult, drop};
-ghost use Rattle.lease_texts.specs.Kinds.{by_name, named};
+ghost use Rattle.lease_texts.specs.Kinds.{named};
 ghost use Rattle.lease_texts.specs.Lines.{field_read};
 ghost use Rattle.lease_texts.specs.Takes.{Takes, Reads};
 ghost use Rattle.lease_lines.specs.ServerLines.{server_kinds, server_line_in};
 
-use lease_state::{ClientNo, Content, FileId, FileNo, LeaseKey, Request};
+use lease_state::{ClientNo, Content, FileId, FileNo, LeaseKey, Request, Rules};
 use lease_texts::{Fields, LineFault, is, read_request};
 use std::alloc::Global;
 
 /// What a line asks of a server.
 #[derive(Debug, Drop)]
 pub enum ServerLine {
+    /// The server is given these rules.
+    Rules(Rules),
     /// There is one more file, with these bytes.
     File(Content),
     Call(ServerCall),
@@ -45,7 +47,7 @@ pub enum Query {
 
 #[tactic(auto, unfolding(lease_texts::specs::Kinds::named, lease_texts::specs::Kinds::taken))]
 fn read_later(alloc: Global, word: &[u8], fields: &mut Fields) -> Result<ServerLine, LineFault>
-    ensures { Takes (named field_read (drop 5 server_kinds) word.now) fields.old fields.new result }
+    ensures { Takes (named field_read (drop 6 server_kinds) word.now) fields.old fields.new result }
 {
     if is(word, b"receive") {
         let client = fields.client()?;
@@ -65,7 +67,9 @@ fn read_later(alloc: Global, word: &[u8], fields: &mut Fields) -> Result<ServerL
 fn read_named(alloc: Global, word: &[u8], fields: &mut Fields) -> Result<ServerLine, LineFault>
     ensures { Takes (named field_read server_kinds word.now) fields.old fields.new result }
 {
-    if is(word, b"file") {
+    if is(word, b"rules") {
+        Ok(ServerLine::Rules(fields.rules()?))
+    } else if is(word, b"file") {
         Ok(ServerLine::File(fields.content(alloc)?))
     } else if is(word, b"join") {
         Ok(ServerLine::Call(ServerCall::Join(fields.client()?)))
@@ -80,13 +84,6 @@ fn read_named(alloc: Global, word: &[u8], fields: &mut Fields) -> Result<ServerL
     }
 }
 
-fn read_told(alloc: Global, fields: &mut Fields) -> Result<ServerLine, LineFault>
-    ensures { Takes (by_name field_read server_kinds) fields.old fields.new result }
-{
-    let word = fields.next()?;
-    read_named(alloc, word, fields)
-}
-
 /// What a line asks of a server.
 ///
 /// # Errors
@@ -97,7 +94,8 @@ pub fn read_server_line(alloc: Global, text: &[u8]) -> Result<ServerLine, LineFa
     ensures { Reads server_line_in text.now result }
 {
     let mut fields = Fields::of(text);
-    let line = read_told(alloc, &mut fields)?;
+    let word = fields.next()?;
+    let line = read_named(alloc, word, &mut fields)?;
     fields.end()?;
     Ok(line)
 }

@@ -6,7 +6,7 @@ ghost use Rattle.share_server.specs.Table.{server_of};
 ghost use Rattle.lease_lines.specs.ClientTables.{Takes, Adds};
 ghost use Rattle.lease_lines.specs.ServerAnswers.{answer};
 ghost use Rattle.lease_lines.specs.ServerLines.{call_of, server_line_in};
-ghost use Rattle.lease_lines.specs.ServerTables.{after_call, applies, found, server_in, with_file, line_told, told_of};
+ghost use Rattle.lease_lines.specs.ServerTables.{after_call, applies, found, server_in, with_file, with_rules, line_told, told_of};
 ghost use Rattle.lease_lines.specs.ServerTables.{server_answered};
 ghost use Rattle.lease_lines.specs.ServerTables as tables;
 ghost use Rattle.lease_lines.specs.Tables.{stage_of};
@@ -15,7 +15,7 @@ ghost use Rattle.lease_model.specs.server.Calls.{called};
 use crate::client_table::push_fault;
 use crate::server_answers::{push_content, push_done, push_fid, push_outs, push_yes};
 use crate::server_lines::{Query, ServerCall, ServerLine, read_server_line};
-use lease_state::{Content, Memory};
+use lease_state::{Content, Memory, Rules};
 use lease_texts::{LineFault, is_passed_over};
 use share_server::{Out, Server};
 use std::alloc::{AllocError, Global};
@@ -23,26 +23,24 @@ use std::alloc::{AllocError, Global};
 // No more files than there are numbers.
 const FILES: usize = 255;
 
-/// A server whose files are given first; it begins with the first other line.
+/// A server whose rules and files are given first; it begins with the first other line.
 #[derive(Debug, Drop)]
 pub enum Stage {
-    Filling(Vec<Content>),
+    /// Nothing is given yet.
+    Fresh,
+    /// These rules, and files.
+    Filling(Rules, Vec<Content>),
     Serving(Server),
 }
 
 // Adds what a call gives out, and whether it applied.
-fn push_after(
-    alloc: Global,
-    text: &mut String,
-    applies: bool,
-    after: (Server, Vec<Out>),
-) -> Result<Server, Memory>
+fn push_after(text: &mut String, applies: bool, after: (Server, Vec<Out>)) -> Result<Server, Memory>
     ensures { IfOk result (λ server. (progress : Progress) → IsAfter after.0 after.1.items progress
         → (server_of server ≡ progress.server)
         × (string_bytes text.new ≡ string_bytes text.old ++ (after_call applies progress).text)) }
 {
     let (server, outs) = after;
-    push_outs(alloc, text, outs.as_slice())?;
+    push_outs(text, outs.as_slice())?;
     push_done(text, applies)?;
     Ok(server)
 }
@@ -71,93 +69,88 @@ fn call(server: Server, asked: ServerCall) -> Result<(Server, Vec<Out>), Memory>
     }
 }
 
-fn push_found(
-    alloc: Global,
-    text: &mut String,
-    server: &Server,
-    query: Query,
-) -> Result<(), AllocError>
+fn push_found(text: &mut String, server: &Server, query: Query) -> Result<(), AllocError>
     ensures { OnOk result (string_bytes text.new ≡ string_bytes text.old ++ answer (found (server_of server.now) query)) }
 {
     match query {
         Query::Breaking(client, key) => push_yes(text, server.breaking(client, key)),
         Query::Kept(client, file) => push_fid(text, server.kept(client, file)),
-        Query::Content(file) => push_content(alloc, text, server.content(file)),
+        Query::Content(file) => push_content(text, server.content(file)),
     }
 }
 
 impl Stage {
-    /// No files yet.
-    pub fn new(alloc: Global) -> Stage
-        ensures { stage_of result ≡ tables.Stage.Filling [] }
-    {
-        Stage::Filling(Vec::new(alloc))
-    }
-
     // The server, which begins where it hasn't.
     fn into_server(self, alloc: Global) -> Result<Server, Memory>
         ensures { IfOk result (λ server. server_of server ≡ server_in (stage_of self)) }
     {
         match self {
-            Stage::Filling(files) => Server::new(alloc, files),
+            Stage::Fresh => Server::new(alloc, Vec::new(alloc)),
+            Stage::Filling(rules, files) => Server::with_rules(alloc, rules, files),
             Stage::Serving(server) => Ok(server),
         }
     }
 
+    // These rules; not where something was given before.
+    fn set_rules(self, alloc: Global, rules: Rules) -> (Stage, bool)
+        ensures { Takes (with_rules (stage_of self) rules) result.1 (stage_of self) (stage_of result.0) [] [] }
+    {
+        match self {
+            Stage::Fresh => (Stage::Filling(rules, Vec::new(alloc)), true),
+            other => (other, false),
+        }
+    }
+
     // One more file; none where the server has begun, or there is no number for it.
-    fn add_file(self, content: Content) -> Result<(Stage, bool), Memory>
+    fn add_file(self, alloc: Global, content: Content) -> Result<(Stage, bool), Memory>
         ensures { IfOk result (λ r. Takes (with_file (stage_of self) content) r.1 (stage_of self) (stage_of r.0) [] []) }
     {
         match self {
-            Stage::Filling(mut files) => {
+            Stage::Fresh => {
+                let mut files = Vec::new(alloc);
+                files.push(content)?;
+                Ok((Stage::Filling(Rules::profile(), files), true))
+            }
+            Stage::Filling(rules, mut files) => {
                 if files.len() >= FILES {
-                    return Ok((Stage::Filling(files), false));
+                    return Ok((Stage::Filling(rules, files), false));
                 }
                 files.push(content)?;
-                Ok((Stage::Filling(files), true))
+                Ok((Stage::Filling(rules, files), true))
             }
             Stage::Serving(server) => Ok((Stage::Serving(server), false)),
         }
     }
 
     #[tactic(auto, unfolding(crate::specs::ServerTables::line_told))]
-    fn take_line(
-        self,
-        alloc: Global,
-        line: ServerLine,
-        text: &mut String,
-    ) -> Result<(Stage, bool), Memory>
+    fn take_line(self, line: ServerLine, text: &mut String) -> Result<(Stage, bool), Memory>
         ensures { IfOk result (λ r. Takes (line_told (stage_of self) line) r.1 (stage_of self) (stage_of r.0)
             (string_bytes text.old) (string_bytes text.new)) }
     {
         match line {
-            ServerLine::File(content) => self.add_file(content),
+            ServerLine::Rules(rules) => Ok(self.set_rules(*text.allocator(), rules)),
+            ServerLine::File(content) => self.add_file(*text.allocator(), content),
             ServerLine::Call(asked) => {
-                let server = self.into_server(alloc)?;
+                let server = self.into_server(*text.allocator())?;
                 let applies = applies(&server, &asked);
-                let server = push_after(alloc, text, applies, call(server, asked)?)?;
+                let server = push_after(text, applies, call(server, asked)?)?;
                 Ok((Stage::Serving(server), true))
             }
             ServerLine::Query(query) => {
-                let server = self.into_server(alloc)?;
-                push_found(alloc, text, &server, query)?;
+                let server = self.into_server(*text.allocator())?;
+                push_found(text, &server, query)?;
                 Ok((Stage::Serving(server), true))
             }
         }
     }
 
     // Takes a line where it is one.
-    fn take_text(
-        self,
-        alloc: Global,
-        line: &[u8],
-        text: &mut String,
-    ) -> Result<(Stage, bool), Memory>
+    fn take_text(self, line: &[u8], text: &mut String) -> Result<(Stage, bool), Memory>
         ensures { IfOk result (λ r. Takes (told_of (stage_of self) (server_line_in line.now)) r.1 (stage_of self) (stage_of r.0)
             (string_bytes text.old) (string_bytes text.new)) }
     {
-        match read_server_line(alloc, line) {
-            Ok(asked) => self.take_line(alloc, asked, text),
+        match read_server_line(*text.allocator(), line) {
+            Ok(asked) => self.take_line(asked, text),
             Err(LineFault::Refused) => Ok((self, false)),
             Err(LineFault::Memory) => Err(Memory),
         }
@@ -169,20 +162,14 @@ impl Stage {
     ///
     /// `Memory` where there is none left; the server is lost then.
     #[tactic(auto, unfolding(crate::specs::ServerTables::server_answered))]
-    pub fn answer(
-        self,
-        alloc: Global,
-        number: u64,
-        line: &[u8],
-        text: &mut String,
-    ) -> Result<Stage, Memory>
+    pub fn answer(self, number: u64, line: &[u8], text: &mut String) -> Result<Stage, Memory>
         ensures { IfOk result (λ after. Adds (server_answered (stage_of self) number line.now) (stage_of after)
             (string_bytes text.old) (string_bytes text.new)) }
     {
         if is_passed_over(line) {
             return Ok(self);
         }
-        let (stage, taken) = self.take_text(alloc, line, text)?;
+        let (stage, taken) = self.take_text(line, text)?;
         if !taken {
             push_fault(text, number)?;
         }

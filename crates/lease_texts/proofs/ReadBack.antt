@@ -22,7 +22,7 @@ use Rattle.lease_texts.specs.declared.kinds.Field.{Field}
 use Rattle.lease_texts.specs.declared.kinds.Field.TheVariants as field
 use Rattle.lease_texts.specs.declared.replies.Arrival.{Arrival}
 use Rattle.lease_texts.proofs.Bytes.{above-append, above-line, all_above, piece_first, piece_last}
-use Rattle.lease_texts.proofs.Tables.{reads_exactly, are_apart}
+use Rattle.lease_texts.proofs.Tables.{reads_exactly, are_apart, of_one}
 use Rattle.lease_texts.proofs.Values.{word_above, word_back}
 
 -- ---- words behind spaces
@@ -98,7 +98,8 @@ words_are field.Request asked can = (request_name_above asked, plain_words_are (
 words_are field.Reply told (can, _) = (reply_name_above told.reply, plain_words_are (reply_said told.reply).spoken can)
 words_are other value can = (word_above other value can, tt)
 
-all_words : (spoken : List Spoken) → Each (λ (one : Spoken). CanBeSaid one.field one.value) spoken → AreWords (spoken_words spoken)
+all_words : (spoken : List Spoken) → Each (λ (one : Spoken). CanBeSaid one.field one.value) spoken
+    → AreWords (spoken_words spoken)
 all_words [] can = tt
 all_words (one ∷ others) (here, can) =
     words_join (words_for one.field one.value) (spoken_words others) (words_are one.field one.value here) (all_words others can)
@@ -199,11 +200,11 @@ row_says {A} {kinds} {said} {told} row can rest =
     }
 
 -- where a word may be missing, nothing stands behind
-abbrev NothingBehind : Field → Words → Type 0
+abbrev pub NothingBehind : Field → Words → Type 0
 NothingBehind field.Durable rest = rest ≡ []
 NothingBehind other rest = ⊤
 
-field_says : (field : Field) (value : Value field) (rest : Words) → CanBeSaid field value → NothingBehind field rest
+pub field_says : (field : Field) (value : Value field) (rest : Words) → CanBeSaid field value → NothingBehind field rest
     → FieldSays field (words_for field value ++ rest) value rest
 field_says field.Durable true rest can ends = refl
 field_says field.Durable false rest can ends = (ends, ends)
@@ -239,11 +240,6 @@ is_name name = all_above 32 name && not (is_passed_over name)
 
 abbrev pub are_names : {A : Type 0} → List (Kind A) → Bool
 are_names kinds = list_all (λ (kind : Kind _). is_name kind.name) kinds
-
-of_one : {X : Type 0} (test : X → Bool) (xs : List X) (x : X) → list_all test xs ≡ true → IsOneOf xs x → test x ≡ true
-of_one test [] x all is = absurd is
-of_one test (y ∷ ys) x all (inl same) = ap test same ∙ (and_parts (test y) (list_all test ys) all).0
-of_one test (y ∷ ys) x all (inr later) = of_one test ys x (and_parts (test y) (list_all test ys) all).1 later
 
 is_false : (b : Bool) → not b ≡ true → b ≡ false
 is_false b e = grind arith
@@ -286,5 +282,5 @@ read_back {A} kinds said apart names rows told can = record {
     are = all_words (said told).spoken can
 
     good : (all_above 32 (said told).name ≡ true) × (not (is_passed_over (said told).name) ≡ true)
-    good = and_parts _ _ (ap is_name (rows told).named ∙ of_one (λ (kind : Kind A). is_name kind.name) kinds (rows told).kind names
-        (rows told).is_one)
+    good = and_parts _ _ (ap is_name (rows told).named
+        ∙ of_one (λ (kind : Kind A). is_name kind.name) kinds (rows told).kind names (rows told).is_one)

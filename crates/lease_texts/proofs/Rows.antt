@@ -1,15 +1,21 @@
 -- Each fact and each part of a schedule is told by a row of its table.
-use Rattle.std.proofs.Common.{◌≡◌, refl, true}
+use Rattle.std.proofs.Common.{◌≡◌, ◌∷◌, [], refl, true}
 use Rattle.lease_client.specs.declared.values.command.Command.TheVariants as command
 use Rattle.lease_facts.specs.declared.fact.Fact.{Fact}
 use Rattle.lease_facts.specs.declared.fact.Fact.TheVariants as fact
 use Rattle.lease_facts.specs.declared.setup.Event.TheVariants as event
+use Rattle.lease_texts.specs.Complaints.{complaint}
+use Rattle.lease_texts.specs.FirstFaults.{ComplainsExactly}
+use Rattle.lease_texts.specs.Kinds.{say}
 use Rattle.lease_texts.specs.Records.{fact_in, fact_kinds, fact_said}
 use Rattle.lease_texts.specs.Schedules.{part_in, part_kinds, part_said}
-use Rattle.lease_texts.specs.Tables.{AreReadBack, ReadsExactly}
+use Rattle.lease_texts.specs.Tables.{AreReadBack, FieldSays, ReadsExactly}
+use Rattle.lease_texts.specs.declared.kinds.Field.TheVariants as field
+use Rattle.lease_texts.specs.declared.kinds.Table.TheVariants as table
 use Rattle.lease_texts.specs.declared.parts.Part.{Part}
 use Rattle.lease_texts.specs.declared.parts.Part.TheVariants as part
-use Rattle.lease_texts.proofs.ReadBack.{HasRow, read_back, row_at}
+use Rattle.lease_texts.proofs.FirstFaults.{complains_exactly}
+use Rattle.lease_texts.proofs.ReadBack.{HasRow, IsSaidBy, read_back, row_at}
 use Rattle.lease_texts.proofs.Tables.{are_apart, reads_exactly}
 
 -- ---- facts
@@ -24,32 +30,12 @@ fact_row (fact.Took client) = row_at fact_kinds 5 refl refl (client, refl, tt, r
 fact_row (fact.Opened file client) = row_at fact_kinds 6 refl refl (file, refl, tt, (client, refl, tt, refl))
 fact_row (fact.Changed file client number patch) = row_at fact_kinds 7 refl refl
     (file, refl, tt, (client, refl, tt, (number, refl, tt, (patch.offset, refl, tt, (patch.bytes, refl, tt, refl)))))
-fact_row (fact.Wrote client file number patch buffered) = row_at fact_kinds 8 refl refl (
-  client,
-  refl,
-  tt,
-  (
-    file,
-    refl,
-    tt,
-    (
-      number,
-      refl,
-      tt,
-      (
-        patch.offset,
-        refl,
-        tt,
-        (
-          patch.bytes,
-          refl,
-          tt,
-          (buffered, refl, tt, refl),
-        ),
-      ),
-    ),
-  ),
-)
+fact_row (fact.Wrote client file number patch buffered) =
+    let end : IsSaidBy (field.Bytes ∷ field.Way ∷ [])
+    (λ bytes way. fact.Wrote client file number (record { offset = patch.offset; bytes = bytes }) way)
+    (say field.Bytes patch.bytes ∷ say field.Way buffered ∷ []) (fact.Wrote client file number patch buffered) =
+    (patch.bytes, refl, tt, (buffered, refl, tt, refl)) in row_at fact_kinds 8 refl refl
+    (client, refl, tt, (file, refl, tt, (number, refl, tt, (patch.offset, refl, tt, end))))
 fact_row (fact.Settled client number outcome) =
     row_at fact_kinds 9 refl refl (client, refl, tt, (number, refl, tt, (outcome, refl, tt, refl)))
 fact_row (fact.Believes client file state) =
@@ -65,6 +51,9 @@ facts_apart = refl
 pub facts_told : ReadsExactly fact_kinds fact_in
 unfolding fact_in
 facts_told = reads_exactly fact_kinds facts_apart
+
+pub facts_complained : ComplainsExactly FieldSays fact_kinds fact_in (complaint table.Facts)
+facts_complained = complains_exactly fact_kinds fact_in table.Facts refl facts_apart refl facts_told
 
 pub facts_back : AreReadBack fact_said fact_in
 unfolding fact_in
@@ -104,6 +93,9 @@ parts_apart = refl
 pub parts_told : ReadsExactly part_kinds part_in
 unfolding part_in
 parts_told = reads_exactly part_kinds parts_apart
+
+pub parts_complained : ComplainsExactly FieldSays part_kinds part_in (complaint table.Parts)
+parts_complained = complains_exactly part_kinds part_in table.Parts refl parts_apart refl parts_told
 
 pub parts_back : AreReadBack part_said part_in
 unfolding part_in

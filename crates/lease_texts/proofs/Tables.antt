@@ -1,6 +1,6 @@
 -- A reader by a table whose kinds have names of their own reads exactly what lines tell.
-use Rattle.std.proofs.Common.{◌&&◌, ◌∙◌, ◌∷◌, ◌≡◌, ◌↔◌, Bool, List, None, Option, Some, ℕ, [], ap, arith, bytes_eq, codes, false, if◌then◌else◌}
-use Rattle.std.proofs.Common.{inl, inr, not, refl, sym, true}
+use Rattle.std.proofs.Common.{◌&&◌, ◌∙◌, ◌∷◌, ◌≡◌, ◌↔◌, Bool, List, None, Option, Some, ℕ, [], ap, arith, bytes_eq, codes, false}
+use Rattle.std.proofs.Common.{if◌then◌else◌, inl, inr, not, refl, sym, true}
 use Rattle.std.proofs.lemmas.Bool.{and_parts}
 use Rattle.std.proofs.lemmas.Slice.Eq.{bytes_eq-Decides}
 use Rattle.std.specs.List.{list_all}
@@ -96,6 +96,11 @@ unfoldable pub are_apart : {A : Type 0} → List (Kind A) → Bool
 are_apart [] = true
 are_apart (one ∷ kinds) = list_all (λ (other : Kind _). not (bytes_eq one.name other.name)) kinds && are_apart kinds
 
+pub of_one : {X : Type 0} (test : X → Bool) (xs : List X) (x : X) → list_all test xs ≡ true → IsOneOf xs x → test x ≡ true
+of_one test [] x all is = absurd is
+of_one test (y ∷ ys) x all (inl same) = ap test same ∙ (and_parts (test y) (list_all test ys) all).0
+of_one test (y ∷ ys) x all (inr later) = of_one test ys x (and_parts (test y) (list_all test ys) all).1 later
+
 not_equal : (b : Bool) → b ≡ true → not b ≡ true → ⊥
 not_equal b is differs = grind arith
 
@@ -103,7 +108,8 @@ other_name : {A : Type 0} (name : List ℕ) (kinds : List (Kind A)) (kind : Kind
     → list_all (λ (other : Kind A). not (bytes_eq name other.name)) kinds ≡ true → IsOneOf kinds kind → name ≡ kind.name → ⊥
 other_name name [] kind differ is same = is
 other_name {A} name (one ∷ kinds) kind differ (inl first) same = not_equal (bytes_eq name one.name)
-    ((bytes_eq-Decides name one.name).1 (same ∙ ap (λ (k : Kind A). k.name) first)) (and_parts (not (bytes_eq name one.name)) _ differ).0
+    ((bytes_eq-Decides name one.name).1 (same ∙ ap (λ (k : Kind A). k.name) first))
+    (and_parts (not (bytes_eq name one.name)) _ differ).0
 other_name {A} name (one ∷ kinds) kind differ (inr later) same =
     other_name name kinds kind (and_parts (not (bytes_eq name one.name)) _ differ).1 later same
 
@@ -117,8 +123,8 @@ named_as {A} read (one ∷ kinds) kind words apart (inl first) =
     (bytes_eq-Decides kind.name one.name).1 (ap (λ (k : Kind A). k.name) first) in
     rw same (sym (ap (λ (k : Kind A). taken read k.fields k.tells words) first))
 named_as {A} read (one ∷ kinds) kind words apart (inr later) = rw (differ (bytes_eq kind.name one.name) refl)
-    (named_as read kinds kind words (and_parts (list_all (λ (other : Kind A). not (bytes_eq one.name other.name)) kinds) _ apart).1
-    later)
+    (named_as read kinds kind words
+    (and_parts (list_all (λ (other : Kind A). not (bytes_eq one.name other.name)) kinds) _ apart).1 later)
   where
     differ : (b : Bool) → bytes_eq kind.name one.name ≡ b → bytes_eq kind.name one.name ≡ false
     differ true same = absurd (other_name one.name kinds kind
@@ -173,7 +179,7 @@ abbrev name_in : Words → List ℕ
 name_in [] = []
 name_in (name ∷ words) = name
 
-one_of_a_name : {A : Type 0} (kinds : List (Kind A)) (first second : Kind A) → are_apart kinds ≡ true → IsOneOf kinds first
+pub one_of_a_name : {A : Type 0} (kinds : List (Kind A)) (first second : Kind A) → are_apart kinds ≡ true → IsOneOf kinds first
     → IsOneOf kinds second → first.name ≡ second.name → first ≡ second
 unfolding are_apart
 one_of_a_name [] first second apart is also same = absurd is
@@ -214,10 +220,10 @@ reads_lines fits kinds apart line told =
 not_both : {X : Type 0} → true ≡ false → X
 not_both e = let c : ⊥ = cc in absurd c
 
-no_more : {X : Type 0} {word : List ℕ} {words : Words} → word ∷ words ≡ [] → X
+pub no_more : {X : Type 0} {word : List ℕ} {words : Words} → word ∷ words ≡ [] → X
 no_more e = let c : ⊥ = cc in absurd c
 
-same_parts : {word other : List ℕ} {words others : Words} → word ∷ words ≡ other ∷ others → (word ≡ other) × (words ≡ others)
+pub same_parts : {word other : List ℕ} {words others : Words} → word ∷ words ≡ other ∷ others → (word ≡ other) × (words ≡ others)
 same_parts e = (cc, cc)
 
 durable_read : (words : Words) (durable : Bool) (rest : Words)
@@ -245,11 +251,11 @@ durable_read (word ∷ words) durable rest = by_word (bytes_eq word (codes "dura
     )
     by_word false other false = (λ e. absurd (none_told (false, rest) (rw other at e)), λ (are, _). no_more are)
 
-requests_apart : are_apart request_kinds ≡ true
+pub requests_apart : are_apart request_kinds ≡ true
 unfolding are_apart
 requests_apart = refl
 
-replies_apart : are_apart reply_kinds ≡ true
+pub replies_apart : are_apart reply_kinds ≡ true
 unfolding are_apart
 replies_apart = refl
 

@@ -12,12 +12,14 @@ use Rattle.uuid.proofs.RoundTrips.{parses_hyphenated}
 use Rattle.lease_state.specs.State.{bits_of_state, state_of}
 use Rattle.lease_state.specs.declared.state.LeaseState.{LeaseState}
 use Rattle.lease_state.specs.declared.status.Status.{Status}
+use Rattle.lease_state.specs.declared.rules.Order.{Order}
+use Rattle.lease_state.specs.declared.rules.Rise.{Rise}
 use Rattle.lease_texts.specs.Fields.{access_in, bytes_in, content_in, digit_behind, number_after, number_in, offset_in, ordinal_in}
-use Rattle.lease_texts.specs.Fields.{outcome_in, share_in, sized_in, state_in, state_of_wire, way_in}
+use Rattle.lease_texts.specs.Fields.{outcome_in, rules_in, share_in, sized_in, state_in, state_of_wire, way_in}
 use Rattle.lease_texts.specs.Kinds.{Value, client_no, file_id, file_no, lease_key, value_in, word_for}
 use Rattle.lease_texts.specs.Statuses.{given_word, known, status_in, status_named, status_word}
 use Rattle.lease_texts.specs.Tables.{HasBytes, HasWord}
-use Rattle.lease_texts.specs.Words.{digits_word, state_word}
+use Rattle.lease_texts.specs.Words.{digits_word, rules_word, state_word}
 use Rattle.lease_texts.specs.declared.kinds.Field.{Field}
 use Rattle.lease_texts.specs.declared.kinds.Field.TheVariants as field
 use Rattle.lease_texts.specs.declared.status.GivenStatus.{GivenStatus}
@@ -146,6 +148,20 @@ status_above given named = subst (λ (g : GivenStatus). all_above 32 (given_word
 
 -- ---- any field of one word
 
+rules_back : (order : Order) (rise : Rise) → rules_in (rules_word (record { order = order; rise = rise }))
+    ≡ Some (record { order = order; rise = rise })
+unfolding rules_in
+rules_back Order.ByClient Rise.AsFree = refl
+rules_back Order.ByClient Rise.Whole = refl
+rules_back Order.ByKey Rise.AsFree = refl
+rules_back Order.ByKey Rise.Whole = refl
+
+rules_above : (order : Order) (rise : Rise) → all_above 32 (rules_word (record { order = order; rise = rise })) ≡ true
+rules_above Order.ByClient Rise.AsFree = refl
+rules_above Order.ByClient Rise.Whole = refl
+rules_above Order.ByKey Rise.AsFree = refl
+rules_above Order.ByKey Rise.Whole = refl
+
 pub word_back : (field : Field) (value : Value field) → HasWord field value → value_in field (word_for field value) ≡ Some value
 unfolding access_in share_in way_in outcome_in
 word_back field.Client client (some, small) = ap (λ (o : Option ℕ). option_map client_no o) (ordinal_back client.0 some small)
@@ -158,6 +174,7 @@ word_back field.Content bytes (are, fit) = content_back bytes are fit
 word_back field.State state small = state_back state small
 word_back field.Access access has = grind arith
 word_back field.Share share has = grind arith
+word_back field.Rules rules has = rules_back rules.order rules.rise
 word_back field.Way buffered has = grind arith
 word_back field.Outcome outcome has = grind arith
 word_back field.Guid guid is = guid_back guid is
@@ -181,6 +198,7 @@ word_above field.Content bytes (are, fit) = digits_above bytes are
 word_above field.State state small = let letters = state_of state in letters_above letters.read letters.write letters.handle
 word_above field.Access access has = grind arith
 word_above field.Share share has = grind arith
+word_above field.Rules rules has = rules_above rules.order rules.rise
 word_above field.Way buffered has = grind arith
 word_above field.Outcome outcome has = grind arith
 word_above field.Guid guid is = hyphenated_above guid

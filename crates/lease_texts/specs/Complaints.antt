@@ -140,27 +140,34 @@ table_word table.Replies = codes "a message of the server"
 abbrev pub table_words : Table → List ℕ
 table_words kinds = table_word kinds ++ codes ", which is " ++ names_in kinds
 
+abbrev pub held_words : Field → List ℕ
+held_words field.Client = codes "a client, which is a number from 1 to 255 without leading zeros"
+held_words field.File = codes "a file, which is a number from 1 to 255 without leading zeros"
+held_words field.FileId = codes "a FileId, which is a number of at most 64 bits without leading zeros"
+held_words field.Number = codes "the number of a write, of at most 64 bits without leading zeros"
+held_words field.Offset = codes "an offset, which is a number of at most 32 bits without leading zeros"
+held_words field.Bytes = codes "bytes, of two hexadecimal digits each, or - for none"
+held_words field.Content = codes "at most 1048576 bytes, of two hexadecimal digits each, or - for none"
+held_words field.State = codes "a state, which is none or letters of RWH in that order"
+held_words field.Access = codes "an access, which is r, w or rw"
+held_words field.Share = codes "what is shared, which is -, r, w or rw"
+held_words field.Rules = codes "rules, which are by-client or by-key, a comma, and as-free or whole"
+held_words field.Way = codes "the way of a write, which is buffered or through"
+held_words field.Outcome = codes "an outcome, which is done, failed, unknown or lost"
+held_words field.Guid = codes "a GUID of 32 hexadecimal digits, hyphenated, in braces or as a URN"
+held_words field.Message = codes "an acknowledgment of 36 bytes, which are 72 hexadecimal digits"
+held_words field.Durable = codes "the word durable or the line's end"
+held_words field.Key = codes "a lease key of 16 bytes, which are 32 hexadecimal digits"
+held_words field.Notification = codes "a notification of 44 bytes, which are 88 hexadecimal digits"
+held_words field.Status = codes "a status, which is a name that begins with STATUS_ or 8 hexadecimal digits"
+held_words field.Request = []
+held_words field.Reply = []
+
+-- a table is for what takes all that is left
 abbrev pub field_words : Field → List ℕ
-field_words field.Client = codes "a client, which is a number from 1 to 255 without leading zeros"
-field_words field.File = codes "a file, which is a number from 1 to 255 without leading zeros"
-field_words field.FileId = codes "a FileId, which is a number of at most 64 bits without leading zeros"
-field_words field.Number = codes "the number of a write, of at most 64 bits without leading zeros"
-field_words field.Offset = codes "an offset, which is a number of at most 32 bits without leading zeros"
-field_words field.Bytes = codes "bytes, of two hexadecimal digits each, or - for none"
-field_words field.Content = codes "at most 1048576 bytes, of two hexadecimal digits each, or - for none"
-field_words field.State = codes "a state, which is none or letters of RWH in that order"
-field_words field.Access = codes "an access, which is r, w or rw"
-field_words field.Share = codes "what is shared, which is -, r, w or rw"
-field_words field.Way = codes "the way of a write, which is buffered or through"
-field_words field.Outcome = codes "an outcome, which is done, failed, unknown or lost"
-field_words field.Guid = codes "a GUID of 32 hexadecimal digits, hyphenated, in braces or as a URN"
-field_words field.Message = codes "an acknowledgment of 36 bytes, which are 72 hexadecimal digits"
-field_words field.Durable = codes "the word durable or the line's end"
-field_words field.Key = codes "a lease key of 16 bytes, which are 32 hexadecimal digits"
-field_words field.Notification = codes "a notification of 44 bytes, which are 88 hexadecimal digits"
-field_words field.Status = codes "a status, which is a name that begins with STATUS_ or 8 hexadecimal digits"
 field_words field.Request = table_words table.Requests
 field_words field.Reply = table_words table.Replies
+field_words other = held_words other
 
 abbrev pub expected_words : Expected → List ℕ
 expected_words (expected.Names kinds) = table_words kinds

@@ -7,6 +7,9 @@ use Rattle.lease_client.specs.declared.values.note.Settlement.{Settlement}
 use Rattle.lease_client.specs.declared.values.note.Settlement.TheVariants as settlement
 use Rattle.lease_state.specs.declared.access.Access.{Access}
 use Rattle.lease_state.specs.declared.access.Access.TheVariants as access
+use Rattle.lease_state.specs.declared.rules.Order.{Order}
+use Rattle.lease_state.specs.declared.rules.Rise.{Rise}
+use Rattle.lease_state.specs.declared.rules.Rules.{Rules}
 use Rattle.lease_state.specs.declared.access.Share.{Share}
 use Rattle.lease_state.specs.declared.access.Share.TheVariants as share
 use Rattle.lease_state.specs.declared.content.TheConstants.{FILE_LIMIT}
@@ -46,6 +49,14 @@ share_in field =
     else if bytes_eq field (codes "r") then Some share.Read
     else if bytes_eq field (codes "w") then Some share.Write
     else if bytes_eq field (codes "rw") then Some share.ReadWrite
+    else None
+
+unfoldable pub rules_in : List ℕ → Option Rules
+rules_in field =
+    if bytes_eq field (codes "by-client,as-free") then Some (record { order = Order.ByClient; rise = Rise.AsFree })
+    else if bytes_eq field (codes "by-client,whole") then Some (record { order = Order.ByClient; rise = Rise.Whole })
+    else if bytes_eq field (codes "by-key,as-free") then Some (record { order = Order.ByKey; rise = Rise.AsFree })
+    else if bytes_eq field (codes "by-key,whole") then Some (record { order = Order.ByKey; rise = Rise.Whole })
     else None
 
 -- the state of a number of the wire

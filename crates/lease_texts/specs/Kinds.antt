@@ -15,10 +15,11 @@ use Rattle.lease_state.specs.declared.number.FileNo.{FileNo}
 use Rattle.lease_state.specs.declared.key.LeaseKey.{LeaseKey}
 use Rattle.lease_state.specs.declared.request.Request as requests
 use Rattle.lease_state.specs.declared.state.LeaseState.{LeaseState}
-use Rattle.lease_texts.specs.Fields.{ordinal_in, number_in, offset_in, bytes_in, content_in, access_in, share_in, state_in}
+use Rattle.lease_state.specs.declared.rules.Rules.{Rules}
+use Rattle.lease_texts.specs.Fields.{ordinal_in, number_in, offset_in, bytes_in, content_in, access_in, share_in, rules_in, state_in}
 use Rattle.lease_texts.specs.Fields.{way_in, outcome_in, sized_in}
 use Rattle.lease_texts.specs.Statuses.{given_word, status_in}
-use Rattle.lease_texts.specs.Words.{state_word, digits_word, access_word, share_word, outcome_word, way_word}
+use Rattle.lease_texts.specs.Words.{state_word, digits_word, access_word, share_word, rules_word, outcome_word, way_word}
 use Rattle.lease_texts.specs.declared.kinds.Field.{Field}
 use Rattle.lease_texts.specs.declared.kinds.Field.TheVariants as field
 use Rattle.lease_texts.specs.declared.replies.Arrival.{Arrival}
@@ -38,6 +39,7 @@ Value field.Content = List ℕ
 Value field.State = LeaseState
 Value field.Access = accesses.Access
 Value field.Share = shares.Share
+Value field.Rules = Rules
 Value field.Way = Bool
 Value field.Outcome = Settlement
 Value field.Guid = List ℕ
@@ -73,6 +75,7 @@ value_in field.Content word = content_in word
 value_in field.State word = state_in word
 value_in field.Access word = access_in word
 value_in field.Share word = share_in word
+value_in field.Rules word = rules_in word
 value_in field.Way word = way_in word
 value_in field.Outcome word = outcome_in word
 value_in field.Guid word = parsed word
@@ -96,6 +99,7 @@ word_for field.Content bytes = digits_word bytes
 word_for field.State state = state_word (state_of state)
 word_for field.Access access = access_word access
 word_for field.Share share = share_word share
+word_for field.Rules rules = rules_word rules
 word_for field.Way buffered = way_word buffered
 word_for field.Outcome outcome = outcome_word outcome
 word_for field.Guid guid = hyphenated_text lower guid

@@ -1,11 +1,14 @@
 -- What is true of records and schedules as texts.
 use Rattle.std.specs.Prelude.{◌≡◌, ◌+◌, ◌++◌, ℕ, List, length, Ok}
 use Rattle.lease_facts.specs.declared.fact.Fact.{Fact}
+use Rattle.lease_texts.specs.Complaints.{complaint}
+use Rattle.lease_texts.specs.FirstFaults.{ComplainsExactly}
 use Rattle.lease_texts.specs.Pieces.{lines_of}
 use Rattle.lease_texts.specs.Reading.{reads_on}
 use Rattle.lease_texts.specs.Records.{fact_in, fact_kinds, fact_said, record_in, record_text, with_line}
 use Rattle.lease_texts.specs.Schedules.{Draft, part_in, part_kinds, part_said, schedule_in, schedule_text}
-use Rattle.lease_texts.specs.Tables.{AreReadBack, CanBeWritten, Each, ReadsExactly}
+use Rattle.lease_texts.specs.Tables.{AreReadBack, CanBeWritten, Each, FieldSays, ReadsExactly}
+use Rattle.lease_texts.specs.declared.kinds.Table.TheVariants as table
 use Rattle.lease_texts.specs.declared.parts.Part.TheVariants as part
 
 -- What is read in a line is the fact, or the part of a schedule, that the line tells.
@@ -14,6 +17,13 @@ LinesTellFacts = ReadsExactly fact_kinds fact_in
 
 abbrev pub LinesTellParts : Type 0
 LinesTellParts = ReadsExactly part_kinds part_in
+
+-- What is said of a line that is no fact, or no part of a schedule, is its first fault.
+abbrev pub FactFaultsAreFirst : Type 0
+FactFaultsAreFirst = ComplainsExactly FieldSays fact_kinds fact_in (complaint table.Facts)
+
+abbrev pub PartFaultsAreFirst : Type 0
+PartFaultsAreFirst = ComplainsExactly FieldSays part_kinds part_in (complaint table.Parts)
 
 -- A line can say the fact, and so can one the part of a schedule.
 abbrev pub CanBeTold : Fact → Type 0

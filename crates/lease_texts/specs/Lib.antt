@@ -10,9 +10,11 @@ pub mod Takes
 pub mod Tables
 pub mod Reading
 pub mod Records
+pub mod Remarks
 pub mod Schedules
-pub mod Laws
 pub mod Drafts
 pub mod Written
 pub mod Quoting
 pub mod Complaints
+pub mod FirstFaults
+pub mod Laws

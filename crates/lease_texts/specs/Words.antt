@@ -8,6 +8,9 @@ use Rattle.lease_state.specs.declared.access.Access.{Access}
 use Rattle.lease_state.specs.declared.access.Access.TheVariants as access
 use Rattle.lease_state.specs.declared.access.Share.{Share}
 use Rattle.lease_state.specs.declared.access.Share.TheVariants as share
+use Rattle.lease_state.specs.declared.rules.Order.{Order}
+use Rattle.lease_state.specs.declared.rules.Rise.{Rise}
+use Rattle.lease_state.specs.declared.rules.Rules.{Rules}
 
 -- the letters of a state in the order R, W, H, or "none"
 abbrev pub state_word : State → List ℕ
@@ -38,6 +41,15 @@ share_word share.Nothing = codes "-"
 share_word share.Read = codes "r"
 share_word share.Write = codes "w"
 share_word share.ReadWrite = codes "rw"
+
+abbrev pub rules_word : Rules → List ℕ
+rules_word rules = word rules.order rules.rise
+  where
+    word : Order → Rise → List ℕ
+    word Order.ByClient Rise.AsFree = codes "by-client,as-free"
+    word Order.ByClient Rise.Whole = codes "by-client,whole"
+    word Order.ByKey Rise.AsFree = codes "by-key,as-free"
+    word Order.ByKey Rise.Whole = codes "by-key,whole"
 
 abbrev pub outcome_word : Settlement → List ℕ
 outcome_word settlement.Done = codes "done"

@@ -20,6 +20,7 @@ spoken_of (said.Content bytes) = say field.Content bytes.now
 spoken_of (said.State state) = say field.State state
 spoken_of (said.Access access) = say field.Access access
 spoken_of (said.Share share) = say field.Share share
+spoken_of (said.Rules rules) = say field.Rules rules
 spoken_of (said.Way buffered) = say field.Way buffered
 spoken_of (said.Outcome outcome) = say field.Outcome outcome
 spoken_of (said.Guid guid) = say field.Guid guid.now

@@ -10,11 +10,13 @@ use crate::pieces::split_first;
 use crate::status::{GivenStatus, status_in};
 use crate::words::{
     access_in, bytes_in, content_in, guid_in, key_in, message_in, notification_in, number_in,
-    offset_in, ordinal_in, outcome_in, share_in, state_in, way_in,
+    offset_in, ordinal_in, outcome_in, rules_in, share_in, state_in, way_in,
 };
 use lease_client::Settlement;
 use lease_facts::is;
-use lease_state::{Access, Bytes, ClientNo, Content, FileId, FileNo, LeaseKey, LeaseState, Share};
+use lease_state::{
+    Access, Bytes, ClientNo, Content, FileId, FileNo, LeaseKey, LeaseState, Rules, Share,
+};
 use std::alloc::Global;
 use std::marker::Model;
 
@@ -160,6 +162,13 @@ impl<'a> Fields<'a> {
         ensures { Takes (word_read field.Access) self.old self.new result }
     {
         access_in(self.next()?).ok_or(LineFault::Refused)
+    }
+
+    /// The rules of a server: `by-client` or `by-key`, a comma, and `as-free` or `whole`.
+    pub fn rules(&mut self) -> Result<Rules, LineFault>
+        ensures { Takes (word_read field.Rules) self.old self.new result }
+    {
+        rules_in(self.next()?).ok_or(LineFault::Refused)
     }
 
     /// What an open lets others do: `-`, `r`, `w` or `rw`.

@@ -1,8 +1,9 @@
 //! What is true of lines by their tables: public functions whose contracts carry the laws. They do
 //! nothing.
 
-ghost use Rattle.lease_texts.specs.Laws.{FactsAreReadBack, LinesTellFacts, LinesTellParts, PartsAreReadBack};
-ghost use Rattle.lease_texts.specs.Laws.{RecordsAreReadBack, SchedulesAreReadBack, TextsGoOn};
+ghost use Rattle.lease_texts.specs.Laws.{FactFaultsAreFirst, FactsAreReadBack, LinesTellFacts, LinesTellParts};
+ghost use Rattle.lease_texts.specs.Laws.{PartFaultsAreFirst, PartsAreReadBack, RecordsAreReadBack};
+ghost use Rattle.lease_texts.specs.Laws.{SchedulesAreReadBack, TextsGoOn};
 
 /// A line is read as a fact exactly where it is the line of this fact by the table of kinds: where
 /// between single spaces stand the name of a kind of fact and the words of its fields. No line is
@@ -15,6 +16,15 @@ pub fn lines_tell_facts()
 /// The same of the lines of schedules: their files and clients, and what happens. Does nothing.
 pub fn lines_tell_parts()
     ensures parts { LinesTellParts }
+{}
+
+/// `complaint_about` has a complaint exactly where a line is refused as a fact, or as a part of a
+/// schedule. It is of the first field that no line has: some line of the table begins with the fields
+/// before it, and none goes on with this one, or none ends there. The words that may stand in that
+/// field are those that it says were expected. Does nothing.
+pub fn complaints_name_first_faults()
+    ensures facts { FactFaultsAreFirst }
+    ensures parts { PartFaultsAreFirst }
 {}
 
 /// The line of each fact that can be written is one line, counts for something, and is read as that

@@ -28,17 +28,17 @@ pub use fault::{LineFault, TextFault};
 pub use fields::Fields;
 pub use kinds::{Field, Row, Table};
 pub use laws::{
-    lines_are_read_back, lines_tell_facts, lines_tell_parts, records_are_read_back,
-    schedules_are_read_back,
+    complaints_name_first_faults, lines_are_read_back, lines_tell_facts, lines_tell_parts,
+    records_are_read_back, schedules_are_read_back,
 };
 pub use lease_facts::is;
 pub use lines::{first_line, is_passed_over};
 pub use parts::{Part, push_event, read_part, read_part_of};
 pub use quoting::{push_all_escaped, push_quoted};
-pub use records::{push_fact, read_fact};
+pub use records::{push_changed, push_fact, push_opened, read_fact};
 pub use replies::{Arrival, read_arrival};
 pub use requests::read_request;
 pub use said::{Said, push_line};
 pub use schedule::{Schedule, push_setup, read_schedule};
 pub use status::{GivenStatus, push_given, status_word};
-pub use words::{digits_of, outcome_word, state_letters};
+pub use words::{digits_of, outcome_word, rules_in, state_letters};

@@ -3,19 +3,16 @@
 ghost use Rattle.std.specs.Prelude.{◌≡◌, ◌++◌, Some, None, MatchResult, OnOk, drop};
 ghost use Rattle.std.specs.String.{string_bytes};
 ghost use Rattle.lease_facts.specs.declared.setup.Event.TheVariants as event;
-ghost use Rattle.lease_texts.specs.Kinds.{by_name, named};
+ghost use Rattle.lease_texts.specs.Kinds.{named};
 ghost use Rattle.lease_texts.specs.Lines.{field_read};
 ghost use Rattle.lease_texts.specs.Schedules.{app, event_line, part_in, part_kinds, part_line};
 ghost use Rattle.lease_texts.specs.Takes.{Takes, Reads};
 
 use crate::fault::LineFault;
 use crate::fields::Fields;
-use crate::kinds::Field::{
-    Access, Bytes, Client, Content as Contents, Durable, File, Guid, Offset, Request, Share, State,
-};
-use crate::kinds::Row;
 use crate::requests::read_request;
-use crate::said::{Said, push_line};
+use crate::said::Said::{Access, Bytes, Client, Durable, File, Offset, Request, Share, State};
+use crate::said::push_line;
 use lease_client::Command;
 use lease_facts::{Event, is};
 use lease_state::{ClientNo, Content, Patch};
@@ -30,25 +27,6 @@ pub enum Part {
     Client([u8; 16]),
     Happens(Event),
 }
-
-/// The kinds of lines of schedules.
-pub(crate) const PARTS: &[Row] = &[
-    Row("file", &[Contents]),
-    Row("client", &[Guid]),
-    Row("open", &[Client, File, Access, Share, State, Durable]),
-    Row("close", &[Client, File]),
-    Row("read", &[Client, File]),
-    Row("flush", &[Client, File]),
-    Row("write", &[Client, File, Offset, Bytes]),
-    Row("serve", &[Client]),
-    Row("take", &[Client]),
-    Row("cut", &[Client]),
-    Row("notice", &[Client]),
-    Row("connect", &[Client]),
-    Row("expire", &[Client, File]),
-    Row("scavenge", &[Client, File]),
-    Row("raw", &[Client, Request]),
-];
 
 // ---- reading
 
@@ -100,26 +78,14 @@ fn read_command(alloc: Global, word: &[u8], fields: &mut Fields) -> Result<Part,
             },
         ))
     } else if is(word, b"close") {
-        Ok(app(
-            fields.client()?,
-            Command::Close {
-                file: fields.file()?,
-            },
-        ))
+        let (client, file) = (fields.client()?, fields.file()?);
+        Ok(app(client, Command::Close { file }))
     } else if is(word, b"read") {
-        Ok(app(
-            fields.client()?,
-            Command::Read {
-                file: fields.file()?,
-            },
-        ))
+        let (client, file) = (fields.client()?, fields.file()?);
+        Ok(app(client, Command::Read { file }))
     } else if is(word, b"flush") {
-        Ok(app(
-            fields.client()?,
-            Command::Flush {
-                file: fields.file()?,
-            },
-        ))
+        let (client, file) = (fields.client()?, fields.file()?);
+        Ok(app(client, Command::Flush { file }))
     } else if is(word, b"write") {
         let (client, file) = (fields.client()?, fields.file()?);
         let patch = Patch {
@@ -150,13 +116,6 @@ pub fn read_part_of(alloc: Global, word: &[u8], fields: &mut Fields) -> Result<P
     }
 }
 
-fn read_fields(alloc: Global, fields: &mut Fields) -> Result<Part, LineFault>
-    ensures { Takes (by_name field_read part_kinds) fields.old fields.new result }
-{
-    let word = fields.next()?;
-    read_part_of(alloc, word, fields)
-}
-
 /// What a line adds to a schedule.
 ///
 /// # Errors
@@ -167,7 +126,8 @@ pub fn read_part(alloc: Global, line: &[u8]) -> Result<Part, LineFault>
     ensures { Reads part_in line.now result }
 {
     let mut fields = Fields::of(line);
-    let part = read_fields(alloc, &mut fields)?;
+    let word = fields.next()?;
+    let part = read_part_of(alloc, word, &mut fields)?;
     fields.end()?;
     Ok(part)
 }
@@ -175,12 +135,7 @@ pub fn read_part(alloc: Global, line: &[u8]) -> Result<Part, LineFault>
 // ---- writing
 
 // What an application asks of a client.
-fn push_command(
-    alloc: Global,
-    text: &mut String,
-    client: ClientNo,
-    command: &Command,
-) -> Result<(), AllocError>
+fn push_command(text: &mut String, client: ClientNo, command: &Command) -> Result<(), AllocError>
     ensures { OnOk result (string_bytes text.new ≡ string_bytes text.old ++ event_line (event.App client command.now)) }
 {
     match command {
@@ -191,78 +146,50 @@ fn push_command(
             want,
             durable,
         } => push_line(
-            alloc,
             text,
             "open",
             &[
-                Said::Client(client),
-                Said::File(*file),
-                Said::Access(*access),
-                Said::Share(*share),
-                Said::State(*want),
-                Said::Durable(*durable),
+                Client(client),
+                File(*file),
+                Access(*access),
+                Share(*share),
+                State(*want),
+                Durable(*durable),
             ],
         ),
-        Command::Close { file } => push_line(
-            alloc,
-            text,
-            "close",
-            &[Said::Client(client), Said::File(*file)],
-        ),
-        Command::Read { file } => push_line(
-            alloc,
-            text,
-            "read",
-            &[Said::Client(client), Said::File(*file)],
-        ),
+        Command::Close { file } => push_line(text, "close", &[Client(client), File(*file)]),
+        Command::Read { file } => push_line(text, "read", &[Client(client), File(*file)]),
         Command::Write { file, patch } => push_line(
-            alloc,
             text,
             "write",
             &[
-                Said::Client(client),
-                Said::File(*file),
-                Said::Offset(patch.offset),
-                Said::Bytes(patch.bytes.as_slice()),
+                Client(client),
+                File(*file),
+                Offset(patch.offset),
+                Bytes(patch.bytes.as_slice()),
             ],
         ),
-        Command::Flush { file } => push_line(
-            alloc,
-            text,
-            "flush",
-            &[Said::Client(client), Said::File(*file)],
-        ),
+        Command::Flush { file } => push_line(text, "flush", &[Client(client), File(*file)]),
     }
 }
 
 /// Adds the line of an event.
-pub fn push_event(alloc: Global, text: &mut String, happening: &Event) -> Result<(), AllocError>
+pub fn push_event(text: &mut String, happening: &Event) -> Result<(), AllocError>
     ensures { OnOk result (string_bytes text.new ≡ string_bytes text.old ++ event_line happening.now) }
 {
     match happening {
-        Event::App(client, command) => push_command(alloc, text, *client, command),
-        Event::ServerTakes(client) => push_line(alloc, text, "serve", &[Said::Client(*client)]),
-        Event::ClientTakes(client) => push_line(alloc, text, "take", &[Said::Client(*client)]),
-        Event::Cut(client) => push_line(alloc, text, "cut", &[Said::Client(*client)]),
-        Event::Notice(client) => push_line(alloc, text, "notice", &[Said::Client(*client)]),
-        Event::Connect(client) => push_line(alloc, text, "connect", &[Said::Client(*client)]),
-        Event::Expire(client, file) => push_line(
-            alloc,
-            text,
-            "expire",
-            &[Said::Client(*client), Said::File(*file)],
-        ),
+        Event::App(client, command) => push_command(text, *client, command),
+        Event::ServerTakes(client) => push_line(text, "serve", &[Client(*client)]),
+        Event::ClientTakes(client) => push_line(text, "take", &[Client(*client)]),
+        Event::Cut(client) => push_line(text, "cut", &[Client(*client)]),
+        Event::Notice(client) => push_line(text, "notice", &[Client(*client)]),
+        Event::Connect(client) => push_line(text, "connect", &[Client(*client)]),
+        Event::Expire(client, file) => push_line(text, "expire", &[Client(*client), File(*file)]),
         Event::Scavenge(client, file) => push_line(
-            alloc,
             text,
             "scavenge",
-            &[Said::Client(*client), Said::File(*file)],
+            &[Client(*client), File(*file)],
         ),
-        Event::Raw(client, asked) => push_line(
-            alloc,
-            text,
-            "raw",
-            &[Said::Client(*client), Said::Request(asked)],
-        ),
+        Event::Raw(client, asked) => push_line(text, "raw", &[Client(*client), Request(asked)]),
     }
 }

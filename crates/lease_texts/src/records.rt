@@ -3,37 +3,19 @@
 ghost use Rattle.std.specs.Prelude.{◌≡◌, ◌++◌, Some, None, MatchResult, OnOk, drop};
 ghost use Rattle.std.specs.String.{string_bytes};
 ghost use Rattle.lease_facts.specs.declared.fact.Fact.TheVariants as fact;
-ghost use Rattle.lease_texts.specs.Kinds.{by_name, named};
+ghost use Rattle.lease_texts.specs.Kinds.{named};
 ghost use Rattle.lease_texts.specs.Lines.{field_read};
 ghost use Rattle.lease_texts.specs.Records.{fact_in, fact_kinds, fact_line};
 ghost use Rattle.lease_texts.specs.Takes.{Takes, Reads};
 
 use crate::fault::LineFault;
 use crate::fields::Fields;
-use crate::kinds::Field::{Bytes, Client, Content, File, Number, Offset, Outcome, State, Way};
-use crate::kinds::Row;
-use crate::said::{Said, push_line};
+use crate::said::Said::{Bytes, Client, Content, File, Number, Offset, Outcome, State, Way};
+use crate::said::push_line;
 use lease_client::SharedBytes;
 use lease_facts::{Fact, is};
-use lease_state::Patch;
+use lease_state::{ClientNo, FileNo, Patch};
 use std::alloc::{AllocError, Global};
-
-/// The kinds of lines of records.
-pub(crate) const FACTS: &[Row] = &[
-    Row("start", &[File, Content]),
-    Row("joined", &[Client]),
-    Row("dropped", &[Client]),
-    Row("expired", &[Client, File]),
-    Row("sent", &[Client]),
-    Row("took", &[Client]),
-    Row("opened", &[File, Client]),
-    Row("changed", &[File, Client, Number, Offset, Bytes]),
-    Row("wrote", &[Client, File, Number, Offset, Bytes, Way]),
-    Row("settled", &[Client, Number, Outcome]),
-    Row("believes", &[Client, File, State]),
-    Row("cachedread", &[Client, File, Bytes]),
-    Row("strayed", &[Client]),
-];
 
 // ---- reading
 
@@ -95,13 +77,6 @@ fn read_named(alloc: Global, word: &[u8], fields: &mut Fields) -> Result<Fact, L
     }
 }
 
-fn read_fields(alloc: Global, fields: &mut Fields) -> Result<Fact, LineFault>
-    ensures { Takes (by_name field_read fact_kinds) fields.old fields.new result }
-{
-    let word = fields.next()?;
-    read_named(alloc, word, fields)
-}
-
 /// The fact that a line of a record is.
 ///
 /// # Errors
@@ -112,95 +87,92 @@ pub fn read_fact(alloc: Global, line: &[u8]) -> Result<Fact, LineFault>
     ensures { Reads fact_in line.now result }
 {
     let mut fields = Fields::of(line);
-    let fact = read_fields(alloc, &mut fields)?;
+    let word = fields.next()?;
+    let fact = read_named(alloc, word, &mut fields)?;
     fields.end()?;
     Ok(fact)
 }
 
 // ---- writing
 
+/// Adds the line of the fact that the server opened a file for a client.
+pub fn push_opened(text: &mut String, file: FileNo, client: ClientNo) -> Result<(), AllocError>
+    ensures { OnOk result (string_bytes text.new ≡ string_bytes text.old ++ fact_line (fact.Opened file client)) }
+{
+    push_line(text, "opened", &[File(file), Client(client)])
+}
+
+/// Adds the line of the fact that the server changed a file by a client's write of this number.
+pub fn push_changed(
+    text: &mut String,
+    file: FileNo,
+    client: ClientNo,
+    number: u64,
+    patch: &Patch,
+) -> Result<(), AllocError>
+    ensures { OnOk result (string_bytes text.new
+        ≡ string_bytes text.old ++ fact_line (fact.Changed file client number patch.now)) }
+{
+    let bytes = Bytes(patch.bytes.as_slice());
+    push_line(
+        text,
+        "changed",
+        &[
+            File(file),
+            Client(client),
+            Number(number),
+            Offset(patch.offset),
+            bytes,
+        ],
+    )
+}
+
 /// Adds the line of a fact.
-pub fn push_fact(alloc: Global, text: &mut String, told: &Fact) -> Result<(), AllocError>
+pub fn push_fact(text: &mut String, told: &Fact) -> Result<(), AllocError>
     ensures { OnOk result (string_bytes text.new ≡ string_bytes text.old ++ fact_line told.now) }
 {
     match told {
         Fact::Start(file, bytes) => push_line(
-            alloc,
             text,
             "start",
-            &[Said::File(*file), Said::Content(bytes.as_slice())],
+            &[File(*file), Content(bytes.as_slice())],
         ),
-        Fact::Joined(client) => push_line(alloc, text, "joined", &[Said::Client(*client)]),
-        Fact::Dropped(client) => push_line(alloc, text, "dropped", &[Said::Client(*client)]),
-        Fact::Expired(client, file) => push_line(
-            alloc,
-            text,
-            "expired",
-            &[Said::Client(*client), Said::File(*file)],
-        ),
-        Fact::Sent(client) => push_line(alloc, text, "sent", &[Said::Client(*client)]),
-        Fact::Took(client) => push_line(alloc, text, "took", &[Said::Client(*client)]),
-        Fact::Opened(file, client) => push_line(
-            alloc,
-            text,
-            "opened",
-            &[Said::File(*file), Said::Client(*client)],
-        ),
-        Fact::Changed(file, client, number, patch) => push_line(
-            alloc,
-            text,
-            "changed",
-            &[
-                Said::File(*file),
-                Said::Client(*client),
-                Said::Number(*number),
-                Said::Offset(patch.offset),
-                Said::Bytes(patch.bytes.as_slice()),
-            ],
+        Fact::Joined(client) => push_line(text, "joined", &[Client(*client)]),
+        Fact::Dropped(client) => push_line(text, "dropped", &[Client(*client)]),
+        Fact::Expired(client, file) => push_line(text, "expired", &[Client(*client), File(*file)]),
+        Fact::Sent(client) => push_line(text, "sent", &[Client(*client)]),
+        Fact::Took(client) => push_line(text, "took", &[Client(*client)]),
+        Fact::Opened(file, client) => push_opened(text, *file, *client),
+        Fact::Changed(file, client, number, patch) => push_changed(
+            text, *file, *client, *number, patch,
         ),
         Fact::Wrote(client, file, number, patch, buffered) => push_line(
-            alloc,
             text,
             "wrote",
             &[
-                Said::Client(*client),
-                Said::File(*file),
-                Said::Number(*number),
-                Said::Offset(patch.offset),
-                Said::Bytes(patch.bytes.as_slice()),
-                Said::Way(*buffered),
+                Client(*client),
+                File(*file),
+                Number(*number),
+                Offset(patch.offset),
+                Bytes(patch.bytes.as_slice()),
+                Way(*buffered),
             ],
         ),
         Fact::Settled(client, number, outcome) => push_line(
-            alloc,
             text,
             "settled",
-            &[
-                Said::Client(*client),
-                Said::Number(*number),
-                Said::Outcome(*outcome),
-            ],
+            &[Client(*client), Number(*number), Outcome(*outcome)],
         ),
         Fact::Believes(client, file, state) => push_line(
-            alloc,
             text,
             "believes",
-            &[
-                Said::Client(*client),
-                Said::File(*file),
-                Said::State(*state),
-            ],
+            &[Client(*client), File(*file), State(*state)],
         ),
         Fact::CachedRead(client, file, bytes) => push_line(
-            alloc,
             text,
             "cachedread",
-            &[
-                Said::Client(*client),
-                Said::File(*file),
-                Said::Bytes(bytes.as_slice()),
-            ],
+            &[Client(*client), File(*file), Bytes(bytes.as_slice())],
         ),
-        Fact::Strayed(client) => push_line(alloc, text, "strayed", &[Said::Client(*client)]),
+        Fact::Strayed(client) => push_line(text, "strayed", &[Client(*client)]),
     }
 }

@@ -3,15 +3,14 @@
 ghost use Rattle.std.specs.Prelude.{◌≡◌, ◌++◌, Some, None, MatchResult, OnOk, drop};
 ghost use Rattle.std.specs.String.{string_bytes};
 ghost use Rattle.lease_texts.specs.Kinds.{named, word_read};
-ghost use Rattle.lease_texts.specs.Replies.{arrival_in, given, plain, reply_kinds, reply_said};
+ghost use Rattle.lease_texts.specs.Replies.{arrival_in, reply_kinds, reply_said};
 ghost use Rattle.lease_texts.specs.Requests.{plain_text};
 ghost use Rattle.lease_texts.specs.Takes.{Takes};
 
 use crate::fault::LineFault;
 use crate::fields::Fields;
-use crate::kinds::Field::{Bytes, File, FileId, Message, Notification, Number, Status};
-use crate::kinds::Row;
-use crate::said::{Said, push_plain};
+use crate::said::Said::{Bytes, File, FileId, Message, Notification, Number, Status};
+use crate::said::push_plain;
 use crate::status::GivenStatus;
 use lease_facts::is;
 use lease_state::Reply;
@@ -26,34 +25,11 @@ pub struct Arrival {
     pub other: Option<u32>,
 }
 
-/// The kinds of messages.
-pub(crate) const REPLIES: &[Row] = &[
-    Row("created", &[File, FileId, Bytes]),
-    Row("createfailed", &[File, Status]),
-    Row("readdone", &[FileId, Bytes]),
-    Row("readfailed", &[FileId, Status]),
-    Row("writedone", &[FileId, Number]),
-    Row("writefailed", &[FileId, Number, Status]),
-    Row("closed", &[FileId]),
-    Row("closefailed", &[FileId, Status]),
-    Row("break", &[Notification]),
-    Row("ackdone", &[Message]),
-    Row("ackfailed", &[Status]),
-];
-
-fn plain(reply: Reply) -> Arrival
-    ensures { result ≡ plain reply }
+// A message, with the number of a status that the rules don't have.
+fn given(other: Option<u32>, reply: Reply) -> Arrival
+    ensures { result ≡ record { reply = reply; other = other } }
 {
-    Arrival { reply, other: None }
-}
-
-fn given(status: GivenStatus, reply: Reply) -> Arrival
-    ensures { result ≡ given status reply }
-{
-    Arrival {
-        reply,
-        other: status.other,
-    }
+    Arrival { reply, other }
 }
 
 #[tactic(auto, unfolding(crate::specs::Kinds::named, crate::specs::Kinds::taken))]
@@ -61,30 +37,22 @@ fn read_later(word: &[u8], fields: &mut Fields) -> Result<Arrival, LineFault>
     ensures { Takes (named word_read (drop 6 reply_kinds) word.now) fields.old fields.new result }
 {
     if is(word, b"closed") {
-        Ok(plain(Reply::Closed {
-            fid: fields.file_id()?,
-        }))
+        Ok(given(
+            None,
+            Reply::Closed {
+                fid: fields.file_id()?,
+            },
+        ))
     } else if is(word, b"closefailed") {
-        let (fid, status) = (fields.file_id()?, fields.status()?);
-        Ok(given(
-            status,
-            Reply::CloseFailed {
-                fid,
-                status: status.status,
-            },
-        ))
+        let (fid, GivenStatus { status, other }) = (fields.file_id()?, fields.status()?);
+        Ok(given(other, Reply::CloseFailed { fid, status }))
     } else if is(word, b"break") {
-        Ok(plain(Reply::Break(fields.notification()?)))
+        Ok(given(None, Reply::Break(fields.notification()?)))
     } else if is(word, b"ackdone") {
-        Ok(plain(Reply::AckDone(fields.message()?)))
+        Ok(given(None, Reply::AckDone(fields.message()?)))
     } else if is(word, b"ackfailed") {
-        let status = fields.status()?;
-        Ok(given(
-            status,
-            Reply::AckFailed {
-                status: status.status,
-            },
-        ))
+        let GivenStatus { status, other } = fields.status()?;
+        Ok(given(other, Reply::AckFailed { status }))
     } else {
         Err(LineFault::Refused)
     }
@@ -96,15 +64,16 @@ fn read_written(word: &[u8], fields: &mut Fields) -> Result<Arrival, LineFault>
 {
     if is(word, b"writedone") {
         let (fid, number) = (fields.file_id()?, fields.number()?);
-        Ok(plain(Reply::WriteDone { fid, number }))
+        Ok(given(None, Reply::WriteDone { fid, number }))
     } else if is(word, b"writefailed") {
-        let (fid, number, status) = (fields.file_id()?, fields.number()?, fields.status()?);
+        let (fid, number) = (fields.file_id()?, fields.number()?);
+        let GivenStatus { status, other } = fields.status()?;
         Ok(given(
-            status,
+            other,
             Reply::WriteFailed {
                 fid,
                 number,
-                status: status.status,
+                status,
             },
         ))
     } else {
@@ -118,36 +87,24 @@ fn read_named(alloc: Global, word: &[u8], fields: &mut Fields) -> Result<Arrival
     ensures { Takes (named word_read reply_kinds word.now) fields.old fields.new result }
 {
     if is(word, b"created") {
-        let (file, fid) = (fields.file()?, fields.file_id()?);
-        Ok(plain(Reply::Created {
-            file,
-            fid,
-            contexts: fields.bytes(alloc)?,
-        }))
-    } else if is(word, b"createfailed") {
-        let (file, status) = (fields.file()?, fields.status()?);
+        let (file, fid, contexts) = (fields.file()?, fields.file_id()?, fields.bytes(alloc)?);
         Ok(given(
-            status,
-            Reply::CreateFailed {
+            None,
+            Reply::Created {
                 file,
-                status: status.status,
-            },
-        ))
-    } else if is(word, b"readdone") {
-        let fid = fields.file_id()?;
-        Ok(plain(Reply::ReadDone {
-            fid,
-            bytes: fields.bytes(alloc)?,
-        }))
-    } else if is(word, b"readfailed") {
-        let (fid, status) = (fields.file_id()?, fields.status()?);
-        Ok(given(
-            status,
-            Reply::ReadFailed {
                 fid,
-                status: status.status,
+                contexts,
             },
         ))
+    } else if is(word, b"createfailed") {
+        let (file, GivenStatus { status, other }) = (fields.file()?, fields.status()?);
+        Ok(given(other, Reply::CreateFailed { file, status }))
+    } else if is(word, b"readdone") {
+        let (fid, bytes) = (fields.file_id()?, fields.bytes(alloc)?);
+        Ok(given(None, Reply::ReadDone { fid, bytes }))
+    } else if is(word, b"readfailed") {
+        let (fid, GivenStatus { status, other }) = (fields.file_id()?, fields.status()?);
+        Ok(given(other, Reply::ReadFailed { fid, status }))
     } else {
         read_written(word, fields)
     }
@@ -166,7 +123,7 @@ pub fn read_arrival(alloc: Global, fields: &mut Fields) -> Result<Arrival, LineF
 }
 
 // Adds a message, with a space before each of its words.
-pub(crate) fn push_reply(alloc: Global, text: &mut String, told: &Reply) -> Result<(), AllocError>
+pub(crate) fn push_reply(text: &mut String, told: &Reply) -> Result<(), AllocError>
     ensures { OnOk result (string_bytes text.new ≡ string_bytes text.old ++ plain_text (reply_said told.now)) }
 {
     match told {
@@ -175,77 +132,47 @@ pub(crate) fn push_reply(alloc: Global, text: &mut String, told: &Reply) -> Resu
             fid,
             contexts,
         } => push_plain(
-            alloc,
             text,
             "created",
-            &[
-                Said::File(*file),
-                Said::FileId(*fid),
-                Said::Bytes(contexts.as_slice()),
-            ],
+            &[File(*file), FileId(*fid), Bytes(contexts.as_slice())],
         ),
         Reply::CreateFailed { file, status } => push_plain(
-            alloc,
             text,
             "createfailed",
-            &[Said::File(*file), Said::Status(*status)],
+            &[File(*file), Status(*status)],
         ),
         Reply::ReadDone { fid, bytes } => push_plain(
-            alloc,
             text,
             "readdone",
-            &[Said::FileId(*fid), Said::Bytes(bytes.as_slice())],
+            &[FileId(*fid), Bytes(bytes.as_slice())],
         ),
         Reply::ReadFailed { fid, status } => push_plain(
-            alloc,
             text,
             "readfailed",
-            &[Said::FileId(*fid), Said::Status(*status)],
+            &[FileId(*fid), Status(*status)],
         ),
         Reply::WriteDone { fid, number } => push_plain(
-            alloc,
             text,
             "writedone",
-            &[Said::FileId(*fid), Said::Number(*number)],
+            &[FileId(*fid), Number(*number)],
         ),
         Reply::WriteFailed {
             fid,
             number,
             status,
         } => push_plain(
-            alloc,
             text,
             "writefailed",
-            &[
-                Said::FileId(*fid),
-                Said::Number(*number),
-                Said::Status(*status),
-            ],
+            &[FileId(*fid), Number(*number), Status(*status)],
         ),
-        Reply::Closed { fid } => push_plain(alloc, text, "closed", &[Said::FileId(*fid)]),
+        Reply::Closed { fid } => push_plain(text, "closed", &[FileId(*fid)]),
         Reply::CloseFailed { fid, status } => push_plain(
-            alloc,
             text,
             "closefailed",
-            &[Said::FileId(*fid), Said::Status(*status)],
+            &[FileId(*fid), Status(*status)],
         ),
-        Reply::Break(message) => push_plain(
-            alloc,
-            text,
-            "break",
-            &[Said::Notification(message.as_slice())],
-        ),
-        Reply::AckDone(message) => push_plain(
-            alloc,
-            text,
-            "ackdone",
-            &[Said::Message(message.as_slice())],
-        ),
-        Reply::AckFailed { status } => push_plain(
-            alloc,
-            text,
-            "ackfailed",
-            &[Said::Status(*status)],
-        ),
+        Reply::Break(message) => push_plain(text, "break", &[Notification(message.as_slice())]),
+        Reply::AckDone(message) => push_plain(text, "ackdone", &[Message(message.as_slice())]),
+        Reply::AckFailed { status } => push_plain(text, "ackfailed", &[Status(*status)]),
     }
 }

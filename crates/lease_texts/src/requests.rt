@@ -8,21 +8,11 @@ ghost use Rattle.lease_texts.specs.Takes.{Takes};
 
 use crate::fault::LineFault;
 use crate::fields::Fields;
-use crate::kinds::Field::{Access, Bytes, File, FileId, Message, Number, Offset, Share};
-use crate::kinds::Row;
-use crate::said::{Said, push_plain};
+use crate::said::Said::{Access, Bytes, File, FileId, Message, Number, Offset, Share};
+use crate::said::push_plain;
 use lease_facts::is;
 use lease_state::{Patch, Request};
 use std::alloc::{AllocError, Global};
-
-/// The kinds of requests.
-pub(crate) const REQUESTS: &[Row] = &[
-    Row("create", &[File, Access, Share, Bytes]),
-    Row("read", &[FileId]),
-    Row("close", &[FileId]),
-    Row("write", &[FileId, Number, Offset, Bytes]),
-    Row("ack", &[Message]),
-];
 
 #[tactic(auto, unfolding(crate::specs::Kinds::named, crate::specs::Kinds::taken))]
 fn read_named(alloc: Global, word: &[u8], fields: &mut Fields) -> Result<Request, LineFault>
@@ -72,11 +62,7 @@ pub fn read_request(alloc: Global, fields: &mut Fields) -> Result<Request, LineF
 }
 
 // Adds a request, with a space before each of its words.
-pub(crate) fn push_request(
-    alloc: Global,
-    text: &mut String,
-    asked: &Request,
-) -> Result<(), AllocError>
+pub(crate) fn push_request(text: &mut String, asked: &Request) -> Result<(), AllocError>
     ensures { OnOk result (string_bytes text.new ≡ string_bytes text.old ++ plain_text (request_said asked.now)) }
 {
     match asked {
@@ -86,34 +72,27 @@ pub(crate) fn push_request(
             share,
             contexts,
         } => push_plain(
-            alloc,
             text,
             "create",
             &[
-                Said::File(*file),
-                Said::Access(*access),
-                Said::Share(*share),
-                Said::Bytes(contexts.as_slice()),
+                File(*file),
+                Access(*access),
+                Share(*share),
+                Bytes(contexts.as_slice()),
             ],
         ),
-        Request::Read { fid } => push_plain(alloc, text, "read", &[Said::FileId(*fid)]),
-        Request::Close { fid } => push_plain(alloc, text, "close", &[Said::FileId(*fid)]),
+        Request::Read { fid } => push_plain(text, "read", &[FileId(*fid)]),
+        Request::Close { fid } => push_plain(text, "close", &[FileId(*fid)]),
         Request::Write { fid, number, patch } => push_plain(
-            alloc,
             text,
             "write",
             &[
-                Said::FileId(*fid),
-                Said::Number(*number),
-                Said::Offset(patch.offset),
-                Said::Bytes(patch.bytes.as_slice()),
+                FileId(*fid),
+                Number(*number),
+                Offset(patch.offset),
+                Bytes(patch.bytes.as_slice()),
             ],
         ),
-        Request::Ack(message) => push_plain(
-            alloc,
-            text,
-            "ack",
-            &[Said::Message(message.as_slice())],
-        ),
+        Request::Ack(message) => push_plain(text, "ack", &[Message(message.as_slice())]),
     }
 }

@@ -13,12 +13,14 @@ ghost use Rattle.lease_texts.specs.Written.{said_text, said_word, spoken_of, tex
 use crate::replies::push_reply;
 use crate::requests::push_request;
 use crate::status::status_word;
-use crate::words::{access_word, digits_of, outcome_word, push_number, share_word, state_letters};
+use crate::words::{
+    access_word, digits_of, outcome_word, push_number, rules_word, share_word, state_letters,
+};
 use lease_client::Settlement;
 use lease_state::{
-    Access, ClientNo, FileId, FileNo, LeaseKey, LeaseState, Reply, Request, Share, Status,
+    Access, ClientNo, FileId, FileNo, LeaseKey, LeaseState, Reply, Request, Rules, Share, Status,
 };
-use std::alloc::{AllocError, Global};
+use std::alloc::AllocError;
 use uuid::Uuid;
 
 /// A field with what it holds.
@@ -34,6 +36,7 @@ pub enum Said<'a> {
     State(LeaseState),
     Access(Access),
     Share(Share),
+    Rules(Rules),
     Way(bool),
     Outcome(Settlement),
     Guid(&'a [u8; 16]),
@@ -47,17 +50,17 @@ pub enum Said<'a> {
 }
 
 // The digits of bytes.
-fn push_bytes(alloc: Global, text: &mut String, bytes: &[u8]) -> Result<(), AllocError>
+fn push_bytes(text: &mut String, bytes: &[u8]) -> Result<(), AllocError>
     ensures { OnOk result (string_bytes text.new ≡ string_bytes text.old ++ digits_word bytes.now) }
 {
-    let digits = digits_of(alloc, bytes)?;
+    let digits = digits_of(*text.allocator(), bytes)?;
     text.push_str(digits.as_str())
 }
 
-fn push_message(alloc: Global, text: &mut String, message: &[u8]) -> Result<(), AllocError>
+fn push_message(text: &mut String, message: &[u8]) -> Result<(), AllocError>
     ensures { OnOk result (string_bytes text.new ≡ string_bytes text.old ++ encode_lower message.now) }
 {
-    let digits = hex::encode(alloc, message)?;
+    let digits = hex::encode(*text.allocator(), message)?;
     text.push_str(digits.as_str())
 }
 
@@ -72,7 +75,7 @@ fn push_guid(text: &mut String, guid: &[u8; 16]) -> Result<(), AllocError>
 }
 
 // The word of a field that takes one.
-fn push_word(alloc: Global, text: &mut String, said: &Said<'_>) -> Result<(), AllocError>
+fn push_word(text: &mut String, said: &Said<'_>) -> Result<(), AllocError>
     ensures { OnOk result (string_bytes text.new ≡ string_bytes text.old ++ said_word said.now) }
 {
     match said {
@@ -81,101 +84,77 @@ fn push_word(alloc: Global, text: &mut String, said: &Said<'_>) -> Result<(), Al
         Said::FileId(fid) => push_number(text, fid.0),
         Said::Number(number) => push_number(text, *number),
         Said::Offset(offset) => push_number(text, u64::from(*offset)),
-        Said::Bytes(bytes) | Said::Content(bytes) => push_bytes(alloc, text, bytes),
+        Said::Bytes(bytes) | Said::Content(bytes) => push_bytes(text, bytes),
         Said::State(state) => text.push_str(state_letters(*state)),
         Said::Access(access) => text.push_str(access_word(*access)),
         Said::Share(share) => text.push_str(share_word(*share)),
+        Said::Rules(rules) => text.push_str(rules_word(*rules)),
         Said::Way(buffered) => text.push_str(if *buffered { "buffered" } else { "through" }),
         Said::Outcome(outcome) => text.push_str(outcome_word(*outcome)),
         Said::Guid(guid) => push_guid(text, guid),
-        Said::Key(key) => push_message(alloc, text, key.0.as_slice()),
-        Said::Message(message) | Said::Notification(message) => push_message(alloc, text, message),
+        Said::Key(key) => push_message(text, key.0.as_slice()),
+        Said::Message(message) | Said::Notification(message) => push_message(text, message),
         Said::Status(status) => text.push_str(status_word(*status)),
         Said::Durable(_) | Said::Request(_) | Said::Reply(_) => Ok(()),
     }
 }
 
-fn push_plain_field(alloc: Global, text: &mut String, said: &Said<'_>) -> Result<(), AllocError>
+fn push_plain_field(text: &mut String, said: &Said<'_>) -> Result<(), AllocError>
     ensures { OnOk result (string_bytes text.new ≡ string_bytes text.old ++ 32 ∷ said_word said.now) }
 {
     text.push_str(" ")?;
-    push_word(alloc, text, said)
+    push_word(text, said)
 }
 
-fn push_plain_fields(alloc: Global, text: &mut String, said: &[Said<'_>]) -> Result<(), AllocError>
+fn push_plain_fields(text: &mut String, said: &[Said<'_>]) -> Result<(), AllocError>
     ensures { OnOk result (string_bytes text.new ≡ string_bytes text.old ++ words_behind said.now) }
 {
     for one in said {
-        push_plain_field(alloc, text, one)?;
+        push_plain_field(text, one)?;
     }
     Ok(())
 }
 
 /// Adds a word and fields of one word each, with a space before each of them.
 #[tactic(auto, using(crate::proofs::Written::plain_written))]
-pub(crate) fn push_plain(
-    alloc: Global,
-    text: &mut String,
-    name: &str,
-    said: &[Said<'_>],
-) -> Result<(), AllocError>
+pub(crate) fn push_plain(text: &mut String, name: &str, said: &[Said<'_>]) -> Result<(), AllocError>
     ensures { OnOk result (string_bytes text.new
         ≡ string_bytes text.old ++ plain_text (line name.now (map spoken_of said.now))) }
 {
     text.push_str(" ")?;
     text.push_str(name)?;
-    push_plain_fields(alloc, text, said)
+    push_plain_fields(text, said)
 }
 
 // A field with what stands before its words.
-fn push_field(alloc: Global, text: &mut String, said: &Said<'_>) -> Result<(), AllocError>
+#[tactic(auto, using(crate::proofs::Written::said_plainly))]
+fn push_field(text: &mut String, said: &Said<'_>) -> Result<(), AllocError>
     ensures { OnOk result (string_bytes text.new ≡ string_bytes text.old ++ said_text said.now) }
 {
     match said {
         Said::Durable(durable) => text.push_str(if *durable { " durable" } else { "" }),
-        Said::Request(asked) => push_request(alloc, text, asked),
-        Said::Reply(told) => push_reply(alloc, text, told),
-        Said::Client(_)
-        | Said::File(_)
-        | Said::FileId(_)
-        | Said::Number(_)
-        | Said::Offset(_)
-        | Said::Bytes(_)
-        | Said::Content(_)
-        | Said::State(_)
-        | Said::Access(_)
-        | Said::Share(_)
-        | Said::Way(_)
-        | Said::Outcome(_)
-        | Said::Guid(_)
-        | Said::Key(_)
-        | Said::Message(_)
-        | Said::Notification(_)
-        | Said::Status(_) => push_plain_field(alloc, text, said),
+        Said::Request(asked) => push_request(text, asked),
+        Said::Reply(told) => push_reply(text, told),
+        _ => push_plain_field(text, said),
     }
 }
 
-fn push_fields(alloc: Global, text: &mut String, said: &[Said<'_>]) -> Result<(), AllocError>
+fn push_fields(text: &mut String, said: &[Said<'_>]) -> Result<(), AllocError>
     ensures { OnOk result (string_bytes text.new ≡ string_bytes text.old ++ texts_behind said.now) }
 {
     for one in said {
-        push_field(alloc, text, one)?;
+        push_field(text, one)?;
     }
     Ok(())
 }
 
 /// Adds a line: its first word, and what the fields after it hold.
 #[tactic(auto, using(crate::proofs::Written::line_written))]
-pub fn push_line(
-    alloc: Global,
-    text: &mut String,
-    name: &str,
-    said: &[Said<'_>],
-) -> Result<(), AllocError>
+pub fn push_line(text: &mut String, name: &str, said: &[Said<'_>]) -> Result<(), AllocError>
     ensures { OnOk result (string_bytes text.new
         ≡ string_bytes text.old ++ line_text (line name.now (map spoken_of said.now))) }
 {
     text.push_str(name)?;
-    push_fields(alloc, text, said)?;
+    push_fields(text, said)?;
     text.push_str("\n")
 }

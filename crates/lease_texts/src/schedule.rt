@@ -89,31 +89,31 @@ pub fn read_schedule(alloc: Global, text: &[u8]) -> Result<Schedule, TextFault>
     Ok(schedule)
 }
 
-fn push_files(alloc: Global, text: &mut String, files: &[Content]) -> Result<(), AllocError>
+fn push_files(text: &mut String, files: &[Content]) -> Result<(), AllocError>
     ensures { OnOk result (string_bytes text.new
         ≡ string_bytes text.old ++ flat_map (λ content. part_line (part.File content)) files.now) }
 {
     for content in files {
-        push_line(alloc, text, "file", &[Said::Content(content.bytes())])?;
+        push_line(text, "file", &[Said::Content(content.bytes())])?;
     }
     Ok(())
 }
 
-fn push_clients(alloc: Global, text: &mut String, guids: &[[u8; 16]]) -> Result<(), AllocError>
+fn push_clients(text: &mut String, guids: &[[u8; 16]]) -> Result<(), AllocError>
     ensures { OnOk result (string_bytes text.new
         ≡ string_bytes text.old ++ flat_map (λ guid. part_line (part.Client guid)) guids.now) }
 {
     for guid in guids {
-        push_line(alloc, text, "client", &[Said::Guid(guid)])?;
+        push_line(text, "client", &[Said::Guid(guid)])?;
     }
     Ok(())
 }
 
 /// Adds the lines of a setup: those of its files, then those of its clients.
-pub fn push_setup(alloc: Global, text: &mut String, setup: &Setup) -> Result<(), AllocError>
+pub fn push_setup(text: &mut String, setup: &Setup) -> Result<(), AllocError>
     ensures { OnOk result (string_bytes text.new
         ≡ string_bytes text.old ++ setup_lines setup.now.files.items setup.now.clients.items) }
 {
-    push_files(alloc, text, setup.files.as_slice())?;
-    push_clients(alloc, text, setup.clients.as_slice())
+    push_files(text, setup.files.as_slice())?;
+    push_clients(text, setup.clients.as_slice())
 }

@@ -6,7 +6,7 @@ ghost use Rattle.lease_texts.specs.Statuses.{numbered};
 use hex::FromHex;
 use lease_facts::is;
 use lease_state::Status;
-use std::alloc::{AllocError, Global};
+use std::alloc::AllocError;
 
 /// A status that a server gives (MS-ERREF 2.3.1).
 #[derive(Clone, Copy, Debug, PartialEq, Eq)]
@@ -35,18 +35,13 @@ pub fn status_word(status: Status) -> &'static str
 }
 
 /// Adds the name of a status, or the eight digits of the other one that was given.
-pub fn push_given(
-    alloc: Global,
-    text: &mut String,
-    status: Status,
-    other: Option<u32>,
-) -> Result<(), AllocError>
+pub fn push_given(text: &mut String, status: Status, other: Option<u32>) -> Result<(), AllocError>
     ensures { OnOk result (string_bytes text.new ≡ string_bytes text.old ++ given_word other status) }
 {
     match other {
         None => text.push_str(status_word(status)),
         Some(number) => {
-            let digits = hex::encode(alloc, number.to_be_bytes().as_slice())?;
+            let digits = hex::encode(*text.allocator(), number.to_be_bytes().as_slice())?;
             text.push_str(digits.as_str())
         }
     }

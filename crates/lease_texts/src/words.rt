@@ -5,16 +5,16 @@ ghost use Rattle.std.specs.Fmt.{decimal};
 ghost use Rattle.std.specs.String.{string_bytes};
 ghost use Rattle.lease_state.specs.State.{state_of};
 ghost use Rattle.lease_texts.specs.Fields.{number_in, number_after, digit_behind, ordinal_in, offset_in, bytes_in, content_in};
-ghost use Rattle.lease_texts.specs.Fields.{access_in, share_in, state_in, way_in, outcome_in, sized_in};
+ghost use Rattle.lease_texts.specs.Fields.{access_in, rules_in, share_in, state_in, way_in, outcome_in, sized_in};
 ghost use Rattle.lease_texts.specs.Takes.{Reads};
-ghost use Rattle.lease_texts.specs.Words.{state_word, digits_word, access_word, share_word, outcome_word};
+ghost use Rattle.lease_texts.specs.Words.{state_word, digits_word, access_word, share_word, rules_word, outcome_word};
 ghost use Rattle.uuid.specs.Text.{parsed};
 
 use crate::fault::LineFault;
 use hex::{FromHex, FromHexError};
 use lease_client::Settlement;
 use lease_facts::is;
-use lease_state::{Access, Bytes, FILE_LIMIT, LeaseState, Share};
+use lease_state::{Access, Bytes, FILE_LIMIT, LeaseState, Order, Rise, Rules, Share};
 use std::alloc::{AllocError, Global};
 use uuid::Uuid;
 
@@ -148,28 +148,19 @@ pub fn digits_of(alloc: Global, bytes: &[u8]) -> Result<String, AllocError>
 pub(crate) fn message_in(digits: &[u8]) -> Option<[u8; 36]>
     ensures { result ≡ sized_in 36 digits.now }
 {
-    match <[u8; 36] as FromHex>::from_hex(digits) {
-        Ok(message) => Some(message),
-        Err(_) => None,
-    }
+    <[u8; 36] as FromHex>::from_hex(digits).ok()
 }
 
 pub(crate) fn notification_in(digits: &[u8]) -> Option<[u8; 44]>
     ensures { result ≡ sized_in 44 digits.now }
 {
-    match <[u8; 44] as FromHex>::from_hex(digits) {
-        Ok(message) => Some(message),
-        Err(_) => None,
-    }
+    <[u8; 44] as FromHex>::from_hex(digits).ok()
 }
 
 pub(crate) fn key_in(digits: &[u8]) -> Option<[u8; 16]>
     ensures { result ≡ sized_in 16 digits.now }
 {
-    match <[u8; 16] as FromHex>::from_hex(digits) {
-        Ok(key) => Some(key),
-        Err(_) => None,
-    }
+    <[u8; 16] as FromHex>::from_hex(digits).ok()
 }
 
 pub(crate) fn guid_in(text: &[u8]) -> Option<[u8; 16]>
@@ -202,6 +193,37 @@ pub(crate) fn access_word(access: Access) -> &'static str
         Access::Read => "r",
         Access::Write => "w",
         Access::ReadWrite => "rw",
+    }
+}
+
+/// The rules of a server that a word stands for: `by-client` or `by-key`, a comma, and `as-free` or `whole`. None where it is
+/// no such word.
+#[tactic(auto, unfolding(crate::specs::Fields::rules_in))]
+pub fn rules_in(word: &[u8]) -> Option<Rules>
+    ensures { result ≡ rules_in word.now }
+{
+    let (order, rise) = if is(word, b"by-client,as-free") {
+        (Order::ByClient, Rise::AsFree)
+    } else if is(word, b"by-client,whole") {
+        (Order::ByClient, Rise::Whole)
+    } else if is(word, b"by-key,as-free") {
+        (Order::ByKey, Rise::AsFree)
+    } else if is(word, b"by-key,whole") {
+        (Order::ByKey, Rise::Whole)
+    } else {
+        return None;
+    };
+    Some(Rules { order, rise })
+}
+
+pub(crate) fn rules_word(rules: Rules) -> &'static str
+    ensures { result.now ≡ rules_word rules }
+{
+    match (rules.order, rules.rise) {
+        (Order::ByClient, Rise::AsFree) => "by-client,as-free",
+        (Order::ByClient, Rise::Whole) => "by-client,whole",
+        (Order::ByKey, Rise::AsFree) => "by-key,as-free",
+        (Order::ByKey, Rise::Whole) => "by-key,whole",
     }
 }
 

@@ -14,6 +14,9 @@ use Rattle.clap.specs.declared.error.Error.{Error}
 use Rattle.clap.specs.declared.error.kind.ErrorKind.{ErrorKind}
 use Rattle.clap.specs.declared.error.kind.ErrorKind.TheVariants as error
 use Rattle.clap.specs.declared.parser.matches.ArgMatches.{ArgMatches}
+use Rattle.lease_state.specs.Rules.{profile_rules}
+use Rattle.lease_state.specs.declared.rules.Rules.{Rules}
+use Rattle.lease_texts.specs.Fields.{rules_in}
 use Rattle.leasecheck.specs.declared.tasks.Asked.{Asked}
 use Rattle.leasecheck.specs.declared.tasks.Asked.TheVariants as asked
 use Rattle.leasecheck.specs.declared.tasks.Kind.{Kind}
@@ -37,10 +40,21 @@ flag name = record (new_rule name) { long = Some name; action = Some SetTrue }
 abbrev pub kind_words : List Text
 kind_words = codes "ask" ∷ codes "reply" ∷ codes "break" ∷ codes "ack" ∷ codes "response" ∷ []
 
--- it takes the kinds of `show`, and no other word
-abbrev pub TakesKinds : ValueParser → Type 0
-TakesKinds kinds = (names : Bor (List (Bor Text))) × (kinds ≡ parser.Names names)
-    × (map (λ name. name.now) names.now ≡ kind_words)
+abbrev pub rules_words : List Text
+rules_words =
+    codes "by-client,as-free" ∷ codes "by-client,whole" ∷ codes "by-key,as-free" ∷ codes "by-key,whole" ∷ []
+
+-- it takes these words, and no other one
+abbrev pub TakesWords : List Text → ValueParser → Type 0
+TakesWords words taken = (names : Bor (List (Bor Text))) × (taken ≡ parser.Names names)
+    × (map (λ name. name.now) names.now ≡ words)
+
+-- what takes the kinds of `show`, and what takes the rules of `replay`
+pub record Parsers : Type 0 where
+  pub kinds : ValueParser
+  pub rules : ValueParser
+  pub take_kinds : TakesWords kind_words kinds
+  pub take_rules : TakesWords rules_words rules
 
 abbrev pub kind_rule : ValueParser → Rule
 kind_rule kinds = record (needed (codes "KIND")) { parser = Some kinds }
@@ -51,8 +65,12 @@ ack_app = with_rule (new_app (codes "ack")) (needed (codes "HEX"))
 abbrev pub show_app : ValueParser → App
 show_app kinds = with_rule (with_rule (new_app (codes "show")) (kind_rule kinds)) (needed (codes "HEX"))
 
-abbrev pub replay_app : App
-replay_app = with_rule (with_rule (new_app (codes "replay")) (needed (codes "FILE"))) (flag (codes "messages"))
+abbrev pub rules_rule : ValueParser → Rule
+rules_rule rules = record (new_rule (codes "RULES")) { long = Some (codes "rules"); parser = Some rules }
+
+abbrev pub replay_app : ValueParser → App
+replay_app rules = with_rule
+    (with_rule (with_rule (new_app (codes "replay")) (needed (codes "FILE"))) (flag (codes "messages"))) (rules_rule rules)
 
 abbrev pub judge_app : App
 judge_app = with_rule (with_rule (new_app (codes "judge")) (needed (codes "FILE"))) (flag (codes "explain"))
@@ -71,16 +89,17 @@ abbrev pub with_commands : App → List App → App
 with_commands app [] = app
 with_commands app (command ∷ commands) = with_commands (with_subcommand app command.top) commands
 
-abbrev pub leasecheck_app : ValueParser → App
-leasecheck_app kinds = with_commands bare_app
-    (ack_app ∷ show_app kinds ∷ replay_app ∷ judge_app ∷ draw_app ∷ new_app (codes "client") ∷ new_app (codes "server") ∷ [])
+abbrev pub leasecheck_app : Parsers → App
+leasecheck_app parsers = with_commands bare_app
+    (ack_app ∷ show_app parsers.kinds ∷ replay_app parsers.rules ∷ judge_app ∷ draw_app ∷ new_app (codes "client")
+    ∷ new_app (codes "server") ∷ [])
 
 -- ---- what is asked for
 
 pub data Request : Type 0 where
   Ack : (argument : Text) → Request
   Show : (kind : Kind) (argument : Text) → Request
-  Replay : (path : Text) (telling : Telling) → Request
+  Replay : (path : Text) (telling : Telling) (rules : Rules) → Request
   Judge : (path : Text) → Request
   Explain : (path : Text) → Request
   Draw : (path : Text) → Request
@@ -91,7 +110,7 @@ pub data Request : Type 0 where
 abbrev pub request_of : Asked → Request
 request_of (asked.Task (task.Ack argument)) = Ack (string_bytes argument)
 request_of (asked.Task (task.Show kind argument)) = Show kind (string_bytes argument)
-request_of (asked.Task (task.Replay path telling)) = Replay (string_bytes path) telling
+request_of (asked.Task (task.Replay path telling rules)) = Replay (string_bytes path) telling rules
 request_of (asked.Task (task.Judge path)) = Judge (string_bytes path)
 request_of (asked.Task (task.Explain path)) = Explain (string_bytes path)
 request_of (asked.Task (task.Draw path)) = Draw (string_bytes path)
@@ -112,8 +131,14 @@ abbrev pub shown : Option Kind → Option Text → Option Request
 shown (Some kind) argument = option_map (λ argument. Show kind argument) argument
 shown None argument = None
 
-abbrev pub replayed : Telling → Option Text → Option Request
-replayed telling path = option_map (λ path. Replay path telling) path
+-- the rules that a word stands for; the profile's where there is none
+abbrev pub rules_asked : Option Text → Option Rules
+rules_asked (Some name) = rules_in name
+rules_asked None = Some profile_rules
+
+abbrev pub replayed : Telling → Option Rules → Option Text → Option Request
+replayed telling (Some rules) path = option_map (λ path. Replay path telling rules) path
+replayed telling None path = None
 
 -- whether a flag was given
 abbrev pub is_given : Option Text → Bool
@@ -133,7 +158,8 @@ requested name rows =
     else if bytes_eq name (codes "show")
     then shown (option_and_then kind_named (first_of (codes "KIND") rows)) (first_of (codes "HEX") rows)
     else if bytes_eq name (codes "replay")
-    then replayed (telling_of (is_given (first_of (codes "messages") rows))) (first_of (codes "FILE") rows)
+    then replayed (telling_of (is_given (first_of (codes "messages") rows))) (rules_asked (first_of (codes "RULES") rows))
+    (first_of (codes "FILE") rows)
     else if bytes_eq name (codes "judge")
     then judged (is_given (first_of (codes "explain") rows)) (first_of (codes "FILE") rows)
     else if bytes_eq name (codes "draw") then option_map Draw (first_of (codes "FILE") rows)
@@ -153,28 +179,28 @@ all_words words = codes "leasecheck" ∷ words
 -- an error of a kind that the command's definitions tell for the words, or want of memory
 abbrev pub Errs : List Text → ErrorKind → Type 0
 Errs words fault = (fault ≡ error.OutOfMemory)
-    ⊎ ((kinds : ValueParser) × TakesKinds kinds × IsAmong fault (fault_of (leasecheck_app kinds) words))
+    ⊎ ((parsers : Parsers) × IsAmong fault (fault_of (leasecheck_app parsers) words))
 
 -- Words that the command takes, and what is found in them; or an error of a kind that its definitions tell for them.
 abbrev pub Parses : List Text → Result ArgMatches Error → Type 0
 Parses words answer = MatchResult answer
-    (λ matches. (kinds : ValueParser) × TakesKinds kinds × (fault_of (leasecheck_app kinds) words ≡ [])
-    × (subcommand_rows_of matches ≡ subcommand_of (leasecheck_app kinds) words))
+    (λ matches. (parsers : Parsers) × (fault_of (leasecheck_app parsers) words ≡ [])
+    × (subcommand_rows_of matches ≡ subcommand_of (leasecheck_app parsers) words))
     (λ fault. Errs words (kind_of fault))
 
 -- The words ask for this: for the version, or they have no fault and are read as it.
 abbrev pub AsksFor : List Text → Request → Type 0
 AsksFor words request = ((request ≡ Version)
-    × (kinds : ValueParser) × TakesKinds kinds × IsAmong error.DisplayVersion (fault_of (leasecheck_app kinds) words))
-    ⊎ ((kinds : ValueParser) × TakesKinds kinds × (fault_of (leasecheck_app kinds) words ≡ [])
-    × (requested_by (subcommand_of (leasecheck_app kinds) words) ≡ Some request))
+    × (parsers : Parsers) × IsAmong error.DisplayVersion (fault_of (leasecheck_app parsers) words))
+    ⊎ ((parsers : Parsers) × (fault_of (leasecheck_app parsers) words ≡ [])
+    × (requested_by (subcommand_of (leasecheck_app parsers) words) ≡ Some request))
 
 -- Help is told where the words ask for it; they are refused where they have another fault.
 abbrev pub IsUsageOf : List Text → Usage → Type 0
 IsUsageOf words (usage.Help text) =
-    (kinds : ValueParser) × TakesKinds kinds × IsAmong error.DisplayHelp (fault_of (leasecheck_app kinds) words)
-IsUsageOf words (usage.Refused text) = (fault : ErrorKind) × (kinds : ValueParser) × TakesKinds kinds
-    × IsAmong fault (fault_of (leasecheck_app kinds) words)
+    (parsers : Parsers) × IsAmong error.DisplayHelp (fault_of (leasecheck_app parsers) words)
+IsUsageOf words (usage.Refused text) = (fault : ErrorKind) × (parsers : Parsers)
+    × IsAmong fault (fault_of (leasecheck_app parsers) words)
 IsUsageOf words (usage.Memory text) = ⊤
 
 -- what is told, and the exit status: help is told whole, or the status is 1

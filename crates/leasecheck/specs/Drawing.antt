@@ -22,6 +22,7 @@ use Rattle.record_pictures.specs.Svg.{picture_text}
 use Rattle.record_pictures.specs.declared.picture.Picture.{Picture}
 use Rattle.record_pictures.specs.declared.fault.PictureFault.{PictureFault}
 use Rattle.record_pictures.specs.declared.fault.PictureFault.TheVariants as fault
+use Rattle.lease_state.specs.Rules.{profile_rules}
 use Rattle.leasecheck.specs.Replayed.{record_of, run_refusal, verdict_line}
 use Rattle.leasecheck.specs.SetupRemarks.{too_many_line}
 use Rattle.leasecheck.specs.declared.failure.Failure.{Failure}
@@ -47,7 +48,7 @@ pub record IsDrawn (placed : Placed) (text : List ℕ) : Type 0 where
 
 -- the facts of a run of this draft
 abbrev pub IsRunOf : Draft → Placed → Type 0
-IsRunOf draft placed = map fact_of placed.facts.items ≡ record_of draft
+IsRunOf draft placed = map fact_of placed.facts.items ≡ record_of profile_rules draft
 
 -- The text is the picture of the record that the file is, or else of the run of the schedule that it is.
 abbrev pub Draws : List ℕ → List ℕ → Type 0
@@ -78,7 +79,7 @@ facts_refusal (Ok facts) = too_many_facts (length facts)
 facts_refusal (Err number) = Some (failure.Line number)
 
 abbrev pub run_facts_refusal : Result Draft ℕ → Option Failure
-run_facts_refusal (Ok draft) = or_failure (run_refusal (Ok draft)) (too_many_facts (length (record_of draft)))
+run_facts_refusal (Ok draft) = or_failure (run_refusal (Ok draft)) (too_many_facts (length (record_of profile_rules draft)))
 run_facts_refusal (Err number) = Some (failure.Line number)
 
 abbrev pub either_refusal : Result (List Fact) ℕ → Result Draft ℕ → Option Failure
@@ -100,5 +101,5 @@ facts_line count = too_many_line (codes "facts") 5000 count
 
 abbrev pub count_of : Result (List Fact) ℕ → Result Draft ℕ → ℕ
 count_of (Ok facts) draft = length facts
-count_of (Err number) (Ok draft) = length (record_of draft)
+count_of (Err number) (Ok draft) = length (record_of profile_rules draft)
 count_of (Err number) (Err other) = 0

@@ -8,7 +8,7 @@ use Rattle.leasecheck.specs.declared.tasks.Task.TheVariants.{Ack, Show, Replay, 
 abbrev pub path_of : Task → Option (List ℕ)
 path_of (Ack argument) = None
 path_of (Show kind argument) = None
-path_of (Replay path telling) = Some (string_bytes path)
+path_of (Replay path telling rules) = Some (string_bytes path)
 path_of (Judge path) = Some (string_bytes path)
 path_of (Explain path) = Some (string_bytes path)
 path_of (Draw path) = Some (string_bytes path)

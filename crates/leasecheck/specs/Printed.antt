@@ -24,7 +24,7 @@ IsTextOf (Ack argument) file text status =
     (status ≡ 0) × (bytes : List ℕ) × (argument_bytes (string_bytes argument) ≡ Ok bytes) × AnswersWith bytes text
 IsTextOf (Show kind argument) file text status =
     (status ≡ 0) × (bytes : List ℕ) × (argument_bytes (string_bytes argument) ≡ Ok bytes) × Shows kind bytes text
-IsTextOf (Replay path telling) file text status = (status ≡ 0) × IfSome file (λ schedule. Replays telling schedule text)
+IsTextOf (Replay path telling rules) file text status = (status ≡ 0) × IfSome file (λ schedule. Replays telling rules schedule text)
 IsTextOf (Judge path) file text status =
     (verdict : Verdict) × (text ≡ verdict_line verdict) × (status ≡ status_of verdict)
     × IfSome file (λ bytes. IsVerdictOn bytes verdict)

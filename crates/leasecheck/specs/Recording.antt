@@ -4,15 +4,22 @@ use Rattle.std.specs.Io.KnownBytes.{Appends, Keeps}
 use Rattle.std.specs.String.{string_bytes}
 use Rattle.leasecheck.specs.Messages.{record_with_messages}
 use Rattle.leasecheck.specs.Refusals.{Begins}
+use Rattle.lease_texts.specs.Remarks.{rules_remark}
 use Rattle.leasecheck.specs.Replayed.{verdict_line}
 use Rattle.leasecheck.specs.declared.failure.Failure.{Failure}
+use Rattle.lease_state.specs.declared.rules.Rules.{Rules}
+use Rattle.lease_world.specs.declared.verdict.Verdict.{Verdict}
 use Rattle.leasecheck.specs.declared.failure.Failure.TheVariants as failure
 use Rattle.leasecheck.specs.declared.recording.Gathered.{Gathered}
 use Rattle.leasecheck.specs.declared.recording.Record.{Record}
 
--- the lines of the facts, each after the message that it speaks of, and a comment line with the verdict
+-- what stands after the facts: a comment line with the rules, where they are others than the profile's, and one with the verdict
+abbrev pub end_of : Rules → Verdict → List ℕ
+end_of rules verdict = rules_remark rules.order rules.rise ++ (codes "# " ++ verdict_line verdict)
+
+-- the lines of the facts, each after the message that it speaks of, and the end
 abbrev pub recorded_text : Record → List ℕ
-recorded_text one = record_with_messages one.facts.items one.messages.items ++ (codes "# " ++ verdict_line one.verdict)
+recorded_text one = record_with_messages one.facts.items one.messages.items ++ end_of one.rules one.verdict
 
 -- why a text is not made for want of memory: where some of it is written, its writing has failed
 abbrev pub not_made : Bool → Failure

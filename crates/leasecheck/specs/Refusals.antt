@@ -93,7 +93,7 @@ drawing_refusal (Some file) = draw_refusal file
 abbrev pub refusal_of : Task → Option (List ℕ) → Option Failure
 refusal_of (task.Ack argument) file = argument_refusal (message_fault 44) (argument_bytes (string_bytes argument))
 refusal_of (task.Show kind argument) file = argument_refusal (shown_fault kind) (argument_bytes (string_bytes argument))
-refusal_of (task.Replay path telling) file = known_refusal file
+refusal_of (task.Replay path telling rules) file = known_refusal file
 refusal_of (task.Judge path) file = judge_refusal file
 refusal_of (task.Explain path) file = judge_refusal file
 refusal_of (task.Draw path) file = drawing_refusal file
@@ -129,7 +129,7 @@ MayEndJudging file failure = (failure ≡ Memory) ⊎ FailsReading failure ⊎ R
 
 -- What may end a task: its argument or its file is refused, or there was no memory, or a read of its file failed.
 abbrev pub MayEnd : Task → Option (List ℕ) → Failure → Type 0
-MayEnd (task.Replay path telling) file failure = MayEndReplay file failure
+MayEnd (task.Replay path telling rules) file failure = MayEndReplay file failure
 MayEnd (task.Judge path) file failure = MayEndJudging file failure
 MayEnd (task.Explain path) file failure = MayEndJudging file failure
 MayEnd (task.Draw path) file failure = MayEndDrawing file failure

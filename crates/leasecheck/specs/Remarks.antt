@@ -97,7 +97,7 @@ IsFileRemark remark (Some text) failure line = remark text failure ≡ Some line
 abbrev pub IsRemark : Task → Option (List ℕ) → Failure → List ℕ → Type 0
 IsRemark (task.Ack argument) file failure line = IsArgumentRemark (bare_remark kind.Break) (string_bytes argument) failure line
 IsRemark (task.Show kind argument) file failure line = IsArgumentRemark (shown_remark kind) (string_bytes argument) failure line
-IsRemark (task.Replay path telling) file failure line = IsFileRemark schedule_remark file failure line
+IsRemark (task.Replay path telling rules) file failure line = IsFileRemark schedule_remark file failure line
 IsRemark (task.Judge path) file failure line = IsFileRemark record_remark file failure line
 IsRemark (task.Explain path) file failure line = IsFileRemark record_remark file failure line
 IsRemark (task.Draw path) file failure line = IsDrawingRemark file failure line

@@ -7,7 +7,7 @@ use Rattle.lease_model.specs.messages.FromBytes.{reply_of}
 use Rattle.lease_model.specs.messages.Replies as model_replies
 use Rattle.lease_model.specs.world.World.{Setup}
 use Rattle.lease_model.specs.world.Allowed.{is_allowed_setup, are_too_many}
-use Rattle.lease_model.specs.world.Events.{recorded}
+use Rattle.lease_model.specs.world.Events.{recorded_under}
 use Rattle.lease_facts.specs.Facts.{fact_of}
 use Rattle.lease_facts.specs.Setups.{event_of}
 use Rattle.lease_world.specs.Verdicts.{rule_number}
@@ -19,7 +19,9 @@ use Rattle.lease_world.specs.declared.verdict.Verdict.TheVariants as verdict
 use Rattle.lease_state.specs.declared.reply.Reply.{Reply}
 use Rattle.lease_texts.specs.Records.{record_text}
 use Rattle.lease_texts.specs.Schedules.{Draft, schedule_in}
-use Rattle.lease_world.specs.world.Messages.{messages_told, speaking}
+use Rattle.lease_state.specs.declared.rules.Rules.{Rules}
+use Rattle.lease_texts.specs.Remarks.{safe_end}
+use Rattle.lease_world.specs.world.Messages.{messages_told_under, speaking}
 use Rattle.leasecheck.specs.Messages.{record_with_messages}
 use Rattle.leasecheck.specs.declared.failure.Failure.{Failure}
 use Rattle.leasecheck.specs.declared.failure.Failure.TheVariants as failure
@@ -42,30 +44,31 @@ status_of verdict.Safe = 0
 status_of (verdict.Unsafe place rule) = 3
 status_of (verdict.Malformed place) = 1
 
--- the record of the run that a schedule asks for
-abbrev pub record_of : Draft → List model.Fact
-record_of draft = recorded (setup_of draft) (map event_of draft.events)
+-- the record of the run that a schedule asks for, with a server of these rules
+abbrev pub record_of : Rules → Draft → List model.Fact
+record_of rules draft = recorded_under rules (setup_of draft) (map event_of draft.events)
 
 -- the messages that this record speaks of
-abbrev pub messages_of : Draft → List model_replies.Reply
-messages_of draft = messages_told (setup_of draft) (map event_of draft.events)
+abbrev pub messages_of : Rules → Draft → List model_replies.Reply
+messages_of rules draft = messages_told_under rules (setup_of draft) (map event_of draft.events)
 
 -- the text tells the facts of a run, alone or with their messages, of which there is one for each fact that speaks of one
-abbrev pub IsToldBy : Telling → Draft → List Fact → List ℕ → Type 0
-IsToldBy telling.Facts draft facts text = text ≡ record_text facts
-IsToldBy telling.Messages draft facts text =
-    (messages : List Reply) × (map reply_of messages ≡ messages_of draft)
+abbrev pub IsToldBy : Telling → Rules → Draft → List Fact → List ℕ → Type 0
+IsToldBy telling.Facts rules draft facts text = text ≡ record_text facts
+IsToldBy telling.Messages rules draft facts text =
+    (messages : List Reply) × (map reply_of messages ≡ messages_of rules draft)
     × (speaking (map fact_of facts) ≡ length messages) × (text ≡ record_with_messages facts messages)
 
 -- the text is the record of the run of this draft
-abbrev pub Tells : Telling → Draft → List ℕ → Type 0
-Tells telling draft text = (facts : List Fact) × (map fact_of facts ≡ record_of draft) × IsToldBy telling draft facts text
+abbrev pub Tells : Telling → Rules → Draft → List ℕ → Type 0
+Tells telling rules draft text =
+    (facts : List Fact) × (map fact_of facts ≡ record_of rules draft) × IsToldBy telling rules draft facts text
 
--- the text is the record of the run that the schedule asks for, and that it is safe
-abbrev pub Replays : Telling → List ℕ → List ℕ → Type 0
-Replays telling schedule text =
-    (draft : Draft) × (told : List ℕ) × (schedule_in schedule ≡ Ok draft) × Tells telling draft told
-    × (text ≡ told ++ codes "# safe" ++ 10 ∷ [])
+-- the text is the record of the run that the schedule asks for, the rules where they are others, and that it is safe
+abbrev pub Replays : Telling → Rules → List ℕ → List ℕ → Type 0
+Replays telling rules schedule text =
+    (draft : Draft) × (told : List ℕ) × (schedule_in schedule ≡ Ok draft) × Tells telling rules draft told
+    × (text ≡ told ++ safe_end rules)
 
 -- why there is no run, as the program tells it
 abbrev pub run_failure : RunFault → Failure

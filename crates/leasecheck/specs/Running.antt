@@ -1,5 +1,5 @@
 -- What the program does for the words of a command line, end to end.
-use Rattle.std.specs.Prelude.{◌≡◌, ◌⊎◌, ℕ, List, [], Option}
+use Rattle.std.specs.Prelude.{◌≡◌, ◌⊎◌, ℕ, List, Option}
 use Rattle.std.specs.Io.KnownBytes.{Appends}
 use Rattle.clap.specs.Words.{Text}
 use Rattle.lease_lines.specs.ClientTables.{no_clients}
@@ -19,7 +19,7 @@ DoesTask words old new status = (task : Task) × (file : Option (List ℕ))
 -- the machines that words ask for, of which nothing is told yet
 abbrev pub AsksForMachines : List Text → Machines → Type 0
 AsksForMachines words machines = (AsksFor words Request.Clients × (machines ≡ Machines.AreClients no_clients))
-    ⊎ (AsksFor words Request.Server × (machines ≡ Machines.IsServer (Stage.Filling [])))
+    ⊎ (AsksFor words Request.Server × (machines ≡ Machines.IsServer Stage.Fresh))
 
 -- The words ask for machines, which answered some lines. Which ones the input has no contract says.
 abbrev pub LetsSpeak : List Text → Option (List ℕ) → Option (List ℕ) → Type 0

@@ -4,7 +4,8 @@ ghost use Rattle.clap.specs.Words.{Text, first_of, found_of, kind_of, new_app, r
 ghost use Rattle.clap.specs.Words.{app_of};
 ghost use Rattle.clap.specs.declared.builder.command.Command.TheViews.{out-Command as fields_of};
 ghost use Rattle.clap.specs.declared.builder.value_parser.ValueParser.{ValueParser};
-ghost use Rattle.leasecheck.specs.CommandLine.{Request, Errs, TakesKinds, Parses, AsksFor, IsUsageOf, needed, flag, kind_rule};
+ghost use Rattle.leasecheck.specs.CommandLine.{Request, Errs, Parsers, TakesWords, Parses, AsksFor, IsUsageOf, needed, flag};
+ghost use Rattle.leasecheck.specs.CommandLine.{kind_rule, kind_words, rules_rule, rules_words, rules_asked};
 ghost use Rattle.leasecheck.specs.CommandLine.{ack_app, show_app, replay_app, judge_app, draw_app, bare_app, leasecheck_app};
 ghost use Rattle.leasecheck.specs.CommandLine.{kind_named, telling_of, is_given, judged, replayed, requested, requested_by};
 ghost use Rattle.leasecheck.specs.CommandLine.{request_of, all_words, shown};
@@ -13,6 +14,8 @@ use crate::help;
 use crate::tasks::{Asked, Kind, Task, Telling, Usage, VERSION};
 use clap::error::ErrorKind;
 use clap::{Arg, ArgAction, ArgMatches, Command, Error};
+use lease_state::Rules;
+use lease_texts::rules_in;
 use std::alloc::{AllocError, Global};
 
 fn hex_argument<'a>(alloc: Global, help: &'a str) -> Arg<'a>
@@ -50,7 +53,7 @@ fn ack_command<'a>(alloc: Global) -> Result<Command<'a>, AllocError>
 const KINDS: &[&str] = &["ask", "reply", "break", "ack", "response"];
 
 fn kind_argument<'a>(alloc: Global) -> Arg<'a>
-    ensures rule { (kinds : ValueParser) × TakesKinds kinds × (rule_of result ≡ kind_rule kinds) }
+    ensures rule { (kinds : ValueParser) × TakesWords kind_words kinds × (rule_of result ≡ kind_rule kinds) }
     ensures own { result.global ≡ false }
 {
     Arg::new(alloc, "KIND")
@@ -60,7 +63,7 @@ fn kind_argument<'a>(alloc: Global) -> Arg<'a>
 }
 
 fn show_command<'a>(alloc: Global) -> Result<Command<'a>, AllocError>
-    ensures { IfOk result (λ command. (kinds : ValueParser) × TakesKinds kinds × (app_of command ≡ show_app kinds)
+    ensures { IfOk result (λ command. (kinds : ValueParser) × TakesWords kind_words kinds × (app_of command ≡ show_app kinds)
         × ((fields_of command).has_globals ≡ false)) }
 {
     let about = "Prints what create contexts or a break message hold";
@@ -86,15 +89,34 @@ fn messages_argument<'a>(alloc: Global) -> Arg<'a>
         .help("Says before each message what is in it, in a comment line")
 }
 
+const RULES: &[&str] = &[
+    "by-client,as-free",
+    "by-client,whole",
+    "by-key,as-free",
+    "by-key,whole",
+];
+
+fn rules_argument<'a>(alloc: Global) -> Arg<'a>
+    ensures rule { (rules : ValueParser) × TakesWords rules_words rules × (rule_of result ≡ rules_rule rules) }
+    ensures own { result.global ≡ false }
+{
+    Arg::new(alloc, "RULES")
+        .long("rules")
+        .value_parser(RULES)
+        .help("The rules of the server; the profile's are by-client,as-free")
+}
+
 fn replay_command<'a>(alloc: Global) -> Result<Command<'a>, AllocError>
-    ensures { IfOk result (λ command. (app_of command ≡ replay_app) × ((fields_of command).has_globals ≡ false)) }
+    ensures { IfOk result (λ command. (rules : ValueParser) × TakesWords rules_words rules × (app_of command ≡ replay_app rules)
+        × ((fields_of command).has_globals ≡ false)) }
 {
     let about = "Prints the record of the run that a schedule asks for";
     let file = file_argument(alloc, "The schedule; - is standard input");
     let messages = messages_argument(alloc);
     command(alloc, "replay", about, help::REPLAY, help::REPLAY_END)
         .arg(file)?
-        .arg(messages)
+        .arg(messages)?
+        .arg(rules_argument(alloc))
 }
 
 fn explain_argument<'a>(alloc: Global) -> Arg<'a>
@@ -173,7 +195,7 @@ fn bare_program<'a>(alloc: Global) -> Command<'a>
 }
 
 fn program<'a>(alloc: Global) -> Result<Command<'a>, AllocError>
-    ensures { IfOk result (λ command. (kinds : ValueParser) × TakesKinds kinds × (app_of command ≡ leasecheck_app kinds)) }
+    ensures { IfOk result (λ command. (parsers : Parsers) × (app_of command ≡ leasecheck_app parsers)) }
 {
     bare_program(alloc)
         .subcommand(ack_command(alloc)?)?
@@ -266,6 +288,16 @@ fn telling_of(given: &ArgMatches) -> Telling
     }
 }
 
+// The rules that are named; the profile's where there are none.
+fn rules_given(given: &ArgMatches) -> Option<Rules>
+    ensures { result ≡ rules_asked (first_of (codes "RULES") (rows_of (found_of given.now))) }
+{
+    match word_of(given, "RULES") {
+        Some(name) => rules_in(name.as_bytes()),
+        None => Some(Rules::profile()),
+    }
+}
+
 fn ack_asked(alloc: Global, given: &ArgMatches) -> Result<Option<Asked>, AllocError>
     ensures { IfOk result
         (λ found. option_map request_of found ≡ option_map Request.Ack (first_of (codes "HEX") (rows_of (found_of given.now)))) }
@@ -293,11 +325,15 @@ fn show_asked(alloc: Global, given: &ArgMatches) -> Result<Option<Asked>, AllocE
 fn replay_asked(alloc: Global, given: &ArgMatches) -> Result<Option<Asked>, AllocError>
     ensures { IfOk result (λ found. option_map request_of found
         ≡ replayed (telling_of (is_given (first_of (codes "messages") (rows_of (found_of given.now)))))
+        (rules_asked (first_of (codes "RULES") (rows_of (found_of given.now))))
         (first_of (codes "FILE") (rows_of (found_of given.now)))) }
 {
     let telling = telling_of(given);
+    let Some(rules) = rules_given(given) else {
+        return Ok(None);
+    };
     match owned(alloc, given, "FILE")? {
-        Some(path) => Ok(Some(Asked::Task(Task::Replay(path, telling)))),
+        Some(path) => Ok(Some(Asked::Task(Task::Replay(path, telling, rules)))),
         None => Ok(None),
     }
 }

@@ -39,7 +39,7 @@ fn answer_line<O: Write>(
     ensures failed { IfErr result EndsSpeaking }
 {
     let mut text = String::new(alloc);
-    let machines = machines.answer(alloc, number, line, &mut text)?;
+    let machines = machines.answer(number, line, &mut text)?;
     print_text(text.as_str(), out)?;
     Ok(machines)
 }

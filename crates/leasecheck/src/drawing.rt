@@ -10,6 +10,7 @@ ghost use Rattle.reason_texts.specs.Placed.{IsPlaced};
 ghost use Rattle.record_pictures.specs.Svg.{picture_text};
 ghost use Rattle.leasecheck.specs.Drawing.{Draws, IsDrawn, IsRunOf, RefusesDraw, facts_line, too_many_facts, run_facts_refusal};
 ghost use Rattle.leasecheck.specs.Remarks.{Says, IsDrawRemark, record_remark, run_remark};
+ghost use Rattle.lease_state.specs.Rules.{profile_rules};
 ghost use Rattle.leasecheck.specs.Replayed.{RefusesRun, record_of, verdict_line};
 
 use crate::explaining::placed_of;
@@ -92,7 +93,7 @@ fn run_drawn(alloc: Global, schedule: &Schedule) -> Result<String, Refusal>
     ensures refused { MatchResult result (λ _. run_facts_refusal (Ok (draft_of schedule.now)) ≡ None)
         (λ told. (told.failure ≡ Failure.Memory) ⊎ (run_facts_refusal (Ok (draft_of schedule.now)) ≡ Some told.failure)) }
     ensures said { IfErr result (λ told. Says told (λ failure line. (run_remark failure (draft_of schedule.now) ≡ Some line)
-        ⊎ ((failure ≡ Failure.Picture) × (line ≡ facts_line (length (record_of (draft_of schedule.now))))))) }
+        ⊎ ((failure ≡ Failure.Picture) × (line ≡ facts_line (length (record_of profile_rules (draft_of schedule.now))))))) }
 {
     let (placed, messages) = ran(alloc, schedule)?;
     let text = drawn(alloc, &placed, messages.as_slice())?;

@@ -64,7 +64,9 @@ pub(crate) const REPLAY: &str =
     "Reads a schedule, that is files, clients and events, one a line, runs it on the
 server and the clients, and prints the record, one fact a line, with '# safe'
 after it. The whole output is a record that 'judge' reads. With --messages a
-comment line before each 'sent' and 'took' says what is in the message.";
+comment line before each 'sent' and 'took' says what is in the message. With
+--rules by-key,whole the server has these rules and not the profile's, and a
+comment line before the last one says so (docs/PROFILE.md).";
 
 pub(crate) const REPLAY_END: &str = "Example:
   $ printf 'file 61\\nclient 11111111-1111-1111-1111-111111111111\\nconnect 1\\n' | leasecheck replay -

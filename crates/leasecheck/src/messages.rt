@@ -6,11 +6,10 @@ ghost use Rattle.leasecheck.specs.Messages.{message_line, message_before, messag
 use lease_facts::Fact;
 use lease_state::{ClientNo, Reply};
 use lease_texts::{Said, push_fact, push_line};
-use std::alloc::{AllocError, Global};
+use std::alloc::AllocError;
 
 // The line of the first of these messages; those after it are given.
 fn push_message<'a>(
-    alloc: Global,
     text: &mut String,
     begin: &str,
     client: ClientNo,
@@ -23,7 +22,6 @@ fn push_message<'a>(
         return Ok(messages);
     }
     push_line(
-        alloc,
         text,
         begin,
         &[Said::Client(client), Said::Reply(&messages[0])],
@@ -34,7 +32,6 @@ fn push_message<'a>(
 // The line of the message that a fact speaks of, the first of these; those after it are given.
 #[tactic(auto, unfolding(crate::specs::Messages::message_before, crate::specs::Messages::messages_behind))]
 fn push_message_of<'a>(
-    alloc: Global,
     text: &mut String,
     fact: &Fact,
     messages: &'a [Reply],
@@ -43,8 +40,8 @@ fn push_message_of<'a>(
     ensures behind { IfOk result (λ behind. behind.now ≡ messages_behind fact.now messages.now) }
 {
     match fact {
-        Fact::Sent(client) => push_message(alloc, text, "# sent", *client, messages),
-        Fact::Took(client) => push_message(alloc, text, "# took", *client, messages),
+        Fact::Sent(client) => push_message(text, "# sent", *client, messages),
+        Fact::Took(client) => push_message(text, "# took", *client, messages),
         _ => Ok(messages),
     }
 }
@@ -52,7 +49,6 @@ fn push_message_of<'a>(
 /// The lines of a fact: before its own, where it speaks of a message, a comment line with what is in the first of these.
 /// Those after it are given.
 pub fn push_lines_of<'a>(
-    alloc: Global,
     text: &mut String,
     fact: &Fact,
     messages: &'a [Reply],
@@ -61,7 +57,7 @@ pub fn push_lines_of<'a>(
         ≡ string_bytes text.old ++ (message_before fact.now messages.now ++ fact_line fact.now)) }
     ensures behind { IfOk result (λ behind. behind.now ≡ messages_behind fact.now messages.now) }
 {
-    let behind = push_message_of(alloc, text, fact, messages)?;
-    push_fact(alloc, text, fact)?;
+    let behind = push_message_of(text, fact, messages)?;
+    push_fact(text, fact)?;
     Ok(behind)
 }

@@ -34,6 +34,7 @@ use crate::replaying::replay;
 use crate::tasks::{Kind, Task, Telling, VERSION};
 use crate::wire::{ack_lines, render};
 use arrayvec::ArrayString;
+use lease_state::Rules;
 use std::alloc::Global;
 use std::fmt::Write as _;
 use std::io::{ErrorKind, Read, Write};
@@ -82,15 +83,20 @@ fn judged<I: Read>(alloc: Global, input: &mut I) -> Result<Printed, Refusal>
     }
 }
 
-fn replayed<I: Read>(alloc: Global, telling: Telling, input: &mut I) -> Result<Record, Refusal>
+fn replayed<I: Read>(
+    alloc: Global,
+    telling: Telling,
+    rules: Rules,
+    input: &mut I,
+) -> Result<Record, Refusal>
     ensures printed { IfOk result (λ ran. (status_of ran.verdict ≡ 0)
-        × IfSome (I.remaining input.old) (λ schedule. Replays telling schedule (recorded_text ran))) }
+        × IfSome (I.remaining input.old) (λ schedule. Replays telling rules schedule (recorded_text ran))) }
     ensures refused { MatchResult result (λ _. known_refusal (I.remaining input.old) ≡ None)
         (λ refusal. MayEndReplay (I.remaining input.old) refusal.failure) }
     ensures said { IfErr result (λ refusal. Says refusal (IsFileRemark schedule_remark (I.remaining input.old))) }
 {
     let bytes = read_all(alloc, input)?;
-    match replay(alloc, telling, bytes.as_slice()) {
+    match replay(alloc, telling, rules, bytes.as_slice()) {
         Ok(ran) => Ok(ran),
         Err(refusal) => Err(refusal),
     }
@@ -169,7 +175,9 @@ fn make<I: Read>(alloc: Global, task: &Task, input: &mut I) -> Result<Made, Refu
     match task {
         Task::Ack(argument) => Ok(Made::Text(acknowledged(alloc, argument.as_str())?)),
         Task::Show(kind, argument) => Ok(Made::Text(shown(alloc, *kind, argument.as_str())?)),
-        Task::Replay(_, telling) => Ok(Made::Record(replayed(alloc, *telling, input)?)),
+        Task::Replay(_, telling, rules) => {
+            Ok(Made::Record(replayed(alloc, *telling, *rules, input)?))
+        }
         Task::Judge(_) => Ok(Made::Text(judged(alloc, input)?)),
         Task::Explain(_) => Ok(Made::Text(explained(alloc, input)?)),
         Task::Draw(_) => Ok(Made::Text(drawn(alloc, input)?)),

@@ -1,18 +1,19 @@
-ghost use Rattle.std.specs.Prelude.{◌≡◌, ◌++◌, ℕ, List, Option, [], codes, false, OnOk, IfOk, IfErr, MatchResult};
+ghost use Rattle.std.specs.Prelude.{◌≡◌, ◌++◌, ℕ, List, Option, [], false, OnOk, IfOk, IfErr, MatchResult};
 ghost use Rattle.std.specs.Io.KnownBytes.{Appends};
 ghost use Rattle.std.specs.String.{string_bytes};
 ghost use Rattle.lease_texts.specs.Records.{fact_line};
 ghost use Rattle.leasecheck.specs.Messages.{message_before, messages_behind, record_with_messages};
-ghost use Rattle.leasecheck.specs.Recording.{recorded_text, not_made, IsUnwritten, HasGathered};
+ghost use Rattle.leasecheck.specs.Recording.{end_of, recorded_text, not_made, IsUnwritten, HasGathered};
 ghost use Rattle.leasecheck.specs.Refusals.{Begins};
-ghost use Rattle.leasecheck.specs.Replayed.{verdict_line};
+ghost use Rattle.lease_texts.specs.Remarks.{rules_remark};
 
 use crate::failure::Failure;
 use crate::judging::push_verdict;
 use crate::messages::push_lines_of;
 use crate::printing::{print_text, put};
 use lease_facts::Fact;
-use lease_state::Reply;
+use lease_state::{Order, Reply, Rise, Rules};
+use lease_texts::{Said, push_line};
 use lease_world::Verdict;
 use std::alloc::{AllocError, Global};
 use std::io::Write;
@@ -20,11 +21,12 @@ use std::io::Write;
 // How many bytes of a record's text gather before they are written.
 const BLOCK: usize = 65_536;
 
-/// A record, the messages that it speaks of, where they are wanted, and the verdict on it.
+/// A record, the messages that it speaks of, where they are wanted, the rules of its server, and the verdict on it.
 #[derive(Drop)]
 pub struct Record {
     pub facts: Vec<Fact>,
     pub messages: Vec<Reply>,
+    pub rules: Rules,
     pub verdict: Verdict,
 }
 
@@ -46,10 +48,23 @@ fn not_made(begun: bool) -> Failure
     }
 }
 
-// The verdict on a record after its text, and a sign that it is none of the facts.
-fn push_end(text: &mut String, verdict: &Verdict) -> Result<(), AllocError>
-    ensures { OnOk result (string_bytes text.new ≡ string_bytes text.old ++ (codes "# " ++ verdict_line verdict.now)) }
+// A comment line with the rules of a server, where they aren't the profile's.
+fn push_rules(text: &mut String, rules: Rules) -> Result<(), AllocError>
+    ensures { OnOk result (string_bytes text.new ≡ string_bytes text.old ++ rules_remark rules.order rules.rise) }
 {
+    match (rules.order, rules.rise) {
+        (Order::ByClient, Rise::AsFree) => Ok(()),
+        (Order::ByClient, Rise::Whole) | (Order::ByKey, _) => {
+            push_line(text, "# rules", &[Said::Rules(rules)])
+        }
+    }
+}
+
+// The rules and the verdict on a record after its text, with a sign that they are none of the facts.
+fn push_end(text: &mut String, rules: Rules, verdict: &Verdict) -> Result<(), AllocError>
+    ensures { OnOk result (string_bytes text.new ≡ string_bytes text.old ++ end_of rules verdict.now) }
+{
+    push_rules(text, rules)?;
     text.push_str("# ")?;
     push_verdict(text, verdict)
 }
@@ -66,32 +81,27 @@ impl Gathered {
     }
 
     // The lines of a fact, with its message if it speaks of one of these; those after it are given.
-    fn push<'a>(
-        &mut self,
-        alloc: Global,
-        fact: &Fact,
-        messages: &'a [Reply],
-    ) -> Result<&'a [Reply], Failure>
+    fn push<'a>(&mut self, fact: &Fact, messages: &'a [Reply]) -> Result<&'a [Reply], Failure>
         ensures lines { OnOk result (string_bytes self.new.text
             ≡ string_bytes self.old.text ++ (message_before fact.now messages.now ++ fact_line fact.now)) }
         ensures begun { self.new.begun ≡ self.old.begun }
         ensures behind { IfOk result (λ behind. behind.now ≡ messages_behind fact.now messages.now) }
         ensures failed { IfErr result (λ failure. failure ≡ not_made self.old.begun) }
     {
-        match push_lines_of(alloc, &mut self.text, fact, messages) {
+        match push_lines_of(&mut self.text, fact, messages) {
             Ok(behind) => Ok(behind),
             Err(_) => Err(not_made(self.begun)),
         }
     }
 
-    // The line of the verdict.
-    fn push_end(&mut self, verdict: &Verdict) -> Result<(), Failure>
+    // The lines of the rules and of the verdict.
+    fn push_end(&mut self, rules: Rules, verdict: &Verdict) -> Result<(), Failure>
         ensures line { OnOk result (string_bytes self.new.text
-            ≡ string_bytes self.old.text ++ (codes "# " ++ verdict_line verdict.now)) }
+            ≡ string_bytes self.old.text ++ end_of rules verdict.now) }
         ensures begun { self.new.begun ≡ self.old.begun }
         ensures failed { IfErr result (λ failure. failure ≡ not_made self.old.begun) }
     {
-        match push_end(&mut self.text, verdict) {
+        match push_end(&mut self.text, rules, verdict) {
             Ok(()) => Ok(()),
             Err(_) => Err(not_made(self.begun)),
         }
@@ -116,7 +126,6 @@ impl Gathered {
 
 // Writes the lines of the facts but for what has gathered last.
 fn write_facts<O: Write>(
-    alloc: Global,
     recorded: &Record,
     gathered: &mut Gathered,
     out: &mut O,
@@ -130,7 +139,7 @@ fn write_facts<O: Write>(
 {
     let mut left = recorded.messages.as_slice();
     for fact in recorded.facts.as_slice() {
-        match gathered.push(alloc, fact, left) {
+        match gathered.push(fact, left) {
             Ok(behind) => left = behind,
             Err(failure) => return Err(failure),
         }
@@ -153,10 +162,10 @@ pub fn write_record<O: Write>(alloc: Global, recorded: &Record, out: &mut O) -> 
         IsUnwritten failure (O.contents out.old) (O.contents out.new) (recorded_text recorded.now)) }
 {
     let mut gathered = Gathered::new(alloc);
-    if let Err(failure) = write_facts(alloc, recorded, &mut gathered, out) {
+    if let Err(failure) = write_facts(recorded, &mut gathered, out) {
         return Err(failure);
     }
-    match gathered.push_end(&recorded.verdict) {
+    match gathered.push_end(recorded.rules, &recorded.verdict) {
         Ok(()) => print_text(gathered.text.as_str(), out),
         Err(failure) => Err(failure),
     }

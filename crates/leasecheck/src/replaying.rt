@@ -15,8 +15,9 @@ use crate::recording::Record;
 use crate::refusal::Refusal;
 use crate::tasks::Telling;
 use lease_laws::verdict_decides;
+use lease_state::Rules;
 use lease_texts::{Schedule, TextFault, read_schedule};
-use lease_world::{RunFault, judge, run, run_with_messages};
+use lease_world::{RunFault, judge, run_under, run_with_messages_under};
 use std::alloc::Global;
 
 pub(crate) fn not_run(fault: RunFault) -> Failure
@@ -28,34 +29,42 @@ pub(crate) fn not_run(fault: RunFault) -> Failure
     }
 }
 
-// The record of a run, with its messages where they are asked for, and the verdict on it.
-fn ran(alloc: Global, telling: Telling, schedule: &Schedule) -> Result<Record, Refusal>
-    ensures told { IfOk result (λ ran. Tells telling (draft_of schedule.now)
+// The record of a run with a server of these rules, with its messages where they are asked for, and the verdict on it.
+fn ran(
+    alloc: Global,
+    telling: Telling,
+    rules: Rules,
+    schedule: &Schedule,
+) -> Result<Record, Refusal>
+    ensures told { IfOk result (λ ran. Tells telling rules (draft_of schedule.now)
         (record_with_messages ran.facts.items ran.messages.items)) }
     ensures safe { IfOk result (λ ran. ran.verdict ≡ verdict.Safe) }
+    ensures rules { IfOk result (λ ran. ran.rules ≡ rules) }
     ensures refused { RefusesRun (draft_of schedule.now) result }
     ensures said { IfErr result (λ told. Says told (λ failure line. run_remark failure (draft_of schedule.now) ≡ Some line)) }
 {
     match telling {
-        Telling::Facts => ran_alone(alloc, schedule),
-        Telling::Messages => ran_with_messages(alloc, schedule),
+        Telling::Facts => ran_alone(alloc, rules, schedule),
+        Telling::Messages => ran_with_messages(alloc, rules, schedule),
     }
 }
 
-fn ran_alone(alloc: Global, schedule: &Schedule) -> Result<Record, Refusal>
-    ensures told { IfOk result (λ ran. Tells telling.Facts (draft_of schedule.now)
+fn ran_alone(alloc: Global, rules: Rules, schedule: &Schedule) -> Result<Record, Refusal>
+    ensures told { IfOk result (λ ran. Tells telling.Facts rules (draft_of schedule.now)
         (record_with_messages ran.facts.items ran.messages.items)) }
     ensures safe { IfOk result (λ ran. ran.verdict ≡ verdict.Safe) }
+    ensures rules { IfOk result (λ ran. ran.rules ≡ rules) }
     ensures refused { RefusesRun (draft_of schedule.now) result }
     ensures said { IfErr result (λ told. Says told (λ failure line. run_remark failure (draft_of schedule.now) ≡ Some line)) }
 {
     verdict_decides();
-    match run(alloc, &schedule.setup, schedule.events.as_slice()) {
+    match run_under(alloc, rules, &schedule.setup, schedule.events.as_slice()) {
         Ok(facts) => {
             let verdict = judge(alloc, facts.as_slice())?;
             Ok(Record {
                 facts,
                 messages: Vec::new(alloc),
+                rules,
                 verdict,
             })
         }
@@ -63,20 +72,22 @@ fn ran_alone(alloc: Global, schedule: &Schedule) -> Result<Record, Refusal>
     }
 }
 
-fn ran_with_messages(alloc: Global, schedule: &Schedule) -> Result<Record, Refusal>
-    ensures told { IfOk result (λ ran. Tells telling.Messages (draft_of schedule.now)
+fn ran_with_messages(alloc: Global, rules: Rules, schedule: &Schedule) -> Result<Record, Refusal>
+    ensures told { IfOk result (λ ran. Tells telling.Messages rules (draft_of schedule.now)
         (record_with_messages ran.facts.items ran.messages.items)) }
     ensures safe { IfOk result (λ ran. ran.verdict ≡ verdict.Safe) }
+    ensures rules { IfOk result (λ ran. ran.rules ≡ rules) }
     ensures refused { RefusesRun (draft_of schedule.now) result }
     ensures said { IfErr result (λ told. Says told (λ failure line. run_remark failure (draft_of schedule.now) ≡ Some line)) }
 {
     verdict_decides();
-    match run_with_messages(alloc, &schedule.setup, schedule.events.as_slice()) {
+    match run_with_messages_under(alloc, rules, &schedule.setup, schedule.events.as_slice()) {
         Ok((facts, messages)) => {
             let verdict = judge(alloc, facts.as_slice())?;
             Ok(Record {
                 facts,
                 messages,
+                rules,
                 verdict,
             })
         }
@@ -97,19 +108,25 @@ fn schedule_of(alloc: Global, text: &[u8]) -> Result<Schedule, Refusal>
     }
 }
 
-/// What `leasecheck replay` prints for the text of a schedule: the record of its run, with its messages where they are asked
-/// for, and the verdict on it, which is that it is safe.
+/// What `leasecheck replay` prints for the text of a schedule: the record of its run with a server of these rules, with its
+/// messages where they are asked for, and the verdict on it, which is that it is safe.
 ///
 /// # Errors
 ///
 /// `Line` with the number of the first line that is refused, else `Run` where there is no run of
 /// the schedule, and `Memory` where there is none left; with what else is said of it.
-pub fn replay(alloc: Global, telling: Telling, schedule: &[u8]) -> Result<Record, Refusal>
-    ensures printed { IfOk result (λ ran. Replays telling schedule.now (recorded_text ran)) }
+pub fn replay(
+    alloc: Global,
+    telling: Telling,
+    rules: Rules,
+    schedule: &[u8],
+) -> Result<Record, Refusal>
+    ensures printed { IfOk result (λ ran. Replays telling rules schedule.now (recorded_text ran)) }
     ensures safe { IfOk result (λ ran. ran.verdict ≡ verdict.Safe) }
+    ensures rules { IfOk result (λ ran. ran.rules ≡ rules) }
     ensures refused { RefusesReplay schedule.now result }
     ensures said { IfErr result (λ told. Says told (λ failure line. schedule_remark schedule.now failure ≡ Some line)) }
 {
     let schedule = schedule_of(alloc, schedule)?;
-    ran(alloc, telling, &schedule)
+    ran(alloc, telling, rules, &schedule)
 }

@@ -142,6 +142,6 @@ pub fn run_words<R: Files + Input + AllocGlobal, O: Write, F: Write>(
         Err(usage) => tell_usage(&usage, out, faults),
         Ok(Asked::Task(task)) => perform_on_file(rt, &task, out, faults),
         Ok(Asked::Clients) => speak(rt, Machines::clients(rt.alloc()), out, faults),
-        Ok(Asked::Server) => speak(rt, Machines::server(rt.alloc()), out, faults),
+        Ok(Asked::Server) => speak(rt, Machines::server(), out, faults),
     }
 }

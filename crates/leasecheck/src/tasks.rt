@@ -1,3 +1,5 @@
+use lease_state::Rules;
+
 /// The kinds of bytes that can be shown.
 #[derive(Clone, Copy, Debug, PartialEq, Eq)]
 pub enum Kind {
@@ -29,8 +31,8 @@ pub enum Task {
     Ack(String),
     /// What the bytes of this argument hold.
     Show(Kind, String),
-    /// The record of the run that the schedule in this file asks for.
-    Replay(String, Telling),
+    /// The record of the run that the schedule in this file asks for, with a server of these rules.
+    Replay(String, Telling, Rules),
     /// The verdict on the record in this file.
     Judge(String),
     /// The same, and why it is that.
@@ -64,7 +66,7 @@ impl Task {
     {
         match self {
             Task::Ack(_) | Task::Show(_, _) | Task::Version => None,
-            Task::Replay(path, _) | Task::Judge(path) | Task::Explain(path) | Task::Draw(path) =>
+            Task::Replay(path, _, _) | Task::Judge(path) | Task::Explain(path) | Task::Draw(path) =>
                 Some(path.as_str()),
         }
     }

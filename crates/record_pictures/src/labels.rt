@@ -1,7 +1,6 @@
-use lease_client::Settlement;
 use lease_facts::{Fact, FactKind};
 use lease_state::{Bytes, FileNo, Reply};
-use lease_texts::state_letters;
+use lease_texts::{outcome_word, state_letters};
 use lease_wire::{Notification, read_create_reply};
 use std::alloc::{AllocError, Global};
 
@@ -57,15 +56,6 @@ fn push_message(text: &mut String, message: &Reply) -> Result<(), AllocError> {
         Reply::Break(bytes) => push_break(text, bytes.as_slice()),
         Reply::AckDone(_) => text.push_str("acknowledgment accepted"),
         Reply::AckFailed { .. } => text.push_str("acknowledgment refused"),
-    }
-}
-
-fn outcome_word(outcome: Settlement) -> &'static str {
-    match outcome {
-        Settlement::Done => "done",
-        Settlement::Failed => "failed",
-        Settlement::Unknown => "unknown",
-        Settlement::Lost => "lost",
     }
 }
 

@@ -1,11 +1,12 @@
 use lease_client::{Command, Settlement, SharedBytes};
 use lease_state::{
-    Access, Bytes, ClientNo, FileId, FileNo, LeaseState, Patch, Reply, Request, Share, Status,
+    Access, Bytes, ClientNo, FileId, FileNo, LeaseState, Order, Patch, Reply, Request, Rise, Rules,
+    Share, Status,
 };
 use lease_texts::{
     Arrival, Complaint, Field, Fields, LineFault, Part, Said, Table, complaint_about, outcome_word,
-    push_complaint, push_event, push_fact, push_line, push_quoted, push_setup, read_arrival,
-    read_fact, read_part, read_schedule,
+    push_changed, push_complaint, push_event, push_fact, push_line, push_opened, push_quoted,
+    push_setup, read_arrival, read_fact, read_part, read_schedule, rules_in,
 };
 use lease_world::{Event, Fact};
 use std::alloc::Global;
@@ -64,7 +65,7 @@ fn lines_are_read_back(rt: HostRuntime) -> Result<(), Fail> {
     let alloc = rt.alloc();
     for fact in facts(alloc)? {
         let mut text = String::new(alloc);
-        push_fact(alloc, &mut text, &fact)?;
+        push_fact(&mut text, &fact)?;
         let Some(line) = text.as_str().strip_suffix('\n') else {
             assert!(&rt; false, "no line feed behind {fact:?}");
             continue;
@@ -189,10 +190,10 @@ client {00010203-0405-0607-0809-0A0B0C0D0E0F}",
     )?
     .setup;
     let mut text = String::new(alloc);
-    push_setup(alloc, &mut text, &setup)?;
+    push_setup(&mut text, &setup)?;
     let events = events(alloc)?;
     for event in &events {
-        push_event(alloc, &mut text, event)?;
+        push_event(&mut text, event)?;
     }
     assert_eq!(rt; text.as_str(), WRITTEN);
     let schedule = read_schedule(alloc, text.as_str().as_bytes())?;
@@ -285,7 +286,6 @@ fn a_line_is_written_field_by_field(rt: HostRuntime) -> Result<(), Fail> {
         status: Status::SharingViolation,
     };
     push_line(
-        alloc,
         &mut text,
         "sent",
         &[Said::Client(ClientNo(1)), Said::Reply(&told)],
@@ -295,6 +295,33 @@ fn a_line_is_written_field_by_field(rt: HostRuntime) -> Result<(), Fail> {
         "sent 1 createfailed 2 STATUS_SHARING_VIOLATION\n"
     );
     assert_eq!(rt; outcome_word(Settlement::Lost), "lost");
+    Ok(())
+}
+
+#[test]
+fn what_a_server_did_is_written(rt: HostRuntime) -> Result<(), Fail> {
+    let alloc = rt.alloc();
+    let mut text = String::new(alloc);
+    push_opened(&mut text, FileNo(2), ClientNo(3))?;
+    push_changed(
+        &mut text,
+        FileNo(2),
+        ClientNo(3),
+        4,
+        &patch(alloc, 5, b"x")?,
+    )?;
+    assert_eq!(rt; text.as_str(), "opened 2 3\nchanged 2 3 4 5 78\n");
+    Ok(())
+}
+
+#[test]
+fn a_word_stands_for_rules(rt: HostRuntime) -> Result<(), Fail> {
+    let rules = Rules {
+        order: Order::ByKey,
+        rise: Rise::AsFree,
+    };
+    assert_eq!(rt; rules_in(b"by-key,as-free"), Some(rules));
+    assert_eq!(rt; rules_in(b"by-key"), None);
     Ok(())
 }
 
@@ -330,6 +357,7 @@ fn tables_have_the_lines_of_their_kinds(rt: HostRuntime) -> Result<(), Fail> {
 fn the_laws_of_lines_do_nothing(_rt: HostRuntime) -> Result<(), Fail> {
     lease_texts::lines_tell_facts();
     lease_texts::lines_tell_parts();
+    lease_texts::complaints_name_first_faults();
     lease_texts::lines_are_read_back();
     lease_texts::records_are_read_back();
     lease_texts::schedules_are_read_back();

@@ -1,9 +1,9 @@
 -- In the record of every run what the server gives out names clients that have joined.
 use Rattle.lease_laws.proofs.Words.{◌∙◌, ◌∷◌, ◌≡◌, Bool, EachFact, Event, Fact, FileRequest, Key, List, MayLower, Note, Option}
-use Rattle.lease_laws.proofs.Words.{Setup, Step, World, ℕ, [], after, arith, first_world, has_joined, has_key, is_allowed_setup}
+use Rattle.lease_laws.proofs.Words.{Setup, Step, World, ℕ, [], after, arith, first_world_under, has_joined, has_key, is_allowed_setup}
 use Rattle.lease_laws.proofs.Words.{is_key, is_start, list_all, refl, reverse_aux, starts_from, stepped_in, subst}
 use Rattle.lease_laws.proofs.Words.{connection_made, sym, true}
-use Rattle.lease_laws.proofs.Words.{commanded, taken, noticed}
+use Rattle.lease_laws.proofs.Words.{commanded, taken, noticed, Rules}
 use Rattle.lease_laws.proofs.records.Runs.{all_starts}
 use Rattle.lease_laws.proofs.server.Lists.{any_has}
 use Rattle.lease_laws.proofs.world.cases.Events.{IsTold}
@@ -112,12 +112,12 @@ starts_joined [] others all h = h
 starts_joined (Fact.Start file bytes ∷ facts) others all h = starts_joined facts (Fact.Start file bytes ∷ others) all (refl, h)
 starts_joined (_ ∷ facts) others all h = let c : ⊥ = cc in absurd c
 
-first_joined : (setup : Setup) → HasJoined (first_world setup)
-unfolding first_world
-first_joined setup = starts_joined (starts_from 1 setup.files) [] (all_starts 1 setup.files) tt
+first_joined : (rules : Rules) (setup : Setup) → HasJoined (first_world_under rules setup)
+unfolding first_world_under
+first_joined rules setup = starts_joined (starts_from 1 setup.files) [] (all_starts 1 setup.files) tt
 
-pub run_joined : (setup : Setup) (events : List Event) → is_allowed_setup setup ≡ true
-    → EachFact Joined (after (first_world setup) events).past
-run_joined setup events allowed = (runs_have (Both (Both Ground IsWell) HasJoined) (λ world (known, joined). known.0)
-    (carried_both (Both Ground IsWell) HasJoined (carried_both Ground IsWell ground_carried well_moves) joined_moves) setup
-    ((first_ground setup, first_well setup allowed), first_joined setup) events).1
+pub run_joined : (rules : Rules) (setup : Setup) (events : List Event) → is_allowed_setup setup ≡ true
+    → EachFact Joined (after (first_world_under rules setup) events).past
+run_joined rules setup events allowed = (runs_have (Both (Both Ground IsWell) HasJoined) (λ world (known, joined). known.0)
+    (carried_both (Both Ground IsWell) HasJoined (carried_both Ground IsWell ground_carried well_moves) joined_moves) rules setup
+    ((first_ground rules setup, first_well rules setup allowed), first_joined rules setup) events).1

@@ -1,10 +1,10 @@
 -- In the record of every run the clients that its facts name, but for what the server gives out, are numbered from 1, and so are
 -- the files that it starts, none longer than a file may be.
 use Rattle.lease_laws.proofs.Words.{◌&&◌, ◌+◌, ◌∷◌, ◌≡◌, Bool, Call, Event, Fact, Link, List, None, Note, Option, Out, Progress}
-use Rattle.lease_laws.proofs.Words.{Setup, Some, Step, World, ℕ, [], after, all_delivered, arith, delivered, first_world}
+use Rattle.lease_laws.proofs.Words.{Setup, Some, Step, World, ℕ, [], after, all_delivered, arith, delivered, first_world_under}
 use Rattle.lease_laws.proofs.Words.{happened, is_allowed_setup, is_content, list_all, nat_le, nat_tests, noted, put, refl}
 use Rattle.lease_laws.proofs.Words.{requests_sent, reverse_aux, served, starts_from, stepped_in, true}
-use Rattle.lease_laws.proofs.Words.{client_called, ClientCall}
+use Rattle.lease_laws.proofs.Words.{client_called, ClientCall, Rules}
 use Rattle.lease_facts.specs.Facts.{client_about}
 use Rattle.lease_laws.proofs.server.Lists.{and_parts, and_both}
 use Rattle.lease_laws.proofs.world.cases.Events.{HasForms, IsTold, Keeps, call_served, kept_by_run, link_lost, link_made}
@@ -106,12 +106,12 @@ reversed_named (fact ∷ facts) others all more =
     let parts = and_parts (is_named fact) (list_all is_named facts) all in
     reversed_named facts (fact ∷ others) parts.1 (and_both _ _ parts.0 more)
 
-first_named : (setup : Setup) → is_allowed_setup setup ≡ true → IsNamed (first_world setup)
-unfolding first_world is_allowed_setup
-first_named setup allowed =
+first_named : (rules : Rules) (setup : Setup) → is_allowed_setup setup ≡ true → IsNamed (first_world_under rules setup)
+unfolding first_world_under is_allowed_setup
+first_named rules setup allowed =
     let fit = (and_parts _ _ (and_parts _ _ (and_parts _ _ allowed).0).0).1 in
     reversed_named (starts_from 1 setup.files) [] (starts_named 1 setup.files refl fit) refl
 
-pub run_named : (setup : Setup) (events : List Event) → is_allowed_setup setup ≡ true
-    → list_all is_named (after (first_world setup) events).past ≡ true
-run_named setup events allowed = kept_by_run IsNamed named_forms (first_world setup) events (first_named setup allowed)
+pub run_named : (rules : Rules) (setup : Setup) (events : List Event) → is_allowed_setup setup ≡ true
+    → list_all is_named (after (first_world_under rules setup) events).past ≡ true
+run_named rules setup events allowed = kept_by_run IsNamed named_forms (first_world_under rules setup) events (first_named rules setup allowed)

@@ -1,11 +1,11 @@
 -- The record of a run can be written as lines, and is read back as a record that is safe.
 use Rattle.lease_laws.proofs.Words.{◌&&◌, ◌++◌, ◌+◌, ◌<◌, ◌==◌, ◌∙◌, ◌∷◌, ◌≡◌, ◌≤◌, Bool, EachFact, Event, List, Ok, Safe, Setup}
-use Rattle.lease_laws.proofs.Words.{State, Verdict, WellFormed, ℕ, ⊎_elim, [], after, ap, append-nil, append_assoc, arith, codes, decimal}
-use Rattle.lease_laws.proofs.Words.{eqb-true, first_world, has_joined, is_allowed_setup, is_content, is_started, is_well_formed}
+use Rattle.lease_laws.proofs.Words.{State, Verdict, WellFormed, ℕ, ⊎_elim, [], after, ap, append-nil, arith, codes, decimal}
+use Rattle.lease_laws.proofs.Words.{eqb-true, first_world_under, has_joined, is_allowed_setup, is_content, is_started, is_well_formed}
 use Rattle.lease_laws.proofs.Words.{length, list_all, map, nat_le, nat_tests, refl, reverse-reverse, reverse_aux, subst, sym}
-use Rattle.lease_laws.proofs.Words.{true, verdict}
+use Rattle.lease_laws.proofs.Words.{true, verdict, Rules}
 use Rattle.lease_model.specs.records.Facts as model
-use Rattle.lease_model.specs.world.Events.{recorded}
+use Rattle.lease_model.specs.world.Events.{recorded_under}
 use Rattle.lease_state.specs.State.{bits_of_state, state_of, state_of_bits}
 use Rattle.lease_state.specs.declared.state.LeaseState.{LeaseState}
 use Rattle.lease_laws.proofs.records.VerdictLemmas.{safe-verdict}
@@ -18,6 +18,11 @@ use Rattle.lease_facts.specs.declared.fact.Fact.TheVariants as fact
 use Rattle.lease_texts.specs.Lines.{line_text}
 use Rattle.lease_texts.specs.Pieces.{pieces, longer, lines_of}
 use Rattle.lease_texts.specs.Reading.{reads_on}
+use Rattle.lease_state.specs.declared.rules.Order.{Order}
+use Rattle.lease_state.specs.declared.rules.Order.TheVariants as order
+use Rattle.lease_state.specs.declared.rules.Rise.{Rise}
+use Rattle.lease_state.specs.declared.rules.Rise.TheVariants as rise
+use Rattle.lease_texts.specs.Remarks.{rules_remark, safe_end}
 use Rattle.lease_texts.specs.Records.{fact_line, with_line, record_text, record_in}
 use Rattle.lease_texts.specs.Laws.{CanBeTold}
 use Rattle.lease_texts.specs.Tables.{Each}
@@ -93,12 +98,12 @@ reversed_placed (one ∷ facts) others all more =
     let parts = and_parts (is_placed one) (list_all is_placed facts) all in
     reversed_placed facts (one ∷ others) parts.1 (and_both _ _ parts.0 more)
 
-run_placed : (setup : Setup) (events : List Event) → is_allowed_setup setup ≡ true
-    → list_all is_placed (recorded setup events) ≡ true
-run_placed setup events allowed =
-    let past = (after (first_world setup) events).past in
-    let well = subst (EachFact WellFormed) (reverse-reverse past) (runs_are_well_formed setup events allowed) in
-    reversed_placed past [] (all_placed past (run_named setup events allowed) (run_joined setup events allowed) well) refl
+run_placed : (rules : Rules) (setup : Setup) (events : List Event) → is_allowed_setup setup ≡ true
+    → list_all is_placed (recorded_under rules setup events) ≡ true
+run_placed rules setup events allowed =
+    let past = (after (first_world_under rules setup) events).past in
+    let well = subst (EachFact WellFormed) (reverse-reverse past) (runs_are_well_formed rules setup events allowed) in
+    reversed_placed past [] (all_placed past (run_named rules setup events allowed) (run_joined rules setup events allowed) well) refl
 
 -- ---- so they can be told
 
@@ -142,10 +147,10 @@ all_can (told ∷ facts) all typed =
     let parts = and_parts (is_placed (fact_of told)) (list_all is_placed (map fact_of facts)) all in
     (can_be_told told parts.0 typed.0, all_can facts parts.1 typed.1)
 
-run_can : (setup : Setup) (events : List Event) (facts : List Fact) → AreOfRun setup events facts
+run_can : (rules : Rules) (setup : Setup) (events : List Event) (facts : List Fact) → AreOfRun rules setup events facts
     → Each CanBeTold (map as_lettered facts)
-run_can setup events facts of =
-    all_can facts (ap (λ (all : List model.Fact). list_all is_placed all) of.are_recorded ∙ run_placed setup events of.is_allowed)
+run_can rules setup events facts of =
+    all_can facts (ap (λ (all : List model.Fact). list_all is_placed all) of.are_recorded ∙ run_placed rules setup events of.is_allowed)
     of.are_typed
 
 -- ---- and what is read has the same states, and the same lines
@@ -184,45 +189,48 @@ same_text (told ∷ facts) = ap (λ (line : List ℕ). line ++ record_text (map 
 -- ---- the laws
 
 -- the record of a run is read with what stands behind it
-run_read : (setup : Setup) (events : List Event) (facts : List Fact) → AreOfRun setup events facts → (rest : List ℕ)
+run_read : (rules : Rules) (setup : Setup) (events : List Event) (facts : List Fact) → AreOfRun rules setup events facts → (rest : List ℕ)
     → record_in (record_text facts ++ rest)
     ≡ reads_on with_line (1 + length (map as_lettered facts)) (map as_lettered facts) (lines_of rest)
-run_read setup events facts of rest =
+run_read rules setup events facts of rest =
     ap (λ (text : List ℕ). record_in (text ++ rest)) (sym (same_text facts))
-    ∙ records_go_on [] (map as_lettered facts) (run_can setup events facts of) 1 rest
+    ∙ records_go_on [] (map as_lettered facts) (run_can rules setup events facts of) 1 rest
 
 pub runs_back : RunsAreReadBack
 unfolding reads_on pieces
-runs_back setup events facts of = (
+runs_back rules setup events facts of = (
   map as_lettered facts,
-  ap (λ (text : List ℕ). record_in text) (sym (append-nil (record_text facts))) ∙ run_read setup events facts of [],
+  ap (λ (text : List ℕ). record_in text) (sym (append-nil (record_text facts))) ∙ run_read rules setup events facts of [],
   same_facts facts ∙ of.are_recorded,
 )
 
-safe_record : (setup : Setup) (events : List Event) (facts : List Fact) → AreOfRun setup events facts
-    → (Safe (recorded setup events)) → Verdict.Safe ≡ verdict (map fact_of (map as_lettered facts))
-safe_record setup events facts of safe = sym (ap (λ (all : List model.Fact). verdict all) (same_facts facts ∙ of.are_recorded)
-    ∙ safe-verdict (recorded setup events) safe)
+safe_record : (rules : Rules) (setup : Setup) (events : List Event) (facts : List Fact) → AreOfRun rules setup events facts
+    → (Safe (recorded_under rules setup events)) → Verdict.Safe ≡ verdict (map fact_of (map as_lettered facts))
+safe_record rules setup events facts of safe = sym (ap (λ (all : List model.Fact). verdict all) (same_facts facts ∙ of.are_recorded)
+    ∙ safe-verdict (recorded_under rules setup events) safe)
 
 pub runs_safe : EveryRunIsSafe → RunsAreJudgedSafe
 unfolding runs_back
-runs_safe safe setup events facts of =
-    let back = runs_back setup events facts of in (
+runs_safe safe rules setup events facts of =
+    let back = runs_back rules setup events facts of in (
       map as_lettered facts,
       back.1,
-      safe_record setup events facts of (safe setup events of.is_allowed),
+      safe_record rules setup events facts of (safe rules setup events of.is_allowed),
     )
 
--- the verdict behind a record is passed over
-passed_over : (number : ℕ) (facts : List Fact) → reads_on with_line number facts (lines_of (codes "# safe" ++ 10 ∷ [])) ≡ Ok facts
-unfolding reads_on pieces longer with_line
-passed_over number facts = refl
+-- what stands behind a record is passed over
+passed_over : (by : Order) (how : Rise) (number : ℕ) (facts : List Fact)
+    → reads_on with_line number facts (lines_of (rules_remark by how ++ (codes "# safe" ++ 10 ∷ []))) ≡ Ok facts
+unfolding reads_on pieces longer with_line line_text
+passed_over order.ByClient rise.AsFree number facts = refl
+passed_over order.ByClient rise.Whole number facts = refl
+passed_over order.ByKey rise.AsFree number facts = refl
+passed_over order.ByKey rise.Whole number facts = refl
 
 pub replays_safe : EveryRunIsSafe → ReplaysAreJudgedSafe
-replays_safe safe setup events facts of = (
+replays_safe safe rules setup events facts of = (
   map as_lettered facts,
-  ap (λ (text : List ℕ). record_in text) (append_assoc (record_text facts) (codes "# safe") (10 ∷ []))
-      ∙ run_read setup events facts of (codes "# safe" ++ 10 ∷ [])
-      ∙ passed_over (1 + length (map as_lettered facts)) (map as_lettered facts),
-  safe_record setup events facts of (safe setup events of.is_allowed),
+  run_read rules setup events facts of (safe_end rules)
+      ∙ passed_over rules.order rules.rise (1 + length (map as_lettered facts)) (map as_lettered facts),
+  safe_record rules setup events facts of (safe rules setup events of.is_allowed),
 )

@@ -1,13 +1,15 @@
 -- Records of runs as texts: what a run is printed as is read as its record, and judged to be safe.
-use Rattle.std.specs.Prelude.{◌≡◌, ◌++◌, ◌<◌, ◌^◌, ⊤, ℕ, true, map, List, [], ◌∷◌, codes, Ok}
+use Rattle.std.specs.Prelude.{◌≡◌, ◌++◌, ◌<◌, ◌^◌, ⊤, ℕ, true, map, List, Ok}
 use Rattle.hex.specs.Hex.{IsBytes}
+use Rattle.lease_state.specs.declared.rules.Rules.{Rules}
 use Rattle.lease_model.specs.records.Verdict.{Verdict, verdict}
 use Rattle.lease_model.specs.world.Allowed.{is_allowed_setup}
-use Rattle.lease_model.specs.world.Events.{Event, recorded}
+use Rattle.lease_model.specs.world.Events.{Event, recorded_under}
 use Rattle.lease_model.specs.world.World.{Setup}
 use Rattle.lease_facts.specs.Facts.{fact_of}
 use Rattle.lease_facts.specs.declared.fact.Fact.{Fact}
 use Rattle.lease_texts.specs.Kinds.{Value}
+use Rattle.lease_texts.specs.Remarks.{safe_end}
 use Rattle.lease_texts.specs.Records.{fact_said, record_text, record_in}
 use Rattle.lease_texts.specs.Tables.{Each}
 use Rattle.lease_texts.specs.declared.kinds.Field.{Field}
@@ -26,26 +28,29 @@ HasType other value = ⊤
 abbrev pub IsTyped : Fact → Type 0
 IsTyped told = Each (λ one. HasType one.field one.value) (fact_said told).spoken
 
--- These facts are the record of the run of this setup by these events.
-pub record AreOfRun (setup : Setup) (events : List Event) (facts : List Fact) : Type 0 where
+-- These facts are the record of the run of this setup by these events, with a server of these rules.
+pub record AreOfRun (rules : Rules) (setup : Setup) (events : List Event) (facts : List Fact) : Type 0 where
   pub is_allowed : is_allowed_setup setup ≡ true
-  pub are_recorded : map fact_of facts ≡ recorded setup events
+  pub are_recorded : map fact_of facts ≡ recorded_under rules setup events
   pub are_typed : Each IsTyped facts
 
 -- The text is read as a record of the run.
 abbrev pub RunsAreReadBack : Type 0
-RunsAreReadBack = (setup : Setup) (events : List Event) (facts : List Fact) → AreOfRun setup events facts
-    → (read : List Fact) × (record_in (record_text facts) ≡ Ok read) × (map fact_of read ≡ recorded setup events)
+RunsAreReadBack = (rules : Rules) (setup : Setup) (events : List Event) (facts : List Fact)
+    → AreOfRun rules setup events facts
+    → (read : List Fact) × (record_in (record_text facts) ≡ Ok read) × (map fact_of read ≡ recorded_under rules setup events)
 
 -- The text is a record, and the verdict on it is that it is safe.
 abbrev pub IsJudgedSafe : List ℕ → Type 0
 IsJudgedSafe text = (facts : List Fact) × (record_in text ≡ Ok facts) × (Verdict.Safe ≡ verdict (map fact_of facts))
 
--- So a judge is to call a run's record safe, alone and with the verdict after it that a replay prints.
+-- So a judge is to call a run's record safe, alone and with what a replay prints after it.
 abbrev pub RunsAreJudgedSafe : Type 0
-RunsAreJudgedSafe = (setup : Setup) (events : List Event) (facts : List Fact) → AreOfRun setup events facts
+RunsAreJudgedSafe = (rules : Rules) (setup : Setup) (events : List Event) (facts : List Fact)
+    → AreOfRun rules setup events facts
     → IsJudgedSafe (record_text facts)
 
 abbrev pub ReplaysAreJudgedSafe : Type 0
-ReplaysAreJudgedSafe = (setup : Setup) (events : List Event) (facts : List Fact) → AreOfRun setup events facts
-    → IsJudgedSafe (record_text facts ++ codes "# safe" ++ 10 ∷ [])
+ReplaysAreJudgedSafe = (rules : Rules) (setup : Setup) (events : List Event) (facts : List Fact)
+    → AreOfRun rules setup events facts
+    → IsJudgedSafe (record_text facts ++ safe_end rules)

@@ -1,22 +1,24 @@
 ghost use Rattle.std.specs.Prelude.{◌≡◌, ◌↔◌, ◌++◌, ◌∷◌, [], true, false, map, codes, Err, IfOk};
 ghost use Rattle.lease_model.specs.world.Allowed.{is_allowed_setup, are_too_many};
-ghost use Rattle.lease_model.specs.world.Events.{recorded};
+ghost use Rattle.lease_model.specs.world.Events.{recorded, recorded_under};
 ghost use Rattle.lease_facts.specs.Facts.{fact_of};
 ghost use Rattle.lease_facts.specs.Setups.{setup_of, event_of};
 ghost use Rattle.lease_texts.specs.Records.{record_text};
+ghost use Rattle.lease_texts.specs.Remarks.{safe_end};
 ghost use Rattle.text_laws.specs.Runs.{IsJudgedSafe};
 
 use crate::reading_back::runs_are_read_back;
 use crate::typing::facts_are_typed;
-use lease_world::{Event, Fact, RunFault, Setup, run};
+use lease_state::Rules;
+use lease_world::{Event, Fact, RunFault, Setup, run_under};
 use std::alloc::Global;
 
-/// What a replay prints of a run, its record and that it is safe, is the text of a record, and the verdict on that is that it is
-/// safe. Reads the facts, and does nothing with them.
-pub fn replays_are_judged_safe(setup: &Setup, events: &[Event], facts: &[Fact])
+/// What a replay prints of a run with a server of these rules, its record and that it is safe, is the text of a record, and the
+/// verdict on that is that it is safe. Reads the facts, and does nothing with them.
+pub fn replays_are_judged_safe(rules: Rules, setup: &Setup, events: &[Event], facts: &[Fact])
     requires allowed { is_allowed_setup (setup_of setup.now) ≡ true }
-    requires record { map fact_of facts.now ≡ recorded (setup_of setup.now) (map event_of events.now) }
-    ensures safe { IsJudgedSafe (record_text facts.now ++ codes "# safe" ++ 10 ∷ []) }
+    requires record { map fact_of facts.now ≡ recorded_under rules (setup_of setup.now) (map event_of events.now) }
+    ensures safe { IsJudgedSafe (record_text facts.now ++ safe_end rules) }
 {
     runs_are_read_back();
     facts_are_typed(facts);
@@ -36,7 +38,28 @@ pub fn judged_run(alloc: Global, setup: &Setup, events: &[Event]) -> Result<Vec<
         ≡ recorded (setup_of setup.now) (map event_of events.now)) }
     ensures safe { IfOk result (λ facts. IsJudgedSafe (record_text facts.items ++ codes "# safe" ++ 10 ∷ [])) }
 {
-    let facts = run(alloc, setup, events)?;
-    replays_are_judged_safe(setup, events, facts.as_slice());
+    judged_run_under(alloc, Rules::profile(), setup, events)
+}
+
+/// The same of a run with a server of these rules, as `run_under` gives it.
+///
+/// # Errors
+///
+/// Those of `judged_run`, in the same cases.
+pub fn judged_run_under(
+    alloc: Global,
+    rules: Rules,
+    setup: &Setup,
+    events: &[Event],
+) -> Result<Vec<Fact>, RunFault>
+    ensures bad_setup { (result ≡ Err RunFault.BadSetup) ↔ (is_allowed_setup (setup_of setup.now) ≡ false) }
+    ensures too_many { (result ≡ Err RunFault.TooMany)
+        ↔ ((is_allowed_setup (setup_of setup.now) ≡ true) × (are_too_many (map event_of events.now) ≡ true)) }
+    ensures record { IfOk result (λ facts. map fact_of facts.items
+        ≡ recorded_under rules (setup_of setup.now) (map event_of events.now)) }
+    ensures safe { IfOk result (λ facts. IsJudgedSafe (record_text facts.items ++ safe_end rules)) }
+{
+    let facts = run_under(alloc, rules, setup, events)?;
+    replays_are_judged_safe(rules, setup, events, facts.as_slice());
     Ok(facts)
 }

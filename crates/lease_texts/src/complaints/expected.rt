@@ -1,6 +1,6 @@
 ghost use Rattle.std.specs.Prelude.{◌≡◌, ◌++◌, OnOk, map};
 ghost use Rattle.std.specs.String.{string_bytes};
-ghost use Rattle.lease_texts.specs.Complaints.{expected_words, field_words, listed, row_of, table_word, table_words};
+ghost use Rattle.lease_texts.specs.Complaints.{expected_words, field_words, held_words, listed, row_of, table_word, table_words};
 
 use crate::kinds::{Field, Row, Table};
 use std::alloc::AllocError;
@@ -57,50 +57,43 @@ fn push_table(text: &mut String, table: Table) -> Result<(), AllocError>
     push_listed(text, table.rows())
 }
 
+// What is held by a field that no table is for.
+fn held_words(field: Field) -> &'static str
+    ensures { result.now ≡ held_words field }
+{
+    match field {
+        Field::Client => "a client, which is a number from 1 to 255 without leading zeros",
+        Field::File => "a file, which is a number from 1 to 255 without leading zeros",
+        Field::FileId => "a FileId, which is a number of at most 64 bits without leading zeros",
+        Field::Number => "the number of a write, of at most 64 bits without leading zeros",
+        Field::Offset => "an offset, which is a number of at most 32 bits without leading zeros",
+        Field::Bytes => "bytes, of two hexadecimal digits each, or - for none",
+        Field::Content => "at most 1048576 bytes, of two hexadecimal digits each, or - for none",
+        Field::State => "a state, which is none or letters of RWH in that order",
+        Field::Access => "an access, which is r, w or rw",
+        Field::Share => "what is shared, which is -, r, w or rw",
+        Field::Rules => "rules, which are by-client or by-key, a comma, and as-free or whole",
+        Field::Way => "the way of a write, which is buffered or through",
+        Field::Outcome => "an outcome, which is done, failed, unknown or lost",
+        Field::Guid => "a GUID of 32 hexadecimal digits, hyphenated, in braces or as a URN",
+        Field::Message => "an acknowledgment of 36 bytes, which are 72 hexadecimal digits",
+        Field::Durable => "the word durable or the line's end",
+        Field::Key => "a lease key of 16 bytes, which are 32 hexadecimal digits",
+        Field::Notification => "a notification of 44 bytes, which are 88 hexadecimal digits",
+        Field::Status =>
+            "a status, which is a name that begins with STATUS_ or 8 hexadecimal digits",
+        Field::Request | Field::Reply => "",
+    }
+}
+
+#[tactic(auto, using(crate::proofs::Written::held_plainly))]
 fn push_held(text: &mut String, field: Field) -> Result<(), AllocError>
     ensures { OnOk result (string_bytes text.new ≡ string_bytes text.old ++ field_words field) }
 {
     match field {
-        Field::Client => text.push_str(
-            "a client, which is a number from 1 to 255 without leading zeros",
-        ),
-        Field::File => text.push_str(
-            "a file, which is a number from 1 to 255 without leading zeros",
-        ),
-        Field::FileId => text.push_str(
-            "a FileId, which is a number of at most 64 bits without leading zeros",
-        ),
-        Field::Number => text.push_str(
-            "the number of a write, of at most 64 bits without leading zeros",
-        ),
-        Field::Offset => text.push_str(
-            "an offset, which is a number of at most 32 bits without leading zeros",
-        ),
-        Field::Bytes => text.push_str("bytes, of two hexadecimal digits each, or - for none"),
-        Field::Content => text.push_str(
-            "at most 1048576 bytes, of two hexadecimal digits each, or - for none",
-        ),
-        Field::State => text.push_str("a state, which is none or letters of RWH in that order"),
-        Field::Access => text.push_str("an access, which is r, w or rw"),
-        Field::Share => text.push_str("what is shared, which is -, r, w or rw"),
-        Field::Way => text.push_str("the way of a write, which is buffered or through"),
-        Field::Outcome => text.push_str("an outcome, which is done, failed, unknown or lost"),
-        Field::Guid => text.push_str(
-            "a GUID of 32 hexadecimal digits, hyphenated, in braces or as a URN",
-        ),
-        Field::Message => text.push_str(
-            "an acknowledgment of 36 bytes, which are 72 hexadecimal digits",
-        ),
-        Field::Durable => text.push_str("the word durable or the line's end"),
-        Field::Key => text.push_str("a lease key of 16 bytes, which are 32 hexadecimal digits"),
-        Field::Notification => {
-            text.push_str("a notification of 44 bytes, which are 88 hexadecimal digits")
-        }
-        Field::Status => text.push_str(
-            "a status, which is a name that begins with STATUS_ or 8 hexadecimal digits",
-        ),
         Field::Request => push_table(text, Table::Requests),
         Field::Reply => push_table(text, Table::Replies),
+        _ => text.push_str(held_words(field)),
     }
 }
 

@@ -10,7 +10,7 @@ use crate::kinds::{Field, Table};
 use crate::status::status_in;
 use crate::words::{
     access_in, bytes_in, content_in, guid_in, key_in, message_in, notification_in, number_in,
-    offset_in, ordinal_in, outcome_in, share_in, state_in, way_in,
+    offset_in, ordinal_in, outcome_in, rules_in, share_in, state_in, way_in,
 };
 use lease_facts::is;
 use lease_state::Bytes;
@@ -64,6 +64,7 @@ fn does_say(alloc: Global, field: Field, word: &[u8]) -> Result<bool, LineFault>
         Field::State => Ok(state_in(word).is_some()),
         Field::Access => Ok(access_in(word).is_some()),
         Field::Share => Ok(share_in(word).is_some()),
+        Field::Rules => Ok(rules_in(word).is_some()),
         Field::Way => Ok(way_in(word).is_some()),
         Field::Outcome => Ok(outcome_in(word).is_some()),
         Field::Guid => Ok(guid_in(word).is_some()),
@@ -98,6 +99,18 @@ fn behind(
     }
 }
 
+// A word that isn't what is expected in the field of a number, and those behind it.
+fn stands<'a>(field: u64, expected: Expected, word: &'a [u8], behind: &Fields<'a>) -> Complaint<'a>
+    ensures { complaint_of result ≡ complaints.stands field expected word.now behind.now }
+{
+    Complaint {
+        field,
+        expected,
+        found: Some(word),
+        is_last: behind.is_done(),
+    }
+}
+
 // A line that ends before the field of a number.
 fn at_end<'a>(number: u64, fields: &'static [Field]) -> Option<Complaint<'a>>
     ensures { option_map complaint_of result ≡ complaints.at_end number fields.now }
@@ -127,23 +140,12 @@ fn leaves<'a>(
         let Ok(word) = words.next() else {
             return Ok(at_end(field, expected));
         };
-        let is_last = words.is_done();
         let [one, rest @ ..] = expected else {
-            return Ok(Some(Complaint {
-                field,
-                expected: Expected::End,
-                found: Some(word),
-                is_last,
-            }));
+            return Ok(Some(stands(field, Expected::End, word, words)));
         };
         match behind(alloc, *one, word, rest)? {
             Some(more) => expected = more,
-            None => return Ok(Some(Complaint {
-                field,
-                expected: Expected::Holds(*one),
-                found: Some(word),
-                is_last,
-            })),
+            None => return Ok(Some(stands(field, Expected::Holds(*one), word, words))),
         }
     }
     Err(LineFault::Memory)
@@ -172,11 +174,6 @@ pub fn complaint_about<'a>(
     };
     match fields_behind(table, word) {
         Some(fields) => leaves(alloc, fields, &mut words),
-        None => Ok(Some(Complaint {
-            field: 1,
-            expected: Expected::Names(table),
-            found: Some(word),
-            is_last: words.is_done(),
-        })),
+        None => Ok(Some(stands(1, Expected::Names(table), word, &words))),
     }
 }

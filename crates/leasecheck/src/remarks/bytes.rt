@@ -11,8 +11,8 @@ use crate::tasks::Kind;
 use byteorder::{ByteOrder, LittleEndian};
 use lease_texts::push_quoted;
 use lease_wire::{
-    ContextValues, Contexts, Direction, HEADER_SIZE, WireFault, begins_message, contexts,
-    contexts_of_create, first_message,
+    Acknowledgment, BreakResponse, ContextValues, Contexts, Direction, HEADER_SIZE, Notification,
+    WireFault, begins_message, contexts, contexts_of_create, first_message,
 };
 use std::alloc::{AllocError, Global};
 
@@ -143,8 +143,9 @@ fn kind_count(kind: Kind) -> usize
     match kind {
         Kind::Ask => 56,
         Kind::Reply => 88,
-        Kind::Break => 44,
-        Kind::Ack | Kind::Response => 36,
+        Kind::Break => Notification::SIZE,
+        Kind::Ack => Acknowledgment::SIZE,
+        Kind::Response => BreakResponse::SIZE,
     }
 }
 

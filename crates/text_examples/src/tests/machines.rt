@@ -9,7 +9,7 @@ fn answers(alloc: Global, machines: Machines, lines: &[&str]) -> Result<String, 
     let mut number = 0u64;
     for line in lines {
         number = number.saturating_add(1);
-        machines = machines.answer(alloc, number, line.as_bytes(), &mut text)?;
+        machines = machines.answer(number, line.as_bytes(), &mut text)?;
     }
     Ok(text)
 }
@@ -52,9 +52,27 @@ fn a_server_opens_and_reads(rt: HostRuntime) -> Result<(), Fail> {
         "content 2",
         "file -",
     ];
-    let told = answers(alloc, Machines::server(alloc), lines.as_slice())?;
+    let told = answers(alloc, Machines::server(), lines.as_slice())?;
     let expected = "answer done\nanswer nothing\nopened 1 1\nsent 1 created 1 1 -\nanswer done\n\
         sent 1 readdone 1 6162\nanswer done\nanswer none\nanswer none\nfault line 8\n";
+    assert_eq!(rt; told.as_str(), expected);
+    Ok(())
+}
+
+#[test]
+fn a_server_is_told_its_rules_before_all_else(rt: HostRuntime) -> Result<(), Fail> {
+    let alloc = rt.alloc();
+    let lines = [
+        "rules by-key",
+        "rules by-key,whole",
+        "rules by-key,whole",
+        "file 6162",
+        "rules by-client,as-free",
+        "content 1",
+        "rules by-key,whole",
+    ];
+    let told = answers(alloc, Machines::server(), lines.as_slice())?;
+    let expected = "fault line 1\nfault line 3\nfault line 5\nanswer bytes 6162\nfault line 7\n";
     assert_eq!(rt; told.as_str(), expected);
     Ok(())
 }

@@ -1,4 +1,4 @@
-use Rattle.lease_laws.proofs.Words.{◌++◌, ◌∙◌, ◌≡◌, ◌⊎◌, Err, IfSome, List, None, Ok, Option, Result, Some, ℕ, [], ap, inl, inr}
+use Rattle.lease_laws.proofs.Words.{◌∙◌, ◌≡◌, ◌⊎◌, Err, IfSome, List, None, Ok, Option, Result, Some, ℕ, inl, inr}
 use Rattle.lease_laws.proofs.Words.{subst, sym}
 use Rattle.lease_texts.specs.Records.{record_in}
 use Rattle.leasecheck.proofs.Puts.{says_more}

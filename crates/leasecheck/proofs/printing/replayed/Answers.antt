@@ -1,4 +1,4 @@
-use Rattle.lease_laws.proofs.Words.{◌++◌, ◌∙◌, ◌≡◌, ◌⊎◌, IfSome, List, None, Option, Some, ℕ, [], ap, inl, inr, subst}
+use Rattle.lease_laws.proofs.Words.{◌∙◌, ◌≡◌, ◌⊎◌, IfSome, List, None, Option, Some, ℕ, inl, inr, subst}
 use Rattle.leasecheck.specs.Replayed.{replay_refusal}
 use Rattle.leasecheck.specs.Refusals.{MayEndReplay}
 use Rattle.leasecheck.specs.Remarks.{IsFileRemark, schedule_remark}

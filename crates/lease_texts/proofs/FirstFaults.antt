@@ -1,0 +1,493 @@
+-- A complaint about a line by a table whose kinds have names of their own is of the first field that no line has.
+use Rattle.std.proofs.Common.{◌&&◌, ◌++◌, ◌+◌, ◌∙◌, ◌∷◌, ◌≡◌, ◌↔◌, Bool, List, None, Option, Some, ℕ, [], ap, arith}
+use Rattle.std.proofs.Common.{append-nil, append_assoc, bytes_eq, codes, false, if◌then◌else◌, inl, inr, map, not, refl, subst, suc}
+use Rattle.std.proofs.Common.{sym, true, zero, ◌||◌}
+use Rattle.std.specs.Prelude.{is_some, length, drop}
+use Rattle.std.specs.Option.{option_map}
+use Rattle.std.specs.List.{list_all, list_any}
+use Rattle.std.proofs.lemmas.Bool.{and_parts}
+use Rattle.std.proofs.lemmas.Slice.Eq.{bytes_eq-Decides}
+use Rattle.hex.specs.Hex.{IsBytes}
+use Rattle.lease_client.specs.declared.values.note.Settlement.TheVariants as settlement
+use Rattle.lease_state.specs.declared.access.Access.TheVariants as access
+use Rattle.lease_state.specs.declared.access.Share.TheVariants as share
+use Rattle.lease_state.specs.declared.reply.Reply.TheVariants as reply
+use Rattle.lease_state.specs.declared.request.Request.TheVariants as request
+use Rattle.lease_state.specs.declared.status.Status.TheVariants as status
+use Rattle.lease_state.specs.Rules.{profile_rules}
+use Rattle.lease_texts.specs.Complaints as complaints
+use Rattle.lease_texts.specs.Complaints.{Complaint, Row, fields_behind, if_fits, is_nil, leaves, leaves_table}
+use Rattle.lease_texts.specs.Complaints.{or_goes_on, row, rows_in, stands}
+use Rattle.lease_texts.specs.Fields.{number_in, ordinal_in, sized_in, state_of_wire}
+use Rattle.lease_texts.specs.FirstFaults.{AreTold, Begin, ComplainsExactly, IsFirstFault, NoneHas, first_of, is_expected, is_name}
+use Rattle.lease_texts.specs.Kinds.{Kind, Telling, Value, Words, client_no, file_id, file_no, lease_key, value_in}
+use Rattle.lease_texts.specs.Lines.{words_for}
+use Rattle.lease_texts.specs.Pieces.{fields_of}
+use Rattle.lease_texts.specs.Replies.{plain, reply_kinds}
+use Rattle.lease_texts.specs.Requests.{request_kinds}
+use Rattle.lease_texts.specs.Statuses.{known}
+use Rattle.lease_texts.specs.Tables.{CanBeSaid, FieldSays, HasBytes, IsOneOf, ReadsExactly, Say, Saying, Tells, WordSays}
+use Rattle.lease_texts.specs.declared.complaints.expected.Expected.{Expected}
+use Rattle.lease_texts.specs.declared.complaints.expected.Expected.TheVariants as expected
+use Rattle.lease_texts.specs.declared.kinds.Field.{Field}
+use Rattle.lease_texts.specs.declared.kinds.Field.TheVariants as field
+use Rattle.lease_texts.specs.declared.kinds.Table.{Table}
+use Rattle.lease_texts.specs.declared.kinds.Table.TheVariants as table
+use Rattle.lease_texts.proofs.ReadBack.{field_says}
+use Rattle.lease_texts.proofs.Tables.{are_apart, no_more, none_told, of_one, one_of_a_name, replies_apart, requests_apart}
+use Rattle.lease_texts.proofs.Tables.{same_parts}
+
+-- ---- words that fields say
+
+-- The words are said by the fields, one after the other, and none is left.
+abbrev Fill : Saying → List Field → Words → Type 0
+Fill says [] words = words ≡ []
+Fill says (field ∷ fields) words =
+    (value : Value field) × (behind : Words) × says field words value behind × Fill says fields behind
+
+fill_told : {A : Type 0} (says : Saying) (fields : List Field) (telling : Telling A fields) (words : Words) (told : A)
+    → Say says fields telling words told [] → Fill says fields words
+fill_told says [] telling words told (are, is) = are
+fill_told says (field ∷ fields) telling words told (value, behind, said, more) =
+    (value, behind, said, fill_told says fields (telling value) behind told more)
+
+told_filled : {A : Type 0} (says : Saying) (fields : List Field) (telling : Telling A fields) (words : Words)
+    → Fill says fields words → (told : A) × Say says fields telling words told []
+told_filled says [] telling words are = (telling, (are, refl))
+told_filled says (field ∷ fields) telling words (value, behind, said, more) =
+    let rest = told_filled says fields (telling value) behind more in (rest.0, (value, behind, said, rest.1))
+
+-- ---- tables that complaints are about
+
+-- one word says the field
+abbrev is_plain : Field → Bool
+is_plain field.Durable = false
+is_plain field.Request = false
+is_plain field.Reply = false
+is_plain other = true
+
+-- what may be missing, and what takes all that is left, stands last
+abbrev pub are_placed : List Field → Bool
+are_placed [] = true
+are_placed (field ∷ fields) = (is_plain field || is_nil fields) && are_placed fields
+
+placed_behind : (field : Field) (fields : List Field) → are_placed (field ∷ fields) ≡ true → are_placed fields ≡ true
+placed_behind field fields placed = (and_parts (is_plain field || is_nil fields) (are_placed fields) placed).1
+
+abbrev pub all_placed : {A : Type 0} → List (Kind A) → Bool
+all_placed kinds = not (is_nil kinds) && list_all (λ (kind : Kind _). are_placed kind.fields) kinds
+
+each_placed : {A : Type 0} (kinds : List (Kind A)) → all_placed kinds ≡ true
+    → list_all (λ (kind : Kind A). are_placed kind.fields) kinds ≡ true
+each_placed {A} kinds placed =
+    (and_parts (not (is_nil kinds)) (list_all (λ (kind : Kind A). are_placed kind.fields) kinds) placed).1
+
+abbrev all_plain : {A : Type 0} → List (Kind A) → Bool
+all_plain kinds = list_all (λ (kind : Kind _). list_all is_plain kind.fields) kinds
+
+-- ---- each field can be said
+
+abbrev zeros : ℕ → List ℕ
+zeros zero = []
+zeros (suc count) = 0 ∷ zeros count
+
+zeros_count : (count : ℕ) → length (zeros count) ≡ count
+zeros_count zero = refl
+zeros_count (suc count) = ap suc (zeros_count count)
+
+zeros_bytes : (count : ℕ) → IsBytes (zeros count)
+zeros_bytes zero i = omega arith
+zeros_bytes (suc count) zero = omega arith
+zeros_bytes (suc count) (suc i) = zeros_bytes count i
+
+has_zeros : (count : ℕ) → HasBytes count (zeros count)
+has_zeros count = (zeros_count count, zeros_bytes count)
+
+sample : (field : Field) → (value : Value field) × CanBeSaid field value
+sample field.Client = (client_no 1, (omega arith, omega arith))
+sample field.File = (file_no 1, (omega arith, omega arith))
+sample field.FileId = (file_id 0, omega arith)
+sample field.Number = (0, omega arith)
+sample field.Offset = (0, omega arith)
+sample field.Bytes = ([], zeros_bytes 0)
+sample field.Content = ([], (zeros_bytes 0, omega arith))
+sample field.State = (state_of_wire 0, omega arith)
+sample field.Access = (access.Read, tt)
+sample field.Share = (share.Nothing, tt)
+sample field.Rules = (profile_rules, tt)
+sample field.Way = (true, tt)
+sample field.Outcome = (settlement.Done, tt)
+sample field.Guid = (zeros 16, has_zeros 16)
+sample field.Message = (zeros 36, has_zeros 36)
+sample field.Key = (lease_key (zeros 16), has_zeros 16)
+sample field.Notification = (zeros 44, has_zeros 44)
+sample field.Status = (known status.Unsuccessful, refl)
+sample field.Durable = (false, tt)
+sample field.Request = (request.Close (file_id 0), (omega arith, tt))
+sample field.Reply = (plain (reply.Closed (file_id 0)), ((omega arith, tt), refl))
+
+-- fields in their places can all be said
+completed : (fields : List Field) → are_placed fields ≡ true → (words : Words) × Fill FieldSays fields words
+completed [] placed = ([], refl)
+completed (field.Durable ∷ []) placed = ([], (false, [], (refl, refl), refl))
+completed (field.Durable ∷ next ∷ fields) placed = let c : ⊥ = cc in absurd c
+completed (field ∷ fields) placed = let rest = completed fields (placed_behind field fields placed) in
+    let one = sample field in
+    (words_for field one.0 ++ rest.0, (one.0, rest.0, field_says field one.0 rest.0 one.1 tt, rest.1))
+
+-- ---- what may follow a word
+
+-- A word leads from what is said to what these fields say, or to nothing.
+abbrev Leads : Option (List Field) → (Words → Type 0) → List ℕ → Type 0
+Leads None Are word = (words : Words) → Are (word ∷ words) → ⊥
+Leads (Some fields) Are word =
+    (are_placed fields ≡ true) × ((words : Words) → Are (word ∷ words) ↔ Fill FieldSays fields words)
+
+-- what leads on can be expected
+abbrev May : (Words → Type 0) → List ℕ → Bool → Type 0
+May Are word expected = Begin Are (word ∷ []) ↔ (expected ≡ true)
+
+may_lead : (Are : Words → Type 0) (word : List ℕ) (to : Option (List Field)) → Leads to Are word → May Are word (is_some to)
+may_lead Are word None never = (λ (rest, are). absurd (never rest are), λ e. let c : ⊥ = cc in absurd c)
+may_lead Are word (Some fields) (placed, same) =
+    (λ _. refl, λ _. let done = completed fields placed in (done.0, (same done.0).1 done.1))
+
+-- ---- one word for a field
+
+plain_says : (field : Field) → is_plain field ≡ true → (words : Words) (value : Value field) (rest : Words)
+    → FieldSays field words value rest ↔ WordSays field words value rest
+plain_says field.Durable alone words value rest = let c : ⊥ = cc in absurd c
+plain_says field.Request alone words value rest = let c : ⊥ = cc in absurd c
+plain_says field.Reply alone words value rest = let c : ⊥ = cc in absurd c
+plain_says other alone words value rest = (λ said. said, λ said. said)
+
+fill_plain : (fields : List Field) → list_all is_plain fields ≡ true → (words : Words)
+    → Fill WordSays fields words ↔ Fill FieldSays fields words
+fill_plain [] alone words = (λ are. are, λ are. are)
+fill_plain (field ∷ fields) alone words =
+    let parts = and_parts (is_plain field) (list_all is_plain fields) alone in (
+      λ (value, behind, said, more).
+          (value, behind, (plain_says field parts.0 words value behind).1 said, (fill_plain fields parts.1 behind).0 more),
+      λ (value, behind, said, more).
+          (value, behind, (plain_says field parts.0 words value behind).0 said, (fill_plain fields parts.1 behind).1 more),
+    )
+
+one_leads : (field : Field) (fields : List Field) (word : List ℕ) → is_plain field ≡ true → are_placed fields ≡ true
+    → Leads (if_fits (is_some (value_in field word)) fields) (Fill FieldSays (field ∷ fields)) word
+one_leads field fields word alone placed = by_value (value_in field word) refl
+  where
+    by_value : (got : Option (Value field)) → value_in field word ≡ got
+        → Leads (if_fits (is_some got) fields) (Fill FieldSays (field ∷ fields)) word
+    by_value None is = λ words (value, behind, said, more).
+        let found = (plain_says field alone (word ∷ words) value behind).0 said in
+        none_told value (sym is ∙ ap (λ (w : List ℕ). value_in field w) (same_parts found.1).0 ∙ found.2)
+    by_value (Some value) is = (
+      placed,
+      λ words. (
+        λ (other, behind, said, more).
+            let found = (plain_says field alone (word ∷ words) other behind).0 said in
+            subst (λ (w : Words). Fill FieldSays fields w) (sym (same_parts found.1).1) more,
+        λ more. (value, words, (plain_says field alone (word ∷ words) value words).1 (word, refl, is), more),
+      ),
+    )
+
+-- ---- the word that names a kind
+
+-- the kind of a name, where the table has one
+abbrev HasName : {A : Type 0} → Option (List Field) → List (Kind A) → List ℕ → Type 0
+HasName {A} None kinds name = (kind : Kind A) → IsOneOf kinds kind → name ≡ kind.name → ⊥
+HasName {A} (Some fields) kinds name = (kind : Kind A) × IsOneOf kinds kind × (name ≡ kind.name) × (fields ≡ kind.fields)
+
+by_row : {A : Type 0} (kinds : List (Kind A)) (name : List ℕ) → HasName (fields_behind (map row kinds) name) kinds name
+unfolding fields_behind
+by_row [] name = λ kind is same. is
+by_row {A} (one ∷ kinds) name = by_name (bytes_eq name one.name) refl (by_row kinds name)
+  where
+    later : (got : Option (List Field)) → bytes_eq name one.name ≡ false → HasName got kinds name → HasName got (one ∷ kinds) name
+    later None other never = λ kind is same.
+        elim is as (λ _. ⊥) [
+          | inl first ↦ let yet = (bytes_eq-Decides name one.name).1 (same ∙ ap (λ (k : Kind A). k.name) first) in
+              let c : ⊥ = cc in c
+          | inr behind ↦ never kind behind same
+        ]
+    later (Some fields) other (kind, is, same, are) = (kind, inr is, same, are)
+
+    by_name : (b : Bool) → bytes_eq name one.name ≡ b → HasName (fields_behind (map row kinds) name) kinds name
+        → HasName (if b then Some one.fields else fields_behind (map row kinds) name) (one ∷ kinds) name
+    by_name true same others = (one, inl refl, (bytes_eq-Decides name one.name).0 same, refl)
+    by_name false other others = later (fields_behind (map row kinds) name) other others
+
+-- what a saying and that of lines have alike
+abbrev Alike : {A : Type 0} → Saying → List (Kind A) → Type 0
+Alike {A} says kinds = (kind : Kind A) → IsOneOf kinds kind → (words : Words)
+    → Fill says kind.fields words ↔ Fill FieldSays kind.fields words
+
+table_leads : {A : Type 0} (says : Saying) (kinds : List (Kind A)) → are_apart kinds ≡ true
+    → list_all (λ (kind : Kind A). are_placed kind.fields) kinds ≡ true → Alike says kinds → (word : List ℕ)
+    → Leads (fields_behind (map row kinds) word) (AreTold says kinds) word
+table_leads {A} says kinds apart placed alike word = by_kind (fields_behind (map row kinds) word) (by_row kinds word)
+  where
+    by_kind : (got : Option (List Field)) → HasName got kinds word → Leads got (AreTold says kinds) word
+    by_kind None never = λ words (told, tells). never tells.kind tells.is_one (same_parts tells.are).0
+    by_kind (Some fields) (kind, is, named, same) = (
+      ap are_placed same ∙ of_one (λ (kind : Kind A). are_placed kind.fields) kinds kind placed is,
+      λ words. (
+        λ (told, tells).
+            let parts = same_parts tells.are in
+            let one = one_of_a_name kinds tells.kind kind apart tells.is_one is (sym parts.0 ∙ named) in
+            let filled = (alike tells.kind tells.is_one tells.behind).0
+            (fill_told says tells.kind.fields tells.kind.tells tells.behind told tells.say) in
+            subst (λ (w : Words). Fill FieldSays fields w) (sym parts.1)
+            (subst (λ (fs : List Field). Fill FieldSays fs tells.behind) (ap (λ (k : Kind A). k.fields) one ∙ sym same) filled),
+        λ filled.
+            let all = told_filled says kind.fields kind.tells words
+            ((alike kind is words).1 (subst (λ (fs : List Field). Fill FieldSays fs words) same filled)) in
+            (all.0, record { kind = kind; is_one = is; behind = words; are = ap (λ (n : List ℕ). n ∷ words) named; say = all.1 }),
+      ),
+    )
+
+-- ---- the word of a field
+
+-- what takes all that is left, by a table of its own
+plain_leads : {A : Type 0} (kinds : List (Kind A)) → are_apart kinds ≡ true
+    → list_all (λ (kind : Kind A). are_placed kind.fields) kinds ≡ true → all_plain kinds ≡ true → (word : List ℕ)
+    → Leads (fields_behind (map row kinds) word)
+    (λ words. (told : A) × (rest : Words) × Tells WordSays kinds words told rest × (rest ≡ [])) word
+plain_leads {A} kinds apart placed alone word =
+    all_of (fields_behind (map row kinds) word) (table_leads WordSays kinds apart placed (λ kind is words.
+    fill_plain kind.fields (of_one (λ (kind : Kind A). list_all is_plain kind.fields) kinds kind alone is) words) word)
+  where
+    all_of : (to : Option (List Field)) → Leads to (AreTold WordSays kinds) word
+        → Leads to (λ words. (told : A) × (rest : Words) × Tells WordSays kinds words told rest × (rest ≡ [])) word
+    all_of None never = λ words (told, rest, tells, none).
+        never words (told, subst (λ (w : Words). Tells WordSays kinds (word ∷ words) told w) none tells)
+    all_of (Some fields) (placed, leads) = (
+      placed,
+      λ words. (
+        λ (told, rest, tells, none).
+            (leads words).0 (told, subst (λ (w : Words). Tells WordSays kinds (word ∷ words) told w) none tells),
+        λ filled. let all = (leads words).1 filled in (all.0, [], all.1, refl),
+      ),
+    )
+
+durable_leads : (word : List ℕ) → Leads (complaints.behind field.Durable word []) (Fill FieldSays (field.Durable ∷ [])) word
+durable_leads word = by_word (bytes_eq word (codes "durable")) refl
+  where
+    said_it : (words behind : Words) (durable : Bool) → FieldSays field.Durable (word ∷ words) durable behind
+        → word ∷ words ≡ codes "durable" ∷ behind
+    said_it words behind true are = are
+    said_it words behind false (are, _) = no_more are
+
+    by_word : (b : Bool) → bytes_eq word (codes "durable") ≡ b
+        → Leads (if_fits (is_some (if b then Some true else None)) []) (Fill FieldSays (field.Durable ∷ [])) word
+    by_word true same = (
+      refl,
+      λ words. (
+        λ (durable, behind, said, are). (same_parts (said_it words behind durable said)).1 ∙ are,
+        λ are. (true, words, ap (λ (w : List ℕ). w ∷ words) ((bytes_eq-Decides word (codes "durable")).0 same), are),
+      ),
+    )
+    by_word false other = λ words (durable, behind, said, are).
+        let same = (bytes_eq-Decides word (codes "durable")).1 (same_parts (said_it words behind durable said)).0 in
+        let c : ⊥ = cc in c
+
+is_mapped : {X Y : Type 0} (f : X → Y) (o : Option X) → is_some o ≡ is_some (option_map f o)
+is_mapped f None = refl
+is_mapped f (Some x) = refl
+
+says_is : (field : Field) (word : List ℕ) → is_plain field ≡ true → complaints.says field word ≡ is_some (value_in field word)
+says_is field.Client word alone = is_mapped client_no (ordinal_in word)
+says_is field.File word alone = is_mapped file_no (ordinal_in word)
+says_is field.FileId word alone = is_mapped file_id (number_in word)
+says_is field.Key word alone = is_mapped lease_key (sized_in 16 word)
+says_is other word alone = refl
+
+field_leads : (field : Field) (fields : List Field) (word : List ℕ) → are_placed (field ∷ fields) ≡ true
+    → Leads (complaints.behind field word fields) (Fill FieldSays (field ∷ fields)) word
+field_leads field.Durable [] word placed = durable_leads word
+field_leads field.Request [] word placed = plain_leads request_kinds requests_apart refl refl word
+field_leads field.Reply [] word placed = plain_leads reply_kinds replies_apart refl refl word
+field_leads field.Durable (next ∷ fields) word placed = let c : ⊥ = cc in absurd c
+field_leads field.Request (next ∷ fields) word placed = let c : ⊥ = cc in absurd c
+field_leads field.Reply (next ∷ fields) word placed = let c : ⊥ = cc in absurd c
+field_leads other fields word placed =
+    subst (λ (b : Bool). Leads (if_fits b fields) (Fill FieldSays (other ∷ fields)) word) (sym (says_is other word refl))
+    (one_leads other fields word refl (placed_behind other fields placed))
+
+-- ---- what is expected
+
+is_named : (rows : List Row) (word : List ℕ)
+    → is_some (fields_behind rows word) ≡ list_any (λ (row : Row). bytes_eq word row.name) rows
+unfolding fields_behind
+is_named [] word = refl
+is_named (one ∷ rows) word = by_name (bytes_eq word one.name) (is_named rows word)
+  where
+    by_name : (b : Bool) → is_some (fields_behind rows word) ≡ list_any (λ (row : Row). bytes_eq word row.name) rows
+        → is_some (if b then Some one.fields else fields_behind rows word)
+        ≡ (b || list_any (λ (row : Row). bytes_eq word row.name) rows)
+    by_name true others = refl
+    by_name false others = others
+
+if_some : (b : Bool) (fields : List Field) → is_some (if_fits b fields) ≡ b
+if_some true fields = refl
+if_some false fields = refl
+
+is_behind : (field : Field) (fields : List Field) (word : List ℕ)
+    → is_some (complaints.behind field word fields) ≡ is_expected (expected.Holds field) word
+is_behind field.Durable fields word = by_word (bytes_eq word (codes "durable"))
+  where
+    by_word : (b : Bool) → is_some (if_fits (is_some (if b then Some true else None)) fields) ≡ b
+    by_word true = refl
+    by_word false = refl
+is_behind field.Request fields word = is_named (rows_in table.Requests) word
+is_behind field.Reply fields word = is_named (rows_in table.Replies) word
+is_behind other fields word = if_some (complaints.says other word) fields ∙ says_is other word refl
+
+field_may : (field : Field) (fields : List Field) (word : List ℕ) → are_placed (field ∷ fields) ≡ true
+    → May (Fill FieldSays (field ∷ fields)) word (is_expected (expected.Holds field) word)
+field_may field fields word placed =
+    subst (λ (b : Bool). May (Fill FieldSays (field ∷ fields)) word b) (is_behind field fields word)
+    (may_lead (Fill FieldSays (field ∷ fields)) word (complaints.behind field word fields) (field_leads field fields word placed))
+
+-- ---- the first fault
+
+-- With no complaint the words are those of a line, and a complaint is of their first fault.
+abbrev Follows : Option Complaint → (Words → Type 0) → ℕ → Words → Type 0
+Follows None Are number words = Are words
+Follows (Some complaint) Are number words = IsFirstFault Are number words complaint
+
+a_word_on : (Are Next : Words → Type 0) (number : ℕ) (word : List ℕ) (words : Words) (got : Option Complaint)
+    → ((rest : Words) → Are (word ∷ rest) ↔ Next rest) → Follows got Next (number + 1) words
+    → Follows got Are number (word ∷ words)
+a_word_on Are Next number word words None same are = (same words).1 are
+a_word_on Are Next number word words (Some complaint) same fault = record {
+  before = word ∷ fault.before;
+  from = fault.from;
+  are = ap (λ (w : Words). word ∷ w) fault.are;
+  counted = let is = fault.counted in omega arith;
+  found = fault.found;
+  last = fault.last;
+  begins = (fault.begins.0, (same (fault.before ++ fault.begins.0)).1 fault.begins.1);
+  none = none fault.before fault.from fault.none;
+  expected = λ other. (
+    λ (rest, are). (fault.expected other).0 (rest, (same ((fault.before ++ other ∷ []) ++ rest)).0 are),
+    λ is. let goes = (fault.expected other).1 is in (goes.0, (same ((fault.before ++ other ∷ []) ++ goes.0)).1 goes.1),
+  );
+}
+  where
+    none : (before from : Words) → NoneHas Next before from → NoneHas Are (word ∷ before) from
+    none before [] never = λ are. never ((same before).0 are)
+    none before (other ∷ from) never = λ (rest, are). never (rest, (same ((before ++ other ∷ []) ++ rest)).0 are)
+
+-- a fault of the first word, or at the end
+at_once : (Are : Words → Type 0) (number : ℕ) (expected : Expected) (from : Words) → Begin Are [] → NoneHas Are [] from
+    → ((word : List ℕ) → May Are word (is_expected expected word))
+    → IsFirstFault Are number from
+    (record { field = number; expected = expected; found = first_of from; is_last = is_nil (drop 1 from) })
+at_once Are number expected from begins none may = record {
+  before = [];
+  from = from;
+  are = refl;
+  counted = omega arith;
+  found = refl;
+  last = refl;
+  begins = begins;
+  none = none;
+  expected = may;
+}
+
+-- by what a word leads to
+on_from : (Are : Words → Type 0) (number : ℕ) (expected : Expected) (word : List ℕ) (words : Words) (to : Option (List Field))
+    → Leads to Are word → Begin Are [] → ((other : List ℕ) → May Are other (is_expected expected other))
+    → ((fields : List Field) → are_placed fields ≡ true
+    → Follows (leaves (number + 1) fields words) (Fill FieldSays fields) (number + 1) words)
+    → Follows (or_goes_on (stands number expected word words) to (λ fields. leaves (number + 1) fields words)) Are number
+    (word ∷ words)
+on_from Are number expected word words None never begins may more =
+    at_once Are number expected (word ∷ words) begins (λ (rest, are). never rest are) may
+on_from Are number expected word words (Some fields) (placed, same) begins may more =
+    a_word_on Are (Fill FieldSays fields) number word words (leaves (number + 1) fields words) same (more fields placed)
+
+no_words : (one : Field) (fields : List Field) → (one ≡ field.Durable → ⊥) → Fill FieldSays (one ∷ fields) [] → ⊥
+no_words field.Durable fields other filled = other refl
+no_words field.Request fields other (value, behind, tells, more) = no_more (sym tells.are)
+no_words field.Reply fields other (value, behind, tells, more) = no_more (sym tells.are)
+no_words other fields differs (value, behind, (word, are, is), more) = no_more (sym are)
+
+ends : (number : ℕ) (one : Field) (fields : List Field) → are_placed (one ∷ fields) ≡ true → (one ≡ field.Durable → ⊥)
+    → IsFirstFault (Fill FieldSays (one ∷ fields)) number []
+    (record { field = number; expected = expected.Holds one; found = None; is_last = true })
+ends number one fields placed other = at_once (Fill FieldSays (one ∷ fields)) number (expected.Holds one) []
+    (completed (one ∷ fields) placed) (no_words one fields other) (λ word. field_may one fields word placed)
+
+follows : (words : Words) (number : ℕ) (fields : List Field) → are_placed fields ≡ true
+    → Follows (leaves number fields words) (Fill FieldSays fields) number words
+unfolding leaves
+follows [] number [] placed = refl
+follows [] number (field.Durable ∷ []) placed = (false, [], (refl, refl), refl)
+follows [] number (field.Durable ∷ next ∷ fields) placed = let c : ⊥ = cc in absurd c
+follows [] number (field ∷ fields) placed = ends number field fields placed (λ same. cc)
+follows (word ∷ words) number [] placed = at_once (Fill FieldSays []) number expected.End (word ∷ words) ([], refl)
+    (λ (rest, are). no_more are) (λ other. (λ (rest, are). no_more are, λ is. let c : ⊥ = cc in absurd c))
+follows (word ∷ words) number (field ∷ fields) placed =
+    on_from (Fill FieldSays (field ∷ fields)) number (expected.Holds field) word words (complaints.behind field word fields)
+    (field_leads field fields word placed) (completed (field ∷ fields) placed) (λ other. field_may field fields other placed)
+    (λ fields placed. follows words (number + 1) fields placed)
+
+-- ---- whole lines
+
+begins_some : {A : Type 0} (kinds : List (Kind A)) → all_placed kinds ≡ true → Begin (AreTold FieldSays kinds) []
+begins_some [] placed = let c : ⊥ = cc in absurd c
+begins_some (kind ∷ kinds) placed =
+    let words = completed kind.fields (and_parts _ _ placed).0 in
+    let all = told_filled FieldSays kind.fields kind.tells words.0 words.1 in
+    (kind.name ∷ words.0, (all.0, record { kind = kind; is_one = inl refl; behind = words.0; are = refl; say = all.1 }))
+
+table_follows : {A : Type 0} (kinds : List (Kind A)) (names : Table) → rows_in names ≡ map row kinds → are_apart kinds ≡ true
+    → all_placed kinds ≡ true → (words : Words) → Follows (leaves_table names words) (AreTold FieldSays kinds) 1 words
+table_follows {A} kinds names rows apart placed = go
+  where
+    may : (word : List ℕ) → Leads (fields_behind (rows_in names) word) (AreTold FieldSays kinds) word
+        → May (AreTold FieldSays kinds) word (is_name names word)
+    may word leads = subst (λ (b : Bool). May (AreTold FieldSays kinds) word b) (is_named (rows_in names) word)
+        (may_lead (AreTold FieldSays kinds) word (fields_behind (rows_in names) word) leads)
+
+    leads : (word : List ℕ) → Leads (fields_behind (rows_in names) word) (AreTold FieldSays kinds) word
+    leads word = subst (λ (rs : List Row). Leads (fields_behind rs word) (AreTold FieldSays kinds) word) (sym rows)
+        (table_leads FieldSays kinds apart (each_placed kinds placed)
+        (λ kind is words. (λ filled. filled, λ filled. filled)) word)
+
+    go : (words : Words) → Follows (leaves_table names words) (AreTold FieldSays kinds) 1 words
+    go [] = at_once (AreTold FieldSays kinds) 1 (expected.Names names) [] (begins_some kinds placed)
+        (λ (told, tells). no_more (sym tells.are)) (λ word. may word (leads word))
+    go (word ∷ words) = on_from (AreTold FieldSays kinds) 1 (expected.Names names) word words (fields_behind (rows_in names) word)
+        (leads word) (begins_some kinds placed) (λ other. may other (leads other))
+        (λ fields placed. follows words 2 fields placed)
+
+-- a first fault is that of words that are no line
+faulty : (Are : Words → Type 0) (number : ℕ) (words : Words) (complaint : Complaint) → IsFirstFault Are number words complaint
+    → Are words → ⊥
+faulty Are number words complaint fault are = no_line fault.before fault.from fault.are fault.none
+  where
+    no_line : (before from : Words) → words ≡ before ++ from → NoneHas Are before from → ⊥
+    no_line before [] same none = none (subst (λ (w : Words). Are w) (same ∙ append-nil before) are)
+    no_line before (word ∷ from) same none =
+        none (from, subst (λ (w : Words). Are w) (same ∙ sym (append_assoc before (word ∷ []) from)) are)
+
+pub complains_exactly : {A : Type 0} (kinds : List (Kind A)) (read : List ℕ → Option A) (names : Table)
+    → rows_in names ≡ map row kinds → are_apart kinds ≡ true → all_placed kinds ≡ true → ReadsExactly kinds read
+    → ComplainsExactly FieldSays kinds read (complaints.complaint names)
+complains_exactly {A} kinds read names rows apart placed reads = record {
+  refused = λ line. by_got line (complaints.complaint names line) (table_follows kinds names rows apart placed (fields_of line));
+  first = λ line told is. subst (λ (got : Option Complaint). Follows got (AreTold FieldSays kinds) 1 (fields_of line)) is
+      (table_follows kinds names rows apart placed (fields_of line));
+}
+  where
+    by_got : (line : List ℕ) (got : Option Complaint) → Follows got (AreTold FieldSays kinds) 1 (fields_of line)
+        → (read line ≡ None) ↔ (is_some got ≡ true)
+    by_got line None (told, tells) = (λ e. absurd ((reads.refused line).0 e told tells), λ e. let c : ⊥ = cc in absurd c)
+    by_got line (Some complaint) fault = (
+      λ _. refl,
+      λ _. (reads.refused line).1
+          (λ told tells. faulty (AreTold FieldSays kinds) 1 (fields_of line) complaint fault (told, tells)),
+    )
