@@ -303,6 +303,13 @@ struct smblease_server_out {
     uint8_t reserved[26];
 };
 
+/* Which requests of one client on one file wait for one another: all, or those under one lease key or by
+   one FileId (docs/PROFILE.md). */
+enum smblease_order { SMBLEASE_BY_CLIENT = 0, SMBLEASE_BY_KEY = 1 };
+
+/* How a lease rises when its client asks for more: as far as is free, or to all of it or not at all. */
+enum smblease_rise { SMBLEASE_AS_FREE = 0, SMBLEASE_WHOLE = 1 };
+
 /* Adds a file, with a copy of these bytes; the first has number 1. Allocates. DONE, NO_MEMORY, or NO_SUCH
    where there are more than 1,048,576 bytes or 255 files already. Unless DONE the files are as they were. */
 uint32_t smblease_files_add(struct smblease_files *files, const uint8_t *bytes, size_t length);
@@ -312,6 +319,11 @@ void smblease_files_free(struct smblease_files *files);
 /* Makes a server with these files that no client has joined; the files' handle is {0} then. What the server's
    handle held is freed. Allocates. DONE, or LOST: the files are gone, and the server's handle is as it was. */
 uint32_t smblease_server_new(struct smblease_server *server, struct smblease_files *files);
+/* The same with other rules than those of docs/PROFILE.md, which are by client and as free: one of
+   smblease_order and one of smblease_rise. Allocates. DONE, LOST, or NO_SUCH where a number stands for no
+   rule: then nothing changed. */
+uint32_t smblease_server_new_with_rules(struct smblease_server *server, struct smblease_files *files, uint32_t order,
+                                        uint32_t rise);
 /* Frees the server; the handle is {0} then. Allocates nothing. */
 void smblease_server_free(struct smblease_server *server);
 

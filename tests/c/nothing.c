@@ -155,10 +155,25 @@ static void of_a_server(void) {
     smblease_files_free(&files);
 }
 
+static void of_rules(void) {
+    struct smblease_files files = {0};
+    struct smblease_server server = {0};
+    IS(smblease_files_add(&files, (const uint8_t *)"abcde", 5), SMBLEASE_DONE);
+    IS(smblease_server_new_with_rules(&server, &files, SMBLEASE_BY_KEY + 1, SMBLEASE_WHOLE), SMBLEASE_NO_SUCH);
+    IS(smblease_server_new_with_rules(&server, &files, SMBLEASE_BY_KEY, SMBLEASE_WHOLE + 1), SMBLEASE_NO_SUCH);
+    IS(server.state != NULL, 0);
+    IS(files.state != NULL, 1);
+    IS(smblease_server_new_with_rules(&server, &files, SMBLEASE_BY_KEY, SMBLEASE_WHOLE), SMBLEASE_DONE);
+    IS(files.state != NULL, 0);
+    IS(smblease_server_join(&server, 1), SMBLEASE_DONE);
+    smblease_server_free(&server);
+}
+
 int main(void) {
     of_no_client();
     of_a_client();
     of_answers();
     of_a_server();
+    of_rules();
     return wrong;
 }

@@ -1,13 +1,14 @@
-ghost use Rattle.std.specs.Prelude.{◌≡◌, ◌≢◌, ◌≤◌, ◌<◌, ◌++◌, ◌∷◌, [], length, Some, None, IfOk, OnOk, OnErr, IsSomeAnd};
+ghost use Rattle.std.specs.Prelude.{◌≡◌, ◌≢◌, ◌≤◌, ◌<◌, ◌++◌, ◌∷◌, [], length, Some, None, IfOk, IfNone, IfSome, OnOk, OnErr, IsSomeAnd};
 ghost use Rattle.lease_handles.specs.Calls.{code_of};
-ghost use Rattle.lease_model.specs.server.State.{new_server};
+ghost use Rattle.lease_model.specs.server.State.{new_server, new_server_under};
 ghost use Rattle.share_server.specs.Table.{server_of};
+ghost use Rattle.server_c.specs.Asked.{rules_given};
 ghost use Rattle.server_c.specs.Calls.{running, files_in};
 
 use crate::files::{Files, FilesHandle};
 use crate::handle::{Hosted, ServerHandle};
 use lease_handles::Outcome;
-use lease_state::{Content, FILE_LIMIT, Memory};
+use lease_state::{Content, FILE_LIMIT, Memory, Order, Rise, Rules};
 use share_server::Server;
 use std::alloc::Global;
 
@@ -115,14 +116,47 @@ fn contents_of(alloc: Global, files: &mut FilesHandle) -> Vec<Content>
     }
 }
 
-// A server with these files, in a box.
-fn hosted(alloc: Global, contents: Vec<Content>) -> Result<Box<Hosted>, Memory>
+// A server of these rules with these files, in a box.
+fn hosted(alloc: Global, rules: Rules, contents: Vec<Content>) -> Result<Box<Hosted>, Memory>
     ensures { IfOk result (λ hosted. IsSomeAnd (running (Some hosted.value))
-        (λ one. (server_of one.server ≡ new_server contents.items) × (one.outs ≡ []))) }
+        (λ one. (server_of one.server ≡ new_server_under rules contents.items) × (one.outs ≡ []))) }
 {
-    let server = Some(Server::new(alloc, contents)?);
+    let server = Some(Server::with_rules(alloc, rules, contents)?);
     let outs = Vec::new(alloc);
     Ok(Box::new(alloc, Hosted { server, outs })?)
+}
+
+// Begins a server of these rules with these files.
+fn begin(alloc: Global, rules: Rules, server: &mut ServerHandle, files: &mut FilesHandle) -> Outcome
+    ensures new { code_of result ≡ 0 → IsSomeAnd (running server.new.held)
+        (λ one. (server_of one.server ≡ new_server_under rules (files_in files.old.held)) × (one.outs ≡ [])) }
+    ensures unchanged { code_of result ≢ 0 → (code_of result ≡ 2) × (server.new.held ≡ server.old.held) }
+    ensures files { files.new.held ≡ None }
+{
+    match hosted(alloc, rules, contents_of(alloc, files)) {
+        Ok(one) => {
+            server.put(alloc, one);
+            Outcome::Done
+        }
+        Err(_) => Outcome::Lost,
+    }
+}
+
+// The rules that these numbers stand for.
+fn rules_of(order: u32, rise: u32) -> Option<Rules>
+    ensures { result ≡ rules_given order rise }
+{
+    let order = match order {
+        0 => Order::ByClient,
+        1 => Order::ByKey,
+        _ => return None,
+    };
+    let rise = match rise {
+        0 => Rise::AsFree,
+        1 => Rise::Whole,
+        _ => return None,
+    };
+    Some(Rules { order, rise })
 }
 
 /// A server with these files, that no client has joined; the files' handle holds none then. What the
@@ -141,12 +175,32 @@ pub extern "C" fn smblease_server_new(
     ensures unchanged { result ≢ 0 → (result ≡ 2) × (server.new.held ≡ server.old.held) }
     ensures files { files.new.held ≡ None }
 {
-    match hosted(alloc, contents_of(alloc, files)) {
-        Ok(one) => {
-            server.put(alloc, one);
-            Outcome::Done.code()
-        }
-        Err(_) => Outcome::Lost.code(),
+    begin(alloc, Rules::profile(), server, files).code()
+}
+
+/// A server as by `smblease_server_new`, of other rules than the profile's: an order of requests, 0 by
+/// client or 1 by key, and how a lease rises, 0 as far as is free or 1 whole.
+///
+/// Returns 0; 2 where memory ran out, and the files are lost; 4 where a number stands for no rule, and
+/// nothing changed. After 2 the server's handle is as it was.
+#[unsafe(no_mangle)]
+pub extern "C" fn smblease_server_new_with_rules(
+    alloc: Global,
+    server: &mut ServerHandle,
+    files: &mut FilesHandle,
+    order: u32,
+    rise: u32,
+) -> u32
+    ensures new { IfSome (rules_given order rise) (λ rules. result ≡ 0 → IsSomeAnd (running server.new.held)
+        (λ one. (server_of one.server ≡ new_server_under rules (files_in files.old.held)) × (one.outs ≡ []))) }
+    ensures lost { IfSome (rules_given order rise) (λ rules. result ≢ 0 → (result ≡ 2) × (server.new.held ≡ server.old.held)) }
+    ensures files { IfSome (rules_given order rise) (λ rules. files.new.held ≡ None) }
+    ensures no_such { IfNone (rules_given order rise)
+        ((result ≡ 4) × (server.new.held ≡ server.old.held) × (files.new.held ≡ files.old.held)) }
+{
+    match rules_of(order, rise) {
+        Some(rules) => begin(alloc, rules, server, files).code(),
+        None => Outcome::NoSuch.code(),
     }
 }
 
