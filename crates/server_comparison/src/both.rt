@@ -2,7 +2,7 @@ use crate::plain;
 use crate::plain::open::Key;
 use crate::serving::{Serving, copy_request};
 use crate::trouble::Trouble;
-use lease_state::{ClientNo, Content, FileId, FileNo, LeaseKey, LeaseState, Memory};
+use lease_state::{ClientNo, Content, FileId, FileNo, LeaseKey, LeaseState, Memory, Rules};
 use share_server::Out;
 use std::alloc::Global;
 
@@ -53,11 +53,11 @@ fn opens_in(outs: &[Out]) -> u64 {
 }
 
 impl Both {
-    /// With these files.
-    pub fn new(alloc: Global, contents: &[Content]) -> Result<Both, Memory> {
+    /// With these rules and files.
+    pub fn new(alloc: Global, rules: Rules, contents: &[Content]) -> Result<Both, Memory> {
         Ok(Both {
-            server: share_server::Server::new(alloc, copies(alloc, contents)?)?,
-            plain: plain::Server::new(alloc, copies(alloc, contents)?),
+            server: share_server::Server::with_rules(alloc, rules, copies(alloc, contents)?)?,
+            plain: plain::Server::new(alloc, rules, copies(alloc, contents)?),
             calls: 0,
             opened: 0,
         })

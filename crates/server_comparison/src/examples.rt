@@ -5,7 +5,7 @@ use crate::calls::Call;
 use crate::numbers::Numbers;
 use crate::trouble::Trouble;
 use crate::worked::{EXAMPLES, THREE_JOINED};
-use lease_state::{ClientNo, Content, FileNo, LeaseKey};
+use lease_state::{ClientNo, Content, FileNo, LeaseKey, Rules};
 use std::alloc::Global;
 
 // How many clients take part at most, and how many files and keys there are.
@@ -13,13 +13,13 @@ const CLIENTS: u8 = 8;
 
 const FILES: u8 = 4;
 
-// Both servers with so many files that hold `abc`.
-fn with_files(alloc: Global, count: u8) -> Result<Both, Trouble> {
+// Both servers with these rules and so many files that hold `abc`.
+fn with_files(alloc: Global, rules: Rules, count: u8) -> Result<Both, Trouble> {
     let mut files = Vec::new(alloc);
     for _file in 0..count {
         files.push(Content::new(Vec::from_slice(alloc, b"abc")?)?)?;
     }
-    Ok(Both::new(alloc, files.as_slice())?)
+    Ok(Both::new(alloc, rules, files.as_slice())?)
 }
 
 // What both answer to queries, for this client.
@@ -47,11 +47,11 @@ fn after_all(both: Both, alloc: Global, calls: &[Call]) -> Result<Both, Trouble>
     Ok(both)
 }
 
-/// Calls both servers as the worked examples do, and reports how many calls gave out the same.
-pub fn worked_examples(alloc: Global) -> Result<u64, Trouble> {
+/// Calls both servers under these rules as the worked examples do, and reports how many calls gave out the same.
+pub fn worked_examples(alloc: Global, rules: Rules) -> Result<u64, Trouble> {
     let mut calls = 0u64;
     for example in EXAMPLES {
-        let both = with_files(alloc, 2)?;
+        let both = with_files(alloc, rules, 2)?;
         let both = after_all(both, alloc, &THREE_JOINED)?;
         let both = after_all(both, alloc, example)?;
         calls = calls.saturating_add(both.calls());
@@ -59,12 +59,12 @@ pub fn worked_examples(alloc: Global) -> Result<u64, Trouble> {
     Ok(calls)
 }
 
-/// Calls both servers 1,000 times by numbers, after all clients joined: with keys that are used on
+/// Calls both servers under these rules 1,000 times by numbers, after all clients joined: with keys that are used on
 /// several files, acknowledgments and reconnects that nobody waits for, and timers that run out.
 /// Reports how many calls gave out the same.
-pub fn calls_by_numbers(alloc: Global) -> Result<u64, Trouble> {
+pub fn calls_by_numbers(alloc: Global, rules: Rules) -> Result<u64, Trouble> {
     let mut numbers = Numbers::new(2024);
-    let mut both = with_files(alloc, FILES)?;
+    let mut both = with_files(alloc, rules, FILES)?;
     for client in 1..=CLIENTS {
         both = after(both, alloc, Call::Join(client))?;
     }

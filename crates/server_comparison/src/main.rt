@@ -1,9 +1,10 @@
 //! Compares `share_server`, which answers by lease records and file summaries, with a server over plain lists: what they give
-//! out, call by call, and what they answer to queries.
+//! out, call by call, and what they answer to queries, under each of the rules that a server may be given.
 //!
 //! Without words: the worked examples, and calls by numbers. Each word is the path of a schedule,
-//! which is played with client machines over both. A line reports how many calls gave out the same;
-//! at the first difference it reports the call and what both gave out, and the status is 1.
+//! which is played with client machines over both. A line for each rules reports how many calls gave
+//! out the same; at the first difference it reports the call and what both gave out, and the status
+//! is 1.
 #![tactic(auto)]
 
 mod both;
@@ -19,49 +20,94 @@ mod worked;
 use crate::examples::{calls_by_numbers, worked_examples};
 use crate::playing::play_schedule;
 use crate::trouble::Trouble;
+use lease_state::{Order, Rise, Rules};
 use std::process::ExitCode;
 use std::rt::{Env, Files};
 use std::{env, fs, io};
 
-fn play_file<R: Files + AllocGlobal>(rt: &R, path: &str) -> Result<u64, Trouble> {
+// All that there are.
+const ALL_RULES: [Rules; 4] = [
+    Rules {
+        order: Order::ByClient,
+        rise: Rise::AsFree,
+    },
+    Rules {
+        order: Order::ByClient,
+        rise: Rise::Whole,
+    },
+    Rules {
+        order: Order::ByKey,
+        rise: Rise::AsFree,
+    },
+    Rules {
+        order: Order::ByKey,
+        rise: Rise::Whole,
+    },
+];
+
+fn play_file<R: Files + AllocGlobal>(rt: &R, rules: Rules, path: &str) -> Result<u64, Trouble> {
     match fs::read(rt, path) {
-        Ok(text) => play_schedule(rt.alloc(), text.as_slice()),
+        Ok(text) => play_schedule(rt.alloc(), rules, text.as_slice()),
         Err(_) => Err(Trouble::File),
     }
 }
 
 // Whether the calls gave out the same, which is reported.
-fn tell(rt: &impl Print, name: &str, compared: &Result<u64, Trouble>) -> io::Result<bool> {
+fn tell(
+    rt: &impl Print,
+    name: &str,
+    rules: Rules,
+    compared: &Result<u64, Trouble>,
+) -> io::Result<bool> {
+    let (order, rise) = (rules.order.word(), rules.rise.word());
     match compared {
         Ok(calls) => {
-            println!(rt; "{name}: {calls} calls, the same")?;
+            println!(rt; "{name}, {order},{rise}: {calls} calls, the same")?;
             Ok(true)
         }
         Err(trouble) => {
-            println!(rt; "{name}: {trouble}")?;
+            println!(rt; "{name}, {order},{rise}: {trouble}")?;
             Ok(false)
         }
     }
 }
 
-fn compare_files<R: Files + Print + AllocGlobal>(rt: &R, paths: &[String]) -> io::Result<bool> {
+fn compare_files<R: Files + Print + AllocGlobal>(
+    rt: &R,
+    rules: Rules,
+    paths: &[String],
+) -> io::Result<bool> {
     for path in paths {
-        if !tell(rt, path.as_str(), &play_file(rt, path.as_str()))? {
+        let played = play_file(rt, rules, path.as_str());
+        if !tell(rt, path.as_str(), rules, &played)? {
             return Ok(false);
         }
     }
     Ok(true)
 }
 
+fn compare_examples<R: Print + AllocGlobal>(rt: &R, rules: Rules) -> io::Result<bool> {
+    let worked = worked_examples(rt.alloc(), rules);
+    let by_numbers = calls_by_numbers(rt.alloc(), rules);
+    Ok(
+        tell(rt, "worked examples", rules, &worked)?
+            && tell(rt, "calls by numbers", rules, &by_numbers)?,
+    )
+}
+
 fn compare<R: Env + Files + Print + AllocGlobal>(rt: &R) -> io::Result<bool> {
     let words: Vec<String> = env::args(rt)?.skip(1).collect(rt.alloc())?;
-    if !words.is_empty() {
-        return compare_files(rt, words.as_slice());
+    for rules in ALL_RULES {
+        let are_same = if words.is_empty() {
+            compare_examples(rt, rules)?
+        } else {
+            compare_files(rt, rules, words.as_slice())?
+        };
+        if !are_same {
+            return Ok(false);
+        }
     }
-    Ok(
-        tell(rt, "worked examples", &worked_examples(rt.alloc()))?
-            && tell(rt, "calls by numbers", &calls_by_numbers(rt.alloc()))?,
-    )
+    Ok(true)
 }
 
 fn main(rt: HostRuntime) -> ExitCode {

@@ -9,13 +9,16 @@ pub mod open;
 mod trying;
 
 use crate::plain::open::{Held, Key, Lease, Open};
-use lease_state::{ClientNo, Content, FileId, FileNo, LeaseKey, LeaseState, Memory, Request};
+use lease_state::{
+    ClientNo, Content, FileId, FileNo, LeaseKey, LeaseState, Memory, Request, Rules,
+};
 use share_server::Out;
 use std::alloc::Global;
 
 /// The files, and lists of opens, leases, requests that wait, connections and keys whose timer ran out.
 #[derive(Drop)]
 pub struct Server {
+    rules: Rules,
     contents: Vec<Content>,
     opens: Vec<Open>,
     leases: Vec<Lease>,
@@ -27,9 +30,10 @@ pub struct Server {
 }
 
 impl Server {
-    /// With these files, numbered from 1.
-    pub fn new(alloc: Global, contents: Vec<Content>) -> Server {
+    /// With these rules, and these files, numbered from 1.
+    pub fn new(alloc: Global, rules: Rules, contents: Vec<Content>) -> Server {
         Server {
+            rules,
             contents,
             opens: Vec::new(alloc),
             leases: Vec::new(alloc),

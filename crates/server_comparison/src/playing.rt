@@ -4,7 +4,7 @@ use crate::both::Both;
 use crate::serving::Serving;
 use crate::trouble::Trouble;
 use lease_client::{Client, Command, Step, lease_key};
-use lease_state::{ClientNo, FileNo, LeaseKey, Memory, Reply, Request};
+use lease_state::{ClientNo, FileNo, LeaseKey, Memory, Reply, Request, Rules};
 use lease_texts::read_schedule;
 use lease_world::{Event, Setup};
 use share_server::Out;
@@ -97,14 +97,14 @@ struct Play {
 }
 
 impl Play {
-    fn new(alloc: Global, setup: &Setup) -> Result<Play, Memory> {
+    fn new(alloc: Global, rules: Rules, setup: &Setup) -> Result<Play, Memory> {
         let files = setup.files.len().min(255) as u8;
         let mut seats = Vec::new(alloc);
         for guid in setup.clients.iter() {
             seats.push(Seat::new(alloc, *guid, files)?)?;
         }
         Ok(Play {
-            both: Both::new(alloc, setup.files.as_slice())?,
+            both: Both::new(alloc, rules, setup.files.as_slice())?,
             seats,
             files,
         })
@@ -249,10 +249,10 @@ fn deliver(seats: &mut Vec<Seat>, outs: Vec<Out>) -> Result<(), Memory> {
     Ok(())
 }
 
-/// Plays the schedule that a text is, and reports how many calls gave out the same.
-pub fn play_schedule(alloc: Global, text: &[u8]) -> Result<u64, Trouble> {
+/// Plays the schedule that a text is under these rules, and reports how many calls gave out the same.
+pub fn play_schedule(alloc: Global, rules: Rules, text: &[u8]) -> Result<u64, Trouble> {
     let schedule = read_schedule(alloc, text)?;
-    let mut play = Play::new(alloc, &schedule.setup)?;
+    let mut play = Play::new(alloc, rules, &schedule.setup)?;
     for event in schedule.events {
         play = play.happen(alloc, event)?;
     }

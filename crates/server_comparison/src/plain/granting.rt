@@ -1,6 +1,6 @@
 use crate::plain::Server;
 use crate::plain::open::{Key, Lease, Open, Opening};
-use lease_state::{Bytes, FileId, LeaseState, Memory, Reply, Status};
+use lease_state::{Bytes, FileId, LeaseState, Memory, Reply, Rise, Status};
 use lease_wire::{CreateAnswer, write_create_reply};
 use share_server::Out;
 
@@ -38,19 +38,24 @@ impl Server {
         self.tell_created(opening, open.fid, lease, open.durable)
     }
 
-    // The lease after a grant: it stays while it is breaking, or where it holds what isn't wanted now.
+    // The lease after a grant: it stays while it is breaking, where it holds what isn't wanted now, or where it may rise
+    // to all of it alone and can't.
     fn lease_after(&self, opening: &Opening) -> Option<Lease> {
         let (bytes, want) = opening.ask.lease?;
         let client = opening.client;
         let key = Key { client, bytes };
         let (held, broken_to) = (self.state(key), self.broken_to(key));
-        let state = if broken_to.is_some() || !held.is_within(want.granted_form()) {
-            held
-        } else if self.expired.contains(&key) {
+        let free = if self.expired.contains(&key) {
             LeaseState::NONE
         } else {
             self.allowed(Some(key), opening.file, want)
         };
+        let stays = broken_to.is_some()
+            || !held.is_within(want.granted_form())
+            || (self.rules.rise == Rise::Whole
+                && self.opens.iter().any(|one| one.key == Some(key))
+                && free != want.granted_form());
+        let state = if stays { held } else { free };
         Some(Lease {
             key,
             state,

@@ -98,10 +98,21 @@ impl Opening {
     }
 }
 
-/// A request with its client and the file that it is about.
+/// A request with its client and the file that it is about, and with the key that it stands under and the FileId that it
+/// names, if any, as they were when it came.
 #[derive(Drop)]
 pub struct Held {
     pub client: ClientNo,
     pub file: FileNo,
+    pub key: Option<Key>,
+    pub fid: Option<FileId>,
     pub request: Request,
+}
+
+impl Held {
+    /// Whether both stand under one lease key, or name one FileId.
+    pub fn stands_with(&self, other: &Held) -> bool {
+        (self.key.is_some() && self.key == other.key)
+            || (self.fid.is_some() && self.fid == other.fid)
+    }
 }

@@ -2,7 +2,7 @@ use crate::plain::Server;
 use crate::plain::finding::Finding;
 use crate::plain::lists::without;
 use crate::plain::open::{Held, Key, Lease, Opening};
-use lease_state::{ClientNo, FileNo, LeaseState, Memory, Reply, Request, Status};
+use lease_state::{ClientNo, FileId, FileNo, LeaseState, Memory, Order, Reply, Request, Status};
 use lease_wire::Notification;
 use std::mem;
 
@@ -17,9 +17,12 @@ impl Server {
             Ok(file) => file,
             Err(status) => return self.refuse(client, &request, status),
         };
+        let (key, fid) = self.named(client, &request);
         let one = Held {
             client,
             file,
+            key,
+            fid,
             request,
         };
         if self.is_behind(&one) || self.waits(&one)? {
@@ -43,8 +46,25 @@ impl Server {
         }
     }
 
+    // The key that a request stands under, and the FileId that it names.
+    fn named(&self, client: ClientNo, request: &Request) -> (Option<Key>, Option<FileId>) {
+        match request {
+            Request::Read { fid } | Request::Write { fid, .. } | Request::Close { fid } => {
+                let key = self.connected(client, *fid).and_then(|open| open.key);
+                (key, Some(*fid))
+            }
+            _ => {
+                let key = Opening::of(client, request).and_then(|opening| opening.key());
+                (key, None)
+            }
+        }
+    }
+
     fn is_behind(&self, one: &Held) -> bool {
-        self.held.iter().any(|earlier| earlier.client == one.client && earlier.file == one.file)
+        self.held
+            .iter()
+            .filter(|earlier| earlier.client == one.client && earlier.file == one.file)
+            .any(|earlier| self.rules.order == Order::ByClient || earlier.stands_with(one))
     }
 
     // Tries the requests that wait: file by file, on each until a pass answers nothing.
