@@ -5,11 +5,13 @@ import argparse
 from collections.abc import Callable
 
 from smblease.program import find_program
+from smblease.values import Rules
 
+from drive.commands import rules_of
 from drive.faults import Usage
-from drive.place import Place
+from drive.place import Place, Server
 from drive.runner import Runner
-from drive.servers import NamedServer, PrivateServer, Server
+from drive.servers import NamedServer, PrivateServer
 from serve.server_process import DrivenServer
 
 # Seconds that a server's own timer of a break is waited for.
@@ -19,6 +21,9 @@ BREAK_TIME = 40.0
 def server_arguments(parser: argparse.ArgumentParser) -> None:
     parser.add_argument("--smbd", action="store_true", help="a private smbd, started afresh for each schedule and ended")
     parser.add_argument("--served", action="store_true", help="the proved server (serve/run), started and ended likewise")
+    parser.add_argument("--rules", default=str(Rules()), metavar="RULES",
+                        help="the rules of the proved server, and of what its record is compared with: by-client,as-free or "
+                             "by-client,whole")
     parser.add_argument("--server", metavar="HOST:PORT", help="a server that is there, in place of a private one")
     parser.add_argument("--share", metavar="NAME", help="its share")
     parser.add_argument("--user", metavar="USER%PASSWORD", help="who asks it")
@@ -31,7 +36,7 @@ def server_arguments(parser: argparse.ArgumentParser) -> None:
 
 
 def runner_of(arguments: argparse.Namespace) -> Runner:
-    return Runner(arguments.leasecheck, _server_maker(arguments), arguments.skip)
+    return Runner(arguments.leasecheck, _server_maker(arguments), arguments.skip, rules=rules_of(arguments.rules))
 
 
 def _server_maker(arguments: argparse.Namespace) -> Callable[[], Server]:
@@ -39,12 +44,14 @@ def _server_maker(arguments: argparse.Namespace) -> Callable[[], Server]:
         raise Usage("one of --smbd, --served and --server is needed, and one alone")
     if not arguments.server and any(it is not None for it in (arguments.share, arguments.user, arguments.break_time)):
         raise Usage("--share, --user and --break-time are of a server that --server names")
+    if not arguments.served and rules_of(arguments.rules) != Rules():
+        raise Usage("--rules are of the proved server, which --served starts")
     if arguments.smbd:
         return lambda: PrivateServer(arguments.smbd_log)
     if arguments.smbd_log:
         raise Usage("--smbd-log is of a private smbd")
     if arguments.served:
-        return lambda: DrivenServer(arguments.leasecheck)
+        return lambda: DrivenServer(arguments.leasecheck, words=["--rules", arguments.rules])
     place = _place(arguments.server, arguments.share, arguments.user)
     break_time = BREAK_TIME if arguments.break_time is None else arguments.break_time
     if not 0 <= break_time < 1e9:

@@ -134,15 +134,17 @@ class Search:
         waiting = list(ways.values())
         while waiting:
             way = self._lowered(waiting.pop(), position)
-            if way.done in found:
-                continue
-            found[way.done] = way
+            if way.done not in found:
+                found[way.done] = way
+                waiting += self._following(way, position)
             if len(found) > MOST_WAYS:
                 raise TooManyWays
-            for index in range(len(self._chains)):
-                if self._may_rise(way, index, position):
-                    waiting.append(self._advanced(way, index, position))
         return found
+
+    def _following(self, way: Way, position: int) -> list[Way]:
+        """The ways that go on by one change."""
+        rising = [index for index in range(len(self._chains)) if self._may_rise(way, index, position)]
+        return [self._advanced(way, index, position) for index in rising]
 
     def _lowered(self, way: Way, position: int) -> Way:
         """A belief that may go down goes down at once: that breaks no rule."""
@@ -216,17 +218,11 @@ class Thorough(Search):
         """An order by which rule 1 isn't broken; None where there is none."""
         ways = self._begun()
         for position in self._positions():
-            found: dict[tuple[int, ...], Way] = {}
-            waiting = list(ways.values())
-            while waiting:
-                way = waiting.pop()
-                if way.done not in found:
-                    found[way.done] = way
-                    waiting += self._following(way, position)
-                if len(found) > MOST_WAYS:
-                    raise TooManyWays
-            ways = {done: way for done, way in found.items() if not self._overdue(way, position)}
+            ways = {done: way for done, way in self._reached(ways, position).items() if not self._overdue(way, position)}
         return max(ways.values(), key=lambda it: sum(it.done)).steps() if ways else None
+
+    def _lowered(self, way: Way, position: int) -> Way:
+        return way
 
     def _following(self, way: Way, position: int) -> list[Way]:
         found = []

@@ -9,7 +9,7 @@ from collections.abc import Sequence
 from smblease.program import Verdict, find_program, judge
 
 from drive.capture_record import CaptureRecord, record_of, remark
-from drive.commands import NOTHING_JUDGED, NOT_DRIVEN, SAFE, UNSAFE, ended, write_text
+from drive.commands import NOTHING_JUDGED, NOT_DRIVEN, SAFE, UNSAFE, ended, write
 from drive.faults import DriveFault, Usage
 from drive.packets import read_capture
 
@@ -69,7 +69,7 @@ def _judge(arguments: argparse.Namespace) -> int:
     word = verdict_word(record, verdict)
     said = [word, record.judged, *beliefs_at(record, verdict), *verdicts_of_sets(record, arguments.leasecheck)]
     if arguments.record:
-        write_text(arguments.record, text)
+        write(arguments.record, text.encode())
         sys.stdout.write("".join(f"{remark(it)[2:]}\n" for it in (*said, *record.head, *record.notes)))
     else:
         sys.stdout.write(text + "".join(f"{remark(it)}\n" for it in said))

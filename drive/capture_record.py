@@ -17,8 +17,6 @@ from drive.packets import Capture
 
 CANT = ("A capture shows no cached read, no buffered write, and not what applications were answered: so rules 2 and 3, and that",
         "half of rule 4, aren't judged. What clients believed of their leases is judged by rule 1.")
-
-
 BELIEVES = "believes "
 TOO_MANY = "too many orders fit the capture"
 

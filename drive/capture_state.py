@@ -12,7 +12,6 @@ from drive.capture_servers import Server
 from drive.headers import Message
 from drive.packets import Packet
 
-FILE_LIMIT = 1048576
 MOST = 255
 
 

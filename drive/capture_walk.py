@@ -6,12 +6,12 @@ from collections.abc import Callable
 
 from smblease import Acknowledgment, CreateAnswer, CreateAsk, Fault, LeaseState, Notification
 from smblease.lines import digits
-from smblease.values import Status
+from smblease.values import LARGEST_FILE, Status
 
 from drive import headers
 from drive.beliefs import Chain, Delivery, Turn
 from drive.capture_servers import Server
-from drive.capture_state import FILE_LIMIT, MOST, BreakSeen, Came, Client, Connection, File, Findings, LeaseSeen, Open, Pending
+from drive.capture_state import MOST, BreakSeen, Came, Client, Connection, File, Findings, LeaseSeen, Open, Pending
 from drive.headers import HEADER, PREVIOUS, RELATED, UNASKED, Command, Message, Unreadable
 from drive.packets import COMPRESSED, ENCRYPTED, PROTOCOL, Packet
 
@@ -43,7 +43,7 @@ class Walk:
         self._opens: dict[tuple[int, int, bytes], Open] = {}
         self._leases: dict[tuple[Server, int, uuid.UUID], LeaseSeen] = {}
         self._asking: dict[Command, Callable[[Pending], None]] = {
-            Command.NEGOTIATE: self._negotiating, Command.SESSION_SETUP: self._setting_up, Command.LOGOFF: self._logging_off,
+            Command.NEGOTIATE: self._negotiating, Command.SESSION_SETUP: self._setting_up, Command.LOGOFF: self._leaving,
             Command.TREE_DISCONNECT: self._leaving, Command.CREATE: self._creating, Command.CLOSE: self._closing,
             Command.WRITE: self._writing, Command.OPLOCK_BREAK: self._acknowledging,
         }
@@ -134,13 +134,11 @@ class Walk:
             server = pending.connection.server
             self._end_opens(lambda it: it.connection.server is server and it.session == previous, pending)
 
-    def _logging_off(self, pending: Pending) -> None:
-        session = pending.request.session
-        self._end_opens(lambda it: it.connection is pending.connection and it.session == session, pending)
-
     def _leaving(self, pending: Pending) -> None:
-        session, tree = pending.request.session, pending.request.tree
-        self._end_opens(lambda it: it.connection is pending.connection and (it.session, it.tree) == (session, tree), pending)
+        """LOGOFF ends the opens of a session, TREE_DISCONNECT those of one of its trees."""
+        asked = pending.request
+        self._end_opens(lambda it: it.connection is pending.connection and it.session == asked.session
+                        and (it.tree == asked.tree or asked.command is Command.LOGOFF), pending)
 
     def _end_opens(self, meant: Callable[[Open], bool], pending: Pending) -> None:
         for opened in [it for it in self._opens.values() if meant(it)]:
@@ -184,7 +182,7 @@ class Walk:
         span = headers.written(pending.request)
         if connection.client is None or opened is None:
             return
-        if span.offset + len(span.data) > FILE_LIMIT:
+        if span.offset + len(span.data) > LARGEST_FILE:
             self.found.leave_out("writes past the limit of a file")
             return
         connection.client.writes += 1
@@ -344,7 +342,7 @@ class Walk:
         pending, message = came.pending, came.message
         opened = self._open_of(pending)
         span = headers.read(pending.request, message)
-        if opened and not opened.file.is_changed and not span.offset and len(span.data) == opened.file.length <= FILE_LIMIT:
+        if opened and not opened.file.is_changed and not span.offset and len(span.data) == opened.file.length <= LARGEST_FILE:
             opened.file.start = opened.file.start or span.data
 
     def _renamed(self, came: Came) -> None:

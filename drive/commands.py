@@ -7,10 +7,12 @@ import os
 import signal
 import sys
 from collections.abc import Callable, Sequence
+from pathlib import Path
 
 from smblease.faults import ToolFault
 from smblease.program import replay
 from smblease.schedules import Schedule
+from smblease.values import Order, Rules
 
 from drive.faults import DriveFault, Usage
 
@@ -54,6 +56,17 @@ def _parsed(parser: argparse.ArgumentParser, words: Sequence[str] | None) -> arg
         sys.stdout.flush()
 
 
+def rules_of(text: str) -> Rules:
+    """The rules of a served share, whose answers have to come in the order of what was asked."""
+    try:
+        rules = Rules.of(text)
+    except ValueError as fault:
+        raise Usage(f"--rules: {fault}") from None
+    if rules.order is not Order.BY_CLIENT:
+        raise Usage("--rules by-key: answers would come in another order than what was asked, and couldn't be told apart")
+    return rules
+
+
 def schedule_in(path: str, program: str) -> Schedule:
     """The schedule of a file, which `leasecheck replay` has to take."""
     try:
@@ -68,13 +81,8 @@ def schedule_in(path: str, program: str) -> Schedule:
     return Schedule.read(text)
 
 
-def write_text(path: str, text: str) -> None:
-    write_bytes(path, text.encode())
-
-
-def write_bytes(path: str, data: bytes) -> None:
+def write(path: str, data: bytes) -> None:
     try:
-        with open(path, "wb") as stream:
-            stream.write(data)
+        Path(path).write_bytes(data)
     except OSError as fault:
         raise DriveFault(f"{path}: {fault.strerror}") from None

@@ -5,11 +5,12 @@ import argparse
 import difflib
 from collections.abc import Sequence
 
+from smblease.program import replay
 from smblease.schedules import Schedule
 
 from drive.arguments import runner_of, server_arguments
-from drive.commands import NOT_DRIVEN, SAFE, ended, schedule_in
-from drive.explanations import NONE, facts_of, likeness_of
+from drive.commands import NOT_DRIVEN, SAFE, ended, rules_of, schedule_in
+from drive.explanations import NONE, likeness_of
 from drive.faults import DriveFault, Usage
 
 EPILOG = """Without --record the schedule is driven first. The lines of the difference begin with `- ` where the profile's server
@@ -47,11 +48,11 @@ def _facts(arguments: argparse.Namespace, schedule: Schedule) -> tuple[list[str]
 def _compare(arguments: argparse.Namespace) -> int:
     schedule = schedule_in(arguments.schedule, arguments.leasecheck)
     facts, counts = _facts(arguments, schedule)
-    likeness = likeness_of(arguments.leasecheck, schedule, facts, counts)
+    likeness = likeness_of(arguments.leasecheck, schedule, facts, counts, rules_of(arguments.rules))
     if likeness.departures == NONE:
         print("same")
         return SAFE
-    profile = facts_of(arguments.leasecheck, schedule)
+    profile = replay(arguments.leasecheck, schedule.text, rules=rules_of(arguments.rules))
     for line in difflib.ndiff(profile, facts):
         if line[:2] in ("- ", "+ "):
             print(line)

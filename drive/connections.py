@@ -5,7 +5,10 @@ from __future__ import annotations
 
 import select
 import time
+from collections.abc import Iterator
+from contextlib import contextmanager
 from dataclasses import dataclass
+from typing import Any
 
 from impacket import ntlm, smb3structs as smb2
 from impacket.smb3 import SMB3, SessionError
@@ -13,14 +16,13 @@ from impacket.smb3 import SMB3, SessionError
 import smblease
 from smblease.replies import AcknowledgeDone, Closed, Created, ReadDone, Reply, WriteDone, failed
 from smblease.requests import CloseRequest, CreateRequest, ReadRequest, Request, WriteRequest
-from smblease.values import Access, Status
+from smblease.values import LARGEST_FILE, Access, Status
 
 from drive.faults import DriveFault
 from drive.place import Place
 
 NOTIFICATION_ID = 0xFFFFFFFFFFFFFFFF
 OPLOCK_LEVEL_LEASE = 0xFF
-LIMIT = 1048576
 CREDIT_BYTES = 65536
 # A server may stand still for some seconds (smbd does while it retries a lock).
 PATIENCE = 25.0
@@ -30,9 +32,16 @@ ACCESS = {Access.READ: 0x120089, Access.WRITE: 0x120116, Access.READ_WRITE: 0x12
 SHARE_ALL = 7
 
 
-def line_of(fault: Exception) -> str:
-    """What a fault says, as far as it fits a line."""
-    return (str(fault).splitlines() or [type(fault).__name__])[0][:120]
+@contextmanager
+def told(what: str) -> Iterator[None]:
+    """What fails in here is a DriveFault that says what that was, with one line of why."""
+    try:
+        yield
+    except DriveFault:
+        raise
+    except Exception as fault:  # impacket raises bare ones too
+        why = (str(fault).splitlines() or [type(fault).__name__])[0][:120]
+        raise DriveFault(f"{what}: {why}") from None
 
 
 @dataclass(frozen=True)
@@ -72,26 +81,25 @@ class Connection:
     """A connection with its session and tree. What it can't do is a DriveFault."""
 
     def __init__(self, place: Place, guid: bytes) -> None:
-        self._place = place
-        try:
+        with told(f"no connection to {place.host}:{place.port}"):
             self._smb, self._tree = _connected(place, guid)
-        except Exception as fault:  # impacket raises bare ones too
-            raise DriveFault(f"no connection to {place.host}:{place.port}: {line_of(fault)}") from None
         if self._smb.getDialect() != smb2.SMB2_DIALECT_21:
             raise DriveFault("the server doesn't speak dialect 2.1")
 
     def send(self, request: Request, name: str, file_id: FileId) -> int:
         """Sends a request, whose file has this name, or whose FileId is this one; answers its number."""
+        wire_id = _filled(smb2.SMB2_FILEID(), Persistent=file_id.persistent, Volatile=file_id.volatile)
         if isinstance(request, CreateRequest):
             return self._send(smb2.SMB2_CREATE, _create(request, name))
         if isinstance(request, ReadRequest):
-            return self._send(smb2.SMB2_READ, _read(file_id), LIMIT)
+            read = _filled(smb2.SMB2Read(), Padding=0x50, FileID=wire_id, Length=LARGEST_FILE)
+            return self._send(smb2.SMB2_READ, read, LARGEST_FILE)
         if isinstance(request, WriteRequest):
-            return self._send(smb2.SMB2_WRITE, _write(request, file_id), len(request.data))
+            length = len(request.data)
+            write = _filled(smb2.SMB2Write(), FileID=wire_id, Offset=request.offset, Length=length, Buffer=request.data)
+            return self._send(smb2.SMB2_WRITE, write, length)
         if isinstance(request, CloseRequest):
-            close = smb2.SMB2Close()
-            close["FileID"] = _wire_id(file_id)
-            return self._send(smb2.SMB2_CLOSE, close)
+            return self._send(smb2.SMB2_CLOSE, _filled(smb2.SMB2Close(), FileID=wire_id))
         return self._send(smb2.SMB2_OPLOCK_BREAK, request.message)
 
     def echo(self) -> int:
@@ -99,49 +107,38 @@ class Connection:
 
     def receive(self, until: float) -> Message | None:
         """The next message, or none where none comes until this time."""
-        try:
+        with told("a connection is lost"):
             socket = self._smb._NetBIOSSession.get_socket()
             if not select.select([socket], [], [], max(0.0, until - time.monotonic()))[0]:
                 return None
             packet = smb2.SMB2Packet(self._smb._NetBIOSSession.recv_packet(PATIENCE).get_trailer())
             return Message(packet["MessageID"], packet["Status"], bytes(packet["Data"]))
-        except Exception as fault:  # impacket raises bare ones too
-            raise DriveFault(f"a connection is lost: {line_of(fault)}") from None
 
     def make_file(self, name: str, data: bytes) -> None:
-        try:
+        with told(f"file {name} can't be made"):
             access, options = ACCESS[Access.READ_WRITE], smb2.FILE_NON_DIRECTORY_FILE
             file = self._smb.create(self._tree, name, access, 0, options, smb2.FILE_CREATE, 0)
             for offset in range(0, len(data), CREDIT_BYTES):
                 part = data[offset:offset + CREDIT_BYTES]
                 self._smb.write(self._tree, file, part, offset, len(part))
             self._smb.close(self._tree, file)
-        except Exception as fault:  # impacket raises bare ones too
-            raise DriveFault(f"file {name} can't be made: {line_of(fault)}") from None
 
     def remove_file(self, name: str) -> None:
         options = smb2.FILE_NON_DIRECTORY_FILE | smb2.FILE_DELETE_ON_CLOSE
-        try:
+        with told(f"file {name} can't be removed"):
             file = self._smb.create(self._tree, name, smb2.DELETE, SHARE_ALL, options, smb2.FILE_OPEN, 0)
             self._smb.close(self._tree, file)
-        except Exception as fault:  # impacket raises bare ones too
-            raise DriveFault(f"file {name} can't be removed: {line_of(fault)}") from None
 
     def close(self) -> None:
         self._smb._NetBIOSSession.close()
 
     def _send(self, command: int, data: object, length: int = 0) -> int:
-        packet = self._smb.SMB_PACKET()
-        packet["Command"] = command
-        packet["TreeID"] = self._tree
-        packet["CreditCharge"] = max(1, -(-length // CREDIT_BYTES))
-        packet["Data"] = data
-        try:
+        charge = max(1, -(-length // CREDIT_BYTES))
+        packet = _filled(self._smb.SMB_PACKET(), Command=command, TreeID=self._tree, CreditCharge=charge, Data=data)
+        with told("a connection is lost"):
             number = self._smb.sendSMB(packet)
-        except Exception as fault:  # impacket raises bare ones too
-            raise DriveFault(f"a connection is lost: {line_of(fault)}") from None
         # A request of several credits takes as many numbers (3.2.4.1.5); impacket counts them at the answer.
-        self._smb._Connection["SequenceWindow"] += packet["CreditCharge"] - 1
+        self._smb._Connection["SequenceWindow"] += charge - 1
         return number
 
 
@@ -161,59 +158,28 @@ def _connected(place: Place, guid: bytes) -> tuple[Protocol, int]:
     raise DriveFault("no session was tried")
 
 
-def _wire_id(file_id: FileId) -> smb2.SMB2_FILEID:
-    wire = smb2.SMB2_FILEID()
-    wire["Persistent"], wire["Volatile"] = file_id.persistent, file_id.volatile
-    return wire
+def _filled(structure: Any, **values: object) -> Any:
+    """A structure of impacket with these values of its fields."""
+    for name, value in values.items():
+        structure[name] = value
+    return structure
 
 
 def _create(request: CreateRequest, name: str) -> smb2.SMB2Create:
-    create = smb2.SMB2Create()
-    create["RequestedOplockLevel"] = OPLOCK_LEVEL_LEASE if smblease.find_context(request.contexts, b"RqLs") else 0
-    create["ImpersonationLevel"] = smb2.SMB2_IL_IMPERSONATION
-    create["DesiredAccess"] = ACCESS[request.access]
-    create["ShareAccess"] = request.share.value
-    create["CreateDisposition"] = smb2.FILE_OPEN
-    create["CreateOptions"] = smb2.FILE_NON_DIRECTORY_FILE
-    text = name.encode("utf-16le")
-    create["NameLength"] = len(text)
-    create["Buffer"] = text
+    text, level = name.encode("utf-16le"), OPLOCK_LEVEL_LEASE if smblease.find_context(request.contexts, b"RqLs") else 0
+    create = _filled(smb2.SMB2Create(), RequestedOplockLevel=level, ImpersonationLevel=smb2.SMB2_IL_IMPERSONATION,
+                     DesiredAccess=ACCESS[request.access], ShareAccess=request.share.value, CreateDisposition=smb2.FILE_OPEN,
+                     CreateOptions=smb2.FILE_NON_DIRECTORY_FILE, NameLength=len(text), Buffer=text)
     if request.contexts:
         padded = text + bytes(-len(text) % 8)
-        create["CreateContextsOffset"] = 64 + smb2.SMB2Create.SIZE + len(padded)
-        create["CreateContextsLength"] = len(request.contexts)
-        create["Buffer"] = padded + request.contexts
+        _filled(create, CreateContextsOffset=64 + smb2.SMB2Create.SIZE + len(padded),
+                CreateContextsLength=len(request.contexts), Buffer=padded + request.contexts)
     return create
 
 
-def _read(file_id: FileId) -> smb2.SMB2Read:
-    read = smb2.SMB2Read()
-    read["Padding"] = 0x50
-    read["FileID"] = _wire_id(file_id)
-    read["Length"] = LIMIT
-    return read
-
-
-def _write(request: WriteRequest, file_id: FileId) -> smb2.SMB2Write:
-    write = smb2.SMB2Write()
-    write["FileID"] = _wire_id(file_id)
-    write["Offset"] = request.offset
-    write["Length"] = len(request.data)
-    write["Buffer"] = request.data
-    return write
-
-
+@told("an answer can't be read")
 def reply_of(request: Request, message: Message) -> tuple[Reply, FileId | None]:
     """What a message answers to its request, and the FileId of an open that was made."""
-    try:
-        return _reply_of(request, message)
-    except DriveFault:
-        raise
-    except Exception as fault:  # impacket raises bare ones too
-        raise DriveFault(f"an answer can't be read: {line_of(fault)}") from None
-
-
-def _reply_of(request: Request, message: Message) -> tuple[Reply, FileId | None]:
     if message.status != Status.SUCCESS:
         if isinstance(request, ReadRequest) and message.status == Status.END_OF_FILE:
             return ReadDone(request.file_id, b""), None

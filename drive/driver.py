@@ -12,14 +12,15 @@ from smblease.processes import LineClients
 from smblease.replies import Created
 from smblease.requests import AcknowledgeRequest, CreateRequest, Request, WriteRequest
 from smblease.schedules import Schedule
+from smblease.values import LARGEST_FILE
 from smblease.world import World
 
-from drive.connections import LIMIT, Connection
+from drive.connections import Connection
 from drive.exchange import Exchange, LeaseCount
 from drive.faults import DriveFault, Undrivable
 from drive.peers import DrivenPeer
+from drive.place import Server
 from drive.records import Order, Record, applied, in_order
-from drive.servers import Server
 from drive.wire_names import WireNames
 
 LOG = logging.getLogger("drive")
@@ -105,7 +106,8 @@ class Driver(World[DrivenPeer]):
                 return request
             real = self._real(int.from_bytes(found.data[:8], "little")).to_bytes(8, "little")
             return replace(request, contexts=smblease.replace_data(request.contexts, RECONNECT, 2 * real))
-        if isinstance(request, WriteRequest) and request.offset + len(request.data) > LIMIT and not self._server.is_profiled:
+        end = request.offset + len(request.data) if isinstance(request, WriteRequest) else 0
+        if end > LARGEST_FILE and not self._server.is_profiled:
             raise Undrivable("no record can hold a write past the limit of a file")
         return replace(request, file_id=self._real(request.file_id))
 

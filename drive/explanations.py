@@ -11,6 +11,7 @@ from smblease.processes import LineClients, client_process
 from smblease.program import replay
 from smblease.requests import Request
 from smblease.schedules import Schedule
+from smblease.values import Rules
 from smblease.world import Link, Peer, World
 
 from drive.model import Departure, Model
@@ -144,11 +145,13 @@ class Likeness:
         return ",".join(sorted(it.name.lower() for it in self.departures)) or "same"
 
 
-def likeness_of(program: str, schedule: Schedule, facts: list[str], counts: Sequence[int] = ()) -> Likeness:
-    """What explains the facts of a record; `counts` say how many there were after each step."""
-    if is_replayed(facts, replay(program, schedule.text), counts):
+def likeness_of(program: str, schedule: Schedule, facts: list[str], counts: Sequence[int] = (),
+                rules: Rules = Rules()) -> Likeness:
+    """What explains the facts of a record; `counts` say how many there were after each step. The known departures are from the
+    profile, so nothing explains what departs from other rules."""
+    if is_replayed(facts, replay(program, schedule.text, rules=rules), counts):
         return Likeness(NONE)
-    return Likeness(explained(program, schedule, facts))
+    return Likeness(explained(program, schedule, facts) if rules == Rules() else None)
 
 
 def is_replayed(facts: list[str], profile: list[str], counts: Sequence[int]) -> bool:

@@ -44,7 +44,7 @@ class Explorer:
             schedule, outcome = self._guided(chooser) if guided else self._blind(chooser)
         except ToolFault as fault:
             return Row(number, manner, 0, 0, "-", f"fault {fault}", "-")
-        likeness = likeness_of(self._runner.program, schedule, outcome.record.facts(), outcome.counts)
+        likeness = likeness_of(self._runner.program, schedule, outcome.record.facts(), outcome.counts, self._runner.rules)
         left = None
         if likeness.is_open or not outcome.verdict.is_safe:
             self._write(f"{number}.schedule", schedule.text)

@@ -10,7 +10,7 @@ from collections.abc import Sequence
 from dataclasses import dataclass
 
 from drive.arguments import runner_of, server_arguments
-from drive.commands import NOT_DRIVEN, SAFE, UNSAFE, ended, write_bytes
+from drive.commands import NOT_DRIVEN, SAFE, UNSAFE, ended, write
 from drive.exploration import Explorer
 from drive.explored import Row, junit, rows_in
 from drive.faults import DriveFault, Usage
@@ -110,7 +110,7 @@ def _explore(arguments: argparse.Namespace) -> int:
         raise DriveFault(f"{folder}: {fault.strerror}") from None
     every = [*before, *rows]
     if arguments.junit:
-        write_bytes(arguments.junit, junit(every, arguments.seed))
+        write(arguments.junit, junit(every, arguments.seed))
     driven = f"{len(rows)} driven" + (f" after {len(before)}" if before else "")
     unsafe, faults = sum(it.is_unsafe for it in every), sum(it.is_fault for it in every)
     allowed_ones = f" {sum(it.is_allowed for it in every)} allowed," if arguments.allow else ""

@@ -1,7 +1,6 @@
 """SMB2 messages of a capture, as far as their fixed parts go (2.2.1 and the parts named at each field)."""
 from __future__ import annotations
 
-import struct
 from dataclasses import dataclass
 from enum import IntEnum
 
@@ -46,11 +45,22 @@ class Unreadable(Exception):
         return "it ends before that"
 
 
+class Field:
+    """A number in the header, by its place and size."""
+
+    def __init__(self, place: int, size: int) -> None:
+        self._place, self._size = place, size
+
+    def __get__(self, message: Message, kind: type[Message]) -> int:
+        return message.number(self._place, self._size)
+
+
 @dataclass(frozen=True)
 class Message:
     """A whole message, with its header."""
 
     data: bytes
+    status, flags, identifier, tree, session = Field(8, 4), Field(16, 4), Field(24, 8), Field(36, 4), Field(40, 8)
 
     def __post_init__(self) -> None:
         if len(self.data) < HEADER:
@@ -69,7 +79,7 @@ class Message:
 
     @property
     def command(self) -> Command | None:
-        code, = struct.unpack_from("<H", self.data, 12)
+        code = self.number(12, 2)
         return Command(code) if code <= Command.OPLOCK_BREAK else None
 
     @property
@@ -77,28 +87,8 @@ class Message:
         return self.command.name if self.command is not None else "unknown command"
 
     @property
-    def status(self) -> int:
-        return self.number(8, 4)
-
-    @property
-    def flags(self) -> int:
-        return self.number(16, 4)
-
-    @property
     def is_from_server(self) -> bool:
         return bool(self.flags & FROM_SERVER)
-
-    @property
-    def identifier(self) -> int:
-        return self.number(24, 8)
-
-    @property
-    def tree(self) -> int:
-        return self.number(36, 4)
-
-    @property
-    def session(self) -> int:
-        return self.number(40, 8)
 
     @property
     def file_id(self) -> bytes | None:

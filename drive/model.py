@@ -2,19 +2,19 @@
 from __future__ import annotations
 
 import uuid
-from dataclasses import dataclass, field
+from dataclasses import dataclass
 from enum import Enum
 
 from smblease import Acknowledgment, CreateAnswer, CreateAsk, Fault, LeaseState, Notification, Response
+from smblease.decisions import granted_form
 from smblease.outs import Changed, Opened
 from smblease.replies import AcknowledgeDone, Break, Closed, Created, ReadDone, Reply, WriteDone, failed
 from smblease.requests import AcknowledgeRequest, CloseRequest, CreateRequest, ReadRequest, Request, WriteRequest
-from smblease.values import Status
+from smblease.values import LARGEST_FILE, Status
 
 from drive.records import Arrival, applied
 
 R, W, H, NONE = LeaseState.R, LeaseState.W, LeaseState.H, LeaseState.NONE
-LIMIT = 1048576
 READS, WRITES = 1, 2
 Key = tuple[int, uuid.UUID]
 
@@ -73,27 +73,16 @@ class Held:
     place: int
 
 
-@dataclass
-class Tables:
-    opens: list[Open] = field(default_factory=list)
-    leases: dict[Key, Lease] = field(default_factory=dict)
-    given_back: dict[Key, Lease] = field(default_factory=dict)
-    held: list[Held] = field(default_factory=list)
-    expired: set[Key] = field(default_factory=set)
-    connected: set[int] = field(default_factory=set)
-
-
-def granted_form(state: LeaseState) -> LeaseState:
-    """What is granted of a state: nothing where it has no reads."""
-    return state if R in state else NONE
-
-
 class Model:
     """Answers calls with what arrives at clients, in the order in which it is sent."""
 
     def __init__(self, files: dict[int, bytes], departures: frozenset[Departure]) -> None:
         self.contents = dict(files)
-        self.tables = Tables()
+        self._opens: list[Open] = []
+        self._leases: dict[Key, Lease] = {}
+        self._given_back: dict[Key, Lease] = {}
+        self._held: list[Held] = []
+        self._expired: set[Key] = set()
         self._departures = departures
         self._file_ids = 0
         self._outs: list[Arrival] = []
@@ -103,8 +92,7 @@ class Model:
         return outs
 
     def join(self, client: int) -> None:
-        self.tables.connected.add(client)
-        self.tables.expired = {it for it in self.tables.expired if it[0] != client}
+        self._expired = {it for it in self._expired if it[0] != client}
 
     def receive(self, client: int, request: Request, place: int) -> None:
         """Receives a request, which has this place among all."""
@@ -117,14 +105,13 @@ class Model:
         if refusal is not None:
             self._answer(held, failed(request, refusal))
         elif self._is_behind(held) or not self._tried(held):
-            self.tables.held.append(held)
+            self._held.append(held)
         if isinstance(request, CloseRequest):
             self._passes()
 
     def cut(self, client: int) -> None:
-        self.tables.connected.discard(client)
-        self.tables.held = [it for it in self.tables.held if it.client != client]
-        for one in [it for it in self.tables.opens if it.client == client and it.connected]:
+        self._held = [it for it in self._held if it.client != client]
+        for one in [it for it in self._opens if it.client == client and it.connected]:
             one.connected = False
             if not self._is_kept(one):
                 self._close(one, dropped={Departure.KEPT_ALONE, Departure.UNKEPT_GIVES_BACK} <= self._departures and one.durable)
@@ -136,19 +123,19 @@ class Model:
         self._passes()
 
     def _expire(self, key: Key) -> None:
-        lease = self.tables.leases[key]
+        lease = self._leases[key]
         if Departure.OPENS_STAY in self._departures:
             lease.state, lease.broken_to, lease.none_next = NONE, None, False
         else:
-            for one in [it for it in self.tables.opens if it.key == key]:
+            for one in [it for it in self._opens if it.key == key]:
                 self._close(one)
-            self.tables.expired.add(key)
+            self._expired.add(key)
 
     def expired_with(self, key: Key) -> list[Key]:
         """The keys whose breaks run out when the one of this key does."""
         if Departure.TIMERS_TOGETHER not in self._departures:
             return [key]
-        return sorted(it for it in self.tables.leases if it[0] == key[0] and self.is_breaking(it))
+        return sorted(it for it in self._leases if it[0] == key[0] and self.is_breaking(it))
 
     def scavenge(self, client: int, file: int) -> bool:
         """The timer of a durable open runs out; whether there is one."""
@@ -160,12 +147,12 @@ class Model:
 
     def kept(self, client: int, file: int) -> Open | None:
         """The client's oldest durable open on a file that waits for it."""
-        found = [it for it in self.tables.opens if (it.client, it.file, it.connected) == (client, file, False)]
+        found = [it for it in self._opens if (it.client, it.file, it.connected) == (client, file, False)]
         return min(found, key=lambda it: it.file_id) if found else None
 
     def is_breaking(self, key: Key) -> bool:
         """Whether a break of a lease waits for its acknowledgment."""
-        return key in self.tables.leases and self.tables.leases[key].broken_to is not None
+        return key in self._leases and self._leases[key].broken_to is not None
 
     # what a request meets
 
@@ -188,19 +175,19 @@ class Model:
         if Departure.NOTHING_BEHIND in self._departures:
             return False
         return any((it.client, it.file) == (held.client, held.file) and it is not held and it.place < held.place
-                   for it in self.tables.held)
+                   for it in self._held)
 
     def _open_of(self, client: int, file_id: int) -> Open | None:
-        return next((it for it in self.tables.opens if (it.file_id, it.client, it.connected) == (file_id, client, True)), None)
+        return next((it for it in self._opens if (it.file_id, it.client, it.connected) == (file_id, client, True)), None)
 
     def _is_kept(self, one: Open) -> bool:
-        lease = self.tables.leases.get(one.key) if one.key else None
+        lease = self._leases.get(one.key) if one.key else None
         if not one.durable or lease is None or H not in lease.state:
             return False
         if lease.was_given_back and Departure.BACK_NOT_KEPT in self._departures:
             return False
         if Departure.KEPT_ALONE in self._departures and any(
-                it.file == one.file and it.connected and it.client != one.client for it in self.tables.opens):
+                it.file == one.file and it.connected and it.client != one.client for it in self._opens):
             return False
         return lease.broken_to is None or Departure.BREAKING_KEPT in self._departures
 
@@ -232,13 +219,13 @@ class Model:
         if not one.access & WRITES:
             self._answer(held, failed(request, Status.ACCESS_DENIED))
             return True
-        if request.offset + len(request.data) > LIMIT:
+        if request.offset + len(request.data) > LARGEST_FILE:
             self._answer(held, failed(request, Status.INVALID_PARAMETER))
             return True
         for _ in range(3):
-            wanted = {key: NONE for key in self._other_keys(one.file, one.key) if self.tables.leases[key].state}
+            wanted = {key: NONE for key in self._other_keys(one.file, one.key) if self._leases[key].state}
             waits = self._broken(wanted, to_none=True)
-            if any(self.tables.leases[key].broken_to for key in waits) and Departure.WRITES_GO_ON not in self._departures:
+            if any(self._leases[key].broken_to for key in waits) and Departure.WRITES_GO_ON not in self._departures:
                 return False
             if waits or not wanted:
                 break
@@ -252,7 +239,7 @@ class Model:
         if ask.reconnect is not None:
             self._reconnect(held, request, key, ask.reconnect)
             return True
-        lease = self.tables.leases.get(key) if key else None
+        lease = self._leases.get(key) if key else None
         if lease and lease.file != held.file:
             self._answer(held, failed(request, Status.INVALID_PARAMETER))
             return True
@@ -277,36 +264,36 @@ class Model:
         conflicts = self._conflicts(request)
         others = self._other_keys(request.file, key)
         if not conflicts:
-            return {it: self.tables.leases[it].state & ~W for it in others if W in self.tables.leases[it].state}
+            return {it: self._leases[it].state & ~W for it in others if W in self._leases[it].state}
         conflicting = {it.key for it in conflicts}
-        wanted = {it: self.tables.leases[it].state & ~H for it in others if H in self.tables.leases[it].state
+        wanted = {it: self._leases[it].state & ~H for it in others if H in self._leases[it].state
                   and (it in conflicting or Departure.BREAKS_ALL in self._departures)}
         return wanted or None
 
     def _other_keys(self, file: int, key: Key | None) -> list[Key]:
-        return sorted({it.key for it in self.tables.opens if it.file == file and it.key and it.key != key})
+        return sorted({it.key for it in self._opens if it.file == file and it.key and it.key != key})
 
     # what a request does
 
     def _drop_disconnected(self, held: Held, request: CreateRequest, key: Key | None) -> None:
-        waits = held in self.tables.held and (Departure.KEPT_HOLDS_ALL in self._departures
+        waits = held in self._held and (Departure.KEPT_HOLDS_ALL in self._departures
                                               or Departure.KEPT_HOLDS in self._departures and bool(self._conflicts(request)))
-        for one in [it for it in self.tables.opens if it.file == held.file and not it.connected and it.key]:
+        for one in [it for it in self._opens if it.file == held.file and not it.connected and it.key]:
             departure = Departure.OWN_DROPPED if one.key == key else Departure.OPEN_DROPS
             if departure in self._departures and not (waits and one.key and self.is_breaking(one.key)):
                 self._close(one, dropped=True)
 
     def _conflicts(self, request: CreateRequest) -> list[Open]:
         access, share = request.access.value, request.share.value
-        return [it for it in self.tables.opens
+        return [it for it in self._opens
                 if it.file == request.file and (it.access & ~share or access & ~it.share)]
 
     def _broken(self, wanted: dict[Key, LeaseState], to_none: bool = False) -> list[Key]:
         """Breaks these keys to these states; answers those that are breaking then."""
         for key in sorted(wanted):
-            for one in [it for it in self.tables.opens if it.key == key and not it.connected]:
+            for one in [it for it in self._opens if it.key == key and not it.connected]:
                 self._close(one, dropped=True)
-            lease = self.tables.leases.get(key)
+            lease = self._leases.get(key)
             if lease and lease.broken_to is None:
                 self._send_break(key, lease, wanted[key])
             elif lease and to_none and lease.broken_to:
@@ -323,38 +310,38 @@ class Model:
         lease = self._granted(held, ask, key) if key else None
         durable = ask.durable and lease is not None and H in lease.state
         self._file_ids += 1
-        self.tables.opens.append(Open(self._file_ids, held.client, held.file, key, request.access.value, request.share.value,
+        self._opens.append(Open(self._file_ids, held.client, held.file, key, request.access.value, request.share.value,
                                       durable))
         contexts = CreateAnswer(ask.key, lease.state if lease else NONE, bool(lease and lease.broken_to is not None), durable)
         self._answer(held, Created(request.file, self._file_ids, contexts.write()), Opened(held.file, held.client))
 
     def _granted(self, held: Held, ask: CreateAsk, key: Key) -> Lease:
         want = granted_form(ask.state)
-        alone = all(it.key == key for it in self.tables.opens if it.file == held.file)
-        offered = NONE if key in self.tables.expired else want if alone else granted_form(want & ~W)
-        back = self.tables.given_back.pop(key, None)
-        lease = self.tables.leases.get(key)
+        alone = all(it.key == key for it in self._opens if it.file == held.file)
+        offered = NONE if key in self._expired else want if alone else granted_form(want & ~W)
+        back = self._given_back.pop(key, None)
+        lease = self._leases.get(key)
         if lease is None and back is not None and Departure.GIVEN_BACK in self._departures:
-            lease = self.tables.leases[key] = back
+            lease = self._leases[key] = back
             lease.was_given_back = True
             rises = back.state in offered
         else:
             rises = Departure.RISES_WHOLE not in self._departures or offered == want
         if lease is None:
-            lease = self.tables.leases[key] = Lease(held.file, offered)
+            lease = self._leases[key] = Lease(held.file, offered)
         elif lease.broken_to is None and lease.state in want and rises:
             lease.state = offered
         return lease
 
     def _reconnect(self, held: Held, request: CreateRequest, key: Key | None, file_id: int) -> None:
-        one = next((it for it in self.tables.opens if (it.file_id, it.client, it.file, it.connected, it.key)
+        one = next((it for it in self._opens if (it.file_id, it.client, it.file, it.connected, it.key)
                     == (file_id, held.client, held.file, False, key)), None)
-        beside = any(it.file == held.file and it is not one for it in self.tables.opens)
+        beside = any(it.file == held.file and it is not one for it in self._opens)
         if one is None or key is None or beside and Departure.REFUSED_BESIDE in self._departures:
             self._answer(held, failed(request, Status.OBJECT_NAME_NOT_FOUND))
             return
         one.connected = True
-        lease = self.tables.leases[key]
+        lease = self._leases[key]
         contexts = CreateAnswer(key[1], lease.state, lease.broken_to is not None)
         self._answer(held, Created(request.file, one.file_id, contexts.write()))
 
@@ -366,7 +353,7 @@ class Model:
             self._answer(held, failed(request, fault.status))
             return
         key = (client, given.key)
-        lease = self.tables.leases.get(key)
+        lease = self._leases.get(key)
         if lease is None or lease.broken_to is None or given.state not in lease.broken_to:
             refusal = Status.OBJECT_NAME_NOT_FOUND if lease is None else \
                 Status.UNSUCCESSFUL if lease.broken_to is None else Status.REQUEST_NOT_ACCEPTED
@@ -379,24 +366,24 @@ class Model:
         lease.none_next = False
 
     def _close(self, one: Open, dropped: bool = False) -> None:
-        self.tables.opens.remove(one)
-        if one.key and all(it.key != one.key for it in self.tables.opens):
-            lease = self.tables.leases.pop(one.key)
+        self._opens.remove(one)
+        if one.key and all(it.key != one.key for it in self._opens):
+            lease = self._leases.pop(one.key)
             if dropped:
-                self.tables.given_back[one.key] = lease
+                self._given_back[one.key] = lease
 
     def _passes(self) -> None:
         answered = True
         while answered:
             answered = False
-            waiting = sorted(self.tables.held, key=lambda it: (it.file, it.place))
+            waiting = sorted(self._held, key=lambda it: (it.file, it.place))
             if Departure.BY_ARRIVAL in self._departures:
                 waiting.sort(key=lambda it: it.place)
             if Departure.LAST_FIRST in self._departures:
                 waiting.reverse()
             for held in waiting:
-                if held in self.tables.held and not self._is_behind(held) and self._tried(held):
-                    self.tables.held.remove(held)
+                if held in self._held and not self._is_behind(held) and self._tried(held):
+                    self._held.remove(held)
                     answered = True
 
     def _answer(self, held: Held, reply: Reply, effect: Opened | Changed | None = None) -> None:

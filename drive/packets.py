@@ -96,8 +96,7 @@ def _messages(path: str, ports: Sequence[int]) -> Iterator[tuple[bytes, ...]]:
     """The messages of each packet that the filter lets through."""
     words = [*_words(path, ports), "-T", "jsonraw", "--no-duplicate-keys", "-j", "smb2"]
     with _started(words, subprocess.PIPE, subprocess.DEVNULL) as process:
-        if process.stdout is None:
-            raise DriveFault("tshark has no stream")
+        assert process.stdout
         lines: list[str] = []
         for line in process.stdout:
             lines.append(line)

@@ -1,6 +1,7 @@
-"""Where a server is, and who asks."""
+"""Where a server is, who asks, and what a run has to know of it."""
 from __future__ import annotations
 
+from abc import ABC, abstractmethod
 from dataclasses import dataclass
 
 
@@ -11,3 +12,45 @@ class Place:
     share: str
     user: str
     password: str
+
+
+class Server(ABC):
+    """A server that is driven. What a kind of server has nothing to do for is left as it is here."""
+
+    # whether it is there behind the run, with the files that were made
+    stays = False
+    # whether it is the one of docs/PROFILE.md, whose timers can be ended one by one
+    is_profiled = False
+    place: Place
+
+    def name_of(self, file: int) -> str:
+        """The name of a file of the schedule."""
+        return f"file-{file}"
+
+    def is_prepared(self) -> None:
+        """Waits until the connection that made the files is forgotten."""
+
+    def new_process(self) -> int | None:
+        """The process that serves the connection made last, where it is known."""
+        return None
+
+    def wait_for_end(self, process: int | None) -> None:
+        """Waits until what a closed connection leaves to do is done."""
+
+    @abstractmethod
+    def begin_break_timer(self, process: int | None, guid: bytes, key: bytes) -> None:
+        """Has the break timers of a connection run out, or that of one lease of a client."""
+
+    def end_break_timer(self, process: int | None) -> None:
+        """Puts back what that took."""
+
+    @abstractmethod
+    def pass_durable_timer(self, file_ids: list[int]) -> None:
+        """Has the timers of disconnected opens run out, or that of the first of these that is still there."""
+
+    def content(self, file: int) -> bytes | None:  # pylint: disable=unused-argument
+        """The file as it is on disk, where that can be looked at."""
+        return None
+
+    def close(self) -> None:
+        """Ends it, where it was made for the run."""

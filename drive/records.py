@@ -17,25 +17,11 @@ def applied(change: Changed, content: bytes) -> bytes:
     return content[:change.offset] + change.data + content[change.offset + len(change.data):]
 
 
-class ArrivalKind(Enum):
-    """What came: the answer to an acknowledgment or a close, a break, or any other answer."""
-
-    END = "end"
-    BREAK = "break"
-    ANSWER = "answer"
-
-
 class Order(Enum):
     """Which of two messages on different connections comes first within one step."""
 
     BREAKS_FIRST = "breaks before answers"
     BREAKS_LAST = "breaks after answers"
-
-
-RANKS: dict[Order, dict[ArrivalKind, int]] = {
-    Order.BREAKS_FIRST: {ArrivalKind.END: 0, ArrivalKind.BREAK: 1, ArrivalKind.ANSWER: 2},
-    Order.BREAKS_LAST: {ArrivalKind.END: 0, ArrivalKind.ANSWER: 1, ArrivalKind.BREAK: 2},
-}
 
 
 @dataclass(frozen=True)
@@ -48,13 +34,11 @@ class Arrival:
     reply: Reply
     effect: Opened | Changed | None = None
 
-    @property
-    def kind(self) -> ArrivalKind:
-        """What it is where messages of a step are put in order."""
-        if isinstance(self.reply, Break):
-            return ArrivalKind.BREAK
-        ends = (AcknowledgeDone, AcknowledgeFailed, Closed, CloseFailed)
-        return ArrivalKind.END if isinstance(self.reply, ends) else ArrivalKind.ANSWER
+    def rank(self, order: Order) -> int:
+        """Where it stands among the messages of a step: answers to acknowledgments and closes come first."""
+        if isinstance(self.reply, (AcknowledgeDone, AcknowledgeFailed, Closed, CloseFailed)):
+            return 0
+        return 1 if isinstance(self.reply, Break) == (order is Order.BREAKS_FIRST) else 2
 
     def lines(self) -> list[str]:
         effect = [out_words(self.effect)] if self.effect else []
@@ -68,8 +52,7 @@ def in_order(arrivals: Sequence[Arrival], order: Order) -> list[Arrival]:
         queues.setdefault(arrival.client, []).append(arrival)
     ordered: list[Arrival] = []
     while queues:
-        first = min((queue[0] for queue in queues.values()),
-                    key=lambda it: (RANKS[order][it.kind], it.place, it.client))
+        first = min((queue[0] for queue in queues.values()), key=lambda it: (it.rank(order), it.place, it.client))
         ordered.append(queues[first.client].pop(0))
         if not queues[first.client]:
             del queues[first.client]

@@ -6,7 +6,7 @@ import sys
 from collections.abc import Sequence
 
 from drive.arguments import runner_of, server_arguments
-from drive.commands import NOT_DRIVEN, SAFE, UNSAFE, ended, schedule_in, write_text
+from drive.commands import NOT_DRIVEN, SAFE, UNSAFE, ended, schedule_in, write
 from drive.records import Order
 from drive.runner import Outcome
 
@@ -49,7 +49,7 @@ def _drive(arguments: argparse.Namespace) -> int:
         print(f"left out: {line}", file=sys.stderr)
     record = outcome.text(arguments.messages)
     if arguments.record:
-        write_text(arguments.record, record)
+        write(arguments.record, record.encode())
         sys.stdout.write("".join(f"{it}\n" for it in (*verdict_lines(outcome), *outcome.leases.remarks)))
     else:
         sys.stdout.write(record + "".join(f"# {it}\n" for it in verdict_lines(outcome)))

@@ -9,12 +9,13 @@ from dataclasses import dataclass, field
 from smblease.processes import LineClients, Speaker, client_process
 from smblease.program import Verdict, judge, replay
 from smblease.schedules import Event, EventKind, Schedule
+from smblease.values import Rules
 
 from drive.driver import Driver, files_made, files_removed
 from drive.exchange import LeaseCount
 from drive.faults import Undrivable
+from drive.place import Server
 from drive.records import Order, Record
-from drive.servers import Server
 
 LOG = logging.getLogger("drive")
 # What a test puts between the driver and the machines.
@@ -62,6 +63,7 @@ class Runner:
     server: Callable[[], Server]
     skip: bool = False
     filtered: Filter | None = None
+    rules: Rules = Rules()
 
     def run(self, schedule: Schedule) -> Outcome:
         with self.driving(schedule) as driver:
@@ -112,7 +114,7 @@ class Runner:
         """How many opens there are where the schedule is replayed, by which its raw lines can name them."""
         if all(event.kind is not EventKind.RAW for event in schedule.events):
             return 0
-        return sum(fact.startswith("opened ") for fact in replay(self.program, schedule.text))
+        return sum(fact.startswith("opened ") for fact in replay(self.program, schedule.text, rules=self.rules))
 
     def _clients(self, schedule: Schedule) -> LineClients:
         speaker: Speaker = client_process(self.program, schedule)

@@ -9,12 +9,11 @@ import subprocess
 import tempfile
 import time
 import uuid
-from typing import Protocol
 
 from drive.clock import Clocks, library
 from drive.connections import password_hash
 from drive.faults import DriveFault, Undrivable
-from drive.place import Place
+from drive.place import Place, Server
 
 SMBD = "/usr/sbin/smbd"
 SHARE = "share"
@@ -64,69 +63,21 @@ SETTLED = 0.05
 PROCESS_PATIENCE = 2.0
 
 
-class Server(Protocol):
-    # whether it is there behind the run, with the files that were made
-    stays: bool
-    # whether it is the one of docs/PROFILE.md, whose timers can be ended one by one
-    is_profiled: bool
-
-    @property
-    def place(self) -> Place:
-        ...
-
-    def name_of(self, file: int) -> str:
-        """The name of a file of the schedule."""
-
-    def is_prepared(self) -> None:
-        """Waits until the connection that made the files is forgotten."""
-
-    def new_process(self) -> int | None:
-        """The process that serves the connection made last, where it is known."""
-
-    def wait_for_end(self, process: int | None) -> None:
-        """Waits until what a closed connection leaves to do is done."""
-
-    def begin_break_timer(self, process: int | None, guid: bytes, key: bytes) -> None:
-        """Has the break timers of a connection run out, or that of one lease of a client."""
-
-    def end_break_timer(self, process: int | None) -> None:
-        """Puts back what that took."""
-        return None
-
-    def pass_durable_timer(self, file_ids: list[int]) -> None:
-        """Has the timers of disconnected opens run out, or that of the first of these that is still there."""
-
-    def content(self, file: int) -> bytes | None:
-        """The file as it is on disk, where that can be looked at."""
-
-    def close(self) -> None:
-        """Ends it, where it was made for the run."""
-        return None
-
-
 class NamedServer(Server):
     """A server that somebody named. Its timers are waited for, and its files have names of their own."""
 
     stays = True
-    is_profiled = False
 
     def __init__(self, place: Place, break_time: float) -> None:
-        self._place = place
+        self.place = place
         self._break_time = break_time
         self._prefix = f"leasecheck-{uuid.uuid4()}"
-
-    @property
-    def place(self) -> Place:
-        return self._place
 
     def name_of(self, file: int) -> str:
         return f"{self._prefix}-{file}"
 
     def is_prepared(self) -> None:
         time.sleep(SETTLED)
-
-    def new_process(self) -> int | None:
-        return None
 
     def wait_for_end(self, process: int | None) -> None:
         time.sleep(0.5)
@@ -137,15 +88,9 @@ class NamedServer(Server):
     def pass_durable_timer(self, file_ids: list[int]) -> None:
         raise Undrivable("the timer of a disconnected open is too long to be waited for")
 
-    def content(self, file: int) -> bytes | None:
-        return None
-
 
 class PrivateServer(Server):
     """An smbd of one's own on loopback, in a folder of its own, with clocks that can be put forward."""
-
-    stays = False
-    is_profiled = False
 
     def __init__(self, log: str | None = None) -> None:
         """`log` is a file that gets smbd's log, at level 10, when it is ended."""
@@ -154,7 +99,7 @@ class PrivateServer(Server):
         clock = library()
         self._log = log
         self._folder = tempfile.mkdtemp(prefix="leasecheck-drive-")
-        self._port = free_port()
+        self.place = Place("127.0.0.1", free_port(), SHARE, "root", PASSWORD)
         self._write_folder()
         self._clocks = Clocks(f"{self._folder}/clocks")
         self._known: set[int] = set()
@@ -164,13 +109,6 @@ class PrivateServer(Server):
         except BaseException:
             self.close()
             raise
-
-    @property
-    def place(self) -> Place:
-        return Place("127.0.0.1", self._port, SHARE, "root", PASSWORD)
-
-    def name_of(self, file: int) -> str:
-        return f"file-{file}"
 
     def new_process(self) -> int | None:
         until = time.monotonic() + PROCESS_PATIENCE
@@ -243,7 +181,7 @@ class PrivateServer(Server):
         for name in FOLDERS:
             os.mkdir(f"{self._folder}/{name}", 0o755)
         with open(f"{self._folder}/smb.conf", "w", encoding="utf-8") as text:
-            text.write(CONFIGURATION.format(folder=self._folder, port=self._port, level=10 if self._log else 1))
+            text.write(CONFIGURATION.format(folder=self._folder, port=self.place.port, level=10 if self._log else 1))
         with open(f"{self._folder}/private/smbpasswd", "w", encoding="utf-8") as text:
             text.write(f"root:0:{32 * 'X'}:{password_hash(PASSWORD)}:[U          ]:LCT-00000001:\n")
 
@@ -257,7 +195,7 @@ class PrivateServer(Server):
         until = time.monotonic() + 25
         while time.monotonic() < until and self._process.poll() is None:
             try:
-                socket.create_connection(("127.0.0.1", self._port), 5).close()
+                socket.create_connection((self.place.host, self.place.port), 5).close()
                 break
             except OSError:
                 time.sleep(0.005)
@@ -275,11 +213,11 @@ class PrivateServer(Server):
     def _children(self) -> dict[int, str]:
         """smbd's own processes with their names, those that have ended left out."""
         found: dict[int, str] = {}
-        for text in _words(f"/proc/{self._process.pid}/task/{self._process.pid}/children"):
-            status = _words(f"/proc/{text}/stat")
-            name = _line(f"/proc/{text}/comm")
-            if len(status) > 2 and "Z" not in status[2:4]:
-                found[int(text)] = name
+        for text in _line(f"/proc/{self._process.pid}/task/{self._process.pid}/children").split():
+            # (a name is in parentheses, and the state stands behind them)
+            head, _, rest = _line(f"/proc/{text}/stat").rpartition(")")
+            if rest and not rest.startswith(" Z"):
+                found[int(text)] = head.partition("(")[2]
         return found
 
 
@@ -289,10 +227,6 @@ def _line(path: str) -> str:
             return text.read().strip()
     except OSError:
         return ""
-
-
-def _words(path: str) -> list[str]:
-    return _line(path).split()
 
 
 def free_port() -> int:

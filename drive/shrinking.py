@@ -25,14 +25,11 @@ def shrunk(schedule: Schedule, stays: Stays) -> Schedule:
 
 def _without_parts(schedule: Schedule, events: tuple[Event, ...], part: int, stays: Stays) -> tuple[Event, ...]:
     """Tries to leave out each run of so many events, from the last on."""
-    start = max(0, len(events) - part)
-    while True:
+    for start in (*range(len(events) - part, 0, -part), 0):
         shorter = events[:start] + events[start + part:]
         if len(shorter) < len(events) and stays(schedule.with_events(shorter)):
             events = shorter
-        if start == 0:
-            return events
-        start = max(0, start - part)
+    return events
 
 
 def _without_unused(schedule: Schedule, stays: Stays) -> Schedule:

@@ -203,6 +203,7 @@ class Connection(asyncio.Protocol):
             request.session.check_signature(message)
         if message.command not in WITHOUT_TREE:
             request.require_tree()
+        message.check_size()
         handled = handler(request)
         return handled if isinstance(handled, Answer) else (yield from handled)
 
@@ -232,10 +233,9 @@ class Connection(asyncio.Protocol):
         if pending.is_answered or not self.is_open:
             return
         pending.chain.send()
-        self.server.last_async += 1
         message = pending.request.message
         interim = self.response(pending, Answer(Status.PENDING), pending.request.session_id, pending.request.tree_id)
-        pending.async_id = interim.async_id = self.server.last_async
+        pending.async_id = interim.async_id = next(self.server.async_ids)
         interim.flags = FROM_SERVER | ASYNC | (message.flags & 4)
         self.send(framed([interim]))
 
@@ -271,4 +271,5 @@ class Connection(asyncio.Protocol):
             self.is_open = False
             self._transport.abort()
             self.server.connections.discard(self)
-            self.server.end_sessions(self)
+            for session in list(self.sessions.values()):
+                self.server.end_session(session)

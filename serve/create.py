@@ -15,6 +15,7 @@ from serve.machine import Handling, MachineRequest, Steps, Waits, refuse_failed
 from serve.namespace import ARCHIVE, READ_ONLY, Node, now
 from serve.opens import ALL_ACCESS, BATCH, LEASE, NO_LEVEL, SHARE_READ, MachineClient, Open, counts, is_stat, reads, writes
 from serve.packets import Answer
+from serve.read_write_lock import attributes_of
 from serve.request import Handlers, Request
 from serve.status_error import StatusError
 
@@ -84,7 +85,7 @@ class Create(Handlers):
         node = node or self._server.names.make(wanted.path, True)
         if any(conflicts(wanted, it) for it in node.opens):
             raise StatusError(Status.SHARING_VIOLATION)
-        return self._kept(request, wanted, node, self._server.own_file_id())
+        return self._kept(request, wanted, node)
 
     def _make(self, wanted: CreateParameters) -> Node:
         base = wanted.path.partition(":")[0]
@@ -110,7 +111,7 @@ class Create(Handlers):
                 yield from self._break_writes_of_others(request, node)
             if node.is_gone:
                 raise Vanished
-            opened = self._kept(request, wanted, node, self._server.own_file_id())
+            opened = self._kept(request, wanted, node)
             yield from self._break_for_deletion(request, opened)
             return opened, b""
         client, contexts = self._machine_client(request, wanted, node)
@@ -223,11 +224,12 @@ class Create(Handlers):
             self._server.leases.granted(client, node, granted)
         return opened, reply.contexts
 
-    def _kept(self, request: Request, wanted: CreateParameters, node: Node, file_id: int) -> Open:
-        opened = Open(file_id, node, wanted.access, wanted.share, request.connection, request.session, request.tree,
-                      deletes=bool(wanted.options & DELETE_ON_CLOSE), owner=request.session.owner)
+    def _kept(self, request: Request, wanted: CreateParameters, node: Node, file_id: int | None = None) -> Open:
+        """An open of the machine's by its FileId, or one of the shell's own."""
+        opened = Open(file_id or next(self._server.own_file_ids), node, wanted.access, wanted.share, request.connection,
+                      request.session, request.tree, deletes=bool(wanted.options & DELETE_ON_CLOSE), owner=request.session.owner)
         node.opens.append(opened)
-        self._server.opens[file_id] = opened
+        self._server.opens[opened.file_id] = opened
         return opened
 
     @staticmethod
@@ -287,8 +289,6 @@ class Create(Handlers):
             contexts = append_context(contexts, Context(ON_DISK, struct.pack("<QQ16s", node.identifier, 1, b"")))
         if ALLOCATION in wanted.others and not node.is_folder and action != OPENED:
             node.allocate(wanted.allocation)
-        times = node.times
-        body = struct.pack("<HBBLQQQQQQLLQQLL", 89, opened.level, 0, action, times.created, times.accessed, times.written,
-                           times.changed, node.allocation, node.length, node.attributes or 0x80, 0, opened.file_id,
-                           opened.file_id, HEADER + 88 if contexts else 0, len(contexts))
-        return Answer(Status.SUCCESS, body + contexts, opened=opened.file_id)
+        head = struct.pack("<HBBL", 89, opened.level, 0, action) + attributes_of(node)
+        tail = struct.pack("<LQQLL", 0, opened.file_id, opened.file_id, HEADER + 88 if contexts else 0, len(contexts))
+        return Answer(Status.SUCCESS, head + tail + contexts, opened=opened.file_id)

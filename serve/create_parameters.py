@@ -67,7 +67,6 @@ class CreateParameters:
 
 
 def read_parameters(message: RequestMessage) -> CreateParameters:
-    message.expect(57)
     length = message.number(HEADER + 52, 4)
     text = message.part(message.number(HEADER + 48, 4), length) if length else b""
     try:

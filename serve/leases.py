@@ -6,9 +6,10 @@ from uuid import UUID
 
 from smblease import (AcknowledgeDone, AcknowledgeRequest, Acknowledgment, CreateAnswer, Fault, LeaseState, Notification,
                       Response, Status)
+from smblease.messages import ACKNOWLEDGMENT_SIZE
 
 from drive.headers import HEADER
-from serve.machine import Handling, MachineRequest, Waits, refuse_failed
+from serve.machine import Handling, MachineRequest, Steps, Waits, refuse_failed
 from serve.namespace import Node
 from serve.opens import LEVEL_II, NO_LEVEL, LeaseSeen, MachineClient, Open
 from serve.packets import Answer
@@ -16,7 +17,6 @@ from serve.request import Handlers, Request
 from serve.status_error import StatusError
 
 OPLOCK = struct.Struct("<HBBLQQ")
-ACKNOWLEDGMENT_SIZE = 36
 
 
 class Leases(Handlers):
@@ -59,10 +59,9 @@ class Leases(Handlers):
         else:
             opened.is_breaking = is_acknowledged
 
-    def _acknowledge_itself(self, opened: Open, state: LeaseState) -> Handling:
+    def _acknowledge_itself(self, opened: Open, state: LeaseState) -> Steps:
         if opened.client and opened.key:
             yield from self.acknowledged(opened.client, Acknowledgment(opened.key, state).write())
-        return Answer(Status.SUCCESS)
 
     def acknowledge(self, request: Request) -> Handling:
         """An acknowledgment of a lease, or of an oplock (2.2.24). What is as long as the first is the machine's to refuse."""

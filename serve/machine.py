@@ -61,7 +61,8 @@ def refuse_failed(reply: Reply) -> None:
 
 @dataclass(eq=False)
 class Task:
-    handling: Handling
+    # (the steps that nobody waits for have no answer)
+    handling: Handling | Steps
     ended: Callable[[Answer], None]
     is_over: bool = False
 

@@ -6,6 +6,7 @@ from dataclasses import dataclass, field
 from typing import TYPE_CHECKING
 
 from smblease import Status
+from smblease.values import LARGEST_FILE
 
 from serve.status_error import StatusError
 
@@ -15,8 +16,6 @@ if TYPE_CHECKING:
 MOST = 255
 READ_ONLY, FOLDER, ARCHIVE = 0x1, 0x10, 0x20
 FORBIDDEN = set('"*/<>?|') | {chr(code) for code in range(32)}
-# The bytes that a file may have, as the machine has it.
-LARGEST = 1048576
 UNIT = 4096
 # Seconds from 1601 to 1970.
 EPOCH = 11644473600
@@ -78,7 +77,7 @@ class Node:
 
 
 def check_size(size: int) -> None:
-    if size > LARGEST:
+    if size > LARGEST_FILE:
         raise StatusError(Status.INVALID_PARAMETER)
 
 

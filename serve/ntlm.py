@@ -49,13 +49,7 @@ class Authentication:
         self.is_over = False
 
     def reply(self, data: bytes) -> bytes:
-        """The server's next message."""
-        try:
-            return self._reply(data)
-        except Unreadable:
-            raise StatusError(Status.INVALID_PARAMETER) from None
-
-    def _reply(self, data: bytes) -> bytes:
+        """The server's next message. What can't be read is Unreadable."""
         is_wrapped = data[:1] != SIGNATURE[:1]
         token = spnego.unwrapped(data) if is_wrapped else spnego.Token(data)
         self._mechanisms = self._mechanisms or token.mechanisms

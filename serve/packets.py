@@ -7,30 +7,34 @@ import struct
 from dataclasses import dataclass, field
 
 from smblease import Status
+from smblease.values import LARGEST_FILE
 
-from drive.headers import ASYNC, FROM_SERVER, HEADER, RELATED, Message, Unreadable
+from drive.headers import ASYNC, FROM_SERVER, HEADER, RELATED, Command, Field, Message, Unreadable
 from drive.packets import PROTOCOL
 
 HEAD = struct.Struct("<4sHHLHHLLQQQ16s")
 ERROR_BODY = struct.pack("<HBBL", 9, 0, 0, 0) + b"\0"
 SIGNED = 8
 # What a frame may hold: the most that is read or written at once, with room for headers and contexts.
-LONGEST_FRAME = 1048576 + 131072
+LONGEST_FRAME = LARGEST_FILE + 131072
 LONGEST_WITHOUT_SESSION = 65536
 MOST_IN_FRAME = 1024
+# The StructureSize of requests.
+SIZES = {Command.NEGOTIATE: 36, Command.SESSION_SETUP: 25, Command.LOGOFF: 4, Command.TREE_CONNECT: 9, Command.TREE_DISCONNECT: 4,
+         Command.CREATE: 57, Command.CLOSE: 24, Command.FLUSH: 24, Command.READ: 49, Command.WRITE: 49, Command.LOCK: 48,
+         Command.IOCTL: 57, Command.ECHO: 4, Command.QUERY_DIRECTORY: 33, Command.CHANGE_NOTIFY: 32, Command.QUERY_INFO: 41,
+         Command.SET_INFO: 33}
 
 
 @dataclass(frozen=True)
 class RequestMessage(Message):
     """A request; its fields are read at their places from the header's first byte."""
 
+    credits_asked = Field(14, 2)
+
     @property
     def charge(self) -> int:
         return max(1, self.number(6, 2))
-
-    @property
-    def credits_asked(self) -> int:
-        return self.number(14, 2)
 
     @property
     def is_related(self) -> bool:
@@ -48,9 +52,9 @@ class RequestMessage(Message):
         """Bytes that lie where a field of two bytes says."""
         return self.part(self.number(offset_place, 2), length) if length else b""
 
-    def expect(self, size: int) -> None:
-        """The StructureSize has to be this."""
-        if self.number(HEADER, 2) != size:
+    def check_size(self) -> None:
+        """The StructureSize has to be that of the command. The messages of OPLOCK_BREAK have several."""
+        if self.command in SIZES and self.number(HEADER, 2) != SIZES[self.command]:
             raise Unreadable
 
 

@@ -16,6 +16,8 @@ from serve.request import Handlers, Request
 from serve.status_error import StatusError
 
 DIRECTORY, FULL, BOTH, NAMES, BOTH_WITH_ID, FULL_WITH_ID = 1, 2, 3, 12, 37, 38
+# How many zeros an entry has before its name, and whether it has the file's identifier after them. One of NAMES has neither.
+GAPS = {DIRECTORY: (0, False), FULL: (4, False), BOTH: (30, False), BOTH_WITH_ID: (32, True), FULL_WITH_ID: (8, True)}
 RESTART, SINGLE, REOPEN = 1, 2, 16
 WILD = str.maketrans({"<": "*", ">": "?", '"': "."})
 
@@ -24,36 +26,24 @@ def entry(node: Node, name: str, kind: int) -> bytes:
     """An entry for a file, with no distance to the next one yet."""
     text = name.encode("utf-16le", errors="replace")
     length = struct.pack("<L", len(text))
-    times = attributes_of(node)
-    # An entry has the length before the allocation.
-    head = bytes(8) + times[:32] + times[40:48] + times[32:40] + times[48:] + length
     if kind == NAMES:
         return bytes(8) + length + text
-    if kind == DIRECTORY:
-        return head + text
-    head += bytes(4)
-    if kind in (BOTH, BOTH_WITH_ID):
-        head += bytes(26)
-    if kind == BOTH_WITH_ID:
-        head += bytes(2)
-    if kind == FULL_WITH_ID:
-        head += bytes(4)
-    if kind in (BOTH_WITH_ID, FULL_WITH_ID):
-        head += struct.pack("<Q", node.identifier)
-    return head + text
+    times, (zeros, is_identified) = attributes_of(node), GAPS[kind]
+    # An entry has the length before the allocation.
+    head = bytes(8) + times[:32] + times[40:48] + times[32:40] + times[48:] + length
+    return head + bytes(zeros) + (struct.pack("<Q", node.identifier) if is_identified else b"") + text
 
 
 class QueryDirectory(Handlers):
     def query(self, request: Request) -> Answer:
         message = request.message
-        message.expect(33)
         kind, flags, most = message.number(HEADER + 2, 1), message.number(HEADER + 3, 1), message.number(HEADER + 28, 4)
         length = message.number(HEADER + 26, 2)
         pattern = message.text(message.number(HEADER + 24, 2), length) if length else "*"
         opened = request.open()
         if not opened.node.is_folder:
             raise StatusError(Status.INVALID_PARAMETER)
-        if kind not in (DIRECTORY, FULL, BOTH, NAMES, BOTH_WITH_ID, FULL_WITH_ID):
+        if kind not in GAPS and kind != NAMES:
             raise StatusError(Status.INVALID_INFO_CLASS)
         is_first = opened.listing is None or bool(flags & (RESTART | REOPEN))
         if is_first or opened.listing is None:

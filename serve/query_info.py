@@ -22,8 +22,7 @@ SERIAL = 0x1EA5E
 
 
 def basic(node: Node) -> bytes:
-    times = node.times
-    return struct.pack("<QQQQLL", times.created, times.accessed, times.written, times.changed, node.attributes or 0x80, 0)
+    return attributes_of(node)[:32] + struct.pack("<LL", node.attributes or 0x80, 0)
 
 
 def standard(node: Node) -> bytes:
@@ -70,7 +69,6 @@ DESCRIPTOR = struct.pack("<BBHLLLL", 1, 0, 0x8004, 20, 32, 0, 44) + EVERYONE * 2
 class QueryInfo(Handlers):
     def query(self, request: Request) -> Answer:
         message = request.message
-        message.expect(41)
         kind, number, most = message.number(HEADER + 2, 1), message.number(HEADER + 3, 1), message.number(HEADER + 4, 4)
         opened = request.open()
         information = self._information(opened, kind, number)
@@ -92,10 +90,8 @@ class QueryInfo(Handlers):
 
     @staticmethod
     def control(request: Request) -> Answer:
-        request.message.expect(57)
         raise StatusError(Status.INVALID_DEVICE_REQUEST)
 
     @staticmethod
     def notify(request: Request) -> Answer:
-        request.message.expect(32)
         raise StatusError(Status.NOT_SUPPORTED)

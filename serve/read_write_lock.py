@@ -4,10 +4,11 @@ from __future__ import annotations
 import struct
 
 from smblease import CloseRequest, ReadDone, ReadRequest, Status
+from smblease.values import LARGEST_FILE
 
 from drive.headers import HEADER
 from serve.machine import Handling, MachineRequest, refuse_failed
-from serve.namespace import LARGEST, Node, now
+from serve.namespace import Node, now
 from serve.opens import Lock, Open, reads, writes
 from serve.packets import Answer, RequestMessage
 from serve.request import Handlers, Request
@@ -27,7 +28,6 @@ def attributes_of(node: Node) -> bytes:
 
 class ReadWriteLock(Handlers):
     def close(self, request: Request) -> Handling:
-        request.message.expect(24)
         opened = request.find()
         if opened is None:
             refuse_failed((yield MachineRequest(request.client.number, CloseRequest(request.file_id()))))
@@ -42,16 +42,14 @@ class ReadWriteLock(Handlers):
         return Answer(Status.SUCCESS, struct.pack("<HHL", 60, flags, 0) + attributes)
 
     def flush(self, request: Request) -> Answer:
-        request.message.expect(24)
         request.open()
         return Answer(Status.SUCCESS, struct.pack("<HH", 4, 0))
 
     def read(self, request: Request) -> Handling:
         """The machine reads the whole file, of which the client gets its part; past the end it may have zeros of former files."""
         message = request.message
-        message.expect(49)
         length, offset, least = message.number(HEADER + 4, 4), message.number(HEADER + 8, 8), message.number(HEADER + 32, 4)
-        if length > LARGEST:
+        if length > LARGEST_FILE:
             raise StatusError(Status.INVALID_PARAMETER)
         opened = request.find()
         if opened:
@@ -70,10 +68,9 @@ class ReadWriteLock(Handlers):
 
     def write(self, request: Request) -> Handling:
         message = request.message
-        message.expect(49)
         length, offset = message.number(HEADER + 4, 4), message.number(HEADER + 8, 8)
         data = message.buffer(HEADER + 2, length)
-        if length > LARGEST:
+        if length > LARGEST_FILE:
             raise StatusError(Status.INVALID_PARAMETER)
         opened = request.find()
         if opened:
@@ -83,7 +80,7 @@ class ReadWriteLock(Handlers):
         if offset > MOST_OFFSET:
             raise StatusError(Status.INVALID_PARAMETER)
         write = client.next_write(opened.file_id if opened else request.file_id(), offset, data)
-        if opened and offset + length <= LARGEST:
+        if opened and offset + length <= LARGEST_FILE:
             self._server.record.wrote(client, opened.node.number, write)
         refuse_failed((yield MachineRequest(client.number, write)))
         if opened:
@@ -102,7 +99,6 @@ class ReadWriteLock(Handlers):
     def lock(self, request: Request) -> Handling:
         """Locks are the shell's; who locks has all others cache nothing. A lock that isn't to be had is refused at once."""
         message = request.message
-        message.expect(48)
         opened = request.open()
         count = message.number(HEADER + 2, 2)
         if not count or opened.node.is_folder:

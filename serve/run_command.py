@@ -9,15 +9,17 @@ import sys
 from collections.abc import Sequence
 from typing import TYPE_CHECKING
 
+from smblease import Rules
 from smblease.lines import digits
 from smblease.processes import LineProcess
 from smblease.program import find_program, judge
+from smblease.values import LARGEST_FILE
 
-from drive.commands import NOT_DRIVEN, SAFE, UNSAFE, ended
+from drive.commands import NOT_DRIVEN, SAFE, UNSAFE, ended, rules_of
 from drive.faults import DriveFault, Usage
 from serve.connection import Connection
 from serve.event_loop import Loop
-from serve.namespace import FORBIDDEN, LARGEST, MOST, Namespace
+from serve.namespace import FORBIDDEN, MOST, Namespace
 from serve.record import Record
 from serve.server import Server, Settings
 from serve.timer_control import TimerControl
@@ -48,6 +50,8 @@ def parser() -> argparse.ArgumentParser:
     made.add_argument("--break-timer", type=float, default=35.0, metavar="S", help="seconds that a break is waited for (35)")
     made.add_argument("--durable-timer", type=float, default=960.0, metavar="S",
                       help="seconds that a durable open is kept without a connection (960)")
+    made.add_argument("--rules", default=str(Rules()), metavar="RULES",
+                      help="the rules of the server: by-client,as-free, which are the profile's, or by-client,whole")
     made.add_argument("--apart", action="store_true",
                       help="opens without a lease don't wait with what their client asks under its lease of the file")
     made.add_argument("--control", type=int, metavar="FD", help="read lines there that end a timer now")
@@ -106,7 +110,7 @@ def files_in(folder: str | None) -> tuple[list[str], dict[str, bytes]]:
                     raise DriveFault(f"{found}: no plain file")
                 elif name in names:
                     with open(os.open(found, os.O_RDONLY | os.O_NOFOLLOW), "rb") as stream:
-                        files[f"{path}\\{name}" if path != "." else name] = stream.read(LARGEST + 1)
+                        files[f"{path}\\{name}" if path != "." else name] = stream.read(LARGEST_FILE + 1)
     except OSError as fault:
         raise DriveFault(f"{fault.filename}: {fault.strerror}") from None
     return folders, files
@@ -118,8 +122,8 @@ def named(folders: list[str], files: dict[str, bytes], record: Record) -> Namesp
         raise DriveFault(f"at most {MOST} files; there are {len(files)}")
     for path in [*folders, *files]:
         is_bad = any(FORBIDDEN & set(part) for part in path.split("\\")) or not path.isprintable() or names.find(path)
-        if is_bad or len(files.get(path, b"")) > LARGEST:
-            raise DriveFault(f"{path}: a name that can't be served, or more than {LARGEST} bytes")
+        if is_bad or len(files.get(path, b"")) > LARGEST_FILE:
+            raise DriveFault(f"{path}: a name that can't be served, or more than {LARGEST_FILE} bytes")
         node = names.make(path, path not in files)
         if path in files:
             node.length = len(files[path])
@@ -129,6 +133,7 @@ def named(folders: list[str], files: dict[str, bytes], record: Record) -> Namesp
 
 def serve(arguments: argparse.Namespace) -> int:
     settings = settings_of(arguments)
+    rules = rules_of(arguments.rules)
     folders, files = files_in(arguments.folder)
     server: Server
     loop = Loop()
@@ -137,7 +142,7 @@ def serve(arguments: argparse.Namespace) -> int:
         with contextlib.closing(Record(arguments.record)) as record:
             names = named(folders, files, record)
             contents = [*files.values(), *[b""] * (MOST - len(files))]
-            machine = LineProcess(arguments.leasecheck, "server", [f"file {digits(it)}" for it in contents])
+            machine = LineProcess(arguments.leasecheck, "server", [f"rules {rules}", *(f"file {digits(it)}" for it in contents)])
             with contextlib.closing(machine):
                 server = Server(settings, loop.events, machine, record, names)
                 if arguments.control is not None:
@@ -158,7 +163,7 @@ def verdict(arguments: argparse.Namespace) -> int:
 
 
 def main(words: Sequence[str] | None = None) -> int:
-    return ended(parser(), serve, sys.argv[1:] if words is None else words)
+    return ended(parser(), serve, words)
 
 
 if __name__ == "__main__":

@@ -2,6 +2,7 @@
 from __future__ import annotations
 
 import asyncio
+import itertools
 import logging
 import os
 import time
@@ -66,10 +67,9 @@ class Server:  # pylint: disable=too-many-instance-attributes  # its parts find 
         self.begun: list[Pending] = []
         self.connections: set[Connection] = set()
         self.brake = PasswordBrake()
-        self.last_session = int.from_bytes(os.urandom(6), "little") << 8
-        self.last_async = 0
+        self.session_ids = itertools.count((int.from_bytes(os.urandom(6), "little") << 8) + 1)
+        self.tree_ids, self.async_ids, self.own_file_ids = (itertools.count(it + 1) for it in (0, 0, OWN_FILE_IDS))
         self.leases = Leases(self)
-        self._last_own = OWN_FILE_IDS
         self.forced_breaks = ForcedBreaks(self)
         sessions, transfers = Sessions(self), ReadWriteLock(self)
         self.handlers: dict[Command | None, Callable[[Request], Answer | Handling]] = {
@@ -132,18 +132,14 @@ class Server:  # pylint: disable=too-many-instance-attributes  # its parts find 
             if pending.task and not pending.task.is_over:
                 pending.request.connection.send_interim_response(pending)
 
-    def start(self, handling: Handling) -> None:
+    def start(self, handling: Steps) -> None:
         """Something that nobody waits for."""
         self.machine.start(Task(handling, lambda answer: None))
 
     def undo(self, answer: Answer) -> None:
         """The answer to a create that was cancelled."""
         if answer.opened in self.opens:
-            self.start(self._closing(self.opens[answer.opened]))
-
-    def _closing(self, opened: Open) -> Handling:
-        yield from self.close_open(opened)
-        return Answer(Status.SUCCESS)
+            self.start(self.close_open(self.opens[answer.opened]))
 
     # Who is connected
 
@@ -154,9 +150,8 @@ class Server:  # pylint: disable=too-many-instance-attributes  # its parts find 
         client = self.clients.of_guid(connection.guid) or self._take_client(connection.guid)
         if client.connection:
             raise StatusError(Status.REQUEST_NOT_ACCEPTED)
-        client.connection, connection.client = connection, client
-        self.record.joined(client, str(uuid.UUID(bytes=connection.guid)))
-        self.machine.say(f"join {client.number}")
+        connection.client = client
+        self.join_machine(client, connection, str(uuid.UUID(bytes=connection.guid)))
 
     def _take_client(self, guid: bytes | None) -> MachineClient:
         """Where all are taken, the one that has been away longest loses what it left."""
@@ -164,10 +159,6 @@ class Server:  # pylint: disable=too-many-instance-attributes  # its parts find 
         for opened in [it for it in self.opens.values() if it.client is away and away]:
             self.scavenge(opened.file_id)
         return self.clients.take(guid)
-
-    def end_sessions(self, connection: Connection) -> None:
-        for session in list(connection.sessions.values()):
-            self.end_session(session)
 
     def end_session(self, session: Session) -> None:
         """With the last one its client is gone."""
@@ -201,10 +192,6 @@ class Server:  # pylint: disable=too-many-instance-attributes  # its parts find 
         opened.timer = self.loop.call_later(self.settings.durable_timer, lambda: self.scavenge(opened.file_id))
 
     # What becomes of opens
-
-    def own_file_id(self) -> int:
-        self._last_own += 1
-        return self._last_own
 
     def is_kept(self, opened: Open) -> bool:
         """Whether the machine keeps an open without a connection. It names the oldest one of a client on a file."""

@@ -10,12 +10,11 @@ import sys
 import tempfile
 import uuid
 from collections.abc import Sequence
-from typing import IO
 
-from smblease.program import TOP
+from smblease._library import TOP
 
 from drive.faults import DriveFault
-from drive.place import Place
+from drive.place import Place, Server
 
 SHARE = "share"
 PATIENCE = 30.0
@@ -46,11 +45,7 @@ class ServerProcess:
         self.verdict: str | None = None
         self.complaints = ""
         self.status: int | None = None
-        self._place = Place("127.0.0.1", self._port(), SHARE, user, password)
-
-    @property
-    def place(self) -> Place:
-        return self._place
+        self.place = Place("127.0.0.1", self._port(), SHARE, user, password)
 
     @property
     def process(self) -> int:
@@ -86,49 +81,28 @@ class ServerProcess:
         self._errors.close()
 
     def _port(self) -> int:
-        stream: IO[str] | None = self._process.stdout
-        if stream is None:
-            raise DriveFault("the server has no stream")
-        ready = select.select([stream], [], [], PATIENCE)[0]
-        line = stream.readline() if ready else ""
+        assert self._process.stdout
+        ready = select.select([self._process.stdout], [], [], PATIENCE)[0]
+        line = self._process.stdout.readline() if ready else ""
         if not line.startswith("port "):
             self.close()
             raise DriveFault(f"the server doesn't begin: {self.complaints.strip()}")
         return int(line.split(" ")[1])
 
 
-class DrivenServer(ServerProcess):
-    """As drive/ has its servers: a fresh one for each schedule, whose timers are ended by lines of control."""
+class DrivenServer(ServerProcess, Server):
+    """As drive/ has its servers: a fresh one for each schedule, whose timers are ended by lines of control. A connection that is
+    closed is forgotten before a later request is done, and so is what it leaves to do."""
 
-    # pylint: disable=unused-argument  # these are the methods of drive.servers.Server
-    stays = False
     is_profiled = True
-
-    def name_of(self, file: int) -> str:
-        return f"file-{file}"
-
-    def is_prepared(self) -> None:
-        """A connection that is closed is forgotten before a later request is done."""
-
-    def new_process(self) -> int | None:
-        return None
-
-    def wait_for_end(self, process: int | None) -> None:
-        """What a closed connection leaves to do is done before a later request is."""
 
     def begin_break_timer(self, process: int | None, guid: bytes, key: bytes) -> None:
         self.tell(f"expire {uuid.UUID(bytes=guid)} {key.hex()}")
-
-    def end_break_timer(self, process: int | None) -> None:
-        """A timer that was ended isn't put back."""
 
     def pass_durable_timer(self, file_ids: list[int]) -> None:
         for file_id in file_ids:
             if self.tell(f"scavenge {file_id}"):
                 return
-
-    def content(self, file: int) -> bytes | None:
-        return None
 
     def close(self) -> None:
         super().close()

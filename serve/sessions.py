@@ -7,8 +7,9 @@ from dataclasses import dataclass, field
 from typing import TYPE_CHECKING
 
 from smblease import Status
+from smblease.values import LARGEST_FILE
 
-from drive.headers import HEADER, tree_path
+from drive.headers import HEADER, Unreadable, tree_path
 from serve.machine import Handling
 from serve.namespace import now
 from serve.ntlm import Authentication
@@ -24,7 +25,6 @@ if TYPE_CHECKING:
 DIALECT, ANY_DIALECT = 0x0210, 0x02FF
 SIGNING_ENABLED, SIGNING_REQUIRED = 1, 2
 LEASING, LARGE_MTU = 2, 4
-LARGEST = 1048576
 IS_GUEST = 1
 BINDING = 1
 DISK, PIPE = 1, 2
@@ -60,19 +60,14 @@ def negotiated(server: Server, dialect: int) -> Answer:
     token = offered()
     needs_signing = server.settings.user and not server.settings.has_guests
     mode = SIGNING_ENABLED | (SIGNING_REQUIRED if needs_signing else 0)
-    fixed = struct.pack("<HHHH16sLLLLQQHHL", 65, mode, dialect, 0, server.guid, LEASING | LARGE_MTU, LARGEST, LARGEST,
-                        LARGEST, now(), 0, HEADER + 64, len(token), 0)
+    fixed = struct.pack("<HHHH16sLLLLQQHHL", 65, mode, dialect, 0, server.guid, LEASING | LARGE_MTU, LARGEST_FILE,
+                        LARGEST_FILE, LARGEST_FILE, now(), 0, HEADER + 64, len(token), 0)
     return Answer(Status.SUCCESS, fixed + token)
 
 
 class Sessions(Handlers):
-    def __init__(self, server: Server) -> None:
-        super().__init__(server)
-        self._next_tree = 1
-
     def negotiate(self, request: Request) -> Answer:
         message, connection = request.message, request.connection
-        message.expect(36)
         if connection.is_negotiated:
             raise StatusError(Status.INVALID_PARAMETER)
         count = message.number(HEADER + 2, 2)
@@ -86,7 +81,6 @@ class Sessions(Handlers):
     def set_up(self, request: Request) -> Answer:
         """One exchange of messages of NTLM; with the last one the client joins."""
         message, connection = request.message, request.connection
-        message.expect(25)
         token = message.buffer(HEADER + 12, message.number(HEADER + 14, 2))
         if message.number(HEADER + 2, 1) & BINDING or connection.guid is None:
             raise StatusError(Status.REQUEST_NOT_ACCEPTED)
@@ -101,7 +95,7 @@ class Sessions(Handlers):
             reply = current.reply(token)
             if current.is_over:
                 self._establish(session, current, message)
-        except StatusError:
+        except (StatusError, Unreadable):
             session.authentication = None
             if not session.is_ready:
                 self._server.end_session(session)
@@ -116,8 +110,7 @@ class Sessions(Handlers):
     def _new(self, connection: Connection) -> Session:
         if len(connection.sessions) == MOST_SESSIONS:
             raise StatusError(Status.INSUFFICIENT_RESOURCES)
-        self._server.last_session += 1
-        session = Session(self._server.last_session, connection)
+        session = Session(next(self._server.session_ids), connection)
         connection.sessions[session.identifier] = session
         self._server.sessions[session.identifier] = session
         return session
@@ -136,32 +129,27 @@ class Sessions(Handlers):
         session.signs = session.signs or bool(proved.key and wants_to_sign)
 
     def log_off(self, request: Request) -> Handling:
-        request.message.expect(4)
         key = request.session.key
         yield from self._server.close_all(lambda it: it.session is request.session, not request.is_last_session)
         self._server.end_session(request.session)
         return Answer(Status.SUCCESS, struct.pack("<HH", 4, 0), key=key)
 
     def connect_tree(self, request: Request) -> Answer:
-        request.message.expect(9)
         share = tree_path(request.message).rpartition("\\")[2].lower()
         if share not in (self._server.settings.share.lower(), "ipc$"):
             raise StatusError(Status.BAD_NETWORK_NAME)
         if len(request.session.trees) == MOST_TREES:
             raise StatusError(Status.INSUFFICIENT_RESOURCES)
-        tree = Tree(self._next_tree, share == "ipc$")
-        self._next_tree += 1
+        tree = Tree(next(self._server.tree_ids), share == "ipc$")
         request.session.trees[tree.identifier] = tree
         body = struct.pack("<HBBLLL", 16, PIPE if tree.is_pipe else DISK, 0, 0, 0, FULL_ACCESS)
         return Answer(Status.SUCCESS, body, tree=tree.identifier)
 
     def disconnect_tree(self, request: Request) -> Handling:
-        request.message.expect(4)
         tree = request.tree
         del request.session.trees[tree.identifier]
         yield from self._server.close_all(lambda it: it.tree is tree, True)
         return Answer(Status.SUCCESS, struct.pack("<HH", 4, 0))
 
-    def echo(self, request: Request) -> Answer:
-        request.message.expect(4)
+    def echo(self, _: Request) -> Answer:
         return Answer(Status.SUCCESS, struct.pack("<HH", 4, 0))

@@ -6,8 +6,9 @@ import struct
 from smblease import Status
 
 from drive.headers import HEADER
+from serve.create_parameters import KEPT_ATTRIBUTES
 from serve.machine import Handling, MachineRequest, Steps, refuse_failed
-from serve.namespace import READ_ONLY, Node, check_size, path_of
+from serve.namespace import FOLDER, READ_ONLY, Node, check_size, path_of
 from serve.opens import DELETE, WRITE_ATTRIBUTES, Open, writes
 from serve.packets import Answer
 from serve.query_info import FILE
@@ -17,7 +18,6 @@ from serve.status_error import StatusError
 BASIC, RENAME, DISPOSITION, POSITION, MODE, ALLOCATION, END_OF_FILE = 4, 10, 13, 14, 16, 19, 20
 LEAST = {BASIC: 36, RENAME: 20, DISPOSITION: 1, POSITION: 8, MODE: 4, ALLOCATION: 8, END_OF_FILE: 8}
 UNCHANGED = [it.to_bytes(8, "little", signed=True) for it in (0, -1, -2)]
-KEPT_ATTRIBUTES = 0x1 | 0x2 | 0x4 | 0x10 | 0x20 | 0x100 | 0x2000
 
 
 def signed(data: bytes) -> int:
@@ -31,7 +31,6 @@ def signed(data: bytes) -> int:
 class SetInfo(Handlers):
     def set(self, request: Request) -> Handling:
         message = request.message
-        message.expect(33)
         kind, number, length = message.number(HEADER + 2, 1), message.number(HEADER + 3, 1), message.number(HEADER + 4, 4)
         data = message.buffer(HEADER + 8, length)
         opened = request.open()
@@ -61,7 +60,7 @@ class SetInfo(Handlers):
         for name, value in [(name, signed(it)) for name, it in zip(names, times) if it not in UNCHANGED]:
             setattr(node.times, name, value)
         if attributes:
-            node.attributes = attributes & KEPT_ATTRIBUTES & ~0x10 | node.attributes & 0x10
+            node.attributes = attributes & KEPT_ATTRIBUTES | node.attributes & FOLDER
 
     def _rename(self, request: Request, opened: Open, data: bytes) -> Steps:
         """A name is changed once nobody else holds handles of the file (profile, as in MS-FSA 2.1.5.14.11)."""

@@ -4,7 +4,6 @@ from __future__ import annotations
 import argparse
 import re
 import subprocess
-import sys
 import time
 from collections.abc import Callable, Sequence
 from concurrent.futures import ThreadPoolExecutor
@@ -13,6 +12,7 @@ from dataclasses import dataclass
 from enum import Enum
 from typing import TYPE_CHECKING
 
+from smblease import Rules
 from smblease.program import find_program
 
 from drive.clock import library
@@ -53,6 +53,7 @@ def parser() -> argparse.ArgumentParser:
     made.add_argument("name", metavar="NAME", nargs="*", help="a test, as smb2.lease.request; all of the suites where none is")
     made.add_argument("--smbd", action="store_true", help="against a private smbd, for comparison; needs root")
     made.add_argument("--apart", action="store_true", help="with serve/run --apart")
+    made.add_argument("--rules", default=str(Rules()), metavar="RULES", help="with serve/run --rules RULES")
     made.add_argument("--limit", type=float, default=150.0, metavar="S", help="seconds that a test may take (150)")
     made.add_argument("--jobs", type=int, default=2, metavar="N", help="how many at a time (2)")
     made.add_argument("--record", metavar="PREFIX", help="keep the records as PREFIX followed by the test's name")
@@ -119,11 +120,13 @@ def torture(arguments: argparse.Namespace) -> int:
     if unknown or arguments.jobs < 1:
         raise Usage(f"no test of {', '.join(SUITES)}: {unknown[0]}" if unknown else "--jobs is at least 1")
 
+    apart = ["--apart"] if arguments.apart else []
+
     def server(name: str) -> ServerProcess | PrivateServer:
         if arguments.smbd:
             return private_server()
         record = f"{arguments.record}{name}" if arguments.record else None
-        return ServerProcess(arguments.leasecheck, record, ["--apart"] if arguments.apart else [])
+        return ServerProcess(arguments.leasecheck, record, ["--rules", arguments.rules, *apart])
     if arguments.smbd:
         # Compiled once, before servers are made side by side.
         library()
@@ -138,4 +141,4 @@ def torture(arguments: argparse.Namespace) -> int:
 
 
 def main(words: Sequence[str] | None = None) -> int:
-    return ended(parser(), torture, sys.argv[1:] if words is None else words)
+    return ended(parser(), torture, words)

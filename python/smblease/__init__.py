@@ -11,15 +11,15 @@ from smblease.requests import AcknowledgeRequest, CloseRequest, CreateRequest, R
 from smblease.server import Server
 from smblease.steps import (Answer, Believes, CachedRead, Done, Failed, FileBytes, Note, Quiet, Refusal, Refused, Settled,
                             Settlement, Step, Waiting, Wrote)
-from smblease.values import Access, LeaseState, Share, Status
+from smblease.values import Access, LeaseState, Order, Rise, Rules, Share, Status
 
 __version__ = "0.3.0"
 __all__ = [
     "Access", "AcknowledgeDone", "AcknowledgeFailed", "AcknowledgeRequest", "Acknowledgment", "Answer", "Believes", "Break",
     "CachedRead", "Changed", "Client", "Closed", "CloseFailed", "CloseRequest", "Context", "CreateAnswer", "CreateAsk",
     "CreateFailed", "CreateRequest", "Created", "Done", "Failed", "Fault", "FileBytes", "LeaseState", "MachineLost",
-    "MessageKind", "Note", "Notification", "Opened", "Out", "Quiet", "ReadDone", "ReadFailed", "ReadRequest", "Refusal",
-    "Refused", "Reply", "Request", "Response", "Sent", "Server", "Settled", "Settlement", "Share", "Status", "Step", "Waiting",
-    "WriteDone", "WriteFailed", "WriteRequest", "Wrote", "append_context", "each_context", "find_context", "lease_key",
-    "replace_data",
+    "MessageKind", "Note", "Notification", "Opened", "Order", "Out", "Quiet", "ReadDone", "ReadFailed", "ReadRequest",
+    "Refusal", "Refused", "Reply", "Request", "Response", "Rise", "Rules", "Sent", "Server", "Settled", "Settlement", "Share",
+    "Status", "Step", "Waiting", "WriteDone", "WriteFailed", "WriteRequest", "Wrote", "append_context", "each_context",
+    "find_context", "lease_key", "replace_data",
 ]

@@ -2,10 +2,9 @@
 import ctypes
 import operator
 import uuid
-from typing import Any, Tuple, Type, TypeVar, Union
+from typing import Any, Tuple, Union
 
 Octets = Union[bytes, bytearray, memoryview]
-Struct = TypeVar("Struct", bound=ctypes.Structure)
 
 BYTE, WORD, LONG = 0xFF, 0xFFFF_FFFF, 0xFFFF_FFFF_FFFF_FFFF
 
@@ -28,33 +27,16 @@ def key_octets(value: uuid.UUID) -> bytes:
     return value.bytes
 
 
+def key_field(value: uuid.UUID) -> Any:
+    """A key as the structs have it."""
+    return (ctypes.c_uint8 * 16)(*key_octets(value))
+
+
+def key_of(field: Any) -> uuid.UUID:
+    return uuid.UUID(bytes=bytes(field))
+
+
 def counted(value: Octets) -> Tuple[bytes, int]:
     """Bytes, and how many they are."""
     given = octets(value)
     return given, len(given)
-
-
-# Fields of requests and replies.
-
-def file_of(it: Any) -> int:
-    return number(it.file, BYTE, "file")
-
-
-def file_id_of(it: Any) -> int:
-    return number(it.file_id, LONG, "file_id")
-
-
-def write_of(it: Any) -> int:
-    return number(it.number, LONG, "write")
-
-
-def status_of(it: Any) -> int:
-    return number(it.status, WORD, "status")
-
-
-def struct_of(kind: Type[Struct], value: Octets, name: str) -> Struct:
-    """A struct that is nothing but bytes."""
-    given, size = octets(value), ctypes.sizeof(kind)
-    if len(given) != size:
-        raise ValueError(f"{name} has {size} bytes, and not {len(given)}")
-    return kind.from_buffer_copy(given)

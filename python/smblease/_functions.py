@@ -16,24 +16,20 @@ _KEY = POINTER(structs.Key)
 
 Signature = Tuple[Any, Tuple[Any, ...]]
 
+# What is read from bytes, and written.
+_CODED: Dict[str, Any] = {"create_ask": structs.CreateAsk, "create_answer": structs.CreateAnswer, "response": structs.Response,
+                          "notification": structs.Notification, "acknowledgment": structs.Acknowledgment}
+
 CODEC: Dict[str, Signature] = {
+    **{f"read_{name}": (structs.Fault, (*_BYTES, POINTER(kind))) for name, kind in _CODED.items()},
+    **{f"write_{name}": (c_size_t, (POINTER(kind), *_ROOM)) for name, kind in _CODED.items()},
     "version": (structs.VersionNumbers, ()),
     "fault_status": (c_uint32, (c_uint32,)),
     "fault_name": (c_size_t, (c_uint32, *_ROOM)),
-    "read_create_ask": (structs.Fault, (*_BYTES, POINTER(structs.CreateAsk))),
-    "read_create_answer": (structs.Fault, (*_BYTES, POINTER(structs.CreateAnswer))),
     "read_context": (structs.Fault, (*_BYTES, c_uint64, POINTER(structs.Context))),
     "find_context": (c_bool, (*_BYTES, *_BYTES, POINTER(structs.Context))),
     "append_context": (c_size_t, (*_ROOM, c_uint64, *_BYTES, *_BYTES)),
     "message_kind": (c_uint32, _BYTES),
-    "read_notification": (structs.Fault, (*_BYTES, POINTER(structs.Notification))),
-    "read_acknowledgment": (structs.Fault, (*_BYTES, POINTER(structs.Acknowledgment))),
-    "read_response": (structs.Fault, (*_BYTES, POINTER(structs.Response))),
-    "write_create_ask": (c_size_t, (POINTER(structs.CreateAsk), *_ROOM)),
-    "write_create_answer": (c_size_t, (POINTER(structs.CreateAnswer), *_ROOM)),
-    "write_notification": (c_size_t, (POINTER(structs.Notification), *_ROOM)),
-    "write_acknowledgment": (c_size_t, (POINTER(structs.Acknowledgment), *_ROOM)),
-    "write_response": (c_size_t, (POINTER(structs.Response), *_ROOM)),
     "acknowledgment_due": (c_bool, (POINTER(structs.Notification), POINTER(structs.Acknowledgment))),
 }
 
@@ -86,6 +82,7 @@ SERVER: Dict[str, Signature] = {
     "files_add": (c_uint32, (POINTER(structs.Files), *_BYTES)),
     "files_free": (None, (POINTER(structs.Files),)),
     "server_new": (c_uint32, (_SERVER, POINTER(structs.Files))),
+    "server_new_with_rules": (c_uint32, (_SERVER, POINTER(structs.Files), c_uint32, c_uint32)),
     "server_free": (None, (_SERVER,)),
     "server_join": (c_uint32, (_SERVER, c_uint8)),
     "server_cut": (c_uint32, (_SERVER, c_uint8)),

@@ -7,37 +7,21 @@ from __future__ import annotations
 import ctypes
 import uuid
 from functools import partial
-from typing import Any, Callable, Dict, Tuple, Type
+from typing import Any, Callable, Dict, Type
 
 from smblease import _structs as structs
 from smblease import replies, requests, steps
-from smblease._arguments import (BYTE, WORD, Octets, counted, file_id_of, file_of, key_octets, number, status_of, struct_of,
-                                 write_of)
+from smblease._arguments import BYTE, WORD, Octets, counted, key_octets, key_of, number
+from smblease._fields import arguments_of, item_of
 from smblease._handles import Handle, with_bytes
 from smblease._library import library
 from smblease.values import Access, LeaseState, Share
 
-_ANSWERS: Dict[int, Callable[[Any, bytes], steps.Answer]] = {
-    1: lambda has, data: steps.Done(),
-    2: lambda has, data: steps.Waiting(),
-    3: lambda has, data: steps.FileBytes(data, bool(has.cached)),
-    4: lambda has, data: steps.Refused(steps.Refusal(has.refusal)),
-    5: lambda has, data: steps.Failed(has.status),
-    6: lambda has, data: steps.Quiet(),
-}
-_REQUESTS: Dict[int, Callable[[Any, bytes], requests.Request]] = {
-    1: lambda has, data: requests.CreateRequest(has.file, Access(has.access), Share(has.share), data),
-    2: lambda has, data: requests.ReadRequest(has.file_id),
-    3: lambda has, data: requests.WriteRequest(has.file_id, has.number, has.offset, data),
-    4: lambda has, data: requests.CloseRequest(has.file_id),
-    5: lambda has, data: requests.AcknowledgeRequest(data),
-}
-_NOTES: Dict[int, Callable[[Any, bytes], steps.Note]] = {
-    1: lambda has, data: steps.Settled(has.number, steps.Settlement(has.outcome)),
-    2: lambda has, data: steps.Wrote(has.file, has.number, has.offset, data, bool(has.buffered)),
-    3: lambda has, data: steps.Believes(has.file, LeaseState(has.state)),
-    4: lambda has, data: steps.CachedRead(has.file, data),
-}
+# What the library gives out, by its numbers from 1.
+_ANSWERS = (steps.Done, steps.Waiting, steps.FileBytes, steps.Refused, steps.Failed, steps.Quiet)
+_REQUESTS = (requests.CreateRequest, requests.ReadRequest, requests.WriteRequest, requests.CloseRequest,
+             requests.AcknowledgeRequest)
+_NOTES = (steps.Settled, steps.Wrote, steps.Believes, steps.CachedRead)
 
 
 def lease_key(guid: uuid.UUID, file: int) -> uuid.UUID:
@@ -49,7 +33,7 @@ def lease_key(guid: uuid.UUID, file: int) -> uuid.UUID:
     found = structs.Key()
     library.smblease_client_key(ctypes.byref(structs.Guid.from_buffer_copy(key_octets(guid))), number(file, BYTE, "file"),
                                 ctypes.byref(found))
-    return uuid.UUID(bytes=bytes(found.bytes))
+    return key_of(found.bytes)
 
 
 class Client(Handle[structs.Client]):
@@ -76,14 +60,11 @@ class Client(Handle[structs.Client]):
     def _step(self, call: Callable[..., int], *arguments: object) -> steps.Step:
         with self._lock:
             self._check(call(ctypes.byref(self._handle), *arguments))
-            answer, data = with_bytes(
-    partial(
-        library.smblease_client_answer, ctypes.byref(
-            self._handle)), structs.Answer(), "client")
+            answer = with_bytes(partial(library.smblease_client_answer, ctypes.byref(self._handle)), structs.Answer(), "client")
             sent = self._parts(library.smblease_client_request_count, library.smblease_client_request_at, structs.ClientRequest)
             noted = self._parts(library.smblease_client_note_count, library.smblease_client_note_at, structs.Note)
-        return steps.Step(_ANSWERS[answer.kind](answer, data), tuple(_REQUESTS[has.kind](has, its) for has, its in sent),
-                          tuple(_NOTES[has.kind](has, its) for has, its in noted))
+        return steps.Step(item_of(_ANSWERS, *answer), tuple(item_of(_REQUESTS, *it) for it in sent),
+                          tuple(item_of(_NOTES, *it) for it in noted))
 
     def connect(self) -> steps.Step:
         """The client connects (3.2.4.4). The requests are those by which it opens again what it had kept.
@@ -181,8 +162,7 @@ class Client(Handle[structs.Client]):
         """
         if type(reply) not in _TAKING:
             raise TypeError(f"a reply is needed, and not {reply!r}")
-        call, arguments = _TAKING[type(reply)]
-        return self._step(call, *arguments(reply))
+        return self._step(_TAKING[type(reply)], *arguments_of(reply))
 
     def belief(self, file: int) -> LeaseState:
         """What the client believes of the lease of a file; NONE where it isn't open.
@@ -203,19 +183,12 @@ class Client(Handle[structs.Client]):
         return lease_key(self.guid, file)
 
 
-# The call for a reply of each kind, and its arguments.
-_TAKING: Dict[Type[Any], Tuple[Callable[..., int], Callable[[Any], Tuple[object, ...]]]] = {
-    replies.Created: (library.smblease_client_take_created, lambda it: (file_of(it), file_id_of(it), *counted(it.contexts))),
-    replies.CreateFailed: (library.smblease_client_take_create_failed, lambda it: (file_of(it), status_of(it))),
-    replies.ReadDone: (library.smblease_client_take_read_done, lambda it: (file_id_of(it), *counted(it.data))),
-    replies.ReadFailed: (library.smblease_client_take_read_failed, lambda it: (file_id_of(it), status_of(it))),
-    replies.WriteDone: (library.smblease_client_take_write_done, lambda it: (file_id_of(it), write_of(it))),
-    replies.WriteFailed: (library.smblease_client_take_write_failed, lambda it: (file_id_of(it), write_of(it), status_of(it))),
-    replies.Closed: (library.smblease_client_take_closed, lambda it: (file_id_of(it),)),
-    replies.CloseFailed: (library.smblease_client_take_close_failed, lambda it: (file_id_of(it), status_of(it))),
-    replies.Break: (library.smblease_client_take_break,
-                    lambda it: (ctypes.byref(struct_of(structs.BreakMessage, it.message, "a lease break notification")),)),
-    replies.AcknowledgeDone: (library.smblease_client_take_ack_done,
-                              lambda it: (ctypes.byref(struct_of(structs.AckMessage, it.message, "a lease break response")),)),
-    replies.AcknowledgeFailed: (library.smblease_client_take_ack_failed, lambda it: (status_of(it),)),
+# The call for a reply of each kind.
+_TAKING: Dict[Type[Any], Callable[..., int]] = {
+    replies.Created: library.smblease_client_take_created, replies.CreateFailed: library.smblease_client_take_create_failed,
+    replies.ReadDone: library.smblease_client_take_read_done, replies.ReadFailed: library.smblease_client_take_read_failed,
+    replies.WriteDone: library.smblease_client_take_write_done, replies.WriteFailed: library.smblease_client_take_write_failed,
+    replies.Closed: library.smblease_client_take_closed, replies.CloseFailed: library.smblease_client_take_close_failed,
+    replies.Break: library.smblease_client_take_break, replies.AcknowledgeDone: library.smblease_client_take_ack_done,
+    replies.AcknowledgeFailed: library.smblease_client_take_ack_failed,
 }

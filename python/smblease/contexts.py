@@ -7,7 +7,7 @@ from dataclasses import dataclass
 from typing import Iterator, Optional
 
 from smblease import _structs as structs
-from smblease._arguments import LONG, Octets, key_octets, number, octets
+from smblease._arguments import LONG, Octets, key_field, key_of, number, octets
 from smblease._library import library, written
 from smblease.faults import raise_fault
 from smblease.values import LeaseState
@@ -46,7 +46,7 @@ class CreateAsk:
         """
         given, found = octets(text), structs.CreateAsk()
         raise_fault(library.smblease_read_create_ask(given, len(given), ctypes.byref(found)))
-        return cls(uuid.UUID(bytes=bytes(found.key)) if found.has_lease else None, LeaseState(found.state), bool(found.durable),
+        return cls(key_of(found.key) if found.has_lease else None, LeaseState(found.state), bool(found.durable),
                    int(found.file_id) if found.has_reconnect else None, bool(found.has_other_lease))
 
     def write(self) -> bytes:
@@ -57,7 +57,7 @@ class CreateAsk:
         """
         ask = structs.CreateAsk(state=LeaseState(self.state).value, durable=bool(self.durable))
         if self.key is not None:
-            ask.has_lease, ask.key = 1, (ctypes.c_uint8 * 16)(*key_octets(self.key))
+            ask.has_lease, ask.key = 1, key_field(self.key)
         if self.reconnect is not None:
             ask.has_reconnect, ask.file_id = 1, number(self.reconnect, LONG, "reconnect")
         return written(library.smblease_write_create_ask, ask, CREATE_ASK_MOST)
@@ -88,7 +88,7 @@ class CreateAnswer:
         """
         given, found = octets(text), structs.CreateAnswer()
         raise_fault(library.smblease_read_create_answer(given, len(given), ctypes.byref(found)))
-        return cls(uuid.UUID(bytes=bytes(found.key)) if found.has_lease else None, LeaseState(found.state), bool(found.breaking),
+        return cls(key_of(found.key) if found.has_lease else None, LeaseState(found.state), bool(found.breaking),
                    bool(found.durable), bool(found.has_other_lease))
 
     def write(self) -> bytes:
@@ -97,13 +97,10 @@ class CreateAnswer:
         >>> len(CreateAnswer(uuid.UUID(int=1), LeaseState.R, durable=True).write())
         88
         """
-        answer = structs.CreateAnswer(
-    state=LeaseState(
-        self.state).value, breaking=bool(
-            self.breaking), durable=bool(
-                self.durable))
+        answer = structs.CreateAnswer(state=LeaseState(self.state).value, breaking=bool(self.breaking),
+                                      durable=bool(self.durable))
         if self.key is not None:
-            answer.has_lease, answer.key = 1, (ctypes.c_uint8 * 16)(*key_octets(self.key))
+            answer.has_lease, answer.key = 1, key_field(self.key)
         return written(library.smblease_write_create_answer, answer, CREATE_ANSWER_MOST)
 
 

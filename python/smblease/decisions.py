@@ -14,10 +14,10 @@ from __future__ import annotations
 import ctypes
 import uuid
 from dataclasses import dataclass
-from typing import Any, Optional, Sequence, Tuple
+from typing import Any, Optional, Sequence, Tuple, Union
 
 from smblease import _structs as structs
-from smblease._arguments import LONG, key_octets, number
+from smblease._arguments import LONG, key_field, key_of, number
 from smblease._library import library
 from smblease.values import Access, LeaseState, Share
 
@@ -27,10 +27,6 @@ __all__ = ["Asked", "File", "Finding", "Lease", "Open", "acknowledge", "granted_
 
 def _uses(access: Optional[Access]) -> int:
     return 0 if access is None else Access(access).value
-
-
-def _key(key: uuid.UUID) -> Any:
-    return (ctypes.c_uint8 * 16)(*key_octets(key))
 
 
 @dataclass(frozen=True)
@@ -92,16 +88,16 @@ class Finding:
     wants_breaks: bool
 
 
-def _open_struct(opened: Open) -> structs.Open:
-    found = structs.Open(client=number(opened.client, LONG, "client"), access=_uses(opened.access),
-                         share=Share(opened.share).value)
-    if opened.key is not None:
-        found.has_key, found.key = 1, _key(opened.key)
+def _struct(kind: Any, it: Union[Open, Asked], **more: int) -> Any:
+    """The struct of an open or a request; `more` is what a request has besides."""
+    found = kind(client=number(it.client, LONG, "client"), access=_uses(it.access), share=Share(it.share).value, **more)
+    if it.key is not None:
+        found.has_key, found.key = 1, key_field(it.key)
     return found
 
 
 def _lease_struct(lease: Lease) -> structs.Lease:
-    found = structs.Lease(client=number(lease.client, LONG, "client"), key=_key(lease.key),
+    found = structs.Lease(client=number(lease.client, LONG, "client"), key=key_field(lease.key),
                           state=LeaseState(lease.state).value, expired=bool(lease.expired))
     if lease.broken_to is not None:
         found.breaking, found.broken_to = 1, LeaseState(lease.broken_to).value
@@ -110,15 +106,11 @@ def _lease_struct(lease: Lease) -> structs.Lease:
 
 def _lease(found: structs.Lease) -> Lease:
     broken_to = LeaseState(found.broken_to) if found.breaking else None
-    return Lease(found.client, uuid.UUID(bytes=bytes(found.key)), LeaseState(found.state), broken_to, bool(found.expired))
+    return Lease(found.client, key_of(found.key), LeaseState(found.state), broken_to, bool(found.expired))
 
 
-def _asked_struct(asked: Asked) -> structs.Request:
-    found = structs.Request(client=number(asked.client, LONG, "client"), state=LeaseState(asked.want).value,
-                            access=_uses(asked.access), share=Share(asked.share).value)
-    if asked.key is not None:
-        found.has_key, found.key = 1, _key(asked.key)
-    return found
+def _asked_struct(asked: Asked) -> Any:
+    return _struct(structs.Request, asked, state=LeaseState(asked.want).value)
 
 
 def _finding(found: Any) -> Finding:
@@ -135,7 +127,7 @@ class File:
     """
 
     def __init__(self, opens: Sequence[Open], leases: Sequence[Lease]) -> None:
-        self._opens = (structs.Open * len(opens))(*map(_open_struct, opens))
+        self._opens = (structs.Open * len(opens))(*(_struct(structs.Open, it) for it in opens))
         self._leases = (structs.Lease * len(leases))(*map(_lease_struct, leases))
 
     def _asked(self, call: Any, asked: Asked, *more: object) -> Any:

@@ -8,10 +8,10 @@ import ctypes
 import enum
 import uuid
 from dataclasses import dataclass
-from typing import Optional
+from typing import Any, ClassVar, Optional, Type, TypeVar
 
 from smblease import _structs as structs
-from smblease._arguments import Octets, key_octets, octets
+from smblease._arguments import Octets, key_field, key_of, octets
 from smblease._library import library, written
 from smblease.faults import raise_fault
 from smblease.values import LeaseState
@@ -19,6 +19,7 @@ from smblease.values import LeaseState
 NOTIFICATION_SIZE = 44
 ACKNOWLEDGMENT_SIZE = 36
 RESPONSE_SIZE = 36
+Self = TypeVar("Self", bound="_StateMessage")
 
 
 class MessageKind(enum.Enum):
@@ -73,12 +74,11 @@ class Notification:
         """
         given, found = octets(data), structs.Notification()
         raise_fault(library.smblease_read_notification(given, len(given), ctypes.byref(found)))
-        return cls(uuid.UUID(bytes=bytes(found.key)), LeaseState(found.current_state), LeaseState(found.new_state),
-                   bool(found.ack_required))
+        return cls(key_of(found.key), LeaseState(found.current_state), LeaseState(found.new_state), bool(found.ack_required))
 
     def _struct(self) -> structs.Notification:
-        key = (ctypes.c_uint8 * 16)(*key_octets(self.key))
-        return structs.Notification(key, LeaseState(self.current).value, LeaseState(self.new).value, bool(self.ack_required))
+        return structs.Notification(key_field(self.key), LeaseState(self.current).value, LeaseState(self.new).value,
+                                    bool(self.ack_required))
 
     def write(self) -> bytes:
         """Its 44 bytes.
@@ -98,71 +98,64 @@ class Notification:
         found = structs.Acknowledgment()
         if not library.smblease_acknowledgment_due(ctypes.byref(self._struct()), ctypes.byref(found)):
             return None
-        return Acknowledgment(uuid.UUID(bytes=bytes(found.key)), LeaseState(found.state))
+        return Acknowledgment(key_of(found.key), LeaseState(found.state))
 
 
 @dataclass(frozen=True)
-class Acknowledgment:
-    """A lease break acknowledgment, by which a client gives up what a break takes; it keeps `state`.
-
-    >>> Acknowledgment.read(Acknowledgment(uuid.UUID(int=1), LeaseState.R).write()).state
-    <LeaseState R>
-    """
+class _StateMessage:
+    """A key and a state, which acknowledgments and responses have in one layout."""
 
     key: uuid.UUID
     state: LeaseState
+    _kind: ClassVar[Any]
+    _reader: ClassVar[Any]
+    _writer: ClassVar[Any]
 
     @classmethod
-    def read(cls, data: Octets) -> Acknowledgment:
+    def read(cls: Type[Self], data: Octets) -> Self:
         """Reads one from the front of the bytes. What follows is passed over.
 
         >>> Acknowledgment.read(b"")
         Traceback (most recent call last):
         ...
         smblease.faults.Fault: fault 1 Short at 0
+        >>> Response.read(bytes([36]) + bytes(35)).state
+        <LeaseState none>
         """
-        given, found = octets(data), structs.Acknowledgment()
-        raise_fault(library.smblease_read_acknowledgment(given, len(given), ctypes.byref(found)))
-        return cls(uuid.UUID(bytes=bytes(found.key)), LeaseState(found.state))
+        given, found = octets(data), cls._kind()
+        raise_fault(cls._reader(given, len(given), ctypes.byref(found)))
+        return cls(key_of(found.key), LeaseState(found.state))
 
     def write(self) -> bytes:
         """Its 36 bytes.
 
         >>> Acknowledgment(uuid.UUID(int=1), LeaseState.R).write().hex()[:16]
         '2400000000000000'
+        >>> Response(uuid.UUID(int=1), LeaseState.R).write().hex()[-24:]
+        '010000000000000000000000'
         """
-        key = (ctypes.c_uint8 * 16)(*key_octets(self.key))
-        message = structs.Acknowledgment(key, LeaseState(self.state).value)
-        return written(library.smblease_write_acknowledgment, message, ACKNOWLEDGMENT_SIZE)
+        return written(self._writer, self._kind(key_field(self.key), LeaseState(self.state).value), ACKNOWLEDGMENT_SIZE)
 
 
 @dataclass(frozen=True)
-class Response:
+class Acknowledgment(_StateMessage):
+    """A lease break acknowledgment, by which a client gives up what a break takes; it keeps `state`.
+
+    >>> Acknowledgment.read(Acknowledgment(uuid.UUID(int=1), LeaseState.R).write()).state
+    <LeaseState R>
+    """
+
+    _kind = structs.Acknowledgment
+    _reader, _writer = library.smblease_read_acknowledgment, library.smblease_write_acknowledgment
+
+
+@dataclass(frozen=True)
+class Response(_StateMessage):
     """A lease break response, by which a server takes an acknowledgment; the lease now has `state`.
 
     >>> Response.read(Response(uuid.UUID(int=1), LeaseState.R).write()).state
     <LeaseState R>
     """
 
-    key: uuid.UUID
-    state: LeaseState
-
-    @classmethod
-    def read(cls, data: Octets) -> Response:
-        """Reads one from the front of the bytes. What follows is passed over.
-
-        >>> Response.read(bytes([36]) + bytes(35)).state
-        <LeaseState none>
-        """
-        given, found = octets(data), structs.Response()
-        raise_fault(library.smblease_read_response(given, len(given), ctypes.byref(found)))
-        return cls(uuid.UUID(bytes=bytes(found.key)), LeaseState(found.state))
-
-    def write(self) -> bytes:
-        """Its 36 bytes.
-
-        >>> Response(uuid.UUID(int=1), LeaseState.R).write().hex()[-24:]
-        '010000000000000000000000'
-        """
-        key = (ctypes.c_uint8 * 16)(*key_octets(self.key))
-        return written(library.smblease_write_response, structs.Response(key, LeaseState(self.state).value), RESPONSE_SIZE)
+    _kind = structs.Response
+    _reader, _writer = library.smblease_read_response, library.smblease_write_response

@@ -4,7 +4,7 @@ from __future__ import annotations
 import logging
 import subprocess
 from collections.abc import Sequence
-from typing import IO, Protocol
+from typing import Protocol
 
 from smblease.faults import ToolFault
 from smblease.lines import read_answer, read_note, read_request, reply_words
@@ -44,6 +44,8 @@ class LineProcess:
                                              stderr=subprocess.PIPE, text=True, bufsize=1)
         except OSError as fault:
             raise ToolFault(f"{program}: {fault.strerror}") from None
+        assert self._process.stdin and self._process.stdout and self._process.stderr
+        self._input, self._output, self._errors = self._process.stdin, self._process.stdout, self._process.stderr
         for line in setup:
             self._give(line)
 
@@ -52,7 +54,7 @@ class LineProcess:
         self._give(line)
         lines: list[str] = []
         while not lines or not lines[-1].startswith(("answer ", "fault ")):
-            said = self._stream(self._process.stdout).readline()
+            said = self._output.readline()
             if not said:
                 raise self._ended(line)
             lines.append(said.rstrip("\n"))
@@ -61,7 +63,7 @@ class LineProcess:
     def close(self) -> None:
         """Ends the process."""
         try:
-            self._stream(self._process.stdin).close()
+            self._input.close()
         except OSError:
             LOG.debug("the %s machine had ended already", self._task)
         try:
@@ -69,26 +71,20 @@ class LineProcess:
         except subprocess.TimeoutExpired:
             self._process.kill()
             self._process.wait()
-        self._stream(self._process.stdout).close()
-        self._stream(self._process.stderr).close()
+        self._output.close()
+        self._errors.close()
 
     def _ended(self, line: str) -> ToolFault:
         """What is said of a machine that isn't there any more: want of memory ends it."""
-        said = self._stream(self._process.stderr).readline().strip() or "without a word"
+        said = self._errors.readline().strip() or "without a word"
         return ToolFault(f"the {self._task} machine has ended, {said}, at: {line[:200]}")
 
     def _give(self, line: str) -> None:
         try:
-            self._stream(self._process.stdin).write(f"{line}\n")
-            self._stream(self._process.stdin).flush()
+            self._input.write(f"{line}\n")
+            self._input.flush()
         except OSError:
             raise self._ended(line) from None
-
-    @staticmethod
-    def _stream(stream: IO[str] | None) -> IO[str]:
-        if stream is None:
-            raise ToolFault("a machine has no stream")
-        return stream
 
 
 def client_process(program: str, schedule: Schedule) -> LineProcess:

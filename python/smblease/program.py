@@ -8,12 +8,11 @@ import subprocess
 from collections.abc import Sequence
 from dataclasses import dataclass
 
+from smblease._library import HERE, TOP
 from smblease.faults import ToolFault
+from smblease.values import Rules
 
 NAME = "leasecheck"
-HERE = os.path.dirname(os.path.realpath(__file__))
-# The top of the repository, where the package stands in one.
-TOP = os.path.dirname(os.path.dirname(HERE))
 SECONDS = 600
 
 
@@ -72,14 +71,14 @@ def judge(program: str, record: str) -> Verdict:
     return Verdict(said)
 
 
-def replay(program: str, schedule: str, *words: str) -> list[str]:
-    """The record of a schedule on the server of this repository, without its verdict; with `--messages` also what is in the
-    messages. A text that is no schedule is refused.
+def replay(program: str, schedule: str, *words: str, rules: Rules = Rules()) -> list[str]:
+    """The record of a schedule on the server of this repository, of the profile's rules or of others, without its end; with
+    `--messages` also what is in the messages. A text that is no schedule is refused.
 
     >>> replay(find_program(), "file 616263\\nclient 11111111-1111-1111-1111-111111111111\\nconnect 1\\n")
     ['start 1 616263', 'joined 1']
     """
-    ran = _run(program, ["replay", *words, "-"], schedule)
+    ran = _run(program, ["replay", "--rules", str(rules), *words, "-"], schedule)
     if ran.returncode != 0:
         raise ToolFault(ran.stderr.strip() or f"{program} ended with status {ran.returncode}")
-    return ran.stdout.splitlines()[:-1]
+    return ran.stdout.splitlines()[:-1 if rules == Rules() else -2]

@@ -10,29 +10,23 @@ from typing import Any, Callable, Dict, Iterable, Optional, Tuple, Type
 
 from smblease import _structs as structs
 from smblease import outs, replies, requests
-from smblease._arguments import (BYTE, LONG, WORD, Octets, counted, file_id_of, file_of, key_octets, number, octets, struct_of,
-                                 write_of)
+from smblease._arguments import BYTE, LONG, Octets, key_field, key_octets, number, octets
+from smblease._fields import arguments_of, item_of
 from smblease._handles import Handle, Outcome, check
 from smblease._library import library
-from smblease.values import Access, LeaseState, Share
+from smblease.values import LARGEST_FILE, LeaseState, Order, Rise, Rules
 
 Outs = Tuple[outs.Out, ...]
 
-_OUTS: Dict[int, Callable[[Any, bytes], outs.Out]] = {
-    1: lambda has, data: outs.Sent(has.client, replies.Created(has.file, has.file_id, data)),
-    2: lambda has, data: outs.Sent(has.client, replies.CreateFailed(has.file, has.status)),
-    3: lambda has, data: outs.Sent(has.client, replies.ReadDone(has.file_id, data)),
-    4: lambda has, data: outs.Sent(has.client, replies.ReadFailed(has.file_id, has.status)),
-    5: lambda has, data: outs.Sent(has.client, replies.WriteDone(has.file_id, has.number)),
-    6: lambda has, data: outs.Sent(has.client, replies.WriteFailed(has.file_id, has.number, has.status)),
-    7: lambda has, data: outs.Sent(has.client, replies.Closed(has.file_id)),
-    8: lambda has, data: outs.Sent(has.client, replies.CloseFailed(has.file_id, has.status)),
-    9: lambda has, data: outs.Sent(has.client, replies.Break(data)),
-    10: lambda has, data: outs.Sent(has.client, replies.AcknowledgeDone(data)),
-    11: lambda has, data: outs.Sent(has.client, replies.AcknowledgeFailed(has.status)),
-    12: lambda has, data: outs.Opened(has.file, has.client),
-    13: lambda has, data: outs.Changed(has.file, has.client, has.number, has.offset, data),
-}
+# What the library gives out, by its numbers from 1.
+_OUTS = (replies.Created, replies.CreateFailed, replies.ReadDone, replies.ReadFailed, replies.WriteDone, replies.WriteFailed,
+         replies.Closed, replies.CloseFailed, replies.Break, replies.AcknowledgeDone, replies.AcknowledgeFailed,
+         outs.Opened, outs.Changed)
+
+
+def _out(has: structs.ServerOut, data: bytes) -> outs.Out:
+    given = item_of(_OUTS, has, data)
+    return given if isinstance(given, (outs.Opened, outs.Changed)) else outs.Sent(int(has.client), given)
 
 
 def _key(key: uuid.UUID) -> structs.Key:
@@ -40,19 +34,20 @@ def _key(key: uuid.UUID) -> structs.Key:
 
 
 def _maybe_key(key: Optional[uuid.UUID]) -> structs.MaybeKey:
-    return structs.MaybeKey() if key is None else structs.MaybeKey((ctypes.c_uint8 * 16)(*key_octets(key)), 1)
+    return structs.MaybeKey() if key is None else structs.MaybeKey(key_field(key), 1)
 
 
 def _add_files(files: structs.Files, contents: Iterable[Octets]) -> None:
     for content in map(octets, contents):
         outcome = library.smblease_files_add(ctypes.byref(files), content, len(content))
         if outcome == Outcome.NO_SUCH:
-            raise ValueError("a server has at most 255 files, and a file at most 1048576 bytes")
+            raise ValueError(f"a server has at most 255 files, and a file at most {LARGEST_FILE} bytes")
         check(outcome, "server")
 
 
 class Server(Handle[structs.Server]):
-    """A server whose files have these contents, in the order of their numbers from 1. No client has joined.
+    """A server whose files have these contents, in the order of their numbers from 1, of the profile's rules or of others. No
+    client has joined.
 
     Where there is no memory for a call, MemoryError is raised and nothing changed; where memory ran out within it, MachineLost.
 
@@ -65,12 +60,16 @@ class Server(Handle[structs.Server]):
     ValueError: the server is closed
     """
 
-    def __init__(self, contents: Iterable[Octets]) -> None:
+    def __init__(self, contents: Iterable[Octets], rules: Rules = Rules()) -> None:
         super().__init__(structs.Server(), library.smblease_server_free, "server")
+        if not isinstance(rules, Rules):
+            raise TypeError(f"rules are needed, as Rules.of('by-key,whole'), and not {rules!r}")
+        numbers = Order(rules.order).value, Rise(rules.rise).value
         files = structs.Files()
         try:
             _add_files(files, contents)
-            if library.smblease_server_new(ctypes.byref(self._handle), ctypes.byref(files)) != Outcome.DONE:
+            made = library.smblease_server_new_with_rules(ctypes.byref(self._handle), ctypes.byref(files), *numbers)
+            if made != Outcome.DONE:
                 raise MemoryError("there is no memory for a server")
         finally:
             library.smblease_files_free(ctypes.byref(files))
@@ -79,7 +78,7 @@ class Server(Handle[structs.Server]):
         with self._lock:
             self._check(call(ctypes.byref(self._handle), *arguments))
             given = self._parts(library.smblease_server_out_count, library.smblease_server_out_at, structs.ServerOut)
-        return tuple(_OUTS[has.kind](has, data) for has, data in given)
+        return tuple(_out(*it) for it in given)
 
     def _asked(self, call: Callable[..., int], *arguments: object) -> int:
         with self._lock:
@@ -121,6 +120,7 @@ class Server(Handle[structs.Server]):
     def receive(self, client: int, request: requests.Request) -> Outs:
         """A request of a client comes. Of a client that isn't connected nothing is received.
 
+        >>> from smblease import Access, Share
         >>> server = Server([b"abc"])
         >>> server.join(1)
         ()
@@ -132,8 +132,7 @@ class Server(Handle[structs.Server]):
         """
         if type(request) not in _RECEIVING:
             raise TypeError(f"a request is needed, and not {request!r}")
-        call, arguments = _RECEIVING[type(request)]
-        return self._outs(call, number(client, BYTE, "client"), *arguments(request))
+        return self._outs(_RECEIVING[type(request)], number(client, BYTE, "client"), *arguments_of(request))
 
     def allowed(self, client: int, key: Optional[uuid.UUID], file: int, want: LeaseState) -> LeaseState:
         """What may be granted to a client of the state that it wants.
@@ -195,17 +194,9 @@ class Server(Handle[structs.Server]):
         return room.raw
 
 
-# The call for a request of each kind, and its arguments.
-_RECEIVING: Dict[Type[Any], Tuple[Callable[..., int], Callable[[Any], Tuple[object, ...]]]] = {
-    requests.CreateRequest: (
-        library.smblease_server_receive_create,
-        lambda it: (file_of(it), Access(it.access).value, Share(it.share).value, *counted(it.contexts))),
-    requests.ReadRequest: (library.smblease_server_receive_read, lambda it: (file_id_of(it),)),
-    requests.WriteRequest: (
-        library.smblease_server_receive_write,
-        lambda it: (file_id_of(it), write_of(it), number(it.offset, WORD, "offset"), *counted(it.data))),
-    requests.CloseRequest: (library.smblease_server_receive_close, lambda it: (file_id_of(it),)),
-    requests.AcknowledgeRequest: (
-        library.smblease_server_receive_ack,
-        lambda it: (ctypes.byref(struct_of(structs.AckMessage, it.message, "a lease break acknowledgment")),)),
+# The call for a request of each kind.
+_RECEIVING: Dict[Type[Any], Callable[..., int]] = {
+    requests.CreateRequest: library.smblease_server_receive_create, requests.ReadRequest: library.smblease_server_receive_read,
+    requests.WriteRequest: library.smblease_server_receive_write, requests.CloseRequest: library.smblease_server_receive_close,
+    requests.AcknowledgeRequest: library.smblease_server_receive_ack,
 }

@@ -2,6 +2,10 @@
 from __future__ import annotations
 
 import enum
+from typing import NamedTuple
+
+# The most bytes that a file has.
+LARGEST_FILE = 1048576
 
 
 class LeaseState(enum.Flag):
@@ -77,6 +81,56 @@ class Share(enum.Enum):
     READ_WRITE = 3
 
 
+class Order(enum.Enum):
+    """Which requests of one client on one file wait for one another: all, or those under one lease key or by one FileId.
+
+    >>> Order(1)
+    <Order.BY_KEY: 1>
+    """
+
+    BY_CLIENT = 0
+    BY_KEY = 1
+
+
+class Rise(enum.Enum):
+    """How a lease rises when its client asks for more: as far as is free, or to all of it or not at all.
+
+    >>> Rise.WHOLE.value
+    1
+    """
+
+    AS_FREE = 0
+    WHOLE = 1
+
+
+class Rules(NamedTuple):
+    """The rules that a server may choose; those of docs/PROFILE.md where none are named.
+
+    >>> str(Rules()), Rules.of("by-key,whole").rise
+    ('by-client,as-free', <Rise.WHOLE: 1>)
+    """
+
+    order: Order = Order.BY_CLIENT
+    rise: Rise = Rise.AS_FREE
+
+    @classmethod
+    def of(cls, text: str) -> Rules:
+        """The rules of two words, as lines of the machines have them.
+
+        >>> Rules.of("whole")
+        Traceback (most recent call last):
+        ...
+        ValueError: 'whole' is no rules: by-client or by-key, a comma, and as-free or whole
+        """
+        for rules in (cls(order, rise) for order in Order for rise in Rise):
+            if str(rules) == text:
+                return rules
+        raise ValueError(f"{text!r} is no rules: by-client or by-key, a comma, and as-free or whole")
+
+    def __str__(self) -> str:
+        return f"{self.order.name},{self.rise.name}".lower().replace("_", "-")
+
+
 class Status(enum.IntEnum):
     """Statuses of answers by their names in MS-ERREF 2.3.1, without `STATUS_`. Any other NTSTATUS is a plain number.
 
@@ -150,9 +204,8 @@ def read_status(word: str) -> int:
     >>> read_status("STATUS_FILE_CLOSED") == read_status("c0000128") == Status.FILE_CLOSED
     True
     """
-    status = _BY_WORD.get(word)
-    if status is None:
-        if len(word) != 8:
-            raise ValueError(f"{word!r} is no status")
-        status = int(word, 16)
-    return status
+    if word in _BY_WORD:
+        return _BY_WORD[word]
+    if len(word) != 8:
+        raise ValueError(f"{word!r} is no status")
+    return int(word, 16)

@@ -97,9 +97,13 @@ class World(ABC, Generic[AnyPeer]):
         self.files = range(1, len(schedule.files) + 1)
         self._clients = clients
         self._record = record
-        self._doings: dict[EventKind, Callable[[Event, AnyPeer], bool]] = {
-            EventKind.SERVE: self._serve, EventKind.TAKE: self._take, EventKind.CUT: self._cut, EventKind.NOTICE: self._notice,
-            EventKind.CONNECT: self._connect, EventKind.RAW: self._stray,
+        # what of its peer an event of the link needs, and what it does
+        self._doings: dict[EventKind, tuple[Callable[[AnyPeer], object], Callable[[Event, AnyPeer], None]]] = {
+            EventKind.SERVE: (lambda it: it.requests, self._serve), EventKind.TAKE: (lambda it: it.replies, self._take),
+            EventKind.CUT: (lambda it: it.link is Link.UP, self._cut),
+            EventKind.NOTICE: (lambda it: it.link is Link.CUT, self._notice),
+            EventKind.CONNECT: (lambda it: it.link is Link.DOWN, self._connect),
+            EventKind.RAW: (lambda it: it.link is Link.UP, self._stray),
         }
         for file, data in zip(self.files, schedule.files):
             record.fact(f"start {file} {digits(data)}")
@@ -113,7 +117,11 @@ class World(ABC, Generic[AnyPeer]):
             return int(event.words[0]) in self.files and self._step(event.client, lambda: self._clients.step(event))
         if event.kind in (EventKind.EXPIRE, EventKind.SCAVENGE):
             return self._end_timer(event)
-        return self._doings[event.kind](event, peer)
+        may, does = self._doings[event.kind]
+        if not may(peer):
+            return False
+        does(event, peer)
+        return True
 
     def _called(self, call: Callable[[], Given]) -> Given:
         """What a call of a machine gives."""
@@ -128,54 +136,36 @@ class World(ABC, Generic[AnyPeer]):
             peer.requests.extend(step.requests)
         return bool(step.requests or step.notes) or not isinstance(step.answer, Refused)
 
-    def _serve(self, event: Event, peer: AnyPeer) -> bool:
-        if not peer.requests:
-            return False
+    def _serve(self, event: Event, peer: AnyPeer) -> None:
         self._served(event.client, peer.requests.popleft())
-        return True
 
-    def _take(self, event: Event, peer: AnyPeer) -> bool:
-        if not peer.replies:
-            return False
+    def _take(self, event: Event, peer: AnyPeer) -> None:
         reply = peer.replies.popleft()
         self._record.remark(f"took {event.client} {reply_words(reply)}")
         self._record.fact(f"took {event.client}")
         self._step(event.client, lambda: self._clients.take(event.client, reply))
-        return True
 
-    def _cut(self, event: Event, peer: AnyPeer) -> bool:
-        if peer.link is not Link.UP:
-            return False
+    def _cut(self, event: Event, peer: AnyPeer) -> None:
         peer.link = Link.CUT
         peer.requests.clear()
         peer.replies.clear()
         self._record.fact(f"dropped {event.client}")
         self._dropped(event.client)
-        return True
 
-    def _notice(self, event: Event, peer: AnyPeer) -> bool:
-        if peer.link is not Link.CUT:
-            return False
+    def _notice(self, event: Event, peer: AnyPeer) -> None:
         peer.link = Link.DOWN
         self._step(event.client, lambda: self._clients.step(event))
-        return True
 
-    def _connect(self, event: Event, peer: AnyPeer) -> bool:
-        if peer.link is not Link.DOWN:
-            return False
+    def _connect(self, event: Event, peer: AnyPeer) -> None:
         peer.link = Link.UP
         self._record.fact(f"joined {event.client}")
         self._joined(event.client)
         self._step(event.client, lambda: self._clients.step(event))
-        return True
 
-    def _stray(self, event: Event, peer: AnyPeer) -> bool:
-        if peer.link is not Link.UP:
-            return False
+    def _stray(self, event: Event, peer: AnyPeer) -> None:
         request = self._meant(read_request(" ".join(event.words)))
         self._record.fact(f"strayed {event.client}")
         peer.requests.append(request)
-        return True
 
     def _end_timer(self, event: Event) -> bool:
         file, ends = int(event.words[0]), self._expire if event.kind is EventKind.EXPIRE else self._scavenge

@@ -11,7 +11,7 @@ import pytest
 
 from smblease import (Access, AcknowledgeDone, AcknowledgeFailed, AcknowledgeRequest, Break, Client, Closed, Context,
                       CreateAnswer, CreateAsk, CreateRequest, Fault, LeaseState, Notification, Quiet, ReadRequest, Response,
-                      Server, Share, Status, WriteDone, WriteRequest, append_context, each_context)
+                      Rules, Server, Share, Status, WriteDone, WriteRequest, append_context, each_context)
 
 GUID = uuid.UUID(int=1)
 RW, RH = LeaseState.of("RW"), LeaseState.of("RH")
@@ -22,6 +22,7 @@ client: Any = CLIENT
 server: Any = SERVER
 any_client: Any = Client
 any_server: Any = Server
+any_rules: Any = Rules
 any_ask: Any = CreateAsk
 any_answer: Any = CreateAnswer
 create: Any = CreateRequest
@@ -66,6 +67,8 @@ HALF = bytes((0, 0, 0, 0, 24, 0, 4)) + bytes(17) + b"DHnQ" + bytes(4)
     refused("256 files of a server", lambda: Server([b""] * 256), word="at most 255 files"),
     refused("a file of 1048577 bytes", lambda: Server([bytes(1048577)]), word="1048576 bytes"),
     refused("a file that is a number", lambda: any_server([5]), TypeError),
+    refused("rules as a text", lambda: any_server([], "by-key,whole"), TypeError, "Rules.of('by-key,whole')"),
+    refused("an order of 2", lambda: any_server([], any_rules(2)), word="Order"),
     refused("client 256", lambda: server.join(256), word="client"),
     refused("client -1", lambda: server.cut(-1), word="client"),
     refused("a key as bytes", lambda: server.expire(1, bytes(16)), TypeError, "uuid.UUID"),

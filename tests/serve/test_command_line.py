@@ -10,7 +10,7 @@ import time
 from pathlib import Path
 
 import pytest
-from smblease import Status
+from smblease import CreateAnswer, LeaseState, Status
 
 from drive.faults import DriveFault
 from serve.server_process import ServerProcess
@@ -27,7 +27,7 @@ NO_IMPACKET = "serve/run: --user needs impacket, which can't be imported (tools/
 FORGETFUL = """#!/bin/sh
 while read -r word rest; do
     case $word in
-    file) ;;
+    rules | file) ;;
     content) echo answer bytes - ;;
     *) echo fault memory >&2; exit 1 ;;
     esac
@@ -38,6 +38,13 @@ done
 def run(program: str, *words: str, interpreter: tuple[str, ...] = ()) -> "subprocess.CompletedProcess[str]":
     return subprocess.run([*interpreter, RUN, "--leasecheck", program, *words], stdin=subprocess.DEVNULL, capture_output=True,
                           text=True, timeout=60, check=False)
+
+
+def wait_for_end(server: ServerProcess) -> None:
+    """Until it has ended by itself, before `close` would end it."""
+    until = time.monotonic() + 20
+    while Path(f"/proc/{server.process}/status").read_text(encoding="utf-8").find("State:\tZ") < 0 and time.monotonic() < until:
+        time.sleep(0.01)
 
 
 def executable(path: Path, text: str) -> str:
@@ -52,6 +59,8 @@ def executable(path: Path, text: str) -> str:
     pytest.param(["--port", "70000", "--share", "s"], 2, "serve/run: --port", id="--port"),
     pytest.param([*PLACE, "--user", "u"], 2, "serve/run: --user", id="--user"),
     pytest.param([*PLACE, "--address", "nowhere"], 2, "serve/run: --address", id="--address"),
+    pytest.param([*PLACE, "--rules", "by-key,whole"], 2, "serve/run: --rules by-key", id="--rules by-key"),
+    pytest.param([*PLACE, "--rules", "whole"], 2, "serve/run: --rules: 'whole'", id="--rules"),
     pytest.param([*PLACE, "--break-timer", "0"], 2, "serve/run: timers", id="--break-timer"),
     pytest.param([*PLACE, "--control", "77"], 2, "serve/run: --control", id="--control"),
     pytest.param([*PLACE, "--folder", "/nowhere"], 1, "serve/run: /nowhere", id="--folder"),
@@ -87,9 +96,7 @@ def test_want_of_memory(tmp_path: Path, connect: Connect) -> None:
     server = ServerProcess(executable(tmp_path / "machine", FORGETFUL))
     with pytest.raises(DriveFault):
         connect(server)
-    until = time.monotonic() + 20
-    while Path(f"/proc/{server.process}/status").read_text(encoding="utf-8").find("State:\tZ") < 0 and time.monotonic() < until:
-        time.sleep(0.01)
+    wait_for_end(server)
     server.close()
     assert (server.status, server.complaints.count("\n"), "fault memory" in server.complaints) == (1, 1, True)
 
@@ -100,6 +107,7 @@ def test_a_signal_ends_it(start: Start, connect: Connect, tmp_path: Path) -> Non
     one = connect(server)
     one.ask(write(one.open(create("file")), 0, b"x"))
     os.kill(server.process, signal.SIGINT)
+    wait_for_end(server)
     server.close()
     facts = [it for it in (tmp_path / "record").read_text(encoding="utf-8").splitlines() if not it.startswith("#")]
     assert facts == ["joined 1", "start 1 -", "opened 1 1", "sent 1", "wrote 1 1 1 0 78 through", "changed 1 1 1 0 78", "sent 1"]
@@ -117,6 +125,18 @@ PYTHONPATH={TOP}:{TOP}/python exec {sys.executable} -m tests.serve.two_machines 
     server.close()
     words = (server.verdict or "").split(" ")
     assert (words[0], words[-1], server.status) == ("unsafe", "1", 3)
+
+
+@pytest.mark.parametrize("words, state", [([], "RH"), (["--rules", "by-client,whole"], "R")], ids=["as free", "whole"])
+def test_how_a_lease_rises(start: Start, connect: Connect, words: list[str], state: str) -> None:
+    """A lease of R whose client asks for RWH beside a lease of another."""
+    from tests.serve.wire_client import contexts_of  # pylint: disable=import-outside-toplevel
+    server = start(*words)
+    one, other = connect(server), connect(server)
+    one.open(leased("file", KEY, "R"))
+    other.open(leased("file", OTHER_KEY, "RWH"))
+    answer = one.ask(leased("file", KEY, "RWH"))
+    assert CreateAnswer.read(contexts_of(answer)).state == LeaseState.of(state)
 
 
 def test_a_folder_is_served(start: Start, connect: Connect, tmp_path: Path) -> None:

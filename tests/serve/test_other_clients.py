@@ -18,6 +18,7 @@ TORTURED = ["smb2.lease.request", "smb2.lease.upgrade", "smb2.lease.upgrade2", "
             "smb2.lease.duplicate_open", "smb2.durable-open.reopen1a-lease", "smb2.durable-open.delete_on_close1",
             "smb2.durable-open.lock-lease", "smb2.durable-open.oplock"]
 APART = "smb2.lease.breaking1"
+WHOLE = ["smb2.lease.break", "smb2.lease.upgrade3"]
 USER = "somebody%secret"
 
 
@@ -36,6 +37,7 @@ def ended(client: "subprocess.Popen[str]") -> tuple[int, str]:
 @needs.program("smbtorture")
 @pytest.mark.parametrize("name, words, interpreter", [
     *(pytest.param(it, [], (), id=it) for it in TORTURED), pytest.param(APART, ["--apart"], (), id=f"{APART}-apart"),
+    *(pytest.param(it, ["--rules", "by-client,whole"], (), id=f"{it}-whole") for it in WHOLE),
     pytest.param(TORTURED[0], [], BARE, id=f"{TORTURED[0]}-standard_library_alone"),
 ])
 def test_smbtorture(program: str, name: str, words: list[str], interpreter: tuple[str, ...]) -> None:

@@ -12,14 +12,14 @@ from smblease.processes import LineProcess
 def main(program: str, words: list[str]) -> None:
     if words != ["server"]:
         os.execv(program, [program, *words])
-    files: list[str] = []
+    setup: list[str] = []
     machines: list[LineProcess] = []
     for line in map(str.rstrip, sys.stdin):
         word, client = (line.split() + [""])[:2]
-        if word == "file":
-            files.append(line)
+        if word in ("rules", "file"):
+            setup.append(line)
             continue
-        machines = machines or [LineProcess(program, "server", files) for _ in range(2)]
+        machines = machines or [LineProcess(program, "server", setup) for _ in range(2)]
         print("\n".join(machines[word != "content" and client == "2"].say(line)), flush=True)
     for machine in machines:
         machine.close()
