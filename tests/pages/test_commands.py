@@ -1,4 +1,5 @@
-"""The commands of README.md and docs/SESSIONS.md, as they stand there and in their order, give what stands there.
+"""The commands of README.md, docs/SESSIONS.md and docs/PROFILE.md, as they stand there and in their order, give what stands
+there.
 
 In an indented block a line `$ COMMAND` is a command, and the lines after it are what it prints, to the letter. A block of lines
 that each begin with make, export or cc is run too, and has to end well. All is run by one shell, in a folder of its own, with a
@@ -25,7 +26,7 @@ LINKS = (
     "CHANGELOG.md", "COPYING.md", "Makefile", "SECURITY.md", "completion", "crates", "crates.txt", "dist", "docs", "drive",
     "examples", "include", "kit.txt", "leasecheck", "man", "out", "pyproject.toml", "python", "serve", "setup.py", "tests",
     "tools")
-PAGES = ("README.md", "docs/SESSIONS.md")
+PAGES = ("README.md", "docs/SESSIONS.md", "docs/PROFILE.md")
 # Commands that have these words need these programs.
 NEEDS = {"pkg-config": "pkg-config", "out/c/": "pkg-config", "./lend": "pkg-config", "drive/capture": "tshark",
          "man leasecheck": "man"}

@@ -8,11 +8,13 @@ from smblease.outs import Out
 from smblease.processes import LineMachine, LineProcess
 from smblease.requests import Request
 from smblease.schedules import Schedule
+from smblease.values import Rules
 
 
-def server_process(program: str, schedule: Schedule) -> LineProcess:
-    """The server machine of a schedule."""
-    return LineProcess(program, "server", [f"file {digits(data)}" for data in schedule.files])
+def server_process(program: str, schedule: Schedule, rules: Rules | None = None) -> LineProcess:
+    """The server machine of a schedule, which is given rules or none."""
+    files = [f"file {digits(data)}" for data in schedule.files]
+    return LineProcess(program, "server", files if rules is None else [f"rules {rules}", *files])
 
 
 class LineServer(LineMachine):

@@ -149,3 +149,17 @@ class StrayingSchedule:
             for _ in range(self.chooser.randrange(4)):
                 self.lines += self.move(client)
         return "\n".join(self.lines) + "\n"
+
+
+class SecondOpens(StrayingSchedule):
+    """Clients whose machines have leases, and in whose names the same files are opened without a key, or under a second one."""
+
+    def __init__(self, chooser: random.Random) -> None:
+        super().__init__(chooser)
+        self.straying, self.only_straying = set(range(1, self.clients + 1)), set()
+
+    def stray(self, client: int) -> str:
+        self.opens += 1
+        key = self.guids[client - 1][:12] + bytes((200, 0, 0, self.chooser.randint(1, self.files)))
+        leased = chain([(b"RqLs", key + self.state() + bytes(12))])
+        return f"raw {client} create {self.chooser.randint(1, self.files)} rw rw {digits(leased if self.happens(0.4) else b'')}"

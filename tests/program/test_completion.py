@@ -77,6 +77,11 @@ def test_each_option_of_a_command_is_known(program: str) -> None:
         assert offered(command, "-") == has, command
 
 
+def test_the_rules_are_known(program: str) -> None:
+    words = re.search(r"--rules[^[]*\[possible values: ([^]]*)\]", help_of(program, "replay"))
+    assert words and offered("replay", "--rules", "") == set(words[1].split(", "))
+
+
 def test_each_kind_is_known(program: str) -> None:
     kinds = re.search(r"\[possible values: (.*)\]", help_of(program, "show"))
     assert kinds and offered("show", "") == set(kinds[1].split(", "))
@@ -87,6 +92,7 @@ def test_each_kind_is_known(program: str) -> None:
     pytest.param("leasecheck judge --ex\tsh\t", "<judge><--explain><shared.txt>", id="an option before the file"),
     pytest.param("leasecheck show rep\t00", "<show><reply><00>", id="a kind"),
     pytest.param("leasecheck replay tw\t", "<replay><two words.txt>", id="a file with a space"),
+    pytest.param("leasecheck replay --ru\tby-key,w\tsh\t", "<replay><--rules><by-key,whole><shared.txt>", id="rules and a file"),
     pytest.param("leasecheck draw rec\tfi\t", "<draw><records/first>", id="a file in a folder"),
     pytest.param("leasecheck ack sh\t", "<ack><sh>", id="bytes are no file"),
     pytest.param("leasecheck replay shared.txt tw\t", "<replay><shared.txt><tw>", id="no second file"),
