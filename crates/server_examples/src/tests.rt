@@ -4,7 +4,10 @@ mod durable;
 mod in_place;
 mod words;
 
-use lease_state::{Access, Bytes, ClientNo, Content, FileNo, LeaseKey, LeaseState, Request, Share};
+use lease_state::{
+    Access, Bytes, ClientNo, Content, FileNo, LeaseKey, LeaseState, Order, Request, Rise, Rules,
+    Share,
+};
 use lease_wire::{CreateAsk, write_create_ask};
 use share_server::{Out, Server};
 use std::test::Fail;
@@ -35,6 +38,21 @@ fn a_new_server_has_its_files_and_nothing_else(rt: HostRuntime) -> Result<(), Fa
             LeaseState::from_wire(given)
         );
     }
+    Ok(())
+}
+
+#[test]
+fn a_server_has_the_rules_that_it_was_given(rt: HostRuntime) -> Result<(), Fail> {
+    let alloc = rt.alloc();
+    let rules = Rules {
+        order: Order::ByKey,
+        rise: Rise::Whole,
+    };
+    assert_eq!(rt;
+        Server::with_rules(alloc, rules, Vec::new(alloc))?.rules(),
+        rules
+    );
+    assert_eq!(rt; two_files(alloc)?.rules(), Rules::profile());
     Ok(())
 }
 

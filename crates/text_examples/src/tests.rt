@@ -11,7 +11,7 @@ use lease_texts::{
 use lease_world::{Event, Fact};
 use std::alloc::Global;
 use std::test::Fail;
-use text_laws::{facts_are_typed, judged_run};
+use text_laws::{facts_are_typed, judged_run, judged_run_under};
 
 mod machines;
 
@@ -214,6 +214,12 @@ fn a_run_is_judged(rt: HostRuntime) -> Result<(), Fail> {
     let mut expected = Vec::new(alloc);
     expected.push(Fact::Start(FileNo(1), bytes(alloc, b"abc")?))?;
     expected.push(Fact::Joined(ClientNo(1)))?;
+    assert!(&rt; facts == expected);
+    let rules = Rules {
+        order: Order::ByKey,
+        rise: Rise::Whole,
+    };
+    let facts = judged_run_under(alloc, rules, &schedule.setup, schedule.events.as_slice())?;
     assert!(&rt; facts == expected);
     Ok(())
 }

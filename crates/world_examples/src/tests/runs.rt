@@ -4,8 +4,13 @@ use crate::tests::words::{
     believes, buffered, changed, joined, opened, patch, record, sent, settled, start, took,
 };
 use lease_client::{Command, Settlement};
-use lease_state::{Access, Bytes, ClientNo, Content, FileId, FileNo, LeaseState, Reply, Share};
-use lease_world::{Event, RunFault, Setup, Verdict, judge, run, run_with_messages};
+use lease_state::{
+    Access, Bytes, ClientNo, Content, FileId, FileNo, LeaseState, Order, Reply, Rise, Rules, Share,
+};
+use lease_world::{
+    Event, Fact, RunFault, Setup, Verdict, judge, run, run_under, run_with_messages,
+    run_with_messages_under,
+};
 use std::alloc::Global;
 use std::test::Fail;
 
@@ -32,11 +37,15 @@ pub fn setup(alloc: Global, files: u8, clients: u8) -> Result<Setup, Fail> {
 
 /// The client opens the first file, and asks for the lease state that the wire's number names.
 pub fn open(client: u8, want: u32) -> Event {
+    open_for(client, Access::ReadWrite, want)
+}
+
+fn open_for(client: u8, access: Access, want: u32) -> Event {
     Event::App(
         ClientNo(client),
         Command::Open {
             file: FileNo(1),
-            access: Access::ReadWrite,
+            access,
             share: Share::ReadWrite,
             want: LeaseState::from_wire(want),
             durable: false,
@@ -144,6 +153,47 @@ fn a_run_gives_what_is_in_its_messages(rt: HostRuntime) -> Result<(), Fail> {
     assert!(rt; messages[1] == created);
     assert!(rt; messages[2] == Reply::Break(BREAK));
     assert!(rt; messages[3] == Reply::Break(BREAK));
+    Ok(())
+}
+
+// What client 1 believes in the end of a lease of R that asks for all beside another client's lease.
+fn risen(alloc: Global, rules: Rules) -> Result<LeaseState, Fail> {
+    let (one, two) = (ClientNo(1), ClientNo(2));
+    let events = [
+        Event::Connect(one),
+        Event::Connect(two),
+        open_for(1, Access::Read, 1),
+        Event::ServerTakes(one),
+        Event::ClientTakes(one),
+        open(2, 7),
+        Event::ServerTakes(two),
+        Event::ClientTakes(two),
+        open(1, 7),
+        Event::ServerTakes(one),
+        Event::ClientTakes(one),
+    ];
+    let facts = run_under(alloc, rules, &setup(alloc, 1, 2)?, &events)?;
+    let (same, messages) = run_with_messages_under(alloc, rules, &setup(alloc, 1, 2)?, &events)?;
+    if facts.as_slice() != same.as_slice() || messages.len() != 6 {
+        return Err("another run")?;
+    }
+    let mut believed = LeaseState::NONE;
+    for fact in facts.as_slice() {
+        if let Fact::Believes(ClientNo(1), _, state) = fact {
+            believed = *state;
+        }
+    }
+    Ok(believed)
+}
+
+#[test]
+fn a_lease_rises_by_the_rules_of_its_server(rt: HostRuntime) -> Result<(), Fail> {
+    let (as_free, whole) = (LeaseState::from_wire(3), LeaseState::from_wire(1));
+    for order in [Order::ByClient, Order::ByKey] {
+        for (rise, state) in [(Rise::AsFree, as_free), (Rise::Whole, whole)] {
+            assert_eq!(rt; risen(rt.alloc(), Rules { order, rise })?, state);
+        }
+    }
     Ok(())
 }
 
