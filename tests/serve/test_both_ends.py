@@ -2,6 +2,7 @@
 from __future__ import annotations
 
 import random
+import subprocess
 from pathlib import Path
 
 import pytest
@@ -9,7 +10,7 @@ from smblease.schedules import Schedule
 
 from serve.server_process import DrivenServer
 from tests import needs
-from tests.paths import SCHEDULES
+from tests.paths import SCHEDULES, TOP
 
 pytestmark = needs.package("impacket")
 RANDOM, STRAYED = range(10), range(15)
@@ -32,6 +33,13 @@ def check(program: str, schedule: Schedule, folder: Path) -> None:
 @pytest.mark.parametrize("path", [pytest.param(it, id=it.name) for it in SCHEDULES])
 def test_schedule(program: str, path: Path, tmp_path: Path) -> None:
     check(program, Schedule.read(path.read_text(encoding="utf-8")), tmp_path)
+
+
+def test_a_lease_that_rises_whole(program: str) -> None:
+    """A schedule that has another record under the profile's rules."""
+    words: list[str | Path] = ["--leasecheck", program, "--served", "--rules", "by-client,whole", TOP / "examples" / "rise.txt"]
+    ended = subprocess.run([TOP / "drive" / "compare", *words], capture_output=True, text=True, timeout=60, check=False)
+    assert (ended.returncode, ended.stdout, ended.stderr) == (0, "same\n", "")
 
 
 @pytest.mark.parametrize("number", [pytest.param(it, marks=[] if it < SHORT else pytest.mark.long) for it in RANDOM])
