@@ -1,0 +1,5 @@
+pub mod Calls
+pub mod Ends
+pub mod Passes
+pub mod Steps
+pub mod Tries

@@ -1,0 +1,7 @@
+//! What a lease manager is: the server of the rules in `lease_model` without the bytes of its files. Public functions with an
+//! empty body carry what is proved of it.
+#![tactic(auto)]
+
+mod laws;
+
+pub use laws::law_of_bytes;
