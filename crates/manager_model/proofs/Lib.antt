@@ -1,1 +1,2 @@
 mod bytes
+mod passes

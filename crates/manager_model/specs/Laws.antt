@@ -1,11 +1,30 @@
 -- What forgetting the bytes leaves as it is.
-use Rattle.std.specs.Prelude.{◌≡◌}
+use Rattle.std.specs.Prelude.{◌≡◌, ℕ, ◌+◌, ◌≤◌, ◌<◌, true, List, length}
 use Rattle.lease_model.specs.server.Calls.{Call, called}
 use Rattle.lease_model.specs.server.State.{Server}
 use Rattle.manager_model.specs.Bare.{bare, bare_call, bare_progress}
+use Rattle.manager_model.specs.Handling.{Handling, all_passes, last_file, one_pass, passes, passes_for, passes_over}
+use Rattle.manager_model.specs.Waiting.{AreWaitingFiles}
 
 -- A call of a server without bytes makes of it, and gives out, what the call makes of the server, and gives out, without
 -- the bytes.
 abbrev pub BytesDecideNothing : Type 0
 BytesDecideNothing = (server : Server) (call : Call)
     → called (bare server) (bare_call call) ≡ bare_progress (called server call)
+
+-- ---- passes of a manager
+
+-- A pass that answered a request leaves fewer to wait on its file,
+abbrev pub PassesAnswer : Type 0
+PassesAnswer = (file : ℕ) (now : Handling) → (one_pass file now).has_answered ≡ true
+    → length ((one_pass file now).now.manager.queues file) < length (now.manager.queues file)
+
+-- so with more passes than requests wait on a file, however many, the same is done.
+abbrev pub PassesAreEnough : Type 0
+PassesAreEnough = (count file : ℕ) (now : Handling) → length (now.manager.queues file) < count
+    → passes_for count file now ≡ passes file now
+
+-- Passes over all files are passes over those where requests wait.
+abbrev pub FilesAreEnough : Type 0
+FilesAreEnough = (files : List ℕ) (now : Handling) → now.manager.server.files ≡ last_file
+    → AreWaitingFiles now.manager.queues files → all_passes now ≡ passes_over files now

@@ -1,2 +1,5 @@
 pub mod Bare
+pub mod Decisions
+pub mod Handling
 pub mod Laws
+pub mod Waiting

@@ -1,8 +1,16 @@
-ghost use Rattle.manager_model.specs.Laws.{BytesDecideNothing};
+ghost use Rattle.manager_model.specs.Laws.{BytesDecideNothing, FilesAreEnough, PassesAnswer, PassesAreEnough};
 
 /// The calls of a server decide nothing by the bytes of files, nor by those of writes or their numbers, but whether a write ends
 /// within the limit of a file: each does to a server that has forgotten them what it does to the server itself, and gives out the
 /// same without them. Does nothing.
 pub fn law_of_bytes()
     ensures { BytesDecideNothing }
+{}
+
+/// Passes of a manager over the requests that wait on a file end by themselves, and only files where requests wait need any.
+/// Does nothing.
+pub fn law_of_passes()
+    ensures answer { PassesAnswer }
+    ensures enough { PassesAreEnough }
+    ensures files { FilesAreEnough }
 {}
