@@ -1,2 +1,3 @@
 mod bytes
+mod hosts
 mod passes

@@ -1,3 +1,4 @@
 pub mod Enough
 pub mod Files
+pub mod Tables
 pub mod Ways

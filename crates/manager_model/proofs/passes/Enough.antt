@@ -5,11 +5,8 @@ use Rattle.lease_laws.proofs.server.Lists.{clash, either}
 use Rattle.manager_model.specs.Handling.{Handling, Pass, Tagged, one_pass}
 use Rattle.manager_model.specs.Handling as rules
 use Rattle.manager_model.specs.Laws.{PassesAnswer, PassesAreEnough}
+use Rattle.manager_model.proofs.passes.Tables.{put_here}
 use Rattle.manager_model.proofs.passes.Ways.{any_pass, any_try, passes_on, passes_stop}
-
-put_here : {X : Type 0} (table : ℕ → X) (place : ℕ) (new : X) → put table place new place ≡ new
-unfolding put
-put_here table place new = rw ((Decides-eqb place place).1 refl) refl
 
 -- A pass under way over a queue: those passed over and those not looked at yet are what is left of it, and fewer than it had
 -- where one was answered.

@@ -7,6 +7,7 @@ use Rattle.manager_model.specs.Handling.{Handling, Pass, Tagged, last_file, one_
 use Rattle.manager_model.specs.Handling as rules
 use Rattle.manager_model.specs.Laws.{FilesAreEnough}
 use Rattle.manager_model.specs.Waiting.{AreAbove, AreWaitingFiles}
+use Rattle.manager_model.proofs.passes.Tables.{put_apart}
 use Rattle.manager_model.proofs.passes.Ways.{any_pass, any_try, file_by_file, is_over, no_file_left, passes_on, passes_stop}
 
 -- ---- a file where nothing waits
@@ -21,11 +22,6 @@ nothing_to_pass file now none =
     ∙ ap (λ (p : Pass). p.now) one
 
 -- ---- passes over a file leave what waits on others
-
-put_apart : {X : Type 0} (table : ℕ → X) (place other : ℕ) (new : X) → (other == place) ≡ false
-    → put table place new other ≡ table other
-unfolding put
-put_apart table place other new apart = rw (apart) refl
 
 others_wait : (file other : ℕ) → (other == file) ≡ false → (one : Tagged) (waiting : List Tagged) (pass : Pass) (queue : List Tagged)
     → pass.now.manager.queues other ≡ queue → (rules.tried_again file one waiting pass).now.manager.queues other ≡ queue

@@ -1,0 +1,103 @@
+-- What a host does for what it is told: the files of a server that stands on a manager. It keeps what it asked under each tag,
+-- and of each open the file.
+use Rattle.std.specs.Prelude.{◌≡◌, ⊤, ℕ, ◌≤◌, Some, None, Option, List, [], ◌∷◌, ◌++◌, map}
+use Rattle.lease_state.specs.Content.{patch as patched}
+use Rattle.lease_state.specs.declared.patch.Patch.{Patch}
+use Rattle.lease_state.specs.declared.status.Status.{Status}
+use Rattle.lease_laws.specs.server.Laws.{Among}
+use Rattle.lease_model.specs.messages.Replies.{Reply, Out, CreateAnswer}
+use Rattle.lease_model.specs.messages.Requests.{FileRequest, CreateAsk}
+use Rattle.lease_model.specs.server.Progress.{refusal_of}
+use Rattle.lease_model.specs.server.State.{Server, Open, Held}
+use Rattle.lease_model.specs.values.Tables.{put}
+use Rattle.manager_model.specs.Bare.{bare, bare_held}
+use Rattle.manager_model.specs.Decisions.{Decision}
+use Rattle.manager_model.specs.Handling.{Manager, Tagged}
+
+-- A host: the bytes of its files, and of each open, by its FileId, the file.
+pub record Host : Type 0 where
+  pub contents : ℕ → List ℕ
+  pub handles : ℕ → ℕ
+
+-- what a host has done, and what it sent and noted of it
+pub record Hosted : Type 0 where
+  pub host : Host
+  pub outs : List Out
+
+abbrev pub notes : List Out → Hosted → Hosted
+notes outs done = record { host = done.host; outs = done.outs ++ outs }
+
+-- the file is opened by a create, and its open has this FileId
+abbrev pub opened : ℕ → ℕ → ℕ → CreateAnswer → Option ℕ → Hosted → Hosted
+opened client file file_id answer None done = record {
+  host = record done.host { handles = put done.host.handles file_id file };
+  outs = done.outs ++ Out.Opened file client ∷ Out.Sent client (Reply.Created file file_id (Some answer)) ∷ [];
+}
+opened client file file_id answer (Some again) done =
+    notes (Out.Sent client (Reply.Created file file_id (Some answer)) ∷ []) done
+
+abbrev pub opened_as : ℕ → ℕ → CreateAnswer → FileRequest → Hosted → Hosted
+opened_as client file_id answer (FileRequest.Create file access share (Some ask)) done =
+    opened client file file_id answer ask.reconnect done
+opened_as client file_id answer request done = done
+
+-- the read copies the bytes that are there, and the write puts its own over them
+abbrev pub gone_on_with : ℕ → FileRequest → Hosted → Hosted
+gone_on_with client (FileRequest.Read file_id) done =
+    notes (Out.Sent client (Reply.ReadDone file_id (done.host.contents (done.host.handles file_id))) ∷ []) done
+gone_on_with client (FileRequest.Write file_id number patch) done = record {
+  host = record done.host {
+    contents = put done.host.contents (done.host.handles file_id)
+        (patched (done.host.contents (done.host.handles file_id)) patch);
+  };
+  outs = done.outs ++ Out.Changed (done.host.handles file_id) client number patch
+      ∷ Out.Sent client (Reply.WriteDone file_id number) ∷ [];
+}
+gone_on_with client request done = done
+
+abbrev pub closed_as : ℕ → FileRequest → Hosted → Hosted
+closed_as client (FileRequest.Close file_id) done = notes (Out.Sent client (Reply.Closed file_id) ∷ []) done
+closed_as client request done = done
+
+-- What a host does for a decision, where this is what it asked under each tag.
+abbrev pub does : (ℕ → FileRequest) → Decision → Hosted → Hosted
+does requests (Decision.Opened client tag file_id answer) done = opened_as client file_id answer (requests tag) done
+does requests (Decision.GoesOn client tag) done = gone_on_with client (requests tag) done
+does requests (Decision.Closed client tag) done = closed_as client (requests tag) done
+does requests (Decision.Refused client tag status) done =
+    notes (Out.Sent client (refusal_of (requests tag) status) ∷ []) done
+does requests (Decision.Waits client tag) done = done
+does requests (Decision.Withdrawn client tag) done = done
+does requests (Decision.Breaks client notice) done = notes (Out.Sent client (Reply.Break (Some notice)) ∷ []) done
+does requests (Decision.Acknowledged client given) done = notes (Out.Sent client (Reply.AckDone (Some given)) ∷ []) done
+does requests (Decision.NotAcknowledged client status) done = notes (Out.Sent client (Reply.AckFailed status) ∷ []) done
+
+-- and for all of them, in their order
+unfoldable pub does_all : (ℕ → FileRequest) → List Decision → Hosted → Hosted
+does_all requests [] done = done
+does_all requests (decision ∷ decisions) done = does_all requests decisions (does requests decision done)
+
+-- ---- what a manager and its host stand for
+
+-- The host has the bytes of the server's files, and its handles are those of the opens.
+pub record IsHostOf (host : Host) (server : Server) : Type 0 where
+  pub contents : host.contents ≡ server.contents
+  pub handles : (one : Open) → Among one server.opens → host.handles one.file_id ≡ one.file
+  pub numbered : (one : Open) → Among one server.opens → one.file_id ≤ server.last_id
+
+-- a request that waits, with its bytes
+abbrev pub filled : (ℕ → FileRequest) → Tagged → Held
+filled requests one = record { client = one.held.client; request = requests one.tag; lane = one.held.lane }
+
+-- what waits is what was asked under the tags, without bytes
+abbrev pub AreAsked : (ℕ → FileRequest) → List Tagged → Type 0
+AreAsked requests [] = ⊤
+AreAsked requests (one ∷ queue) = (one.held ≡ bare_held (filled requests one)) × AreAsked requests queue
+
+-- A manager and its host are this server: the manager is the server without bytes, what waits is what the host asked under
+-- the tags, and the host has the rest.
+pub record AreServer (requests : ℕ → FileRequest) (manager : Manager) (host : Host) (server : Server) : Type 0 where
+  pub without_bytes : manager.server ≡ bare server
+  pub waiting : (file : ℕ) → server.held file ≡ map (filled requests) (manager.queues file)
+  pub asked : (file : ℕ) → AreAsked requests (manager.queues file)
+  pub hosts : IsHostOf host server
