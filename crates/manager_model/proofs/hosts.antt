@@ -1,3 +1,5 @@
 pub mod Answers
 pub mod Before
 pub mod Faithful
+pub mod Passes
+pub mod Serving

@@ -1,18 +1,20 @@
 -- What a host does for what it is told: the files of a server that stands on a manager. It keeps what it asked under each tag,
 -- and of each open the file.
-use Rattle.std.specs.Prelude.{◌≡◌, ⊤, ℕ, ◌≤◌, Some, None, Option, List, [], ◌∷◌, ◌++◌, map}
+use Rattle.std.specs.Prelude.{◌≡◌, ◌==◌, ⊤, ℕ, ◌≤◌, false, Some, None, Option, List, [], ◌∷◌, ◌++◌, map}
 use Rattle.lease_state.specs.Content.{patch as patched}
 use Rattle.lease_state.specs.declared.patch.Patch.{Patch}
 use Rattle.lease_state.specs.declared.status.Status.{Status}
 use Rattle.lease_laws.specs.server.Laws.{Among}
 use Rattle.lease_model.specs.messages.Replies.{Reply, Out, CreateAnswer}
-use Rattle.lease_model.specs.messages.Requests.{FileRequest, CreateAsk}
+use Rattle.lease_model.specs.messages.Requests.{FileRequest, Request, CreateAsk, LeaseOf}
+use Rattle.lease_model.specs.server.Calls.{Call}
 use Rattle.lease_model.specs.server.Progress.{refusal_of}
 use Rattle.lease_model.specs.server.State.{Server, Open, Held}
+use Rattle.lease_model.specs.values.Keys.{Key}
 use Rattle.lease_model.specs.values.Tables.{put}
-use Rattle.manager_model.specs.Bare.{bare, bare_held}
+use Rattle.manager_model.specs.Bare.{bare, bare_held, bare_request}
 use Rattle.manager_model.specs.Decisions.{Decision}
-use Rattle.manager_model.specs.Handling.{Manager, Tagged}
+use Rattle.manager_model.specs.Handling.{Handling, Manager, Tagged, acknowledge, cut, expire, join, receive, scavenge}
 
 -- A host: the bytes of its files, and of each open, by its FileId, the file.
 pub record Host : Type 0 where
@@ -101,3 +103,47 @@ pub record AreServer (requests : ℕ → FileRequest) (manager : Manager) (host 
   pub waiting : (file : ℕ) → server.held file ≡ map (filled requests) (manager.queues file)
   pub asked : (file : ℕ) → AreAsked requests (manager.queues file)
   pub hosts : IsHostOf host server
+
+-- ---- calls
+
+-- What comes to a manager, as its host knows it.
+pub data Coming : Type 0 where
+  Joins : (client : ℕ) → Coming
+  Asks : (client tag : ℕ) (request : FileRequest) → Coming
+  Acknowledges : (client : ℕ) (given : LeaseOf) → Coming
+  IsCut : (client : ℕ) → Coming
+  Expires : (key : Key) → Coming
+  Scavenges : (file_id : ℕ) → Coming
+
+-- the manager isn't told the bytes
+abbrev pub managed : Manager → Coming → Handling
+managed manager (Coming.Joins client) = join manager client
+managed manager (Coming.Asks client tag request) = receive manager client tag (bare_request request)
+managed manager (Coming.Acknowledges client given) = acknowledge manager client given
+managed manager (Coming.IsCut client) = cut manager client
+managed manager (Coming.Expires key) = expire manager key
+managed manager (Coming.Scavenges file_id) = scavenge manager file_id
+
+-- the call of the server
+abbrev pub call_of : Coming → Call
+call_of (Coming.Joins client) = Call.Join client
+call_of (Coming.Asks client tag request) = Call.Receive client (Request.OnFile request)
+call_of (Coming.Acknowledges client given) = Call.Receive client (Request.Acknowledge (Some given))
+call_of (Coming.IsCut client) = Call.Cut client
+call_of (Coming.Expires key) = Call.Expire key
+call_of (Coming.Scavenges file_id) = Call.Scavenge file_id
+
+-- what the host has then asked under each tag
+abbrev pub asked_by : (ℕ → FileRequest) → Coming → ℕ → FileRequest
+asked_by requests (Coming.Asks client tag request) = put requests tag request
+asked_by requests coming = requests
+
+-- a tag under which a request waits isn't used for another one
+abbrev pub HasFreeTag : Manager → Coming → Type 0
+HasFreeTag manager (Coming.Asks client tag request) =
+    (file : ℕ) (one : Tagged) → Among one (manager.queues file) → (one.tag == tag) ≡ false
+HasFreeTag manager coming = ⊤
+
+-- what the host has done once it did all that it was told, in order
+abbrev pub hosted : (ℕ → FileRequest) → Host → Handling → Hosted
+hosted requests host now = does_all requests now.told (record { host = host; outs = [] })
