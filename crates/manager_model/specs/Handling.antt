@@ -170,7 +170,7 @@ arrived tag client (FileRequest.Close file_id) now = all_passes (first_tried tag
 arrived tag client request now = first_tried tag client request now
 
 unfoldable pub receive : Manager → ℕ → ℕ → FileRequest → Handling
-receive manager tag client request =
+receive manager client tag request =
     if manager.server.present client then arrived tag client request (handling manager) else handling manager
 
 unfoldable pub acknowledge : Manager → ℕ → LeaseOf → Handling

@@ -3,7 +3,9 @@ use Rattle.std.specs.Prelude.{◌≡◌, ℕ, ◌+◌, ◌≤◌, ◌<◌, true,
 use Rattle.lease_model.specs.server.Calls.{Call, called}
 use Rattle.lease_model.specs.server.State.{Server}
 use Rattle.manager_model.specs.Bare.{bare, bare_call, bare_progress}
-use Rattle.manager_model.specs.Handling.{Handling, all_passes, last_file, one_pass, passes, passes_for, passes_over}
+use Rattle.lease_model.specs.messages.Requests.{FileRequest}
+use Rattle.manager_model.specs.Hosting.{AreServer, Coming, HasFreeTag, Host, asked_by, call_of, hosted, managed}
+use Rattle.manager_model.specs.Handling.{Handling, Manager, all_passes, last_file, one_pass, passes, passes_for, passes_over}
 use Rattle.manager_model.specs.Waiting.{AreWaitingFiles}
 
 -- A call of a server without bytes makes of it, and gives out, what the call makes of the server, and gives out, without
@@ -28,3 +30,14 @@ PassesAreEnough = (count file : ℕ) (now : Handling) → length (now.manager.qu
 abbrev pub FilesAreEnough : Type 0
 FilesAreEnough = (files : List ℕ) (now : Handling) → now.manager.server.files ≡ last_file
     → AreWaitingFiles now.manager.queues files → all_passes now ≡ passes_over files now
+
+-- ---- hosts
+
+-- A manager and a host that does what it is told are the server: after whatever comes, and what was sent and noted of it is
+-- what the server gives out, in its order.
+abbrev pub HostsAreServers : Type 0
+HostsAreServers = (requests : ℕ → FileRequest) (manager : Manager) (host : Host) (server : Server) (coming : Coming)
+    → AreServer requests manager host server → HasFreeTag manager coming
+    → AreServer (asked_by requests coming) (managed manager coming).manager
+    (hosted (asked_by requests coming) host (managed manager coming)).host (called server (call_of coming)).server
+    × ((hosted (asked_by requests coming) host (managed manager coming)).outs ≡ (called server (call_of coming)).outs)

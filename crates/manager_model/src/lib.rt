@@ -4,4 +4,4 @@
 
 mod laws;
 
-pub use laws::{law_of_bytes, law_of_passes};
+pub use laws::{law_of_bytes, law_of_hosts, law_of_passes};

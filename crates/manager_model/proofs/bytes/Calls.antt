@@ -70,10 +70,10 @@ disconnected_so : (client : ℕ) (progress : Progress)
     → opens_disconnected client (bare_progress progress) ≡ bare_progress (opens_disconnected client progress)
 disconnected_so client progress = stepped_so progress (opens_disconnected client progress).server []
 
-expired_so : (key : Key) (progress : Progress) → key_expired key (bare_progress progress) ≡ bare_progress (key_expired key progress)
+pub expired_so : (key : Key) (progress : Progress) → key_expired key (bare_progress progress) ≡ bare_progress (key_expired key progress)
 expired_so key progress = stepped_so progress (key_expired key progress).server []
 
-links_so : (server : Server) (client : ℕ)
+pub links_so : (server : Server) (client : ℕ)
     → client_forgotten client (opens_disconnected client (opens_dropped (is_lost server client) (begun (bare server))))
     ≡ bare_progress (client_forgotten client (opens_disconnected client (opens_dropped (is_lost server client) (begun server))))
 links_so server client =

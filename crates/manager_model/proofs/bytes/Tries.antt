@@ -41,7 +41,7 @@ asked_so server client (FileRequest.Read file_id) = refl
 asked_so server client (FileRequest.Write file_id number patch) = refl
 asked_so server client (FileRequest.Close file_id) = refl
 
-lane_so : (server : Server) (client : ℕ) (request : FileRequest)
+pub lane_so : (server : Server) (client : ℕ) (request : FileRequest)
     → lane_of (bare server) client (bare_request request) ≡ lane_of server client request
 lane_so server client (FileRequest.Create file access share contexts) = refl
 lane_so server client (FileRequest.Read file_id) = refl

@@ -89,7 +89,7 @@ goes_serving requests start tag now progress after s goes held =
     }
 
 -- the queues of a server with other requests on one file
-queues_put : (requests : ℕ → FileRequest) (server : Server) (queues : ℕ → List Tagged) (file : ℕ) (queue : List Tagged)
+pub queues_put : (requests : ℕ → FileRequest) (server : Server) (queues : ℕ → List Tagged) (file : ℕ) (queue : List Tagged)
     → ((n : ℕ) → server.held n ≡ map (filled requests) (queues n)) → (n : ℕ)
     → put server.held file (map (filled requests) queue) n ≡ map (filled requests) (put queues file queue n)
 queues_put requests server queues file queue same n =
@@ -97,7 +97,7 @@ queues_put requests server queues file queue same n =
     ∙ ap (λ (held : ℕ → List Held). held n) (map_put (map (filled requests)) queues file queue)
 
 -- the property of each queue, with another one on one file
-asked_put : (requests : ℕ → FileRequest) (queues : ℕ → List Tagged) (file : ℕ) (queue : List Tagged)
+pub asked_put : (requests : ℕ → FileRequest) (queues : ℕ → List Tagged) (file : ℕ) (queue : List Tagged)
     → ((n : ℕ) → AreAsked requests (queues n)) → AreAsked requests queue → (n : ℕ) → AreAsked requests (put queues file queue n)
 unfolding put
 asked_put requests queues file queue all one n =
