@@ -1,7 +1,7 @@
 -- A server without the bytes of its files. The server of the rules looks at no content before it answers, and of a write
 -- only at whether it ends within the limit of a file. So what is left of a server and of what it is asked, when contents,
 -- the bytes of writes and their numbers are forgotten, decides all the rest.
-use Rattle.std.specs.Prelude.{ℕ, suc, Bool, List, [], map, if◌then◌else◌}
+use Rattle.std.specs.Prelude.{suc, [], map, if◌then◌else◌}
 use Rattle.lease_state.specs.declared.content.TheConstants.{FILE_LIMIT}
 use Rattle.lease_state.specs.declared.patch.Patch.{Patch}
 use Rattle.lease_model.specs.messages.Replies.{Reply, Out}

@@ -6,7 +6,8 @@ use Rattle.lease_model.specs.messages.Requests.{LeaseOf}
 
 -- Opened answers a create under its tag, GoesOn says that a read or a write is to be done now, Closed answers a close, and
 -- Refused any of them by a status. Waits: the request waits for a break, and another decision under its tag follows.
--- Withdrawn: it was taken back. Breaks: the client is sent the notice of a break. Acknowledged and NotAcknowledged answer an acknowledgment.
+-- Withdrawn: it was taken back. Breaks: the client is sent the notice of a break. Acknowledged and NotAcknowledged answer an
+-- acknowledgment.
 pub data Decision : Type 0 where
   Opened : (client tag file_id : ℕ) (answer : CreateAnswer) → Decision
   GoesOn : (client tag : ℕ) → Decision

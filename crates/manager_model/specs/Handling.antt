@@ -1,13 +1,13 @@
 -- A manager of leases: the server of the rules without bytes, with the tags under which the requests that wait came. A call of
 -- it goes as the server's does, and says at each step what its host is told.
-use Rattle.std.specs.Prelude.{ℕ, ◌≡◌, ◌+◌, zero, suc, Bool, true, false, List, [], ◌∷◌, ◌++◌, map, length, filter, if◌then◌else◌, ◌==◌, ◌&&◌, not}
+use Rattle.std.specs.Prelude.{ℕ, ◌≡◌, ◌+◌, zero, suc, Bool, true, false, List, [], ◌∷◌, ◌++◌, map, length, if◌then◌else◌, ◌==◌, ◌&&◌}
 use Rattle.std.specs.Prelude.{Result, Ok, Err}
 use Rattle.lease_state.specs.declared.status.Status.{Status}
 use Rattle.lease_model.specs.messages.Requests.{FileRequest, LeaseOf}
 use Rattle.std.specs.Prelude.{Some}
 use Rattle.lease_model.specs.server.Acknowledge.{acknowledged}
 use Rattle.lease_model.specs.server.Answers.{concluded}
-use Rattle.lease_model.specs.server.Attempt.{Outcome, Tried, tried}
+use Rattle.lease_model.specs.server.Attempt.{Outcome, tried}
 use Rattle.lease_model.specs.server.Calls as calls
 use Rattle.lease_model.specs.server.Lanes.{as_held, is_behind}
 use Rattle.lease_model.specs.server.Progress.{Progress, begun, held_left, opens_dropped, refused, request_held}

@@ -2,11 +2,9 @@
 -- and of each open the file.
 use Rattle.std.specs.Prelude.{◌≡◌, ◌==◌, ⊤, ℕ, ◌≤◌, false, Some, None, Option, List, [], ◌∷◌, ◌++◌, map}
 use Rattle.lease_state.specs.Content.{patch as patched}
-use Rattle.lease_state.specs.declared.patch.Patch.{Patch}
-use Rattle.lease_state.specs.declared.status.Status.{Status}
 use Rattle.lease_laws.specs.server.Laws.{Among}
 use Rattle.lease_model.specs.messages.Replies.{Reply, Out, CreateAnswer}
-use Rattle.lease_model.specs.messages.Requests.{FileRequest, Request, CreateAsk, LeaseOf}
+use Rattle.lease_model.specs.messages.Requests.{FileRequest, Request, LeaseOf}
 use Rattle.lease_model.specs.server.Calls.{Call}
 use Rattle.lease_model.specs.server.Progress.{refusal_of}
 use Rattle.lease_model.specs.server.State.{Server, Open, Held}

@@ -1,5 +1,5 @@
 -- What forgetting the bytes leaves as it is.
-use Rattle.std.specs.Prelude.{◌≡◌, ℕ, ◌+◌, ◌≤◌, ◌<◌, true, List, length}
+use Rattle.std.specs.Prelude.{◌≡◌, ℕ, ◌<◌, true, List, length}
 use Rattle.lease_model.specs.server.Calls.{Call, called}
 use Rattle.lease_model.specs.server.State.{Server}
 use Rattle.manager_model.specs.Bare.{bare, bare_call, bare_progress}

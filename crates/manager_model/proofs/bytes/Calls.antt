@@ -1,10 +1,10 @@
 -- Calls, with and without bytes.
-use Rattle.lease_laws.proofs.Words.{◌==◌, ◌∙◌, ◌≡◌, Bool, Call, Err, FileRequest, Held, Key, LeaseOf, List, Ok, Outcome, Option, Progress, Request}
+use Rattle.lease_laws.proofs.Words.{◌==◌, ◌∙◌, ◌≡◌, Call, Err, FileRequest, Held, Key, List, Ok, Outcome, Progress, Request}
 use Rattle.lease_laws.proofs.Words.{Result, Server, Status, ℕ, [], acknowledged, after_first_try, all_passes, ap, ap₂, arrived, arrived_before}
-use Rattle.lease_laws.proofs.Words.{arrived_on, as_held, begun, client_forgotten, concluded, cut, expire, file_asked, file_request_arrived}
+use Rattle.lease_laws.proofs.Words.{as_held, begun, client_forgotten, cut, expire, file_asked, file_request_arrived}
 use Rattle.lease_laws.proofs.Words.{fun_ext, has_key, if◌then◌else◌, is_behind, is_breaking, is_left_behind, is_lost, join, joined}
 use Rattle.lease_laws.proofs.Words.{key_expired, list_any, not, opens_disconnected, opens_dropped, receive, refl, request_held, scavenge}
-use Rattle.lease_laws.proofs.Words.{sym, tried, Tried, put, map, without}
+use Rattle.lease_laws.proofs.Words.{tried, Tried}
 use Rattle.lease_model.specs.server.Calls.{first_tried}
 use Rattle.lease_model.specs.server.Progress.{stepped}
 use Rattle.manager_model.specs.Bare.{bare, bare_held, bare_of, bare_progress, bare_request}
@@ -12,7 +12,7 @@ use Rattle.manager_model.specs.Laws.{BytesDecideNothing}
 use Rattle.manager_model.proofs.bytes.Ends.{acknowledged_so, concluded_so}
 use Rattle.manager_model.proofs.bytes.Passes.{all_so}
 use Rattle.manager_model.proofs.bytes.Steps.{behind_so, choose_so, dropped_so, filter_map, hold_so, refused_so, stepped_so}
-use Rattle.manager_model.proofs.bytes.Tries.{as_held_so, asked_so, bare_tried, tried_so}
+use Rattle.manager_model.proofs.bytes.Tries.{as_held_so, asked_so, tried_so}
 
 first_so : (file : ℕ) (one : Held) (progress : Progress) (outcome : Outcome)
     → after_first_try file (bare_held one) (bare_progress progress) outcome
@@ -70,7 +70,8 @@ disconnected_so : (client : ℕ) (progress : Progress)
     → opens_disconnected client (bare_progress progress) ≡ bare_progress (opens_disconnected client progress)
 disconnected_so client progress = stepped_so progress (opens_disconnected client progress).server []
 
-pub expired_so : (key : Key) (progress : Progress) → key_expired key (bare_progress progress) ≡ bare_progress (key_expired key progress)
+pub expired_so : (key : Key) (progress : Progress) → key_expired key (bare_progress progress) ≡ bare_progress
+    (key_expired key progress)
 expired_so key progress = stepped_so progress (key_expired key progress).server []
 
 pub links_so : (server : Server) (client : ℕ)

@@ -1,11 +1,11 @@
 -- The end of a try, with and without bytes.
 use Rattle.lease_laws.proofs.Words.{◌==◌, ◌∙◌, ◌∷◌, ◌≡◌, Access, Bool, CreateAsk, FileRequest, Lease, List, LeaseOf, None, Open, Option, Out}
-use Rattle.lease_laws.proofs.Words.{Outcome, Patch, Progress, Reply, Server, Share, Some, Status, ℕ, [], acknowledged, answered, ap, begun}
+use Rattle.lease_laws.proofs.Words.{Outcome, Patch, Progress, Reply, Share, Some, Status, ℕ, [], acknowledged, answered, ap, begun}
 use Rattle.lease_laws.proofs.Words.{break_ended, changed, closed, concluded, connected_open, created, granted, granted_with, has_lease}
-use Rattle.lease_laws.proofs.Words.{if◌then◌else◌, judged, key_of, last_file_id, lease_after, on_contexts, on_open, opens_dropped, put}
+use Rattle.lease_laws.proofs.Words.{judged, key_of, last_file_id, lease_after, on_contexts, on_open, opens_dropped}
 use Rattle.lease_laws.proofs.Words.{read_done, reconnected, refl, replied, State, Key, is_state_within}
 use Rattle.lease_model.specs.server.Progress.{stepped}
-use Rattle.manager_model.specs.Bare.{bare, bare_out, bare_patch, bare_progress, bare_request}
+use Rattle.manager_model.specs.Bare.{bare, bare_patch, bare_progress, bare_request}
 use Rattle.manager_model.proofs.bytes.Steps.{choose_so, dropped_so, map_put, refused_so, replied_so, stepped_so}
 
 granting_so : (client file : ℕ) (access : Access) (share : Share) (asked : Option LeaseOf) (durable : Bool) (lease : Lease)

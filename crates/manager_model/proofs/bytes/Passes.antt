@@ -4,7 +4,7 @@ use Rattle.lease_laws.proofs.Words.{ap₂, concluded, false, held_left, if◌the
 use Rattle.lease_laws.proofs.Words.{map-append, numbers_to, one_pass, pass_answered, pass_over, passes, passes_for, passes_over, refl}
 use Rattle.lease_laws.proofs.Words.{suc, sym, tried, tried_again, true, zero}
 use Rattle.lease_model.specs.server.Passes.{after_pass}
-use Rattle.manager_model.specs.Bare.{bare, bare_held, bare_progress, bare_request}
+use Rattle.manager_model.specs.Bare.{bare_held, bare_progress, bare_request}
 use Rattle.manager_model.proofs.bytes.Ends.{concluded_so}
 use Rattle.manager_model.proofs.bytes.Steps.{behind_so, choose_so, left_so}
 use Rattle.manager_model.proofs.bytes.Tries.{bare_tried, tried_so}
@@ -30,7 +30,8 @@ answered_so file one waiting pass done =
     ap (λ (progress : Progress). record { passed = map bare_held pass.passed; progress = progress; has_answered = true })
     (ap (λ held. concluded one.client (bare_request one.request) (held_left file held (bare_progress done.progress)) done.outcome)
     (sym (map-append bare_held pass.passed waiting))
-    ∙ ap (λ p. concluded one.client (bare_request one.request) p done.outcome) (left_so file (pass.passed ++ waiting) done.progress)
+    ∙ ap (λ p. concluded one.client (bare_request one.request) p done.outcome) (left_so file
+    (pass.passed ++ waiting) done.progress)
     ∙ concluded_so one.client one.request left done.outcome)
 
 tried_so_far : (file : ℕ) (one : Held) (waiting : List Held) (pass : Pass) (progress : Progress) (outcome : Outcome)

@@ -1,9 +1,9 @@
 -- The small steps of a call, with and without bytes.
 use Rattle.lease_laws.proofs.Words.{◌++◌, ◌==◌, ◌∙◌, ◌∷◌, ◌≡◌, Bool, FileRequest, Held, Key, List, Open, Out, Progress, Reply}
-use Rattle.lease_laws.proofs.Words.{Server, State, Status, ℕ, [], ap, arith, break_begun, false, filter, fun_ext, held_left, if◌then◌else◌}
-use Rattle.lease_laws.proofs.Words.{is_behind, lease_lowered, list_any, map, map-append, not, opens_dropped, put, refl, refusal_of}
+use Rattle.lease_laws.proofs.Words.{Server, State, Status, ℕ, [], ap, break_begun, false, filter, fun_ext, held_left, if◌then◌else◌}
+use Rattle.lease_laws.proofs.Words.{is_behind, lease_lowered, list_any, map, map-append, opens_dropped, put, refl, refusal_of}
 use Rattle.lease_laws.proofs.Words.{begun}
-use Rattle.lease_laws.proofs.Words.{refused, replied, request_held, sym, true, waits_behind, without, ◌||◌, ap₂}
+use Rattle.lease_laws.proofs.Words.{refused, replied, request_held, sym, true, waits_behind, ◌||◌}
 use Rattle.lease_model.specs.server.Progress.{stepped}
 use Rattle.lease_state.specs.declared.rules.Rules.{Rules}
 use Rattle.manager_model.specs.Bare.{bare, bare_held, bare_out, bare_progress, bare_reply, bare_request}

@@ -1,11 +1,11 @@
 -- A try of a request, with and without bytes.
-use Rattle.lease_laws.proofs.Words.{◌&&◌, ◌∙◌, ◌∷◌, ◌≡◌, Bool, CreateAsk, FileRequest, Finding, Held, Key, Lease, List, None, Open, Option}
-use Rattle.lease_laws.proofs.Words.{Outcome, Patch, Progress, Server, Some, State, Tried, Want, ℕ, [], after_breaks, after_finding, ap, ap₂}
-use Rattle.lease_laws.proofs.Words.{arith, as_held, by_open, connected_open, ended, false, finding, has_lease, held_of, if◌then◌else◌}
-use Rattle.lease_laws.proofs.Words.{is_breaking, is_left_open, is_ready, is_within_limit, lane_of, lease_broken, list_any, must_wait}
-use Rattle.lease_laws.proofs.Words.{needs_acknowledgment, not, opens_dropped, refl, suc, true, tried, tried_for, waits_for, want_met}
+use Rattle.lease_laws.proofs.Words.{◌&&◌, ◌∙◌, ◌∷◌, ◌≡◌, Bool, FileRequest, Finding, Key, Lease, List, Open}
+use Rattle.lease_laws.proofs.Words.{Outcome, Patch, Progress, Server, State, Tried, Want, ℕ, [], after_breaks, after_finding, ap, ap₂}
+use Rattle.lease_laws.proofs.Words.{as_held, by_open, connected_open, ended, false, finding, has_lease, held_of, if◌then◌else◌}
+use Rattle.lease_laws.proofs.Words.{is_breaking, is_left_open, is_ready, is_within_limit, lane_of, lease_broken, must_wait}
+use Rattle.lease_laws.proofs.Words.{needs_acknowledgment, not, opens_dropped, refl, suc, true, tried, tried_for, want_met}
 use Rattle.lease_laws.proofs.Words.{all_wants, key_of_open, may_write}
-use Rattle.lease_laws.proofs.Words.{wants_met, write_finding, zero, sym, nat_le, FILE_LIMIT, Result, Status, file_asked}
+use Rattle.lease_laws.proofs.Words.{wants_met, zero, FILE_LIMIT, Status, file_asked}
 use Rattle.manager_model.specs.Bare.{bare, bare_held, bare_patch, bare_progress, bare_request}
 use Rattle.manager_model.proofs.bytes.Steps.{begun_so, choose_so, dropped_so, lowered_so}
 

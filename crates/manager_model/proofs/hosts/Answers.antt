@@ -1,16 +1,15 @@
 -- The end of a try, by a host.
-use Rattle.lease_laws.proofs.Words.{◌&&◌, ◌++◌, ◌+◌, ◌<◌, ◌==◌, ◌∙◌, ◌∷◌, ◌≡◌, ◌≤◌, ◌⊎◌, Access, Among, Bool, CreateAnswer, CreateAsk, Decides-eqb, FileRequest, Key, Lease, LeaseOf}
-use Rattle.lease_laws.proofs.Words.{List, None, Open, Option, Out, Outcome, Patch, Progress, Reply, Server, Share, Some, State, Status, ℕ, ⊎_elim, [], ap, ap₂}
-use Rattle.lease_laws.proofs.Words.{append-nil, append_assoc, arith, begun, break_ended, changed, concluded, connected_again, false, fun_ext, granted_with}
-use Rattle.lease_laws.proofs.Words.{has_lease, if◌then◌else◌, inl, inr, is_state_within, judged, key_of, last_file_id, lease_after, lease_given, map, nat_tests, new_open}
+use Rattle.lease_laws.proofs.Words.{◌&&◌, ◌++◌, ◌+◌, ◌==◌, ◌∙◌, ◌∷◌, ◌≡◌, ◌≤◌, Access, Among, Bool, CreateAnswer, CreateAsk, FileRequest, Key, Lease, LeaseOf}
+use Rattle.lease_laws.proofs.Words.{List, None, Open, Option, Out, Outcome, Patch, Progress, Reply, Server, Share, Some, State, Status, ℕ, ⊎_elim, [], ap}
+use Rattle.lease_laws.proofs.Words.{append-nil, arith, begun, break_ended, changed, concluded, connected_again, false, granted_with}
+use Rattle.lease_laws.proofs.Words.{has_lease, is_state_within, judged, key_of, lease_after, lease_given, map, nat_tests, new_open}
 use Rattle.lease_laws.proofs.Words.{opens_dropped, put, read_done, reconnected, refl, refusal_of, replied, standing_lease, subst, sym, true, acknowledged}
-use Rattle.lease_laws.proofs.server.Lists.{among_append, among_map, either, if_cases}
+use Rattle.lease_laws.proofs.server.Lists.{among_append, among_map, if_cases}
 use Rattle.lease_laws.proofs.server.cases.Ends.{any_end, IsFoundOpen}
 use Rattle.lease_state.specs.Content.{patch as patched}
-use Rattle.manager_model.specs.Bare.{bare_out, bare_reply}
-use Rattle.manager_model.specs.Decisions.{Decision, told_of_reply}
-use Rattle.manager_model.specs.Hosting.{Host, Hosted, IsHostOf, closed_as, does, gone_on_with, notes, opened, opened_as}
-use Rattle.manager_model.proofs.hosts.Faithful.{GoesFaithfully, host_of_fewer, nothing_done, one_done, same_host, stays_faithful, told_bare}
+use Rattle.manager_model.specs.Decisions.{Decision}
+use Rattle.manager_model.specs.Hosting.{Host, Hosted, IsHostOf, closed_as, gone_on_with, opened, opened_as}
+use Rattle.manager_model.proofs.hosts.Faithful.{GoesFaithfully, host_of_fewer, one_done, same_host, stays_faithful, told_bare}
 use Rattle.manager_model.proofs.passes.Tables.{put_apart, put_here}
 
 -- ---- refusals
@@ -22,7 +21,8 @@ told_refusal tag client (FileRequest.Read file_id) status = refl
 told_refusal tag client (FileRequest.Write file_id number patch) status = refl
 told_refusal tag client (FileRequest.Close file_id) status = refl
 
-pub refused_faithfully : (requests : ℕ → FileRequest) (tag client : ℕ) (request : FileRequest) (status : Status) (progress : Progress)
+pub refused_faithfully : (requests : ℕ → FileRequest) (tag client : ℕ) (request : FileRequest) (status : Status)
+    (progress : Progress)
     → requests tag ≡ request → GoesFaithfully requests tag progress (replied client (refusal_of request status) progress)
 refused_faithfully requests tag client request status progress asked =
     one_done requests tag progress (replied client (refusal_of request status) progress)
@@ -44,7 +44,8 @@ host_of_more host progress client file access share asked durable lease is =
     let one = new_open progress.server client file access share asked durable lease in record {
       contents = is.contents ∙ same_contents asked;
       handles = λ other among. ⊎_elim (λ old. old_handle other old)
-          (λ new. ⊎_elim (λ same. new_handle other same) (λ never. absurd never) new) (among_append other progress.server.opens (one ∷ []) among);
+          (λ new. ⊎_elim (λ same. new_handle other same) (λ never. absurd never) new)
+          (among_append other progress.server.opens (one ∷ []) among);
       numbered = λ other among. ⊎_elim (λ old. let low = is.numbered other old in omega (arith, low))
           (λ new. ⊎_elim (λ same. subst (λ (o : Open). o.file_id ≤ progress.server.last_id + 1) (sym same) (omega arith))
           (λ never. absurd never) new) (among_append other progress.server.opens (one ∷ []) among);
@@ -54,15 +55,18 @@ host_of_more host progress client file access share asked durable lease is =
         → progress.server.contents ≡ (granted_with client file access share asked durable lease progress).server.contents
     same_contents None = refl
     same_contents (Some key) = refl
+
     old_handle : (other : Open) → Among other progress.server.opens
         → put host.handles (progress.server.last_id + 1) file other.file_id ≡ other.file
     old_handle other old =
         let low = is.numbered other old in
         put_apart host.handles (progress.server.last_id + 1) other.file_id file (below other.file_id progress.server.last_id low)
         ∙ is.handles other old
+
     new_handle : (other : Open) → other ≡ new_open progress.server client file access share asked durable lease
         → put host.handles (progress.server.last_id + 1) file other.file_id ≡ other.file
-    new_handle other same = subst (λ (o : Open). put host.handles (progress.server.last_id + 1) file o.file_id ≡ o.file) (sym same)
+    new_handle other same = subst (λ (o : Open). put host.handles (progress.server.last_id + 1) file o.file_id ≡ o.file)
+    (sym same)
         (put_here host.handles (progress.server.last_id + 1) file)
 
 granted_faithfully : (requests : ℕ → FileRequest) (tag client file : ℕ) (access : Access) (share : Share) (ask : CreateAsk)
@@ -75,7 +79,7 @@ granted_faithfully requests tag client file access share ask lease progress none
     (Decision.Opened client tag (progress.server.last_id + 1) answer) refl refl
     (λ host outs is.
     let done : opened_as client (progress.server.last_id + 1) answer (requests tag) (record { host = host; outs = outs })
-        ≡ opened client file (progress.server.last_id + 1) answer None (record { host = host; outs = outs }) =
+    ≡ opened client file (progress.server.last_id + 1) answer None (record { host = host; outs = outs }) =
     ap (λ r. opened_as client (progress.server.last_id + 1) answer r (record { host = host; outs = outs })) asked
     ∙ ap (λ again. opened client file (progress.server.last_id + 1) answer again (record { host = host; outs = outs })) none in (
       ap (λ (d : Hosted). d.outs) done,
@@ -116,7 +120,7 @@ again_faithfully requests tag client file access share ask file_id progress some
     (Out.Sent client (Reply.Created file file_id (Some answer)) ∷ []) (Decision.Opened client tag file_id answer) refl refl
     (λ host outs is.
     let done : opened_as client file_id answer (requests tag) (record { host = host; outs = outs })
-        ≡ opened client file file_id answer (Some file_id) (record { host = host; outs = outs }) =
+    ≡ opened client file file_id answer (Some file_id) (record { host = host; outs = outs }) =
     ap (λ r. opened_as client file_id answer r (record { host = host; outs = outs })) asked
     ∙ ap (λ again. opened client file file_id answer again (record { host = host; outs = outs })) some in (
       ap (λ (d : Hosted). d.outs) done,
@@ -141,12 +145,14 @@ read_faithfully requests tag client file_id one progress found asked =
       subst (λ (d : Hosted). IsHostOf d.host progress.server) (sym done) is,
     ))
 
-changed_faithfully : (requests : ℕ → FileRequest) (tag client file_id number : ℕ) (patch : Patch) (one : Open) (progress : Progress)
+changed_faithfully : (requests : ℕ → FileRequest) (tag client file_id number : ℕ) (patch : Patch) (one : Open)
+    (progress : Progress)
     → IsFoundOpen progress.server client file_id one → requests tag ≡ FileRequest.Write file_id number patch
     → GoesFaithfully requests tag progress (changed client one.file file_id number patch progress)
 changed_faithfully requests tag client file_id number patch one progress found asked =
     one_done requests tag progress (changed client one.file file_id number patch progress)
-    (Out.Changed one.file client number patch ∷ Out.Sent client (Reply.WriteDone file_id number) ∷ []) (Decision.GoesOn client tag)
+    (Out.Changed one.file client number patch ∷ Out.Sent client (Reply.WriteDone file_id number) ∷ [])
+    (Decision.GoesOn client tag)
     refl refl
     (λ host outs is.
     let done = ap (λ r. gone_on_with client r (record { host = host; outs = outs })) asked in
@@ -172,10 +178,12 @@ closed_faithfully requests tag client file_id progress asked =
     (λ host outs is.
     let done = ap (λ r. closed_as client r (record { host = host; outs = outs })) asked in (
       ap (λ (d : Hosted). d.outs) done,
-      subst (λ (d : Hosted). IsHostOf d.host (opens_dropped test progress).server) (sym done) (host_of_fewer test progress host is),
+      subst (λ (d : Hosted). IsHostOf d.host (opens_dropped test progress).server) (sym done)
+      (host_of_fewer test progress host is),
     ))
 
-pub ends_faithfully : (requests : ℕ → FileRequest) (tag client : ℕ) (progress : Progress) (request : FileRequest) (outcome : Outcome)
+pub ends_faithfully : (requests : ℕ → FileRequest) (tag client : ℕ) (progress : Progress) (request : FileRequest)
+    (outcome : Outcome)
     → requests tag ≡ request → GoesFaithfully requests tag progress (concluded client request progress outcome)
 ends_faithfully requests tag client progress = any_end client progress
     (λ request outcome after. requests tag ≡ request → GoesFaithfully requests tag progress after) (record {
@@ -207,7 +215,8 @@ break_ended_faithfully requests tag key state progress = one_done requests tag p
     (break_ended key state (begun progress.server)).outs _ refl refl
     (λ host outs is. (refl, same_host host progress.server (break_ended key state progress).server is refl refl refl))
 
-judged_faithfully : (requests : ℕ → FileRequest) (tag : ℕ) (key : Key) (state : State) (broken_to : Option State) (progress : Progress)
+judged_faithfully : (requests : ℕ → FileRequest) (tag : ℕ) (key : Key) (state : State) (broken_to : Option State)
+    (progress : Progress)
     → GoesFaithfully requests tag progress (judged key state broken_to progress)
 judged_faithfully requests tag key state None progress =
     not_acknowledged requests tag key.client Status.Unsuccessful progress

@@ -1,9 +1,9 @@
 -- What a call gave out before a try or an answer is no part of it.
-use Rattle.lease_laws.proofs.Words.{◌&&◌, ◌++◌, ◌==◌, ◌∙◌, ◌∷◌, ◌≡◌, Access, Bool, CreateAsk, FileRequest, Finding, Key, Lease, LeaseOf, List, None, Open, Option}
-use Rattle.lease_laws.proofs.Words.{Out, Outcome, Patch, Progress, Reply, Server, Share, Some, State, Status, Tried, Want, ℕ, [], acknowledged, ap, append-nil}
-use Rattle.lease_laws.proofs.Words.{append_assoc, begun, break_begun, break_ended, changed, closed, concluded, ended, false, finding, granted_with, has_lease}
-use Rattle.lease_laws.proofs.Words.{if◌then◌else◌, is_breaking, is_left_open, judged, key_of, lease_after, lease_broken, lease_lowered, needs_acknowledgment}
-use Rattle.lease_laws.proofs.Words.{not, opens_dropped, read_done, reconnected, refl, refusal_of, replied, suc, sym, tried, tried_for, true, want_met}
+use Rattle.lease_laws.proofs.Words.{◌&&◌, ◌++◌, ◌==◌, ◌∙◌, ◌∷◌, ◌≡◌, Access, Bool, FileRequest, Key, Lease, LeaseOf, List, None, Open, Option}
+use Rattle.lease_laws.proofs.Words.{Out, Outcome, Progress, Reply, Server, Share, Some, State, Status, Tried, Want, ℕ, [], acknowledged, ap, append-nil}
+use Rattle.lease_laws.proofs.Words.{append_assoc, begun, break_begun, break_ended, changed, concluded, ended, granted_with, has_lease}
+use Rattle.lease_laws.proofs.Words.{is_breaking, is_left_open, judged, key_of, lease_after, lease_broken, lease_lowered, needs_acknowledgment}
+use Rattle.lease_laws.proofs.Words.{not, opens_dropped, reconnected, refl, refusal_of, replied, sym, tried, tried_for, want_met}
 use Rattle.lease_laws.proofs.Words.{wants_met, is_state_within}
 use Rattle.lease_laws.proofs.server.cases.Ends.{any_end, ends_again, ends_changed, ends_closed, ends_full, ends_granted, ends_left, ends_read}
 use Rattle.lease_laws.proofs.server.cases.Tries.{any_rounds, any_wants, met_in_order}
@@ -65,11 +65,13 @@ rounds_on before rounds client request = any_rounds client request
       ready = λ rounds progress wants is ready. round_ends rounds client request (behind before progress) wants is ready;
       waits = λ rounds progress wants needs wait.
           let met = wants_on before wants progress in
-          round_waits rounds client request (behind before progress) wants (record { found = needs.found; unready = needs.unready })
+          round_waits rounds client request (behind before progress) wants
+          (record { found = needs.found; unready = needs.unready })
           (rw (met) wait) ∙ ap (λ p. ended p Outcome.Waits) met;
       again = λ rounds progress wants done needs goes rest.
           let met = wants_on before wants progress in
-          round_goes_on rounds client request (behind before progress) wants (record { found = needs.found; unready = needs.unready })
+          round_goes_on rounds client request (behind before progress) wants
+          (record { found = needs.found; unready = needs.unready })
           (rw (met) goes) ∙ ap (tried_for rounds client request) met ∙ rest;
     }) rounds
 
@@ -98,13 +100,15 @@ concluded_on before client progress = any_end client progress
       full = λ file access share ask none out. ends_full client file access share ask (behind before progress) none out
           ∙ replied_on before client (Reply.CreateFailed file Status.InsufficientResources) progress;
       granted = λ file access share ask none room. ends_granted client file access share ask (behind before progress) none room
-          ∙ granted_on before client file access share ask.lease ask.durable (lease_after progress.server client file ask.lease) progress;
+          ∙ granted_on before client file access share ask.lease ask.durable
+          (lease_after progress.server client file ask.lease) progress;
       again = λ file access share ask file_id some. ends_again client file access share ask file_id (behind before progress) some
           ∙ stepped_on before progress (reconnected client file ask.lease file_id progress).server
           (reconnected client file ask.lease file_id (begun progress.server)).outs;
       read = λ file_id one found. ends_read client file_id one (behind before progress) found.found
           ∙ replied_on before client (Reply.ReadDone file_id (progress.server.contents one.file)) progress;
-      changed = λ file_id number patch one found. ends_changed client file_id number patch one (behind before progress) found.found
+      changed = λ file_id number patch one found. ends_changed client file_id number patch one
+          (behind before progress) found.found
           ∙ stepped_on before progress (changed client one.file file_id number patch progress).server
           (changed client one.file file_id number patch (begun progress.server)).outs;
       closed = λ file_id one found. ends_closed client file_id one (behind before progress) found.found

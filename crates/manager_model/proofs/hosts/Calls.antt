@@ -1,27 +1,26 @@
 -- Calls of a server, and of a manager with its host.
-use Rattle.lease_laws.proofs.Words.{◌++◌, ◌==◌, ◌∙◌, ◌∷◌, ◌≡◌, ◌≤◌, Among, Bool, Call, Err, FileRequest, Held, Key, LeaseOf, List, Ok, Open, Option, Outcome, Progress, Request}
-use Rattle.lease_laws.proofs.Words.{Result, Server, Some, Status, Tried, ℕ, [], acknowledged, after_first_try, all_passes, ap, append-nil, ap₂, arrived, arrived_before}
-use Rattle.lease_laws.proofs.Words.{as_held, begun, called, client_forgotten, concluded, cut, disconnected, expire, false, file_asked, file_request_arrived, filter, has_key}
+use Rattle.lease_laws.proofs.Words.{◌++◌, ◌==◌, ◌∙◌, ◌∷◌, ◌≡◌, ◌≤◌, Among, Bool, Call, Err, FileRequest, Held, Key, LeaseOf, List, Ok, Open, Outcome, Progress, Request}
+use Rattle.lease_laws.proofs.Words.{Result, Server, Some, Status, Tried, ℕ, [], acknowledged, after_first_try, ap, append-nil, ap₂, arrived, arrived_before}
+use Rattle.lease_laws.proofs.Words.{as_held, begun, called, concluded, cut, disconnected, expire, false, file_asked, file_request_arrived, has_key}
 use Rattle.lease_laws.proofs.Words.{if◌then◌else◌, inl, inr, is_behind, is_breaking, is_left_behind, is_lost, join, joined, key_expired, list_any, map, map-append, not}
-use Rattle.lease_laws.proofs.Words.{opens_disconnected, opens_dropped, put, receive, refl, refused, refusal_of, request_held, scavenge, subst, sym, tried, true, without}
+use Rattle.lease_laws.proofs.Words.{opens_dropped, put, receive, refl, refused, request_held, scavenge, subst, sym, tried, true, without}
 use Rattle.lease_laws.proofs.Words.{held_of, lane_of}
 use Rattle.lease_laws.proofs.server.Arrivals.{acknowledged-held}
 use Rattle.lease_laws.proofs.server.Held.{concluded-held, tried_for-held}
-use Rattle.lease_laws.proofs.server.Lists.{among_filter, among_map, if_cases}
-use Rattle.lease_laws.proofs.server.cases.Calls as server
+use Rattle.lease_laws.proofs.server.Lists.{among_map, if_cases}
 use Rattle.lease_model.specs.server.Calls.{first_tried}
 use Rattle.manager_model.specs.Bare.{bare, bare_held, bare_progress, bare_request}
 use Rattle.manager_model.specs.Decisions.{Decision}
 use Rattle.manager_model.specs.Handling.{Handling, Manager, Tagged, at_server, gone_on, handling, is_of, left_to_wait, lost, tagged_of}
 use Rattle.manager_model.specs.Handling as rules
-use Rattle.manager_model.specs.Hosting.{AreAsked, AreServer, Coming, HasFreeTag, Host, Hosted, IsHostOf, asked_by, call_of, does_all, filled, hosted, managed}
+use Rattle.manager_model.specs.Hosting.{AreAsked, AreServer, Coming, HasFreeTag, Host, Hosted, IsHostOf, asked_by, call_of, filled, hosted, managed}
 use Rattle.manager_model.specs.Laws.{HostsAreServers}
 use Rattle.manager_model.proofs.bytes.Calls.{bytes_decide_nothing, expired_so, links_so}
 use Rattle.manager_model.proofs.bytes.Ends.{acknowledged_so, concluded_so}
 use Rattle.manager_model.proofs.bytes.Steps.{behind_so, dropped_so, filter_map, hold_so, refused_so}
-use Rattle.manager_model.proofs.bytes.Tries.{as_held_so, asked_so, bare_tried, lane_so, tried_so}
+use Rattle.manager_model.proofs.bytes.Tries.{as_held_so, asked_so, lane_so, tried_so}
 use Rattle.manager_model.proofs.hosts.Answers.{acknowledged_faithfully, ends_faithfully, refused_faithfully}
-use Rattle.manager_model.proofs.hosts.Faithful.{GoesFaithfully, does_none, does_one, does_then, faithful_then, host_of_fewer, same_host, stays_faithful, tries_faithfully}
+use Rattle.manager_model.proofs.hosts.Faithful.{does_none, does_one, does_then, faithful_then, host_of_fewer, same_host, tries_faithfully}
 use Rattle.manager_model.proofs.hosts.Passes.{all_serve}
 use Rattle.manager_model.proofs.hosts.Serving.{Serves, asked_both, asked_put, goes_serving, queues_put}
 use Rattle.manager_model.proofs.passes.Tables.{put_here}
@@ -43,7 +42,8 @@ filled_more : (requests : ℕ → FileRequest) (tag : ℕ) (request : FileReques
 unfolding put
 filled_more requests tag request [] free = refl
 filled_more requests tag request (one ∷ queue) free = ap₂ (λ x xs. x ∷ xs)
-    (ap (λ (r : FileRequest). record { client = one.held.client; request = r; lane = one.held.lane }) (other (free one (inl refl))))
+    (ap (λ (r : FileRequest). record { client = one.held.client; request = r; lane = one.held.lane }) (other (free one
+    (inl refl))))
     (filled_more requests tag request queue (λ later among. free later (inr among)))
   where
     other : (one.tag == tag) ≡ false → requests one.tag ≡ (if one.tag == tag then request else requests one.tag)
@@ -136,12 +136,14 @@ ends_first requests manager host server tag client request outcome are asked =
     (goes_serving requests host tag (handling manager) (begun server) (concluded client request done outcome)
     (begins_serving requests manager host server are)
     (faithful_then requests tag (begun server) done (concluded client request done outcome)
-    (tries_faithfully requests tag client request (begun server)) (ends_faithfully requests tag client done request outcome asked))
+    (tries_faithfully requests tag client request (begun server))
+    (ends_faithfully requests tag client done request outcome asked))
     (concluded-held client request done outcome ∙ tried_for-held 3 client request (begun server)))
 
 first_serves : (requests : ℕ → FileRequest) (manager : Manager) (host : Host) (server : Server) (tag client file : ℕ)
     (request : FileRequest) (outcome : Outcome) → AreServer requests manager host server → requests tag ≡ request
-    → Serves requests host (rules.after_first_try file (tagged_of manager.server tag client (bare_request request)) (handling manager)
+    → Serves requests host (rules.after_first_try file (tagged_of manager.server tag client (bare_request request))
+    (handling manager)
     (bare_progress (tried client request (begun server)).progress) outcome)
     (after_first_try file (as_held server client request) (tried client request (begun server)).progress outcome)
 first_serves requests manager host server tag client file request Outcome.Waits are asked =
@@ -157,7 +159,8 @@ first_serves requests manager host server tag client file request outcome are as
 
 before_serves : (requests : ℕ → FileRequest) (manager : Manager) (host : Host) (server : Server) (tag client : ℕ)
     (request : FileRequest) (found : Result ℕ Status) → AreServer requests manager host server → requests tag ≡ request
-    → Serves requests host (rules.arrived_before (tagged_of manager.server tag client (bare_request request)) (handling manager) found)
+    → Serves requests host (rules.arrived_before (tagged_of manager.server tag client (bare_request request))
+    (handling manager) found)
     (arrived_before (as_held server client request) (begun server) found)
 before_serves requests manager host server tag client request (Err status) are asked =
     let after = refused client request status (begun server) in
@@ -179,8 +182,9 @@ before_serves requests manager host server tag client request (Ok file) are aske
     (comes_full requests manager.server server tag client request are.without_bytes asked)
     (comes_bare manager.server server tag client request are.without_bytes))
     (λ first. subst (λ (t : Tried). Serves requests host (rules.after_first_try file one (handling manager) t.progress t.outcome)
-        (after_first_try file (as_held server client request) done.progress done.outcome))
-    (sym (ap (λ (m : Server). tried client (bare_request request) (begun m)) are.without_bytes ∙ tried_so client request (begun server)))
+    (after_first_try file (as_held server client request) done.progress done.outcome))
+    (sym (ap (λ (m : Server). tried client (bare_request request) (begun m)) are.without_bytes
+    ∙ tried_so client request (begun server)))
     (first_serves requests manager host server tag client file request done.outcome are asked))
 
 tried_serves : (requests : ℕ → FileRequest) (manager : Manager) (host : Host) (server : Server) (tag client : ℕ)
@@ -189,7 +193,7 @@ tried_serves : (requests : ℕ → FileRequest) (manager : Manager) (host : Host
     (first_tried client request (begun server))
 tried_serves requests manager host server tag client request are asked =
     subst (λ found. Serves requests host (rules.arrived_before (tagged_of manager.server tag client (bare_request request))
-        (handling manager) found) (first_tried client request (begun server)))
+    (handling manager) found) (first_tried client request (begun server)))
     (sym (ap (λ (m : Server). file_asked m client (bare_request request)) are.without_bytes ∙ asked_so server client request))
     (before_serves requests manager host server tag client request (file_asked server client request) are asked)
 
@@ -232,13 +236,15 @@ acknowledges requests manager host server client given are =
     (sym (ap (λ (m : Server). acknowledged client (Some given) (begun m)) are.without_bytes
     ∙ acknowledged_so client (Some given) (begun server)))
     (goes_serving requests host 0 (handling manager) (begun server) after (begins_serving requests manager host server are)
-    (acknowledged_faithfully requests 0 client (Some given) (begun server)) (acknowledged-held client (Some given) (begun server)))))
+    (acknowledged_faithfully requests 0 client (Some given) (begun server)) (acknowledged-held client (Some given)
+    (begun server)))))
     (λ down. begins_serving requests manager host server are)
 
 -- ---- connections and timers
 
 -- what gives nothing out, and leaves what waits
-becomes : (requests : ℕ → FileRequest) (manager : Manager) (host : Host) (server : Server) (bare_after : Server) (after : Progress)
+becomes : (requests : ℕ → FileRequest) (manager : Manager) (host : Host) (server : Server) (bare_after : Server)
+    (after : Progress)
     → AreServer requests manager host server → bare_after ≡ bare after.server → after.outs ≡ []
     → after.server.held ≡ server.held → IsHostOf host after.server
     → Serves requests host (at_server bare_after (handling manager)) after
@@ -254,7 +260,8 @@ becomes requests manager host server bare_after after are is silent held hosts =
     }
 
 joined_facts : (host : Host) (server : Server) (client : ℕ) → IsHostOf host server
-    → ((join server client).outs ≡ []) × ((join server client).server.held ≡ server.held) × IsHostOf host (join server client).server
+    → ((join server client).outs ≡ []) × ((join server client).server.held ≡ server.held)
+    × IsHostOf host (join server client).server
 unfolding join
 joined_facts host server client is =
     if_cases (λ (q : Progress). (q.outs ≡ []) × (q.server.held ≡ server.held) × IsHostOf host q.server) (server.present client)

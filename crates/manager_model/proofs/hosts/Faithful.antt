@@ -1,16 +1,14 @@
 -- A host that does what it is told sends what the server sends, and has the bytes that the server has.
-use Rattle.lease_laws.proofs.Words.{◌++◌, ◌+◌, ◌==◌, ◌∙◌, ◌∷◌, ◌≡◌, ◌≤◌, ◌⊎◌, Access, Among, Bool, CreateAnswer, CreateAsk, Decides-eqb, FileRequest, Key, Lease, LeaseOf, List}
-use Rattle.lease_laws.proofs.Words.{None, Open, Option, Out, Outcome, Patch, Progress, Reply, Server, Share, Some, State, Status, ℕ, ⊎_elim, [], ap, append-nil}
-use Rattle.lease_laws.proofs.Words.{append_assoc, ap₂, arith, begun, break_begun, break_notice, changed, concluded, connected_again, eqb-true, false, flat_map}
-use Rattle.lease_laws.proofs.Words.{flat_map-append, fun_ext, granted_with, if◌then◌else◌, inl, inr, is_left_open, lease_after, lease_lowered, map, map-append, nat_tests}
-use Rattle.lease_laws.proofs.Words.{new_open, not, opens_dropped, put, read_done, reconnected, refl, refusal_of, replied, subst, sym, tried, true}
-use Rattle.lease_laws.proofs.server.Lists.{among_append, among_filter, among_map, either}
-use Rattle.lease_laws.proofs.server.cases.Ends.{any_end, IsFoundOpen}
+use Rattle.lease_laws.proofs.Words.{◌++◌, ◌∙◌, ◌∷◌, ◌≡◌, ◌≤◌, Among, Bool, FileRequest, List}
+use Rattle.lease_laws.proofs.Words.{Open, Out, Progress, Server, ℕ, [], ap, append-nil}
+use Rattle.lease_laws.proofs.Words.{append_assoc, break_begun, break_notice}
+use Rattle.lease_laws.proofs.Words.{flat_map-append, is_left_open, lease_lowered, map, map-append}
+use Rattle.lease_laws.proofs.Words.{not, opens_dropped, refl, subst, sym, tried}
+use Rattle.lease_laws.proofs.server.Lists.{among_filter}
 use Rattle.lease_laws.proofs.server.cases.Tries.{any_try}
-use Rattle.lease_state.specs.Content.{patch as patched}
-use Rattle.manager_model.specs.Bare.{bare_out, bare_patch, bare_reply}
+use Rattle.manager_model.specs.Bare.{bare_out}
 use Rattle.manager_model.specs.Decisions.{Decision, told_of, told_of_out}
-use Rattle.manager_model.specs.Hosting.{Host, Hosted, IsHostOf, does, does_all, notes}
+use Rattle.manager_model.specs.Hosting.{Host, Hosted, IsHostOf, does, does_all}
 
 -- ---- what is done in order
 
@@ -70,7 +68,8 @@ pub stays_faithful : (requests : ℕ → FileRequest) (tag : ℕ) (progress : Pr
 stays_faithful requests tag progress =
     nothing_done requests tag progress progress (sym (append-nil progress.outs)) (λ host is. is)
 
-pub faithful_then : (requests : ℕ → FileRequest) (tag : ℕ) (before next after : Progress) → GoesFaithfully requests tag before next
+pub faithful_then : (requests : ℕ → FileRequest) (tag : ℕ) (before next after : Progress)
+    → GoesFaithfully requests tag before next
     → GoesFaithfully requests tag next after → GoesFaithfully requests tag before after
 faithful_then requests tag before next after first later = record {
   more = first.more ++ later.more;
@@ -79,7 +78,8 @@ faithful_then requests tag before next after first later = record {
       let one = first.does host outs is in
       let mid = done_for requests tag first.more host outs in
       let two = later.does mid.host mid.outs one.hosts in
-      let split : done_for requests tag (first.more ++ later.more) host outs ≡ done_for requests tag later.more mid.host mid.outs =
+      let split : done_for requests tag
+      (first.more ++ later.more) host outs ≡ done_for requests tag later.more mid.host mid.outs =
       ap (λ told. does_all requests told (record { host = host; outs = outs })) (told_then tag first.more later.more)
       ∙ does_then requests (told_bare tag first.more) (told_bare tag later.more) (record { host = host; outs = outs }) in record {
         sends = ap (λ (d : Hosted). d.outs) split ∙ two.sends ∙ ap (λ o. o ++ later.more) one.sends

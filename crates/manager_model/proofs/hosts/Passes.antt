@@ -1,10 +1,10 @@
 -- Passes over what waits, of a server, and of a manager with its host.
 use Rattle.lease_laws.proofs.Words.{◌++◌, ◌+◌, ◌∙◌, ◌∷◌, ◌≡◌, FileRequest, Held, List, Outcome, Pass, Progress, Server, Tried, ℕ, [], after_try, all_passes, ap}
-use Rattle.lease_laws.proofs.Words.{append_assoc, ap₂, begun, concluded, ended, false, fun_ext, held_left, if◌then◌else◌, is_behind, left_waiting, length, length-map}
+use Rattle.lease_laws.proofs.Words.{append_assoc, ap₂, begun, concluded, false, held_left, is_behind, left_waiting, length, length-map}
 use Rattle.lease_laws.proofs.Words.{map, map-append, numbers_to, one_pass, pass_answered, pass_over, passes, passes_for, passes_over, put, refl, subst, suc, sym}
-use Rattle.lease_laws.proofs.Words.{tried, tried_again, true, zero}
+use Rattle.lease_laws.proofs.Words.{tried, tried_again, zero}
 use Rattle.lease_laws.proofs.server.Held.{concluded-held, tried_for-held}
-use Rattle.lease_laws.proofs.server.Lists.{either, if_cases}
+use Rattle.lease_laws.proofs.server.Lists.{either}
 use Rattle.lease_laws.proofs.server.cases.Passes as server
 use Rattle.manager_model.specs.Bare.{bare, bare_held, bare_progress, bare_request}
 use Rattle.manager_model.specs.Handling.{Handling, Tagged, gone_on, held_in, queued}
@@ -48,7 +48,8 @@ left_faithfully requests tag file left progress = nothing_done requests tag prog
 
 -- ---- a pass under way
 
-pub record PassServes (requests : ℕ → FileRequest) (start : Host) (waiting : List Tagged) (pass : rules.Pass) (full : Pass) : Type 0
+pub record PassServes (requests : ℕ → FileRequest) (start : Host) (waiting : List Tagged) (pass : rules.Pass)
+    (full : Pass) : Type 0
   where
     pub passed : full.passed ≡ map (filled requests) pass.passed
     pub asked : AreAsked requests (pass.passed ++ waiting)
@@ -101,13 +102,14 @@ answers_one requests start file one waiting pass full outcome p =
     let held : after.server.held ≡ put full.progress.server.held file left =
     concluded-held client request (held_left file left done) outcome
     ∙ ap (λ (h : ℕ → List Held). put h file left) (tried_for-held 3 client request (begun full.progress.server)) in
-    let mine : concluded client one.held.request (held_left file (held_in queue) (bare_progress done)) outcome ≡ bare_progress after =
+    let mine : concluded client one.held.request (held_left file (held_in queue)
+    (bare_progress done)) outcome ≡ bare_progress after =
     ap₂ (λ (r : FileRequest) (l : List Held). concluded client r (held_left file l (bare_progress done)) outcome)
     (ap (λ (h : Held). h.request) (asked_here requests one waiting pass.passed p.asked)) (held_bare requests queue asked)
     ∙ ap (λ q. concluded client (bare_request request) q outcome) (left_so file left done)
     ∙ concluded_so client request (held_left file left done) outcome in
     let theirs : concluded client request (held_left file (full.passed ++ map (filled requests) waiting)
-        (behind full.progress.outs done)) outcome ≡ behind full.progress.outs after =
+    (behind full.progress.outs done)) outcome ≡ behind full.progress.outs after =
     ap (λ l. concluded client request (held_left file l (behind full.progress.outs done)) outcome)
     (ap (λ l. l ++ map (filled requests) waiting) p.passed ∙ sym (map-append (filled requests) pass.passed waiting))
     ∙ ap (λ q. concluded client request q outcome) (stepped_on full.progress.outs done (held_left file left done).server [])
@@ -132,7 +134,8 @@ tries_one : (requests : ℕ → FileRequest) (start : Host) (file : ℕ) (one : 
     (behind full.progress.outs (try_of requests one full.progress.server).progress) outcome)
 tries_one requests start file one waiting pass full Outcome.Waits p =
     let done = (try_of requests one full.progress.server).progress in
-    over_one requests start one waiting pass full (gone_on one.tag (bare_progress done) pass.now) (behind full.progress.outs done) p
+    over_one requests start one waiting pass full (gone_on one.tag (bare_progress done) pass.now)
+    (behind full.progress.outs done) p
     (goes_serving requests start one.tag pass.now full.progress done p.serves
     (tries_faithfully requests one.tag one.held.client (requests one.tag) (begun full.progress.server))
     (tried_for-held 3 one.held.client (requests one.tag) (begun full.progress.server)))
@@ -148,32 +151,33 @@ again requests start file one waiting pass full p =
     let is = p.serves.server.without_bytes in
     let here = asked_here requests one waiting pass.passed p.asked in
     let same : is_behind manager.rules one.held (held_in pass.passed)
-        ≡ is_behind full.progress.server.rules (filled requests one) full.passed =
+    ≡ is_behind full.progress.server.rules (filled requests one) full.passed =
     ap (λ (m : Server). is_behind m.rules one.held (held_in pass.passed)) is
     ∙ behind_alike requests full.progress.server.rules one pass.passed
     ∙ ap (is_behind full.progress.server.rules (filled requests one)) (sym p.passed) in
     either (is_behind full.progress.server.rules (filled requests one) full.passed)
     (λ first.
     subst (λ (q : rules.Pass). PassServes requests start waiting q
-        (tried_again file (filled requests one) (map (filled requests) waiting) full))
+    (tried_again file (filled requests one) (map (filled requests) waiting) full))
     (sym (ways.is_passed_over file one waiting pass (same ∙ first)))
     (subst (PassServes requests start waiting (rules.left_waiting one pass pass.now))
     (sym (server.is_passed_over file (filled requests one) (map (filled requests) waiting) full first))
     (over_one requests start one waiting pass full pass.now full.progress p p.serves)))
     (λ first.
     let done = try_of requests one full.progress.server in
-    let mine : rules.tried_again file one waiting pass ≡ rules.after_try file one waiting pass (bare_progress done.progress) done.outcome =
+    let mine : rules.tried_again file one waiting pass ≡ rules.after_try file one waiting pass
+    (bare_progress done.progress) done.outcome =
     ways.is_tried file one waiting pass (same ∙ first)
     ∙ ap (λ (t : Tried). rules.after_try file one waiting pass t.progress t.outcome)
     (tried_bare requests one manager full.progress.server is here) in
     let theirs : tried_again file (filled requests one) (map (filled requests) waiting) full
-        ≡ after_try file (filled requests one) (map (filled requests) waiting) full
-        (behind full.progress.outs done.progress) done.outcome =
+    ≡ after_try file (filled requests one) (map (filled requests) waiting) full
+    (behind full.progress.outs done.progress) done.outcome =
     server.is_tried file (filled requests one) (map (filled requests) waiting) full first
     ∙ ap (λ (t : Tried). after_try file (filled requests one) (map (filled requests) waiting) full t.progress t.outcome)
     (tried_fully requests one full.progress) in
     subst (λ (q : rules.Pass). PassServes requests start waiting q
-        (tried_again file (filled requests one) (map (filled requests) waiting) full)) (sym mine)
+    (tried_again file (filled requests one) (map (filled requests) waiting) full)) (sym mine)
     (subst (PassServes requests start waiting (rules.after_try file one waiting pass (bare_progress done.progress) done.outcome))
     (sym theirs) (tries_one requests start file one waiting pass full done.outcome p)))
 
@@ -196,7 +200,8 @@ pass_serves requests start file now progress s =
     let begun_so : Pass = record { passed = []; progress = progress; has_answered = false } in
     subst (λ held. PassServes requests start [] (rules.one_pass file now) (pass_over file held begun_so))
     (sym (s.server.waiting file))
-    (over requests start file (now.manager.queues file) (record { passed = []; now = now; has_answered = false }) begun_so (record {
+    (over requests start file (now.manager.queues file) (record { passed = []; now = now; has_answered = false }) begun_so
+    (record {
       passed = refl;
       asked = s.server.asked file;
       serves = s;
@@ -243,6 +248,6 @@ pub all_serve : (requests : ℕ → FileRequest) (start : Host) (now : Handling)
 unfolding rules.all_passes all_passes
 all_serve requests start now progress s =
     subst (λ files. Serves requests start (rules.passes_over (numbers_to files) now)
-        (passes_over (numbers_to progress.server.files) progress))
+    (passes_over (numbers_to progress.server.files) progress))
     (sym (ap (λ (m : Server). m.files) s.server.without_bytes))
     (files_serve requests start (numbers_to progress.server.files) now progress s)

@@ -1,12 +1,11 @@
 -- A manager and its host go as the server goes, step by step.
-use Rattle.lease_laws.proofs.Words.{◌++◌, ◌==◌, ◌∙◌, ◌∷◌, ◌≡◌, FileRequest, Held, List, Option, Out, Outcome, Pass, Progress, Server, Tried, ℕ, ap, append-nil, append_assoc}
-use Rattle.lease_laws.proofs.Words.{ap₂, arith, begun, concluded, false, fun_ext, held_left, if◌then◌else◌, is_behind, length, length-map, list_any, map, map-append}
-use Rattle.lease_laws.proofs.Words.{one_pass, opens_dropped, put, refl, request_held, subst, sym, tried, tried_for, true, waits_behind, [], None, Some}
+use Rattle.lease_laws.proofs.Words.{◌++◌, ◌==◌, ◌∙◌, ◌∷◌, ◌≡◌, FileRequest, Held, List, Progress, Server, ℕ, ap}
+use Rattle.lease_laws.proofs.Words.{ap₂, begun, fun_ext, is_behind, map}
+use Rattle.lease_laws.proofs.Words.{put, refl, subst, sym, waits_behind, []}
 use Rattle.lease_laws.proofs.server.Lists.{if_cases}
 use Rattle.lease_state.specs.declared.rules.Rules.{Rules}
-use Rattle.manager_model.specs.Bare.{bare, bare_held, bare_progress, bare_request}
-use Rattle.manager_model.specs.Decisions.{Decision}
-use Rattle.manager_model.specs.Handling.{Handling, Manager, Tagged, gone_on, held_in, queued}
+use Rattle.manager_model.specs.Bare.{bare_held, bare_progress}
+use Rattle.manager_model.specs.Handling.{Handling, Tagged, gone_on, held_in, queued}
 use Rattle.manager_model.specs.Hosting.{AreAsked, AreServer, Host, Hosted, IsHostOf, does_all, filled, hosted}
 use Rattle.manager_model.proofs.bytes.Steps.{any_map, map_put}
 use Rattle.manager_model.proofs.hosts.Before.{behind}
@@ -63,7 +62,7 @@ has_gone requests start tag now progress after s goes =
     let mid = hosted requests start now in
     let done = goes.does mid.host mid.outs s.server.hosts in
     let split : hosted requests start (gone_on tag (bare_progress after) now)
-        ≡ does_all requests (told_bare tag goes.more) (record { host = mid.host; outs = mid.outs }) =
+    ≡ does_all requests (told_bare tag goes.more) (record { host = mid.host; outs = mid.outs }) =
     does_then requests now.told (told_bare tag after.outs) (record { host = start; outs = [] })
     ∙ ap (λ outs. does_all requests (told_bare tag outs) (record { host = mid.host; outs = mid.outs }))
     (all_more requests tag progress.server after goes) in record {

@@ -1,7 +1,7 @@
 -- Passes of a manager over a file end by themselves: each that answers a request leaves fewer to wait.
-use Rattle.lease_laws.proofs.Words.{◌+◌, ◌++◌, ◌<◌, ◌∙◌, ◌∷◌, ◌≡◌, ◌≤◌, ◌⊎◌, Bool, List, Outcome, ℕ, [], ap, append_assoc, arith, false, inl, inr}
-use Rattle.lease_laws.proofs.Words.{length, length-append, put, refl, subst, suc, sym, true, true≢false, zero, ◌==◌, if◌then◌else◌, Decides-eqb}
-use Rattle.lease_laws.proofs.server.Lists.{clash, either}
+use Rattle.lease_laws.proofs.Words.{◌+◌, ◌++◌, ◌<◌, ◌∙◌, ◌∷◌, ◌≡◌, ◌≤◌, List, ℕ, [], ap, append_assoc, arith, false}
+use Rattle.lease_laws.proofs.Words.{length, length-append, refl, suc, sym, true, true≢false, zero}
+use Rattle.lease_laws.proofs.server.Lists.{either}
 use Rattle.manager_model.specs.Handling.{Handling, Pass, Tagged, one_pass}
 use Rattle.manager_model.specs.Handling as rules
 use Rattle.manager_model.specs.Laws.{PassesAnswer, PassesAreEnough}

@@ -1,14 +1,14 @@
 -- Only files where requests wait need passes.
-use Rattle.lease_laws.proofs.Words.{◌+◌, ◌++◌, ◌<◌, ◌==◌, ◌∙◌, ◌∷◌, ◌≡◌, ◌≢◌, ◌≤◌, ◌⊎◌, Among, Bool, Decides-eqb, List, Outcome, ℕ, ⊎_elim, [], ap}
-use Rattle.lease_laws.proofs.Words.{append-nil, append_assoc, arith, eqb-true, false, if◌then◌else◌, inl, inr, length, numbers_to, put, refl, subst, suc, sym}
+use Rattle.lease_laws.proofs.Words.{◌+◌, ◌++◌, ◌<◌, ◌==◌, ◌∙◌, ◌∷◌, ◌≡◌, ◌≢◌, ◌≤◌, ◌⊎◌, Among, Bool, Decides-eqb, List, ℕ, ⊎_elim, [], ap}
+use Rattle.lease_laws.proofs.Words.{arith, eqb-true, false, if◌then◌else◌, inl, inr, length, numbers_to, refl, subst, suc, sym}
 use Rattle.lease_laws.proofs.Words.{nat_tests, true, zero}
 use Rattle.lease_laws.proofs.server.Lists.{clash, either}
 use Rattle.manager_model.specs.Handling.{Handling, Pass, Tagged, last_file, one_pass}
 use Rattle.manager_model.specs.Handling as rules
 use Rattle.manager_model.specs.Laws.{FilesAreEnough}
-use Rattle.manager_model.specs.Waiting.{AreAbove, AreWaitingFiles}
+use Rattle.manager_model.specs.Waiting.{AreAbove}
 use Rattle.manager_model.proofs.passes.Tables.{put_apart}
-use Rattle.manager_model.proofs.passes.Ways.{any_pass, any_try, file_by_file, is_over, no_file_left, passes_on, passes_stop}
+use Rattle.manager_model.proofs.passes.Ways.{any_pass, any_try, file_by_file, is_over, passes_stop}
 
 -- ---- a file where nothing waits
 
@@ -23,7 +23,8 @@ nothing_to_pass file now none =
 
 -- ---- passes over a file leave what waits on others
 
-others_wait : (file other : ℕ) → (other == file) ≡ false → (one : Tagged) (waiting : List Tagged) (pass : Pass) (queue : List Tagged)
+others_wait : (file other : ℕ) → (other == file) ≡ false → (one : Tagged) (waiting : List Tagged) (pass : Pass)
+    (queue : List Tagged)
     → pass.now.manager.queues other ≡ queue → (rules.tried_again file one waiting pass).now.manager.queues other ≡ queue
 others_wait file other apart one waiting pass queue same =
     any_try file one waiting pass (λ after. after.now.manager.queues other ≡ queue) (record {
@@ -122,7 +123,8 @@ over_rest (suc count) bound last (file ∷ files) now at rest = either (file == 
       within = λ other among. rest.within other (inr among);
       others = λ other above. ⊎_elim
           (λ among. ⊎_elim (λ same. absurd (omega (arith, same, is, above))) (λ later. inl later) among)
-          (λ none. inr (passes_apart (suc bound) other now (apart_above other (suc bound) above) ∙ none)) (rest.others other (omega (arith, above)));
+          (λ none. inr (passes_apart (suc bound) other now (apart_above other (suc bound) above)
+          ∙ none)) (rest.others other (omega (arith, above)));
     })
     ∙ ap (λ n. rules.passes_over files (rules.passes n now)) (sym is)
     ∙ sym (file_by_file file files now))

@@ -1,7 +1,7 @@
 -- What a pass of a manager does: each of the ways that a try in it can go, and how passes follow one another.
-use Rattle.lease_laws.proofs.Words.{◌+◌, ◌++◌, ◌∙◌, ◌∷◌, ◌≡◌, List, Outcome, Progress, Tried, ℕ, [], ap, arith, begun, concluded, false}
-use Rattle.lease_laws.proofs.Words.{held_left, is_behind, length, map, put, refl, subst, suc, sym, tried, true, zero}
-use Rattle.lease_laws.proofs.server.Lists.{clash, either}
+use Rattle.lease_laws.proofs.Words.{◌∷◌, ◌≡◌, List, Outcome, Progress, Tried, ℕ, [], begun, false}
+use Rattle.lease_laws.proofs.Words.{is_behind, refl, subst, suc, sym, tried, true}
+use Rattle.lease_laws.proofs.server.Lists.{either}
 use Rattle.manager_model.specs.Handling.{Handling, Pass, Tagged, after_try, gone_on, held_in, left_waiting, one_pass, pass_answered}
 use Rattle.manager_model.specs.Handling.{queued}
 use Rattle.manager_model.specs.Handling as rules

@@ -1,5 +1,4 @@
 use Rattle.manager_model.proofs.passes.Enough.{passes_answer, passes_are_enough}
-use Rattle.manager_model.proofs.hosts.Answers.{ends_faithfully}
 use Rattle.manager_model.proofs.passes.Files.{files_are_enough}
 use Rattle.manager_model.proofs.laws.law_of_passes.Goals as goal
 
