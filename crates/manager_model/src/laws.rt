@@ -16,8 +16,8 @@ pub fn law_of_passes()
 {}
 
 /// A manager and a host that does what it is told, in its order, are the server of the rules: whatever comes, the host sends what
-/// the server sends, and its files have the bytes that the server's have. The host keeps what it asked under each tag, and of each
-/// open the file; `GoesOn` copies the bytes of a file or patches them, and nothing else changes one. Does nothing.
+/// the server sends, and its files have the bytes that the server's have. The host keeps what it asked under each tag, and of
+/// each open the file; `GoesOn` copies the bytes of a file or patches them, and nothing else changes one. Does nothing.
 pub fn law_of_hosts()
     ensures { HostsAreServers }
 {}

@@ -66,7 +66,7 @@ host_of_more host progress client file access share asked durable lease is =
     new_handle : (other : Open) → other ≡ new_open progress.server client file access share asked durable lease
         → put host.handles (progress.server.last_id + 1) file other.file_id ≡ other.file
     new_handle other same = subst (λ (o : Open). put host.handles (progress.server.last_id + 1) file o.file_id ≡ o.file)
-    (sym same)
+        (sym same)
         (put_here host.handles (progress.server.last_id + 1) file)
 
 granted_faithfully : (requests : ℕ → FileRequest) (tag client file : ℕ) (access : Access) (share : Share) (ask : CreateAsk)
@@ -179,7 +179,7 @@ closed_faithfully requests tag client file_id progress asked =
     let done = ap (λ r. closed_as client r (record { host = host; outs = outs })) asked in (
       ap (λ (d : Hosted). d.outs) done,
       subst (λ (d : Hosted). IsHostOf d.host (opens_dropped test progress).server) (sym done)
-      (host_of_fewer test progress host is),
+          (host_of_fewer test progress host is),
     ))
 
 pub ends_faithfully : (requests : ℕ → FileRequest) (tag client : ℕ) (progress : Progress) (request : FileRequest)
