@@ -12,4 +12,4 @@ AreAbove bound (n ∷ numbers) = (bound < n) × AreAbove n numbers
 pub record AreWaitingFiles (queues : ℕ → List Tagged) (files : List ℕ) : Type 0 where
   pub rising : AreAbove 0 files
   pub within : (file : ℕ) → Among file files → file ≤ last_file
-  pub others : (file : ℕ) → Among file files ⊎ (queues file ≡ [])
+  pub others : (file : ℕ) → 0 < file → Among file files ⊎ (queues file ≡ [])

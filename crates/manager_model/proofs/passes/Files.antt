@@ -149,5 +149,5 @@ files_are_enough files now all waiting =
     ∙ over_rest last_file 0 last_file files now (omega arith) (record {
       rising = waiting.rising;
       within = waiting.within;
-      others = λ file above. waiting.others file;
+      others = waiting.others;
     })
