@@ -1,3 +1,4 @@
+mod Computes
 mod bytes
 mod hosts
 mod passes

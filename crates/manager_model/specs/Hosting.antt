@@ -5,9 +5,10 @@ use Rattle.lease_state.specs.Content.{patch as patched}
 use Rattle.lease_laws.specs.server.Laws.{Among}
 use Rattle.lease_model.specs.messages.Replies.{Reply, Out, CreateAnswer}
 use Rattle.lease_model.specs.messages.Requests.{FileRequest, Request, LeaseOf}
-use Rattle.lease_model.specs.server.Calls.{Call}
+use Rattle.lease_model.specs.server.Calls.{Call, called}
+use Rattle.lease_state.specs.declared.rules.Rules.{Rules}
 use Rattle.lease_model.specs.server.Progress.{refusal_of}
-use Rattle.lease_model.specs.server.State.{Server, Open, Held}
+use Rattle.lease_model.specs.server.State.{Server, Open, Held, new_server_under}
 use Rattle.lease_model.specs.values.Keys.{Key}
 use Rattle.lease_model.specs.values.Tables.{put}
 use Rattle.manager_model.specs.Bare.{bare, bare_held, bare_request}
@@ -145,3 +146,33 @@ HasFreeTag manager coming = ⊤
 -- what the host has done once it did all that it was told, in order
 abbrev pub hosted : (ℕ → FileRequest) → Host → Handling → Hosted
 hosted requests host now = does_all requests now.told (record { host = host; outs = [] })
+
+-- ---- whole runs
+
+-- each request comes under a tag under which none waits
+abbrev pub HaveFreeTags : Manager → List Coming → Type 0
+HaveFreeTags manager [] = ⊤
+HaveFreeTags manager (coming ∷ comings) =
+    HasFreeTag manager coming × HaveFreeTags (managed manager coming).manager comings
+
+-- what a host has sent and noted of each thing that came
+abbrev pub hosted_along : (ℕ → FileRequest) → Manager → Host → List Coming → List (List Out)
+hosted_along requests manager host [] = []
+hosted_along requests manager host (coming ∷ comings) =
+    (hosted (asked_by requests coming) host (managed manager coming)).outs
+    ∷ hosted_along (asked_by requests coming) (managed manager coming).manager
+    (hosted (asked_by requests coming) host (managed manager coming)).host comings
+
+-- what a server gives out for each
+abbrev pub given_along : Server → List Coming → List (List Out)
+given_along server [] = []
+given_along server (coming ∷ comings) =
+    (called server (call_of coming)).outs ∷ given_along (called server (call_of coming)).server comings
+
+-- a server of these rules with these files, that no client has joined
+abbrev pub fresh_server : Rules → ℕ → (ℕ → List ℕ) → Server
+fresh_server rules files contents = record (new_server_under rules []) { files = files; contents = contents }
+
+-- its manager, where nothing waits
+abbrev pub fresh_manager : Rules → ℕ → Manager
+fresh_manager rules files = record { server = fresh_server rules files (λ file. []); queues = λ file. [] }

@@ -4,3 +4,4 @@ pub mod Handling
 pub mod Hosting
 pub mod Laws
 pub mod Waiting
+pub mod Worked

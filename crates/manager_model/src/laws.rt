@@ -1,4 +1,5 @@
 ghost use Rattle.manager_model.specs.Laws.{BytesDecideNothing, FilesAreEnough, HostsAreServers, PassesAnswer, PassesAreEnough};
+ghost use Rattle.manager_model.specs.Laws.{RunsOfHosts, WithdrawalsAreServed};
 
 /// The calls of a server decide nothing by the bytes of files, nor by those of writes or their numbers, but whether a write ends
 /// within the limit of a file: each does to a server that has forgotten them what it does to the server itself, and gives out the
@@ -19,5 +20,7 @@ pub fn law_of_passes()
 /// the server sends, and its files have the bytes that the server's have. The host keeps what it asked under each tag, and of
 /// each open the file; `GoesOn` copies the bytes of a file or patches them, and nothing else changes one. Does nothing.
 pub fn law_of_hosts()
-    ensures { HostsAreServers }
+    ensures calls { HostsAreServers }
+    ensures withdrawals { WithdrawalsAreServed }
+    ensures runs { RunsOfHosts }
 {}

@@ -3,5 +3,7 @@
 #![tactic(auto)]
 
 mod laws;
+mod worked;
 
 pub use laws::{law_of_bytes, law_of_hosts, law_of_passes};
+pub use worked::{managers_tell_by_tags, managers_withdraw};

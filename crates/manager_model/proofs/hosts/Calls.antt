@@ -4,25 +4,27 @@ use Rattle.lease_laws.proofs.Words.{Result, Server, Some, Status, Tried, ℕ, []
 use Rattle.lease_laws.proofs.Words.{as_held, begun, called, concluded, cut, disconnected, expire, false, file_asked, file_request_arrived, has_key}
 use Rattle.lease_laws.proofs.Words.{if◌then◌else◌, inl, inr, is_behind, is_breaking, is_left_behind, is_lost, join, joined, key_expired, list_any, map, map-append, not}
 use Rattle.lease_laws.proofs.Words.{opens_dropped, put, receive, refl, refused, request_held, scavenge, subst, sym, tried, true, without}
-use Rattle.lease_laws.proofs.Words.{held_of, lane_of}
+use Rattle.lease_laws.proofs.Words.{held_left, held_of, lane_of}
 use Rattle.lease_laws.proofs.server.Arrivals.{acknowledged-held}
 use Rattle.lease_laws.proofs.server.Held.{concluded-held, tried_for-held}
 use Rattle.lease_laws.proofs.server.Lists.{among_map, if_cases}
 use Rattle.lease_model.specs.server.Calls.{first_tried}
 use Rattle.manager_model.specs.Bare.{bare, bare_held, bare_progress, bare_request}
 use Rattle.manager_model.specs.Decisions.{Decision}
-use Rattle.manager_model.specs.Handling.{Handling, Manager, Tagged, at_server, gone_on, handling, is_of, left_to_wait, lost, tagged_of}
+use Rattle.manager_model.specs.Handling.{Handling, Manager, Tagged, at_server, gone_on, handling, is_of, is_under, left_to_wait, lost, tagged_of}
 use Rattle.manager_model.specs.Handling as rules
 use Rattle.manager_model.specs.Hosting.{AreAsked, AreServer, Coming, HasFreeTag, Host, Hosted, IsHostOf, asked_by, call_of, filled, hosted, managed}
-use Rattle.manager_model.specs.Laws.{HostsAreServers}
+use Rattle.manager_model.specs.Hosting.{HaveFreeTags, fresh_manager, fresh_server, given_along, hosted_along}
+use Rattle.lease_laws.proofs.Words.{new_server_under}
+use Rattle.manager_model.specs.Laws.{HostsAreServers, RunsOfHosts, WithdrawalsAreServed, withdrawn_from}
 use Rattle.manager_model.proofs.bytes.Calls.{bytes_decide_nothing, expired_so, links_so}
 use Rattle.manager_model.proofs.bytes.Ends.{acknowledged_so, concluded_so}
-use Rattle.manager_model.proofs.bytes.Steps.{behind_so, dropped_so, filter_map, hold_so, refused_so}
+use Rattle.manager_model.proofs.bytes.Steps.{behind_so, dropped_so, filter_map, hold_so, left_so, refused_so}
 use Rattle.manager_model.proofs.bytes.Tries.{as_held_so, asked_so, lane_so, tried_so}
 use Rattle.manager_model.proofs.hosts.Answers.{acknowledged_faithfully, ends_faithfully, refused_faithfully}
 use Rattle.manager_model.proofs.hosts.Faithful.{does_none, does_one, does_then, faithful_then, host_of_fewer, same_host, tries_faithfully}
 use Rattle.manager_model.proofs.hosts.Passes.{all_serve}
-use Rattle.manager_model.proofs.hosts.Serving.{Serves, asked_both, asked_put, goes_serving, queues_put}
+use Rattle.manager_model.proofs.hosts.Serving.{Serves, asked_both, asked_put, goes_serving, held_bare, queues_put}
 use Rattle.manager_model.proofs.passes.Tables.{put_here}
 
 -- ---- a call begins
@@ -387,3 +389,72 @@ any_serves requests manager host server (Coming.Scavenges file_id) are free =
 pub hosts_are_servers : HostsAreServers
 hosts_are_servers requests manager host server coming are free =
     let s = any_serves requests manager host server coming are free in (s.server, s.outs)
+
+-- ---- withdrawals
+
+asked_apart : (requests : ℕ → FileRequest) (client tag : ℕ) (queue : List Tagged) → AreAsked requests queue
+    → AreAsked requests (without (is_under client tag) queue)
+asked_apart requests client tag [] a = tt
+asked_apart requests client tag (one ∷ queue) a = if_cases (AreAsked requests) (not (is_under client tag one))
+    (one ∷ without (is_under client tag) queue) (without (is_under client tag) queue)
+    (λ other. (a.0, asked_apart requests client tag queue a.1)) (λ its. asked_apart requests client tag queue a.1)
+
+taken_serves : (requests : ℕ → FileRequest) (manager : Manager) (host : Host) (server : Server) (file client tag : ℕ)
+    → AreServer requests manager host server → Serves requests host (rules.taken_back file client tag (handling manager))
+    (held_left file (map (filled requests) (without (is_under client tag) (manager.queues file))) (begun server))
+taken_serves requests manager host server file client tag are =
+    let left = without (is_under client tag) (manager.queues file) in
+    let asked = asked_apart requests client tag (manager.queues file) (are.asked file) in
+    let same : hosted requests host (rules.taken_back file client tag (handling manager)) ≡ record { host = host; outs = [] } =
+    does_one requests (Decision.Withdrawn client tag) (record { host = host; outs = [] }) in record {
+      server = record {
+        without_bytes = ap₂ (λ (m : Server) (held : List Held). (held_left file held (begun m)).server) are.without_bytes
+            (held_bare requests left asked)
+            ∙ ap (λ (q : Progress). q.server) (left_so file (map (filled requests) left) (begun server));
+        waiting = queues_put requests server manager.queues file left are.waiting;
+        asked = asked_put requests manager.queues file left are.asked asked;
+        hosts = subst (λ (d : Hosted). IsHostOf d.host
+            (held_left file (map (filled requests) left) (begun server)).server) (sym same)
+            (same_host host server (held_left file (map (filled requests) left) (begun server)).server are.hosts refl refl refl);
+      };
+      outs = ap (λ (d : Hosted). d.outs) same;
+    }
+
+withdrawal_serves : (requests : ℕ → FileRequest) (manager : Manager) (host : Host) (server : Server) (file client tag : ℕ)
+    → AreServer requests manager host server → Serves requests host (rules.withdraw manager file client tag)
+    (withdrawn_from requests manager file client tag server)
+unfolding rules.withdraw
+withdrawal_serves requests manager host server file client tag are =
+    both_ways (Serves requests host) (list_any (is_under client tag) (manager.queues file))
+    (list_any (is_under client tag) (manager.queues file)) _ _ _ _ refl
+    (λ there. all_serve requests host (rules.taken_back file client tag (handling manager)) _
+    (taken_serves requests manager host server file client tag are))
+    (λ none. begins_serving requests manager host server are)
+
+pub withdrawals_are_served : WithdrawalsAreServed
+withdrawals_are_served requests manager host server file client tag are =
+    let s = withdrawal_serves requests manager host server file client tag are in (s.server, s.outs)
+
+-- ---- whole runs
+
+runs_on : (requests : ℕ → FileRequest) (manager : Manager) (host : Host) (server : Server) (comings : List Coming)
+    → AreServer requests manager host server → HaveFreeTags manager comings
+    → hosted_along requests manager host comings ≡ given_along server comings
+runs_on requests manager host server [] are free = refl
+runs_on requests manager host server (coming ∷ comings) are free =
+    let s = any_serves requests manager host server coming are free.0 in
+    ap₂ (λ x xs. x ∷ xs) s.outs
+    (runs_on (asked_by requests coming) (managed manager coming).manager
+    (hosted (asked_by requests coming) host (managed manager coming)).host (called server (call_of coming)).server comings
+    s.server free.1)
+
+pub runs_of_hosts : RunsOfHosts
+unfolding new_server_under
+runs_of_hosts rules files contents handles requests comings free =
+    runs_on requests (fresh_manager rules files) (record { contents = contents; handles = handles })
+    (fresh_server rules files contents) comings (record {
+      without_bytes = refl;
+      waiting = λ file. refl;
+      asked = λ file. tt;
+      hosts = record { contents = refl; handles = λ one among. absurd among; numbered = λ one among. absurd among };
+    }) free

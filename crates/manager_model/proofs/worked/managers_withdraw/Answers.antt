@@ -1,0 +1,15 @@
+use Rattle.std.proofs.Common.{refl}
+use Rattle.manager_model.proofs.Computes.{the_manager}
+use Rattle.manager_model.proofs.worked.managers_withdraw.Goals as goal
+
+pub returns-clause-told : goal.returns-clause-told
+unfolding the_manager
+returns-clause-told c = refl
+
+pub returns-clause-gone : goal.returns-clause-gone
+unfolding the_manager
+returns-clause-gone c = refl
+
+pub returns-clause-none : goal.returns-clause-none
+unfolding the_manager
+returns-clause-none c = refl

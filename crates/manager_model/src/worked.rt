@@ -1,0 +1,15 @@
+ghost use Rattle.manager_model.specs.Worked.{NoneIsWithdrawn, SharedIsTold, WithdrawnIsGone, WithdrawnIsTold, WriteIsThere};
+
+/// Two clients share a file: the second one's create waits until the first one has flushed and has acknowledged the break of its
+/// lease. Each is answered under its tag, and the host's file has the flushed byte. Does nothing.
+pub fn managers_tell_by_tags()
+    ensures told { SharedIsTold }
+    ensures bytes { WriteIsThere }
+{}
+
+/// A create that waits is withdrawn: that is told, and nothing more of it. One that doesn't wait isn't. Does nothing.
+pub fn managers_withdraw()
+    ensures told { WithdrawnIsTold }
+    ensures gone { WithdrawnIsGone }
+    ensures none { NoneIsWithdrawn }
+{}
