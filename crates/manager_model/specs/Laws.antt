@@ -52,7 +52,8 @@ HostsAreServers = (requests : ℕ → FileRequest) (manager : Manager) (host : H
 abbrev pub withdrawn_from : (ℕ → FileRequest) → Manager → ℕ → ℕ → ℕ → Server → Progress
 withdrawn_from requests manager file client tag server =
     if list_any (is_under client tag) (manager.queues file)
-    then server_passes (held_left file (map (filled requests) (without (is_under client tag) (manager.queues file))) (begun server))
+    then server_passes (held_left file (map (filled requests) (without (is_under client tag) (manager.queues file)))
+    (begun server))
     else begun server
 
 abbrev pub WithdrawalsAreServed : Type 0
