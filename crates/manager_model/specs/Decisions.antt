@@ -7,7 +7,7 @@ use Rattle.lease_model.specs.messages.Requests.{LeaseOf}
 -- Opened answers a create under its tag, GoesOn says that a read or a write is to be done now, Closed answers a close, and
 -- Refused any of them by a status. Waits: the request waits for a break, and another decision under its tag follows.
 -- Withdrawn: it was taken back. Breaks: the client is sent the notice of a break. Acknowledged and NotAcknowledged answer an
--- acknowledgment.
+-- acknowledgment. Ended: an open is no more though its client didn't close it, and its host lets go of what it opened.
 pub data Decision : Type 0 where
   Opened : (client tag file_id : ℕ) (answer : CreateAnswer) → Decision
   GoesOn : (client tag : ℕ) → Decision
@@ -18,6 +18,7 @@ pub data Decision : Type 0 where
   Breaks : (client : ℕ) (notice : BreakNotice) → Decision
   Acknowledged : (client : ℕ) (given : LeaseOf) → Decision
   NotAcknowledged : (client : ℕ) (status : Status) → Decision
+  Ended : (file_id : ℕ) → Decision
 
 -- What is told in place of a reply that the server of the rules sends for the request under a tag.
 abbrev pub told_of_reply : ℕ → ℕ → Reply → List Decision

@@ -11,7 +11,7 @@ use Rattle.lease_model.specs.server.Attempt.{Outcome, tried}
 use Rattle.lease_model.specs.server.Calls as calls
 use Rattle.lease_model.specs.server.Lanes.{as_held, is_behind}
 use Rattle.lease_model.specs.server.Progress.{Progress, begun, held_left, opens_dropped, refused, request_held}
-use Rattle.lease_model.specs.server.State.{Server, Held, has_key, is_breaking, new_server_under}
+use Rattle.lease_model.specs.server.State.{Server, Held, Open, has_key, is_breaking, new_server_under}
 use Rattle.lease_state.specs.declared.rules.Rules.{Rules}
 use Rattle.lease_model.specs.values.Keys.{Key}
 use Rattle.lease_model.specs.values.Lists.{numbers_to, without}
@@ -55,9 +55,24 @@ new_server rules = record (new_server_under rules []) { files = last_file }
 abbrev pub new_manager : Rules → Manager
 new_manager rules = record { server = new_server rules; queues = λ file. [] }
 
--- the server has come to this, and nothing is told
+-- the open is among those of this server
+abbrev pub is_open : Server → Open → Bool
+is_open server one = list_any (λ (other : Open). other.file_id == one.file_id) server.opens
+
+-- the opens of a server that aren't among those of a later one, in their order
+unfoldable pub ended_between : Server → Server → List Decision
+ended_between before after = map (λ (one : Open). Decision.Ended one.file_id) (without (is_open after) before.opens)
+
+-- The server is about to come to this: which opens end by that is told.
+abbrev pub ends : Server → Handling → Handling
+ends after now = record { manager = now.manager; told = now.told ++ ended_between now.manager.server after }
+
+-- the server has come to this, and only the ends of opens are told
 abbrev pub at_server : Server → Handling → Handling
-at_server server now = record { manager = record { server = server; queues = now.manager.queues }; told = now.told }
+at_server server now = record {
+  manager = record { server = server; queues = now.manager.queues };
+  told = now.told ++ ended_between now.manager.server server;
+}
 
 -- The server has come to this, and what it gave out for the request under the tag is told.
 abbrev pub gone_on : ℕ → Progress → Handling → Handling
@@ -99,12 +114,12 @@ pass_answered file one waiting pass progress outcome = record {
   passed = pass.passed;
   now = queued file (pass.passed ++ waiting) (gone_on one.tag
       (concluded one.held.client one.held.request (held_left file (held_in (pass.passed ++ waiting)) progress) outcome)
-      pass.now);
+      (ends progress.server pass.now));
   has_answered = true;
 }
 
 abbrev pub after_try : ℕ → Tagged → List Tagged → Pass → Progress → Outcome → Pass
-after_try file one waiting pass progress Outcome.Waits = left_waiting one pass (gone_on one.tag progress pass.now)
+after_try file one waiting pass progress Outcome.Waits = left_waiting one pass (gone_on one.tag progress (ends progress.server pass.now))
 after_try file one waiting pass progress outcome = pass_answered file one waiting pass progress outcome
 
 unfoldable pub tried_again : ℕ → Tagged → List Tagged → Pass → Pass
@@ -143,9 +158,9 @@ all_passes now = passes_over (numbers_to now.manager.server.files) now
 -- ---- calls
 
 abbrev pub after_first_try : ℕ → Tagged → Handling → Progress → Outcome → Handling
-after_first_try file one now progress Outcome.Waits = left_to_wait file one (gone_on one.tag progress now)
+after_first_try file one now progress Outcome.Waits = left_to_wait file one (gone_on one.tag progress (ends progress.server now))
 after_first_try file one now progress outcome =
-    gone_on one.tag (concluded one.held.client one.held.request progress outcome) now
+    gone_on one.tag (concluded one.held.client one.held.request progress outcome) (ends progress.server now)
 
 abbrev pub arrived_before : Tagged → Handling → Result ℕ Status → Handling
 arrived_before one now (Err status) =
@@ -196,7 +211,7 @@ lost client now = record {
     server = (links_lost now.manager.server client).server;
     queues = λ file. without (is_of client) (now.manager.queues file);
   };
-  told = now.told;
+  told = now.told ++ ended_between now.manager.server (links_lost now.manager.server client).server;
 }
 
 unfoldable pub cut : Manager → ℕ → Handling

@@ -72,6 +72,7 @@ does requests (Decision.Withdrawn client tag) done = done
 does requests (Decision.Breaks client notice) done = notes (Out.Sent client (Reply.Break (Some notice)) ∷ []) done
 does requests (Decision.Acknowledged client given) done = notes (Out.Sent client (Reply.AckDone (Some given)) ∷ []) done
 does requests (Decision.NotAcknowledged client status) done = notes (Out.Sent client (Reply.AckFailed status) ∷ []) done
+does requests (Decision.Ended file_id) done = done
 
 -- and for all of them, in their order
 unfoldable pub does_all : (ℕ → FileRequest) → List Decision → Hosted → Hosted

@@ -99,6 +99,27 @@ WithdrawnIsGone = told_along (withdraw (manager_after first_manager waiting_call
     (Coming.Acknowledges 1 (acknowledged sample_key RH) ∷ [])
     ≡ (Decision.Acknowledged 1 (acknowledged sample_key RH) ∷ []) ∷ []
 
+-- A durable open is left behind when its client is cut. It ends when another client opens the file, whose own open isn't
+-- durable, and ends when that client is cut.
+abbrev pub left_calls : List Coming
+left_calls =
+    Coming.Joins 1 ∷ Coming.Joins 2
+    ∷ Coming.Asks 1 10 (FileRequest.Create 1 Access.ReadWrite Share.ReadWrite
+    (Some (record { lease = Some (record { key = sample_key; state = RWH }); durable = true; reconnect = None })))
+    ∷ Coming.IsCut 1
+    ∷ Coming.Asks 2 20 (create_under later_key RWH)
+    ∷ Coming.IsCut 2
+    ∷ []
+
+abbrev pub LeftIsTold : Type 0
+LeftIsTold = told_along first_manager left_calls ≡
+    [] ∷ []
+    ∷ (Decision.Opened 1 10 1 (record (lease_of sample_key RWH) { durable = true }) ∷ [])
+    ∷ []
+    ∷ (Decision.Ended 1 ∷ Decision.Opened 2 20 2 (lease_of later_key RWH) ∷ [])
+    ∷ (Decision.Ended 2 ∷ [])
+    ∷ []
+
 -- one that doesn't wait isn't
 abbrev pub NoneIsWithdrawn : Type 0
 NoneIsWithdrawn = (withdraw (manager_after first_manager waiting_calls) 1 2 21).told ≡ []

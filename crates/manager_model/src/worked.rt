@@ -1,4 +1,4 @@
-ghost use Rattle.manager_model.specs.Worked.{NoneIsWithdrawn, SharedIsTold, WithdrawnIsGone, WithdrawnIsTold, WriteIsThere};
+ghost use Rattle.manager_model.specs.Worked.{LeftIsTold, NoneIsWithdrawn, SharedIsTold, WithdrawnIsGone, WithdrawnIsTold, WriteIsThere};
 
 /// Two clients share a file: the second one's create waits until the first one has flushed and has acknowledged the break of its
 /// lease. Each is answered under its tag, and the host's file has the flushed byte. Does nothing.
@@ -12,4 +12,10 @@ pub fn managers_withdraw()
     ensures told { WithdrawnIsTold }
     ensures gone { WithdrawnIsGone }
     ensures none { NoneIsWithdrawn }
+{}
+
+/// An open that its client didn't close ends: one that was left behind, when another client opens the file, and one that isn't
+/// durable, when its client is cut. Does nothing.
+pub fn managers_tell_what_ends()
+    ensures ends { LeftIsTold }
 {}

@@ -11,7 +11,7 @@ use Rattle.lease_laws.proofs.server.Lists.{among_map, if_cases}
 use Rattle.lease_model.specs.server.Calls.{first_tried}
 use Rattle.manager_model.specs.Bare.{bare, bare_held, bare_progress, bare_request}
 use Rattle.manager_model.specs.Decisions.{Decision}
-use Rattle.manager_model.specs.Handling.{Handling, Manager, Tagged, at_server, gone_on, handling, is_of, is_under, left_to_wait, lost, tagged_of}
+use Rattle.manager_model.specs.Handling.{Handling, Manager, Tagged, at_server, ends, gone_on, handling, is_of, is_under, left_to_wait, lost, tagged_of}
 use Rattle.manager_model.specs.Handling as rules
 use Rattle.manager_model.specs.Hosting.{AreAsked, AreServer, Coming, HasFreeTag, Host, Hosted, IsHostOf, asked_by, call_of, filled, hosted, managed}
 use Rattle.manager_model.specs.Hosting.{HaveFreeTags, fresh_manager, fresh_server, given_along, hosted_along}
@@ -24,7 +24,7 @@ use Rattle.manager_model.proofs.bytes.Tries.{as_held_so, asked_so, lane_so, trie
 use Rattle.manager_model.proofs.hosts.Answers.{acknowledged_faithfully, ends_faithfully, refused_faithfully}
 use Rattle.manager_model.proofs.hosts.Faithful.{does_none, does_one, does_then, faithful_then, host_of_fewer, same_host, tries_faithfully}
 use Rattle.manager_model.proofs.hosts.Passes.{all_serve}
-use Rattle.manager_model.proofs.hosts.Serving.{Serves, asked_both, asked_put, goes_serving, held_bare, queues_put}
+use Rattle.manager_model.proofs.hosts.Serving.{Serves, asked_both, asked_put, ends_nothing, ends_serving, goes_serving, held_bare, queues_put}
 use Rattle.manager_model.proofs.passes.Tables.{put_here}
 
 -- ---- a call begins
@@ -129,14 +129,17 @@ comes_bare manager server tag client request is =
 ends_first : (requests : ℕ → FileRequest) (manager : Manager) (host : Host) (server : Server) (tag client : ℕ)
     (request : FileRequest) (outcome : Outcome) → AreServer requests manager host server → requests tag ≡ request
     → Serves requests host (gone_on tag (concluded client (bare_request request)
-    (bare_progress (tried client request (begun server)).progress) outcome) (handling manager))
+    (bare_progress (tried client request (begun server)).progress) outcome)
+    (ends (bare (tried client request (begun server)).progress.server) (handling manager)))
     (concluded client request (tried client request (begun server)).progress outcome)
 ends_first requests manager host server tag client request outcome are asked =
     let done = (tried client request (begun server)).progress in
-    subst (λ (q : Progress). Serves requests host (gone_on tag q (handling manager)) (concluded client request done outcome))
+    let now = ends (bare done.server) (handling manager) in
+    subst (λ (q : Progress). Serves requests host (gone_on tag q now) (concluded client request done outcome))
     (sym (concluded_so client request done outcome))
-    (goes_serving requests host tag (handling manager) (begun server) (concluded client request done outcome)
-    (begins_serving requests manager host server are)
+    (goes_serving requests host tag now (begun server) (concluded client request done outcome)
+    (ends_serving requests host (bare done.server) (handling manager) (begun server)
+    (begins_serving requests manager host server are))
     (faithful_then requests tag (begun server) done (concluded client request done outcome)
     (tries_faithfully requests tag client request (begun server))
     (ends_faithfully requests tag client done request outcome asked))
@@ -150,9 +153,12 @@ first_serves : (requests : ℕ → FileRequest) (manager : Manager) (host : Host
     (after_first_try file (as_held server client request) (tried client request (begun server)).progress outcome)
 first_serves requests manager host server tag client file request Outcome.Waits are asked =
     let done = (tried client request (begun server)).progress in
+    let now = ends (bare done.server) (handling manager) in
     waits_serving requests host file (tagged_of manager.server tag client (bare_request request)) (as_held server client request)
-    (gone_on tag (bare_progress done) (handling manager)) done
-    (goes_serving requests host tag (handling manager) (begun server) done (begins_serving requests manager host server are)
+    (gone_on tag (bare_progress done) now) done
+    (goes_serving requests host tag now (begun server) done
+    (ends_serving requests host (bare done.server) (handling manager) (begun server)
+    (begins_serving requests manager host server are))
     (tries_faithfully requests tag client request (begun server)) (tried_for-held 3 client request (begun server)))
     (comes_full requests manager.server server tag client request are.without_bytes asked)
     (comes_bare manager.server server tag client request are.without_bytes)
@@ -251,7 +257,8 @@ becomes : (requests : ℕ → FileRequest) (manager : Manager) (host : Host) (se
     → after.server.held ≡ server.held → IsHostOf host after.server
     → Serves requests host (at_server bare_after (handling manager)) after
 becomes requests manager host server bare_after after are is silent held hosts =
-    let none = does_none requests (record { host = host; outs = [] }) in record {
+    let none = ends_nothing requests manager.server bare_after [] (record { host = host; outs = [] })
+    ∙ does_none requests (record { host = host; outs = [] }) in record {
       server = record {
         without_bytes = is;
         waiting = λ file. ap (λ (h : ℕ → List Held). h file) held ∙ are.waiting file;
@@ -347,7 +354,8 @@ lost_serves : (requests : ℕ → FileRequest) (manager : Manager) (host : Host)
     → AreServer requests manager host server
     → Serves requests host (lost client (handling manager)) (rules.links_lost server client)
 lost_serves requests manager host server client are =
-    let none = does_none requests (record { host = host; outs = [] }) in record {
+    let none = ends_nothing requests manager.server (rules.links_lost manager.server client).server []
+    (record { host = host; outs = [] }) ∙ does_none requests (record { host = host; outs = [] }) in record {
       server = record {
         without_bytes = ap (λ (m : Server). (rules.links_lost m client).server) are.without_bytes
             ∙ ap (λ (q : Progress). q.server) (links_so server client);

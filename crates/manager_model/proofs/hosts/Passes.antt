@@ -7,7 +7,7 @@ use Rattle.lease_laws.proofs.server.Held.{concluded-held, tried_for-held}
 use Rattle.lease_laws.proofs.server.Lists.{either}
 use Rattle.lease_laws.proofs.server.cases.Passes as server
 use Rattle.manager_model.specs.Bare.{bare, bare_held, bare_progress, bare_request}
-use Rattle.manager_model.specs.Handling.{Handling, Tagged, gone_on, held_in, queued}
+use Rattle.manager_model.specs.Handling.{Handling, Tagged, ends, gone_on, held_in, queued}
 use Rattle.manager_model.specs.Handling as rules
 use Rattle.manager_model.specs.Hosting.{AreAsked, Host, filled}
 use Rattle.manager_model.proofs.bytes.Ends.{concluded_so}
@@ -16,7 +16,7 @@ use Rattle.manager_model.proofs.bytes.Tries.{bare_tried, tried_so}
 use Rattle.manager_model.proofs.hosts.Answers.{ends_faithfully}
 use Rattle.manager_model.proofs.hosts.Before.{as_begun, behind, concluded_on, stepped_on, tried_behind, tried_on}
 use Rattle.manager_model.proofs.hosts.Faithful.{GoesFaithfully, faithful_then, nothing_done, same_host, tries_faithfully}
-use Rattle.manager_model.proofs.hosts.Serving.{Serves, asked_both, asked_first, asked_later, behind_alike, goes_queued, goes_serving, held_bare}
+use Rattle.manager_model.proofs.hosts.Serving.{Serves, asked_both, asked_first, asked_later, behind_alike, ends_serving, goes_queued, goes_serving, held_bare}
 use Rattle.manager_model.proofs.passes.Ways as ways
 
 -- ---- a try
@@ -117,11 +117,14 @@ answers_one requests start file one waiting pass full outcome p =
     record {
       passed = p.passed;
       asked = asked;
-      serves = subst (λ (q : Progress). Serves requests start (queued file queue (gone_on one.tag q pass.now))
+      serves = subst (λ (q : Progress). Serves requests start (queued file queue (gone_on one.tag q
+          (ends (bare done.server) pass.now)))
           (concluded client request (held_left file (full.passed ++ map (filled requests) waiting)
           (behind full.progress.outs done)) outcome)) (sym mine)
-          (subst (Serves requests start (queued file queue (gone_on one.tag (bare_progress after) pass.now))) (sym theirs)
-          (goes_queued requests start one.tag pass.now full.progress after file queue p.serves goes held asked));
+          (subst (Serves requests start (queued file queue (gone_on one.tag (bare_progress after)
+          (ends (bare done.server) pass.now)))) (sym theirs)
+          (goes_queued requests start one.tag (ends (bare done.server) pass.now) full.progress after file queue
+          (ends_serving requests start (bare done.server) pass.now full.progress p.serves) goes held asked));
       has = refl;
     }
 
@@ -134,9 +137,11 @@ tries_one : (requests : ℕ → FileRequest) (start : Host) (file : ℕ) (one : 
     (behind full.progress.outs (try_of requests one full.progress.server).progress) outcome)
 tries_one requests start file one waiting pass full Outcome.Waits p =
     let done = (try_of requests one full.progress.server).progress in
-    over_one requests start one waiting pass full (gone_on one.tag (bare_progress done) pass.now)
+    over_one requests start one waiting pass full (gone_on one.tag (bare_progress done)
+    (ends (bare done.server) pass.now))
     (behind full.progress.outs done) p
-    (goes_serving requests start one.tag pass.now full.progress done p.serves
+    (goes_serving requests start one.tag (ends (bare done.server) pass.now) full.progress done
+    (ends_serving requests start (bare done.server) pass.now full.progress p.serves)
     (tries_faithfully requests one.tag one.held.client (requests one.tag) (begun full.progress.server))
     (tried_for-held 3 one.held.client (requests one.tag) (begun full.progress.server)))
 tries_one requests start file one waiting pass full outcome p =

@@ -1,11 +1,12 @@
 -- A manager and its host go as the server goes, step by step.
-use Rattle.lease_laws.proofs.Words.{◌++◌, ◌==◌, ◌∙◌, ◌∷◌, ◌≡◌, FileRequest, Held, List, Progress, Server, ℕ, ap}
+use Rattle.lease_laws.proofs.Words.{◌++◌, ◌==◌, ◌∙◌, ◌∷◌, ◌≡◌, FileRequest, Held, List, Open, Progress, Server, ℕ, ap}
 use Rattle.lease_laws.proofs.Words.{ap₂, begun, fun_ext, is_behind, map}
-use Rattle.lease_laws.proofs.Words.{put, refl, subst, sym, waits_behind, []}
+use Rattle.lease_laws.proofs.Words.{put, refl, subst, sym, waits_behind, without, []}
 use Rattle.lease_laws.proofs.server.Lists.{if_cases}
 use Rattle.lease_state.specs.declared.rules.Rules.{Rules}
 use Rattle.manager_model.specs.Bare.{bare_held, bare_progress}
-use Rattle.manager_model.specs.Handling.{Handling, Tagged, gone_on, held_in, queued}
+use Rattle.manager_model.specs.Decisions.{Decision}
+use Rattle.manager_model.specs.Handling.{Handling, Tagged, ended_between, ends, gone_on, held_in, is_open, queued}
 use Rattle.manager_model.specs.Hosting.{AreAsked, AreServer, Host, Hosted, IsHostOf, does_all, filled, hosted}
 use Rattle.manager_model.proofs.bytes.Steps.{any_map, map_put}
 use Rattle.manager_model.proofs.hosts.Before.{behind}
@@ -69,6 +70,27 @@ has_gone requests start tag now progress after s goes =
       hosts = subst (λ (d : Hosted). IsHostOf d.host after.server) (sym split) done.hosts;
       outs = ap (λ (d : Hosted). d.outs) split ∙ done.sends
           ∙ ap₂ (λ x y. x ++ y) s.outs (sym (all_more requests tag progress.server after goes));
+    }
+
+-- that opens end asks nothing of the bytes
+does_ends : (requests : ℕ → FileRequest) (opens : List Open) (done : Hosted)
+    → does_all requests (map (λ (one : Open). Decision.Ended one.file_id) opens) done ≡ done
+unfolding does_all
+does_ends requests [] done = refl
+does_ends requests (one ∷ opens) done = does_ends requests opens done
+
+pub ends_nothing : (requests : ℕ → FileRequest) (before after : Server) (told : List Decision) (done : Hosted)
+    → does_all requests (told ++ ended_between before after) done ≡ does_all requests told done
+unfolding ended_between
+ends_nothing requests before after told done = does_then requests told (ended_between before after) done
+    ∙ does_ends requests (without (is_open after) before.opens) (does_all requests told done)
+
+pub ends_serving : (requests : ℕ → FileRequest) (start : Host) (after : Server) (now : Handling) (progress : Progress)
+    → Serves requests start now progress → Serves requests start (ends after now) progress
+ends_serving requests start after now progress s =
+    let same = ends_nothing requests now.manager.server after now.told (record { host = start; outs = [] }) in record {
+      server = subst (λ (d : Hosted). AreServer requests now.manager d.host progress.server) (sym same) s.server;
+      outs = ap (λ (d : Hosted). d.outs) same ∙ s.outs;
     }
 
 -- a part of a call after which the same waits

@@ -2,7 +2,7 @@
 use Rattle.lease_laws.proofs.Words.{◌∷◌, ◌≡◌, List, Outcome, Progress, Tried, ℕ, [], begun, false}
 use Rattle.lease_laws.proofs.Words.{is_behind, refl, subst, suc, sym, tried, true}
 use Rattle.lease_laws.proofs.server.Lists.{either}
-use Rattle.manager_model.specs.Handling.{Handling, Pass, Tagged, after_try, gone_on, held_in, left_waiting, one_pass, pass_answered}
+use Rattle.manager_model.specs.Handling.{Handling, Pass, Tagged, after_try, ends, gone_on, held_in, left_waiting, one_pass, pass_answered}
 use Rattle.manager_model.specs.Handling.{queued}
 use Rattle.manager_model.specs.Handling as rules
 
@@ -53,11 +53,12 @@ no_file_left now = refl
 -- What a try makes of a pass: it isn't tried, waits, or is answered.
 pub record HasTries (file : ℕ) (one : Tagged) (waiting : List Tagged) (pass : Pass) (P : Pass → Type 0) : Type 0 where
   pub behind : P (left_waiting one pass pass.now)
-  pub waits : P (left_waiting one pass (gone_on one.tag (try_of one pass.now).progress pass.now))
+  pub waits : P (left_waiting one pass (gone_on one.tag (try_of one pass.now).progress
+      (ends (try_of one pass.now).progress.server pass.now)))
   pub answers : (outcome : Outcome) → P (pass_answered file one waiting pass (try_of one pass.now).progress outcome)
 
 ended_so : (file : ℕ) (one : Tagged) (waiting : List Tagged) (pass : Pass) (P : Pass → Type 0) (progress : Progress)
-    (outcome : Outcome) → P (left_waiting one pass (gone_on one.tag progress pass.now))
+    (outcome : Outcome) → P (left_waiting one pass (gone_on one.tag progress (ends progress.server pass.now)))
     → P (pass_answered file one waiting pass progress outcome) → P (after_try file one waiting pass progress outcome)
 ended_so file one waiting pass P progress Outcome.Waits waits answers = waits
 ended_so file one waiting pass P progress outcome waits answers = answers
