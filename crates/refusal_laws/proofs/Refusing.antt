@@ -77,7 +77,7 @@ all_met_alone = any_wants (λ wants progress after. IsLeftAlone (IsOfWant wants)
 
 -- ---- tries
 
-same_alone : (MayGo : Open → Type 0) (server : Server) → IsLeftAlone MayGo server server
+pub same_alone : (MayGo : Open → Type 0) (server : Server) → IsLeftAlone MayGo server server
 same_alone MayGo server = record { contents = refl; were = λ one a. a; stay = λ one a. inl a }
 
 -- a round closes what its breaks close

@@ -1,5 +1,5 @@
 -- What a refused request leaves alone: every content, and every open but those that its own breaks closed.
-use Rattle.std.specs.Prelude.{◌≡◌, ◌⊎◌, ℕ, zero, suc, true, false, Option, Some, Ok, Err, List, [], ◌∷◌, ◌++◌}
+use Rattle.std.specs.Prelude.{◌≡◌, ◌⊎◌, ⊤, ℕ, zero, suc, true, false, Option, Some, Ok, Err, List, [], ◌∷◌, ◌++◌}
 use Rattle.lease_model.specs.messages.Replies.{Reply, Out}
 use Rattle.lease_model.specs.messages.Requests.{FileRequest, Request, LeaseOf}
 use Rattle.lease_model.specs.server.Acknowledge.{acknowledged}
@@ -8,7 +8,7 @@ use Rattle.lease_model.specs.server.Attempt.{Outcome, must_wait, tried, wants_me
 use Rattle.lease_model.specs.server.Calls.{file_asked, first_tried, receive}
 use Rattle.lease_model.specs.server.Findings.{Finding, connected_open, finding}
 use Rattle.lease_model.specs.server.Lanes.{as_held, is_behind}
-use Rattle.lease_model.specs.server.Passes.{all_passes}
+use Rattle.lease_model.specs.server.Passes.{Pass, all_passes, tried_again}
 use Rattle.lease_model.specs.server.Progress.{Progress, begun, refusal_of, replied}
 use Rattle.lease_model.specs.server.Ready.{is_ready}
 use Rattle.lease_model.specs.server.State.{Server, Open, Held, has_key}
@@ -64,6 +64,24 @@ RefusedOnceTried = (client : ℕ) (request : FileRequest) (progress : Progress) 
     → IsLeftAlone (IsClosedByBreak client request progress) progress.server
     (concluded client request (tried client request progress).progress (Outcome.Refused status)).server
 
+-- Between these points of a call the client was sent that its request is refused.
+abbrev pub IsRefused : ℕ → FileRequest → Status → Progress → Progress → Type 0
+IsRefused client request status before after = (sent : List Out) × (after.outs ≡ before.outs ++ sent)
+    × Among (Out.Sent client (refusal_of request status)) sent
+
+-- Wherever in its first try a request is refused, also as it is granted, all is left alone but what its breaks closed.
+abbrev pub RefusedByReply : Type 0
+RefusedByReply = (client : ℕ) (request : FileRequest) (progress : Progress) (status : Status)
+    → IsRefused client request status progress (first_tried client request progress)
+    → IsLeftAlone (IsClosedByBreak client request progress) progress.server (first_tried client request progress).server
+
+-- So it is where one that was held is tried again.
+abbrev pub HeldAreRefusedByReply : Type 0
+HeldAreRefusedByReply = (file : ℕ) (one : Held) (waiting : List Held) (pass : Pass) (status : Status)
+    → IsRefused one.client one.request status pass.progress (tried_again file one waiting pass).progress
+    → IsLeftAlone (IsClosedByBreak one.client one.request pass.progress) pass.progress.server
+    (tried_again file one waiting pass).progress.server
+
 -- Only a Close that is refused as it comes is refused.
 abbrev pub ClosesAreRefusedAsTheyCome : Type 0
 ClosesAreRefusedAsTheyCome = (client file_id : ℕ) (progress : Progress) (status : Status)
@@ -105,6 +123,18 @@ CallsRefusedOnceTried = (server : Server) (client file : ℕ) (request : FileReq
     → server.present client ≡ true → file_asked server client request ≡ Ok file
     → is_behind server.rules (as_held server client request) (server.held file) ≡ false
     → (tried client request (begun server)).outcome ≡ Outcome.Refused status
+    → IsLeftAlone (IsClosedByBreak client request (begun server)) server
+    (receive server client (Request.OnFile request)).server
+
+-- passes come only after a Close
+abbrev pub IsClose : FileRequest → Type 0
+IsClose (FileRequest.Close file_id) = ⊤
+IsClose request = ⊥
+
+-- So does one whose request is refused by whatever it sends.
+abbrev pub CallsRefusedByReply : Type 0
+CallsRefusedByReply = (server : Server) (client : ℕ) (request : FileRequest) (status : Status) → (IsClose request → ⊥)
+    → IsRefused client request status (begun server) (receive server client (Request.OnFile request))
     → IsLeftAlone (IsClosedByBreak client request (begun server)) server
     (receive server client (Request.OnFile request)).server
 

@@ -1,5 +1,6 @@
 use Rattle.refusal_laws.proofs.TakenByHeld as taken
 use Rattle.refusal_laws.proofs.Refusing as refusing
+use Rattle.refusal_laws.proofs.Replying as replying
 use Rattle.refusal_laws.proofs.laws.refusals_leave_files_alone.Goals as goal
 
 pub returns-clause-as_they_come : goal.returns-clause-as_they_come
@@ -25,3 +26,12 @@ returns-clause-calls_once_tried c = refusing.calls_refused_once_tried
 
 pub returns-clause-passes : goal.returns-clause-passes
 returns-clause-passes c = taken.passes_are_of_held
+
+pub returns-clause-by_reply : goal.returns-clause-by_reply
+returns-clause-by_reply c = replying.refused_by_reply
+
+pub returns-clause-held_by_reply : goal.returns-clause-held_by_reply
+returns-clause-held_by_reply c = replying.held_are_refused_by_reply
+
+pub returns-clause-calls_by_reply : goal.returns-clause-calls_by_reply
+returns-clause-calls_by_reply c = replying.calls_refused_by_reply
