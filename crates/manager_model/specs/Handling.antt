@@ -1,6 +1,7 @@
 -- A manager of leases: the server of the rules without bytes, with the tags under which the requests that wait came. A call of
 -- it goes as the server's does, and says at each step what its host is told.
-use Rattle.std.specs.Prelude.{ℕ, ◌≡◌, ◌+◌, zero, suc, Bool, true, false, List, [], ◌∷◌, ◌++◌, map, length, if◌then◌else◌, ◌==◌, ◌&&◌}
+use Rattle.std.specs.Prelude.{ℕ, ◌≡◌, ◌+◌, zero, suc, Bool, true, false, List, [], ◌∷◌, ◌++◌, map, length, if◌then◌else◌, ◌==◌}
+use Rattle.std.specs.Prelude.{◌&&◌}
 use Rattle.std.specs.Prelude.{Result, Ok, Err}
 use Rattle.lease_state.specs.declared.status.Status.{Status}
 use Rattle.lease_model.specs.messages.Requests.{FileRequest, LeaseOf}
@@ -119,7 +120,8 @@ pass_answered file one waiting pass progress outcome = record {
 }
 
 abbrev pub after_try : ℕ → Tagged → List Tagged → Pass → Progress → Outcome → Pass
-after_try file one waiting pass progress Outcome.Waits = left_waiting one pass (gone_on one.tag progress (ends progress.server pass.now))
+after_try file one waiting pass progress Outcome.Waits =
+    left_waiting one pass (gone_on one.tag progress (ends progress.server pass.now))
 after_try file one waiting pass progress outcome = pass_answered file one waiting pass progress outcome
 
 unfoldable pub tried_again : ℕ → Tagged → List Tagged → Pass → Pass

@@ -9,9 +9,11 @@ use Rattle.lease_model.specs.values.Lists.{without}
 use Rattle.manager_model.specs.Bare.{bare, bare_call, bare_progress}
 use Rattle.lease_model.specs.messages.Requests.{FileRequest}
 use Rattle.lease_state.specs.declared.rules.Rules.{Rules}
-use Rattle.manager_model.specs.Hosting.{AreServer, Coming, HasFreeTag, HaveFreeTags, Host, asked_by, call_of, filled, fresh_manager}
+use Rattle.manager_model.specs.Hosting.{AreServer, Coming, HasFreeTag, HaveFreeTags, Host, asked_by, call_of, filled}
+use Rattle.manager_model.specs.Hosting.{fresh_manager}
 use Rattle.manager_model.specs.Hosting.{fresh_server, given_along, hosted, hosted_along, managed}
-use Rattle.manager_model.specs.Handling.{Handling, Manager, all_passes, is_under, last_file, one_pass, passes, passes_for, passes_over, withdraw}
+use Rattle.manager_model.specs.Handling.{Handling, Manager, all_passes, is_under, last_file, one_pass, passes, passes_for}
+use Rattle.manager_model.specs.Handling.{passes_over, withdraw}
 use Rattle.manager_model.specs.Waiting.{AreWaitingFiles}
 
 -- A call of a server without bytes makes of it, and gives out, what the call makes of the server, and gives out, without

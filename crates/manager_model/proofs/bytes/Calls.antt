@@ -1,9 +1,12 @@
 -- Calls, with and without bytes.
 use Rattle.lease_laws.proofs.Words.{◌==◌, ◌∙◌, ◌≡◌, Call, Err, FileRequest, Held, Key, List, Ok, Outcome, Progress, Request}
-use Rattle.lease_laws.proofs.Words.{Result, Server, Status, ℕ, [], acknowledged, after_first_try, all_passes, ap, ap₂, arrived, arrived_before}
+use Rattle.lease_laws.proofs.Words.{Result, Server, Status, ℕ, [], acknowledged, after_first_try, all_passes, ap, ap₂, arrived}
+use Rattle.lease_laws.proofs.Words.{arrived_before}
 use Rattle.lease_laws.proofs.Words.{as_held, begun, client_forgotten, cut, expire, file_asked, file_request_arrived}
-use Rattle.lease_laws.proofs.Words.{fun_ext, has_key, if◌then◌else◌, is_behind, is_breaking, is_left_behind, is_lost, join, joined}
-use Rattle.lease_laws.proofs.Words.{key_expired, list_any, not, opens_disconnected, opens_dropped, receive, refl, request_held, scavenge}
+use Rattle.lease_laws.proofs.Words.{fun_ext, has_key, if◌then◌else◌, is_behind, is_breaking, is_left_behind, is_lost, join}
+use Rattle.lease_laws.proofs.Words.{joined}
+use Rattle.lease_laws.proofs.Words.{key_expired, list_any, not, opens_disconnected, opens_dropped, receive, refl, request_held}
+use Rattle.lease_laws.proofs.Words.{scavenge}
 use Rattle.lease_laws.proofs.Words.{tried, Tried}
 use Rattle.lease_model.specs.server.Calls.{first_tried}
 use Rattle.lease_model.specs.server.Progress.{stepped}

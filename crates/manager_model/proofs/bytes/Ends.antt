@@ -1,7 +1,10 @@
 -- The end of a try, with and without bytes.
-use Rattle.lease_laws.proofs.Words.{◌==◌, ◌∙◌, ◌∷◌, ◌≡◌, Access, Bool, CreateAsk, FileRequest, Lease, List, LeaseOf, None, Open, Option, Out}
-use Rattle.lease_laws.proofs.Words.{Outcome, Patch, Progress, Reply, Share, Some, Status, ℕ, [], acknowledged, answered, ap, begun}
-use Rattle.lease_laws.proofs.Words.{break_ended, changed, closed, concluded, connected_open, created, granted, granted_with, has_lease}
+use Rattle.lease_laws.proofs.Words.{◌==◌, ◌∙◌, ◌∷◌, ◌≡◌, Access, Bool, CreateAsk, FileRequest, Lease, List, LeaseOf, None, Open}
+use Rattle.lease_laws.proofs.Words.{Option, Out}
+use Rattle.lease_laws.proofs.Words.{Outcome, Patch, Progress, Reply, Share, Some, Status, ℕ, [], acknowledged, answered, ap}
+use Rattle.lease_laws.proofs.Words.{begun}
+use Rattle.lease_laws.proofs.Words.{break_ended, changed, closed, concluded, connected_open, created, granted, granted_with}
+use Rattle.lease_laws.proofs.Words.{has_lease}
 use Rattle.lease_laws.proofs.Words.{judged, key_of, last_file_id, lease_after, on_contexts, on_open, opens_dropped}
 use Rattle.lease_laws.proofs.Words.{read_done, reconnected, refl, replied, State, Key, is_state_within}
 use Rattle.lease_model.specs.server.Progress.{stepped}

@@ -1,7 +1,10 @@
 -- Passes over what waits, with and without bytes.
-use Rattle.lease_laws.proofs.Words.{◌+◌, ◌++◌, ◌∙◌, ◌∷◌, ◌≡◌, Held, List, Outcome, Pass, Progress, Tried, ℕ, [], after_try, all_passes, ap}
-use Rattle.lease_laws.proofs.Words.{ap₂, concluded, false, held_left, if◌then◌else◌, is_behind, left_waiting, length, length-map, map}
-use Rattle.lease_laws.proofs.Words.{map-append, numbers_to, one_pass, pass_answered, pass_over, passes, passes_for, passes_over, refl}
+use Rattle.lease_laws.proofs.Words.{◌+◌, ◌++◌, ◌∙◌, ◌∷◌, ◌≡◌, Held, List, Outcome, Pass, Progress, Tried, ℕ, [], after_try}
+use Rattle.lease_laws.proofs.Words.{all_passes, ap}
+use Rattle.lease_laws.proofs.Words.{ap₂, concluded, false, held_left, if◌then◌else◌, is_behind, left_waiting, length}
+use Rattle.lease_laws.proofs.Words.{length-map, map}
+use Rattle.lease_laws.proofs.Words.{map-append, numbers_to, one_pass, pass_answered, pass_over, passes, passes_for, passes_over}
+use Rattle.lease_laws.proofs.Words.{refl}
 use Rattle.lease_laws.proofs.Words.{suc, sym, tried, tried_again, true, zero}
 use Rattle.lease_model.specs.server.Passes.{after_pass}
 use Rattle.manager_model.specs.Bare.{bare_held, bare_progress, bare_request}

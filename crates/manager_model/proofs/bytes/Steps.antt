@@ -1,6 +1,7 @@
 -- The small steps of a call, with and without bytes.
 use Rattle.lease_laws.proofs.Words.{◌++◌, ◌==◌, ◌∙◌, ◌∷◌, ◌≡◌, Bool, FileRequest, Held, Key, List, Open, Out, Progress, Reply}
-use Rattle.lease_laws.proofs.Words.{Server, State, Status, ℕ, [], ap, break_begun, false, filter, fun_ext, held_left, if◌then◌else◌}
+use Rattle.lease_laws.proofs.Words.{Server, State, Status, ℕ, [], ap, break_begun, false, filter, fun_ext, held_left}
+use Rattle.lease_laws.proofs.Words.{if◌then◌else◌}
 use Rattle.lease_laws.proofs.Words.{is_behind, lease_lowered, list_any, map, map-append, opens_dropped, put, refl, refusal_of}
 use Rattle.lease_laws.proofs.Words.{begun}
 use Rattle.lease_laws.proofs.Words.{refused, replied, request_held, sym, true, waits_behind, ◌||◌}

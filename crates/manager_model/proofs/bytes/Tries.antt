@@ -1,6 +1,7 @@
 -- A try of a request, with and without bytes.
 use Rattle.lease_laws.proofs.Words.{◌&&◌, ◌∙◌, ◌∷◌, ◌≡◌, Bool, FileRequest, Finding, Key, Lease, List, Open}
-use Rattle.lease_laws.proofs.Words.{Outcome, Patch, Progress, Server, State, Tried, Want, ℕ, [], after_breaks, after_finding, ap, ap₂}
+use Rattle.lease_laws.proofs.Words.{Outcome, Patch, Progress, Server, State, Tried, Want, ℕ, [], after_breaks, after_finding}
+use Rattle.lease_laws.proofs.Words.{ap, ap₂}
 use Rattle.lease_laws.proofs.Words.{as_held, by_open, connected_open, ended, false, finding, has_lease, held_of, if◌then◌else◌}
 use Rattle.lease_laws.proofs.Words.{is_breaking, is_left_open, is_ready, is_within_limit, lane_of, lease_broken, must_wait}
 use Rattle.lease_laws.proofs.Words.{needs_acknowledgment, not, opens_dropped, refl, suc, true, tried, tried_for, want_met}

@@ -1,9 +1,14 @@
 -- The end of a try, by a host.
-use Rattle.lease_laws.proofs.Words.{◌&&◌, ◌++◌, ◌+◌, ◌==◌, ◌∙◌, ◌∷◌, ◌≡◌, ◌≤◌, Access, Among, Bool, CreateAnswer, CreateAsk, FileRequest, Key, Lease, LeaseOf}
-use Rattle.lease_laws.proofs.Words.{List, None, Open, Option, Out, Outcome, Patch, Progress, Reply, Server, Share, Some, State, Status, ℕ, ⊎_elim, [], ap}
-use Rattle.lease_laws.proofs.Words.{append-nil, arith, begun, break_ended, changed, concluded, connected_again, false, granted_with}
-use Rattle.lease_laws.proofs.Words.{has_lease, is_state_within, judged, key_of, lease_after, lease_given, map, nat_tests, new_open}
-use Rattle.lease_laws.proofs.Words.{opens_dropped, put, read_done, reconnected, refl, refusal_of, replied, standing_lease, subst, sym, true, acknowledged}
+use Rattle.lease_laws.proofs.Words.{◌&&◌, ◌++◌, ◌+◌, ◌==◌, ◌∙◌, ◌∷◌, ◌≡◌, ◌≤◌, Access, Among, Bool, CreateAnswer, CreateAsk}
+use Rattle.lease_laws.proofs.Words.{FileRequest, Key, Lease, LeaseOf}
+use Rattle.lease_laws.proofs.Words.{List, None, Open, Option, Out, Outcome, Patch, Progress, Reply, Server, Share, Some, State}
+use Rattle.lease_laws.proofs.Words.{Status, ℕ, ⊎_elim, [], ap}
+use Rattle.lease_laws.proofs.Words.{append-nil, arith, begun, break_ended, changed, concluded, connected_again, false}
+use Rattle.lease_laws.proofs.Words.{granted_with}
+use Rattle.lease_laws.proofs.Words.{has_lease, is_state_within, judged, key_of, lease_after, lease_given, map, nat_tests}
+use Rattle.lease_laws.proofs.Words.{new_open}
+use Rattle.lease_laws.proofs.Words.{opens_dropped, put, read_done, reconnected, refl, refusal_of, replied, standing_lease}
+use Rattle.lease_laws.proofs.Words.{subst, sym, true, acknowledged}
 use Rattle.lease_laws.proofs.server.Lists.{among_append, among_map, if_cases}
 use Rattle.lease_laws.proofs.server.cases.Ends.{any_end, IsFoundOpen}
 use Rattle.lease_state.specs.Content.{patch as patched}

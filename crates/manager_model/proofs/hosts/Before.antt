@@ -1,11 +1,16 @@
 -- What a call gave out before a try or an answer is no part of it.
-use Rattle.lease_laws.proofs.Words.{◌&&◌, ◌++◌, ◌==◌, ◌∙◌, ◌∷◌, ◌≡◌, Access, Bool, FileRequest, Key, Lease, LeaseOf, List, None, Open, Option}
-use Rattle.lease_laws.proofs.Words.{Out, Outcome, Progress, Reply, Server, Share, Some, State, Status, Tried, Want, ℕ, [], acknowledged, ap, append-nil}
-use Rattle.lease_laws.proofs.Words.{append_assoc, begun, break_begun, break_ended, changed, concluded, ended, granted_with, has_lease}
-use Rattle.lease_laws.proofs.Words.{is_breaking, is_left_open, judged, key_of, lease_after, lease_broken, lease_lowered, needs_acknowledgment}
+use Rattle.lease_laws.proofs.Words.{◌&&◌, ◌++◌, ◌==◌, ◌∙◌, ◌∷◌, ◌≡◌, Access, Bool, FileRequest, Key, Lease, LeaseOf, List, None}
+use Rattle.lease_laws.proofs.Words.{Open, Option}
+use Rattle.lease_laws.proofs.Words.{Out, Outcome, Progress, Reply, Server, Share, Some, State, Status, Tried, Want, ℕ, []}
+use Rattle.lease_laws.proofs.Words.{acknowledged, ap, append-nil}
+use Rattle.lease_laws.proofs.Words.{append_assoc, begun, break_begun, break_ended, changed, concluded, ended, granted_with}
+use Rattle.lease_laws.proofs.Words.{has_lease}
+use Rattle.lease_laws.proofs.Words.{is_breaking, is_left_open, judged, key_of, lease_after, lease_broken, lease_lowered}
+use Rattle.lease_laws.proofs.Words.{needs_acknowledgment}
 use Rattle.lease_laws.proofs.Words.{not, opens_dropped, reconnected, refl, refusal_of, replied, sym, tried, tried_for, want_met}
 use Rattle.lease_laws.proofs.Words.{wants_met, is_state_within}
-use Rattle.lease_laws.proofs.server.cases.Ends.{any_end, ends_again, ends_changed, ends_closed, ends_full, ends_granted, ends_left, ends_read}
+use Rattle.lease_laws.proofs.server.cases.Ends.{any_end, ends_again, ends_changed, ends_closed, ends_full, ends_granted}
+use Rattle.lease_laws.proofs.server.cases.Ends.{ends_left, ends_read}
 use Rattle.lease_laws.proofs.server.cases.Tries.{any_rounds, any_wants, met_in_order}
 use Rattle.lease_laws.proofs.server.cases.Tries.{no_round, nothing_met, round_ends, round_fails, round_goes_on, round_waits}
 use Rattle.lease_model.specs.server.Progress.{stepped}

@@ -1,9 +1,14 @@
 -- Calls of a server, and of a manager with its host.
-use Rattle.lease_laws.proofs.Words.{◌++◌, ◌==◌, ◌∙◌, ◌∷◌, ◌≡◌, ◌≤◌, Among, Bool, Call, Err, FileRequest, Held, Key, LeaseOf, List, Ok, Open, Outcome, Progress, Request}
-use Rattle.lease_laws.proofs.Words.{Result, Server, Some, Status, Tried, ℕ, [], acknowledged, after_first_try, ap, append-nil, ap₂, arrived, arrived_before}
-use Rattle.lease_laws.proofs.Words.{as_held, begun, called, concluded, cut, disconnected, expire, false, file_asked, file_request_arrived, has_key}
-use Rattle.lease_laws.proofs.Words.{if◌then◌else◌, inl, inr, is_behind, is_breaking, is_left_behind, is_lost, join, joined, key_expired, list_any, map, map-append, not}
-use Rattle.lease_laws.proofs.Words.{opens_dropped, put, receive, refl, refused, request_held, scavenge, subst, sym, tried, true, without}
+use Rattle.lease_laws.proofs.Words.{◌++◌, ◌==◌, ◌∙◌, ◌∷◌, ◌≡◌, ◌≤◌, Among, Bool, Call, Err, FileRequest, Held, Key, LeaseOf}
+use Rattle.lease_laws.proofs.Words.{List, Ok, Open, Outcome, Progress, Request}
+use Rattle.lease_laws.proofs.Words.{Result, Server, Some, Status, Tried, ℕ, [], acknowledged, after_first_try, ap, append-nil}
+use Rattle.lease_laws.proofs.Words.{ap₂, arrived, arrived_before}
+use Rattle.lease_laws.proofs.Words.{as_held, begun, called, concluded, cut, disconnected, expire, false, file_asked}
+use Rattle.lease_laws.proofs.Words.{file_request_arrived, has_key}
+use Rattle.lease_laws.proofs.Words.{if◌then◌else◌, inl, inr, is_behind, is_breaking, is_left_behind, is_lost, join, joined}
+use Rattle.lease_laws.proofs.Words.{key_expired, list_any, map, map-append, not}
+use Rattle.lease_laws.proofs.Words.{opens_dropped, put, receive, refl, refused, request_held, scavenge, subst, sym, tried, true}
+use Rattle.lease_laws.proofs.Words.{without}
 use Rattle.lease_laws.proofs.Words.{held_left, held_of, lane_of}
 use Rattle.lease_laws.proofs.server.Arrivals.{acknowledged-held}
 use Rattle.lease_laws.proofs.server.Held.{concluded-held, tried_for-held}
@@ -11,9 +16,11 @@ use Rattle.lease_laws.proofs.server.Lists.{among_map, if_cases}
 use Rattle.lease_model.specs.server.Calls.{first_tried}
 use Rattle.manager_model.specs.Bare.{bare, bare_held, bare_progress, bare_request}
 use Rattle.manager_model.specs.Decisions.{Decision}
-use Rattle.manager_model.specs.Handling.{Handling, Manager, Tagged, at_server, ends, gone_on, handling, is_of, is_under, left_to_wait, lost, tagged_of}
+use Rattle.manager_model.specs.Handling.{Handling, Manager, Tagged, at_server, ends, gone_on, handling, is_of, is_under}
+use Rattle.manager_model.specs.Handling.{left_to_wait, lost, tagged_of}
 use Rattle.manager_model.specs.Handling as rules
-use Rattle.manager_model.specs.Hosting.{AreAsked, AreServer, Coming, HasFreeTag, Host, Hosted, IsHostOf, asked_by, call_of, filled, hosted, managed}
+use Rattle.manager_model.specs.Hosting.{AreAsked, AreServer, Coming, HasFreeTag, Host, Hosted, IsHostOf, asked_by, call_of}
+use Rattle.manager_model.specs.Hosting.{filled, hosted, managed}
 use Rattle.manager_model.specs.Hosting.{HaveFreeTags, fresh_manager, fresh_server, given_along, hosted_along}
 use Rattle.lease_laws.proofs.Words.{new_server_under}
 use Rattle.manager_model.specs.Laws.{HostsAreServers, RunsOfHosts, WithdrawalsAreServed, withdrawn_from}
@@ -22,9 +29,11 @@ use Rattle.manager_model.proofs.bytes.Ends.{acknowledged_so, concluded_so}
 use Rattle.manager_model.proofs.bytes.Steps.{behind_so, dropped_so, filter_map, hold_so, left_so, refused_so}
 use Rattle.manager_model.proofs.bytes.Tries.{as_held_so, asked_so, lane_so, tried_so}
 use Rattle.manager_model.proofs.hosts.Answers.{acknowledged_faithfully, ends_faithfully, refused_faithfully}
-use Rattle.manager_model.proofs.hosts.Faithful.{does_none, does_one, does_then, faithful_then, host_of_fewer, same_host, tries_faithfully}
+use Rattle.manager_model.proofs.hosts.Faithful.{does_none, does_one, does_then, faithful_then, host_of_fewer, same_host}
+use Rattle.manager_model.proofs.hosts.Faithful.{tries_faithfully}
 use Rattle.manager_model.proofs.hosts.Passes.{all_serve}
-use Rattle.manager_model.proofs.hosts.Serving.{Serves, asked_both, asked_put, ends_nothing, ends_serving, goes_serving, held_bare, queues_put}
+use Rattle.manager_model.proofs.hosts.Serving.{Serves, asked_both, asked_put, ends_nothing, ends_serving, goes_serving}
+use Rattle.manager_model.proofs.hosts.Serving.{held_bare, queues_put}
 use Rattle.manager_model.proofs.passes.Tables.{put_here}
 
 -- ---- a call begins

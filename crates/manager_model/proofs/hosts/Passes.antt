@@ -1,7 +1,10 @@
 -- Passes over what waits, of a server, and of a manager with its host.
-use Rattle.lease_laws.proofs.Words.{◌++◌, ◌+◌, ◌∙◌, ◌∷◌, ◌≡◌, FileRequest, Held, List, Outcome, Pass, Progress, Server, Tried, ℕ, [], after_try, all_passes, ap}
-use Rattle.lease_laws.proofs.Words.{append_assoc, ap₂, begun, concluded, false, held_left, is_behind, left_waiting, length, length-map}
-use Rattle.lease_laws.proofs.Words.{map, map-append, numbers_to, one_pass, pass_answered, pass_over, passes, passes_for, passes_over, put, refl, subst, suc, sym}
+use Rattle.lease_laws.proofs.Words.{◌++◌, ◌+◌, ◌∙◌, ◌∷◌, ◌≡◌, FileRequest, Held, List, Outcome, Pass, Progress, Server, Tried}
+use Rattle.lease_laws.proofs.Words.{ℕ, [], after_try, all_passes, ap}
+use Rattle.lease_laws.proofs.Words.{append_assoc, ap₂, begun, concluded, false, held_left, is_behind, left_waiting, length}
+use Rattle.lease_laws.proofs.Words.{length-map}
+use Rattle.lease_laws.proofs.Words.{map, map-append, numbers_to, one_pass, pass_answered, pass_over, passes, passes_for}
+use Rattle.lease_laws.proofs.Words.{passes_over, put, refl, subst, suc, sym}
 use Rattle.lease_laws.proofs.Words.{tried, tried_again, zero}
 use Rattle.lease_laws.proofs.server.Held.{concluded-held, tried_for-held}
 use Rattle.lease_laws.proofs.server.Lists.{either}
@@ -16,7 +19,8 @@ use Rattle.manager_model.proofs.bytes.Tries.{bare_tried, tried_so}
 use Rattle.manager_model.proofs.hosts.Answers.{ends_faithfully}
 use Rattle.manager_model.proofs.hosts.Before.{as_begun, behind, concluded_on, stepped_on, tried_behind, tried_on}
 use Rattle.manager_model.proofs.hosts.Faithful.{GoesFaithfully, faithful_then, nothing_done, same_host, tries_faithfully}
-use Rattle.manager_model.proofs.hosts.Serving.{Serves, asked_both, asked_first, asked_later, behind_alike, ends_serving, goes_queued, goes_serving, held_bare}
+use Rattle.manager_model.proofs.hosts.Serving.{Serves, asked_both, asked_first, asked_later, behind_alike, ends_serving}
+use Rattle.manager_model.proofs.hosts.Serving.{goes_queued, goes_serving, held_bare}
 use Rattle.manager_model.proofs.passes.Ways as ways
 
 -- ---- a try

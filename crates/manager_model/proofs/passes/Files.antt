@@ -1,5 +1,6 @@
 -- Only files where requests wait need passes.
-use Rattle.lease_laws.proofs.Words.{◌+◌, ◌++◌, ◌<◌, ◌==◌, ◌∙◌, ◌∷◌, ◌≡◌, ◌≢◌, ◌≤◌, ◌⊎◌, Among, Bool, Decides-eqb, List, ℕ, ⊎_elim, [], ap}
+use Rattle.lease_laws.proofs.Words.{◌+◌, ◌++◌, ◌<◌, ◌==◌, ◌∙◌, ◌∷◌, ◌≡◌, ◌≢◌, ◌≤◌, ◌⊎◌, Among, Bool, Decides-eqb, List, ℕ}
+use Rattle.lease_laws.proofs.Words.{⊎_elim, [], ap}
 use Rattle.lease_laws.proofs.Words.{arith, eqb-true, false, if◌then◌else◌, inl, inr, length, numbers_to, refl, subst, suc, sym}
 use Rattle.lease_laws.proofs.Words.{nat_tests, true, zero}
 use Rattle.lease_laws.proofs.server.Lists.{clash, either}
