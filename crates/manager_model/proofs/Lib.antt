@@ -1,4 +1,5 @@
 mod Computes
 mod bytes
+mod ends
 mod hosts
 mod passes

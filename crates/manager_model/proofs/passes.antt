@@ -1,3 +1,4 @@
+pub mod Alike
 pub mod Enough
 pub mod Files
 pub mod Tables

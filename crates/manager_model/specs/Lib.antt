@@ -1,5 +1,6 @@
 pub mod Bare
 pub mod Decisions
+pub mod Ending
 pub mod Handling
 pub mod Hosting
 pub mod Laws

@@ -1,3 +1,4 @@
+ghost use Rattle.manager_model.specs.Ending.{EndsAreTold, EndsByWithdrawalAreTold};
 ghost use Rattle.manager_model.specs.Laws.{BytesDecideNothing, FilesAreEnough, HostsAreServers, PassesAnswer, PassesAreEnough};
 ghost use Rattle.manager_model.specs.Laws.{RunsOfHosts, WithdrawalsAreServed};
 
@@ -23,4 +24,11 @@ pub fn law_of_hosts()
     ensures calls { HostsAreServers }
     ensures withdrawals { WithdrawalsAreServed }
     ensures runs { RunsOfHosts }
+{}
+
+/// A host learns which opens are no more: of each that is there before a call, or before a request is withdrawn, and isn't after it,
+/// it is told that it ended, or that a close is done that was asked for it. Does nothing.
+pub fn law_of_ends()
+    ensures calls { EndsAreTold }
+    ensures withdrawals { EndsByWithdrawalAreTold }
 {}
