@@ -1,2 +1,3 @@
 mod Notes
+mod Rows
 pub mod Places

@@ -1,16 +1,15 @@
--- The lines that client machines are given.
-use Rattle.std.specs.Prelude.{ℕ, List, [], ◌∷◌, codes, bytes_eq, if◌then◌else◌, Option, Some, None}
+-- The lines that client machines are given: a row for each kind.
+use Rattle.std.specs.Prelude.{ℕ, List, [], ◌∷◌, codes, Option, None}
 use Rattle.lease_client.specs.Answers.{command_of}
-use Rattle.lease_facts.specs.declared.setup.Event.TheVariants as event
+use Rattle.lease_client.specs.declared.values.command.Command.{Command}
+use Rattle.lease_client.specs.declared.values.command.Command.TheVariants as command
 use Rattle.lease_model.specs.client.Calls.{ClientCall}
 use Rattle.lease_model.specs.messages.FromBytes.{reply_of}
-use Rattle.lease_texts.specs.Pieces.{fields_of}
-use Rattle.lease_texts.specs.Kinds.{Kind, Taking, and_then, kind, named, taken, whole, with_rest}
-use Rattle.lease_texts.specs.Lines.{field_read}
-use Rattle.lease_texts.specs.Schedules.{part_kinds}
+use Rattle.lease_state.specs.declared.number.ClientNo.{ClientNo}
+use Rattle.lease_texts.specs.Complaints.{Table, table}
+use Rattle.lease_texts.specs.Kinds.{Kind, kind}
+use Rattle.lease_texts.specs.Lines.{told_in}
 use Rattle.lease_texts.specs.declared.kinds.Field.TheVariants as field
-use Rattle.lease_texts.specs.declared.parts.Part.{Part}
-use Rattle.lease_texts.specs.declared.parts.Part.TheVariants as part
 use Rattle.lease_lines.specs.declared.client_lines.ClientLine.{ClientLine}
 use Rattle.lease_lines.specs.declared.client_lines.ClientLine.TheVariants as line
 use Rattle.lease_lines.specs.declared.client_lines.Asked.{Asked}
@@ -30,30 +29,34 @@ call_of asked.Notice = ClientCall.Noticed
 call_of asked.Connect = ClientCall.Connected
 call_of (asked.Take arrival) = ClientCall.Taken (reply_of arrival.reply)
 
--- of the lines of schedules those that client machines are given
-abbrev pub asked_of : Part → Option ClientLine
-asked_of (part.Client guid) = Some (line.Client guid)
-asked_of (part.Happens (event.App client command)) = Some (line.Asks client (asked.App command))
-asked_of (part.Happens (event.Notice client)) = Some (line.Asks client asked.Notice)
-asked_of (part.Happens (event.Connect client)) = Some (line.Asks client asked.Connect)
-asked_of other = None
+abbrev pub app : ClientNo → Command → ClientLine
+app client command = line.Asks client (asked.App command)
 
--- the kinds that schedules don't have, or have with other fields
-abbrev pub files_kind : Kind ClientLine
-files_kind = kind (codes "files") (field.File ∷ []) (λ file. line.Files file.0)
+abbrev pub client_kinds : List (Kind ClientLine)
+client_kinds =
+    kind (codes "files") (field.File ∷ []) (λ file. line.Files file.0)
+    ∷ kind (codes "client") (field.Guid ∷ []) line.Client
+    ∷ kind (codes "connect") (field.Client ∷ []) (λ client. line.Asks client asked.Connect)
+    ∷ kind (codes "notice") (field.Client ∷ []) (λ client. line.Asks client asked.Notice)
+    ∷ kind (codes "take") (field.Client ∷ field.Reply ∷ []) (λ client arrival. line.Asks client (asked.Take arrival))
+    ∷ kind (codes "open")
+    (field.Client ∷ field.File ∷ field.Access ∷ field.Share ∷ field.State ∷ field.Durable ∷ [])
+    (λ client file access share want durable. app client (command.Open file access share want durable))
+    ∷ kind (codes "close") (field.Client ∷ field.File ∷ []) (λ client file. app client (command.Close file))
+    ∷ kind (codes "read") (field.Client ∷ field.File ∷ []) (λ client file. app client (command.Read file))
+    ∷ kind (codes "flush") (field.Client ∷ field.File ∷ []) (λ client file. app client (command.Flush file))
+    ∷ kind (codes "write") (field.Client ∷ field.File ∷ field.Offset ∷ field.Bytes ∷ [])
+    (λ client file offset bytes. app client (command.Write file (record { offset = offset; bytes = bytes })))
+    ∷ []
 
-abbrev pub take_kind : Kind ClientLine
-take_kind = kind (codes "take") (field.Client ∷ field.Reply ∷ []) (λ client arrival. line.Asks client (asked.Take arrival))
-
-unfoldable pub client_line_named : List ℕ → Taking ClientLine
-client_line_named word words =
-    if bytes_eq word files_kind.name then taken field_read files_kind.fields files_kind.tells words
-    else if bytes_eq word take_kind.name then taken field_read take_kind.fields take_kind.tells words
-    else and_then (named field_read part_kinds word words) (λ told words. with_rest (asked_of told) words)
-
-abbrev pub client_line_told : Taking ClientLine
-client_line_told [] = None
-client_line_told (word ∷ words) = client_line_named word words
+abbrev pub client_table : Table
+client_table = table (codes "a kind of line") client_kinds
 
 unfoldable pub client_line_in : List ℕ → Option ClientLine
-client_line_in text = whole (client_line_told (fields_of text))
+client_line_in text = told_in client_kinds text
+
+-- where lines of a kind stand, as it is said of one that may not stand where it does
+abbrev pub client_place : ClientLine → List ℕ
+client_place (line.Files count) = codes "files are told once, before the first client"
+client_place (line.Client guid) = codes "clients stand behind files, at most 255, each with a GUID of its own"
+client_place (line.Asks client asked) = codes "there is no client of this number"

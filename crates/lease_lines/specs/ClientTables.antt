@@ -1,15 +1,18 @@
 -- Client machines that are given lines.
 use Rattle.std.specs.Prelude.{◌≡◌, ℕ, zero, suc, Bool, true, false, ◌++◌, List, [], ◌∷◌, length, nat_lt, bytes_eq, if◌then◌else◌}
-use Rattle.std.specs.Prelude.{Option, Some, None, slice_get, slice_set, codes}
-use Rattle.std.specs.Fmt.{decimal}
+use Rattle.std.specs.Prelude.{Option, Some, None, slice_get, slice_set}
 use Rattle.std.specs.List.{list_any}
+use Rattle.std.specs.String.{string_bytes}
 use Rattle.lease_model.specs.client.Calls.{client_called}
 use Rattle.lease_model.specs.client.State.{Client, new_client}
 use Rattle.lease_model.specs.client.Step.{Step}
+use Rattle.lease_texts.specs.Complaints.{Complaint, complaint}
 use Rattle.lease_texts.specs.Reading.{is_passed_over}
 use Rattle.lease_lines.specs.ClientAnswers.{step_text}
-use Rattle.lease_lines.specs.ClientLines.{client_line_in, other_of, call_of}
+use Rattle.lease_lines.specs.ClientLines.{client_line_in, client_place, client_table, other_of, call_of}
+use Rattle.lease_lines.specs.Refused.{fault_line, lack_line, place_line}
 use Rattle.lease_lines.specs.declared.client_lines.Asked.{Asked}
+use Rattle.lease_lines.specs.declared.refusals.Answer.{Answer}
 use Rattle.lease_lines.specs.declared.client_lines.ClientLine.{ClientLine}
 use Rattle.lease_lines.specs.declared.client_lines.ClientLine.TheVariants as line
 
@@ -76,26 +79,36 @@ line_told clients (line.Files count) = with_files clients count clients.files
 line_told clients (line.Client guid) = with_client clients guid clients.files
 line_told clients (line.Asks client asked) = on_client clients client.0 (other_of asked) (λ c. client_called c (call_of asked))
 
-abbrev pub told_of : Clients → Option ClientLine → Option (Told Clients)
-told_of clients None = None
-told_of clients (Some asked) = line_told clients asked
+-- what a line is answered: the machines after it, the text, and why it is refused where it is
+pub record Answered (A : Type 0) : Type 0 where
+  pub state : A
+  pub text : List ℕ
+  pub reason : List ℕ
 
-abbrev pub fault_line : ℕ → List ℕ
-fault_line number = codes "fault line " ++ decimal number ++ 10 ∷ []
+abbrev pub unanswered : {A : Type 0} → A → Answered A
+unanswered state = record { state = state; text = []; reason = [] }
 
 -- a line that is refused changes nothing
-abbrev pub or_fault : {A : Type 0} → A → ℕ → Option (Told A) → Told A
-or_fault state number None = record { state = state; text = fault_line number }
-or_fault state number (Some told) = told
+abbrev pub or_fault : {A : Type 0} → A → ℕ → List ℕ → Option (Told A) → Answered A
+or_fault state number why None = record { state = state; text = fault_line number; reason = why }
+or_fault state number why (Some told) = record { state = told.state; text = told.text; reason = [] }
 
--- The answer to a line was added to a text, and the machines are those after it.
-abbrev pub Adds : {A : Type 0} → Told A → A → List ℕ → List ℕ → Type 0
-Adds told state old new = (state ≡ told.state) × (new ≡ old ++ told.text)
+-- the same of a line of which a reader gives what it tells, and a table what it lacks
+abbrev pub answered_as : {A L : Type 0} → (A → L → Option (Told A)) → (L → List ℕ) → A → ℕ → Option L → Option Complaint
+    → Answered A
+answered_as line_told place state number (Some told) lack =
+    or_fault state number (place_line number (place told)) (line_told state told)
+answered_as line_told place state number None lack = or_fault state number (lack_line number lack) None
+
+-- the code's machines and answer are those after the line
+abbrev pub IsAnswered : {A : Type 0} → Answered A → A → Answer → Type 0
+IsAnswered told state answer =
+    (state ≡ told.state) × (string_bytes answer.text ≡ told.text) × (string_bytes answer.reason ≡ told.reason)
 
 -- The line was taken, and answered so; or it is refused, and nothing is changed or added.
 abbrev pub Takes : {A : Type 0} → Option (Told A) → Bool → A → A → List ℕ → List ℕ → Type 0
 Takes None false before after old new = (after ≡ before) × (new ≡ old)
-Takes (Some told) true before after old new = Adds told after old new
+Takes (Some told) true before after old new = (after ≡ told.state) × (new ≡ old ++ told.text)
 Takes told taken before after old new = ⊥
 
 -- Something was asked of a client, and its answer was added to a text.
@@ -111,7 +124,6 @@ HasAsked number asked before after old new =
     × (new ≡ old ++ step_text number (other_of asked) (client_called client (call_of asked)))
 
 -- a line of this number comes
-unfoldable pub client_answered : Clients → ℕ → List ℕ → Told Clients
-client_answered clients number text =
-    if is_passed_over text then record { state = clients; text = [] }
-    else or_fault clients number (told_of clients (client_line_in text))
+unfoldable pub client_answered : Clients → ℕ → List ℕ → Answered Clients
+client_answered clients number text = if is_passed_over text then unanswered clients
+    else answered_as line_told client_place clients number (client_line_in text) (complaint client_table text)

@@ -1,3 +1,4 @@
+pub mod Refused
 pub mod ClientLines
 pub mod ClientAnswers
 pub mod ClientTables

@@ -3,6 +3,7 @@ use Rattle.std.specs.Prelude.{ℕ, List, [], ◌∷◌, codes, Option}
 use Rattle.lease_model.specs.messages.FromBytes.{request_of}
 use Rattle.lease_model.specs.server.Calls.{Call}
 use Rattle.lease_model.specs.server.Naming.{key_of}
+use Rattle.lease_texts.specs.Complaints.{Table, table}
 use Rattle.lease_texts.specs.Kinds.{Kind, kind}
 use Rattle.lease_texts.specs.Lines.{told_in}
 use Rattle.lease_texts.specs.declared.kinds.Field.TheVariants as field
@@ -34,5 +35,13 @@ server_kinds =
     ∷ kind (codes "content") (field.File ∷ []) (λ file. line.Query (query.Content file))
     ∷ []
 
+abbrev pub server_table : Table
+server_table = table (codes "a kind of line") server_kinds
+
 unfoldable pub server_line_in : List ℕ → Option ServerLine
 server_line_in text = told_in server_kinds text
+
+-- where lines of a kind stand, as it is said of one that may not stand where it does; calls and questions may everywhere
+abbrev pub server_place : ServerLine → List ℕ
+server_place (line.Rules rules) = codes "rules stand before all other lines"
+server_place other = codes "at most 255 files stand before the first call"

@@ -8,10 +8,11 @@ use Rattle.lease_model.specs.server.Naming.{key_of}
 use Rattle.lease_model.specs.server.Progress.{Progress}
 use Rattle.lease_model.specs.server.Queries as queries
 use Rattle.lease_model.specs.server.State.{Server, new_server, new_server_under}
+use Rattle.lease_texts.specs.Complaints.{complaint}
 use Rattle.lease_texts.specs.Reading.{is_passed_over}
-use Rattle.lease_lines.specs.ClientTables.{Told, quietly, or_fault}
+use Rattle.lease_lines.specs.ClientTables.{Answered, Told, answered_as, quietly, unanswered}
 use Rattle.lease_lines.specs.ServerAnswers.{out_lines, answer, done_word, yes_word, fid_words, bytes_words}
-use Rattle.lease_lines.specs.ServerLines.{call_of, server_line_in}
+use Rattle.lease_lines.specs.ServerLines.{call_of, server_line_in, server_place, server_table}
 use Rattle.lease_lines.specs.declared.server_lines.Query.{Query}
 use Rattle.lease_lines.specs.declared.server_lines.Query.TheVariants as query
 use Rattle.lease_lines.specs.declared.server_lines.ServerCall.{ServerCall}
@@ -74,12 +75,7 @@ line_told stage (line.File content) = with_file stage content
 line_told stage (line.Call call) = Some (after_call (applies (server_in stage) call) (called (server_in stage) (call_of call)))
 line_told stage (line.Query query) = Some (asked (server_in stage) query)
 
-abbrev pub told_of : Stage → Option ServerLine → Option (Told Stage)
-told_of stage None = None
-told_of stage (Some told) = line_told stage told
-
 -- a line of this number comes
-unfoldable pub server_answered : Stage → ℕ → List ℕ → Told Stage
-server_answered stage number text =
-    if is_passed_over text then record { state = stage; text = [] }
-    else or_fault stage number (told_of stage (server_line_in text))
+unfoldable pub server_answered : Stage → ℕ → List ℕ → Answered Stage
+server_answered stage number text = if is_passed_over text then unanswered stage
+    else answered_as line_told server_place stage number (server_line_in text) (complaint server_table text)

@@ -1,20 +1,22 @@
-ghost use Rattle.std.specs.Prelude.{◌≡◌, ◌≤◌, ◌++◌, ◌&&◌, nat_le, nat_lt, bytes_eq, [], IfOk, OnOk, length, map};
+ghost use Rattle.std.specs.Prelude.{◌≡◌, ◌≤◌, ◌&&◌, nat_le, nat_lt, bytes_eq, [], IfOk, OnOk, length, map};
 ghost use Rattle.std.specs.List.{list_any};
 ghost use Rattle.std.specs.String.{string_bytes};
 ghost use Rattle.lease_client.specs.Known.{client_of};
 ghost use Rattle.lease_client.specs.Steps.{IsStep};
 ghost use Rattle.lease_model.specs.client.Calls.{client_called};
-ghost use Rattle.lease_lines.specs.ClientLines.{call_of, client_line_in};
+ghost use Rattle.lease_lines.specs.ClientLines.{call_of, client_place};
 ghost use Rattle.lease_lines.specs.Tables.{clients_of};
-ghost use Rattle.lease_lines.specs.ClientTables.{no_clients, with_new, with_files, with_client, line_told, told_of, fault_line};
-ghost use Rattle.lease_lines.specs.ClientTables.{client_answered, HasStepped, HasAsked, Takes, Adds};
+ghost use Rattle.lease_lines.specs.ClientTables.{no_clients, with_new, with_files, with_client, line_told, or_fault};
+ghost use Rattle.lease_lines.specs.ClientTables.{client_answered, HasStepped, HasAsked, IsAnswered, Takes};
+ghost use Rattle.lease_lines.specs.Refused.{place_line};
 
 use crate::client_answers::push_step;
-use crate::client_lines::{Asked, ClientLine, read_client_line};
+use crate::client_lines::{Asked, ClientLine, client_table, read_client_line};
+use crate::refusals::Answer;
 use lease_client::{Client, Step};
 use lease_state::{ClientNo, Memory};
 use lease_texts::{LineFault, is_passed_over};
-use std::alloc::{AllocError, Global};
+use std::alloc::Global;
 use std::mem;
 
 // No more clients than there are numbers.
@@ -152,44 +154,48 @@ impl ClientTable {
         }
     }
 
-    // Takes a line where it is one.
-    fn take_text(&mut self, line: &[u8], text: &mut String) -> Result<bool, Memory>
-        ensures { IfOk result
-            (λ taken. Takes (told_of (clients_of self.old) (client_line_in line.now)) taken (clients_of self.old)
-            (clients_of self.new)
-            (string_bytes text.old) (string_bytes text.new)) }
+    // A line of this number that is one: where it may not stand there, it is refused.
+    fn told(
+        self,
+        alloc: Global,
+        number: u64,
+        line: ClientLine,
+    ) -> Result<(ClientTable, Answer), Memory>
+        ensures { IfOk result (λ r. IsAnswered (or_fault (clients_of self) number (place_line number (client_place line))
+            (line_told (clients_of self) line)) (clients_of r.0) r.1) }
     {
-        match read_client_line(*text.allocator(), line) {
-            Ok(asked) => self.take_line(asked, text),
-            Err(LineFault::Refused) => Ok(false),
-            Err(LineFault::Memory) => Err(Memory),
+        let place = line.place();
+        let mut table = self;
+        let mut answer = Answer::nothing(alloc);
+        if table.take_line(line, &mut answer.text)? {
+            return Ok((table, answer));
         }
+        Ok((table, Answer::misplaced(alloc, number, place)?))
     }
 
-    /// A line of this number comes: what it is answered is added to a text.
+    /// A line of this number comes: the clients after it, and what it is answered.
     ///
     /// # Errors
     ///
     /// `Memory` where there is none left; the clients are lost then.
     #[tactic(auto, unfolding(crate::specs::ClientTables::client_answered))]
-    pub fn answer(self, number: u64, line: &[u8], text: &mut String) -> Result<ClientTable, Memory>
-        ensures { IfOk result (λ after. Adds (client_answered (clients_of self) number line.now) (clients_of after)
-            (string_bytes text.old) (string_bytes text.new)) }
+    pub fn answer(
+        self,
+        alloc: Global,
+        number: u64,
+        line: &[u8],
+    ) -> Result<(ClientTable, Answer), Memory>
+        ensures { IfOk result (λ r. IsAnswered (client_answered (clients_of self) number line.now) (clients_of r.0) r.1) }
     {
         if is_passed_over(line) {
-            return Ok(self);
+            return Ok((self, Answer::nothing(alloc)));
         }
-        let mut table = self;
-        if !table.take_text(line, text)? {
-            push_fault(text, number)?;
+        match read_client_line(alloc, line) {
+            Ok(told) => self.told(alloc, number, told),
+            Err(LineFault::Refused) => {
+                Ok((self, Answer::unread(alloc, client_table(), number, line)?))
+            }
+            Err(LineFault::Memory) => Err(Memory),
         }
-        Ok(table)
     }
-}
-
-/// Adds the line that reports a refused one.
-pub fn push_fault(text: &mut String, number: u64) -> Result<(), AllocError>
-    ensures { OnOk result (string_bytes text.new ≡ string_bytes text.old ++ fault_line number) }
-{
-    writeln!(text, "fault line {number}")
 }

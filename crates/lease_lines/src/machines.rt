@@ -1,12 +1,12 @@
 ghost use Rattle.std.specs.Prelude.{◌≡◌, IfOk, []};
-ghost use Rattle.std.specs.String.{string_bytes};
-ghost use Rattle.lease_lines.specs.ClientTables.{Adds, no_clients};
+ghost use Rattle.lease_lines.specs.ClientTables.{IsAnswered, no_clients};
 ghost use Rattle.lease_lines.specs.Machines.{answered};
 ghost use Rattle.lease_lines.specs.Machines as rules;
 ghost use Rattle.lease_lines.specs.ServerTables as tables;
 ghost use Rattle.lease_lines.specs.Tables.{machines_of};
 
 use crate::client_table::ClientTable;
+use crate::refusals::Answer;
 use crate::server_stage::Stage;
 use lease_state::Memory;
 use std::alloc::Global;
@@ -33,19 +33,30 @@ impl Machines {
         Machines::Server(Stage::Fresh)
     }
 
-    /// A line of this number comes, without its line feed: what it is answered is added to a text. A line that is refused is
-    /// answered `fault line N` and changes nothing; a line that is set-up, empty or a remark isn't answered.
+    /// A line of this number comes, without its line feed: the machines after it, and what it is answered. A line that is
+    /// refused is answered `fault line N` and changes nothing, and the answer has why it is refused; a line that is set-up,
+    /// empty or a remark isn't answered.
     ///
     /// # Errors
     ///
-    /// `Memory` where there is none left; the machines are lost then, and the text may have got some of the answer.
-    pub fn answer(self, number: u64, line: &[u8], text: &mut String) -> Result<Machines, Memory>
-        ensures { IfOk result (λ after. Adds (answered (machines_of self) number line.now) (machines_of after)
-            (string_bytes text.old) (string_bytes text.new)) }
+    /// `Memory` where there is none left; the machines are lost then.
+    pub fn answer(
+        self,
+        alloc: Global,
+        number: u64,
+        line: &[u8],
+    ) -> Result<(Machines, Answer), Memory>
+        ensures { IfOk result (λ r. IsAnswered (answered (machines_of self) number line.now) (machines_of r.0) r.1) }
     {
         match self {
-            Machines::Clients(table) => Ok(Machines::Clients(table.answer(number, line, text)?)),
-            Machines::Server(stage) => Ok(Machines::Server(stage.answer(number, line, text)?)),
+            Machines::Clients(table) => {
+                let (table, answer) = table.answer(alloc, number, line)?;
+                Ok((Machines::Clients(table), answer))
+            }
+            Machines::Server(stage) => {
+                let (stage, answer) = stage.answer(alloc, number, line)?;
+                Ok((Machines::Server(stage), answer))
+            }
         }
     }
 }

@@ -4,30 +4,29 @@ ghost use Rattle.std.specs.Option.{option_map};
 ghost use Rattle.std.specs.String.{string_bytes};
 ghost use Rattle.lease_lines.specs.ServerAnswers.{out_line, answer, done_word, yes_word, fid_words, bytes_words};
 
+use lease_facts::Fact;
 use lease_state::FileId;
-use lease_texts::{Said, digits_of, push_changed, push_line, push_opened};
+use lease_texts::{Said, digits_of, push_fact, push_line};
 use share_server::Out;
 use std::alloc::AllocError;
 
-fn push_out(text: &mut String, given: &Out) -> Result<(), AllocError>
-    ensures { OnOk result (string_bytes text.new ≡ string_bytes text.old ++ out_line given.now) }
+fn push_out(text: &mut String, given: Out) -> Result<(), AllocError>
+    ensures { OnOk result (string_bytes text.new ≡ string_bytes text.old ++ out_line given) }
 {
     match given {
-        Out::Sent(client, told) => push_line(
-            text,
-            "sent",
-            &[Said::Client(*client), Said::Reply(told)],
-        ),
-        Out::Opened(file, client) => push_opened(text, *file, *client),
-        Out::Changed(file, client, number, patch) => push_changed(
-            text, *file, *client, *number, patch,
-        ),
+        Out::Sent(client, told) => {
+            push_line(text, "sent", &[Said::Client(client), Said::Reply(&told)])
+        }
+        Out::Opened(file, client) => push_fact(text, &Fact::Opened(file, client)),
+        Out::Changed(file, client, number, patch) => {
+            push_fact(text, &Fact::Changed(file, client, number, patch))
+        }
     }
 }
 
 /// Adds the lines of what a call gives out.
-pub fn push_outs(text: &mut String, outs: &[Out]) -> Result<(), AllocError>
-    ensures { OnOk result (string_bytes text.new ≡ string_bytes text.old ++ flat_map out_line outs.now) }
+pub fn push_outs(text: &mut String, outs: Vec<Out>) -> Result<(), AllocError>
+    ensures { OnOk result (string_bytes text.new ≡ string_bytes text.old ++ flat_map out_line outs.items) }
 {
     for given in outs {
         push_out(text, given)?;

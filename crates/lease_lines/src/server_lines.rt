@@ -1,20 +1,22 @@
 ghost use Rattle.std.specs.Prelude.{◌≡◌, Some, None, MatchResult, drop};
+ghost use Rattle.lease_texts.specs.Complaints.{table_of};
 ghost use Rattle.lease_texts.specs.Kinds.{named};
 ghost use Rattle.lease_texts.specs.Lines.{field_read};
 ghost use Rattle.lease_texts.specs.Takes.{Takes, Reads};
-ghost use Rattle.lease_lines.specs.ServerLines.{server_kinds, server_line_in};
+ghost use Rattle.lease_lines.specs.ServerLines.{server_kinds, server_line_in, server_place, server_table};
 
-use lease_state::{ClientNo, Content, FileId, FileNo, LeaseKey, Request, Rules};
-use lease_texts::{Fields, LineFault, is, read_request};
+use lease_state::{ClientNo, FileId, FileNo, LeaseKey};
+use lease_texts::Field::{Client, Content, File, Key, Request, Rules};
+use lease_texts::{Field, Fields, LineFault, Row, Table, is, read_request};
 use std::alloc::Global;
 
 /// What a line asks of a server.
 #[derive(Debug, Drop)]
 pub enum ServerLine {
     /// The server is given these rules.
-    Rules(Rules),
+    Rules(lease_state::Rules),
     /// There is one more file, with these bytes.
-    File(Content),
+    File(lease_state::Content),
     Call(ServerCall),
     Query(Query),
 }
@@ -31,7 +33,7 @@ pub enum ServerCall {
     /// The timer of the durable open of this FileId runs out.
     Scavenge(FileId),
     /// A request of the client comes.
-    Receive(ClientNo, Request),
+    Receive(ClientNo, lease_state::Request),
 }
 
 /// What a server is asked, which changes nothing.
@@ -43,6 +45,41 @@ pub enum Query {
     Kept(ClientNo, FileNo),
     /// The bytes of the file.
     Content(FileNo),
+}
+
+impl ServerLine {
+    /// Where such lines stand, in words for one that stands elsewhere. Calls and questions stand everywhere.
+    pub fn place(&self) -> &'static str
+        ensures { result.now ≡ server_place self.now }
+    {
+        match self {
+            ServerLine::Rules(_) => "rules stand before all other lines",
+            _ => "at most 255 files stand before the first call",
+        }
+    }
+}
+
+const LINES: &[Row] = &[
+    Row("rules", &[Rules]),
+    Row("file", &[Content]),
+    Row("join", &[Client]),
+    Row("cut", &[Client]),
+    Row("expire", &[Client, Key]),
+    Row("scavenge", &[Field::FileId]),
+    Row("receive", &[Client, Request]),
+    Row("breaking", &[Client, Key]),
+    Row("kept", &[Client, File]),
+    Row("content", &[File]),
+];
+
+/// The lines that a server is given.
+pub fn server_table() -> Table
+    ensures { table_of result ≡ server_table }
+{
+    Table {
+        word: "a kind of line",
+        rows: LINES,
+    }
 }
 
 #[tactic(auto, unfolding(lease_texts::specs::Kinds::named, lease_texts::specs::Kinds::taken))]

@@ -3,18 +3,19 @@ ghost use Rattle.std.specs.String.{string_bytes};
 ghost use Rattle.lease_model.specs.server.Progress.{Progress};
 ghost use Rattle.share_server.specs.Outs.{IsAfter};
 ghost use Rattle.share_server.specs.Table.{server_of};
-ghost use Rattle.lease_lines.specs.ClientTables.{Takes, Adds};
+ghost use Rattle.lease_lines.specs.ClientTables.{IsAnswered, Takes, or_fault};
+ghost use Rattle.lease_lines.specs.Refused.{place_line};
 ghost use Rattle.lease_lines.specs.ServerAnswers.{answer};
-ghost use Rattle.lease_lines.specs.ServerLines.{call_of, server_line_in};
-ghost use Rattle.lease_lines.specs.ServerTables.{after_call, applies, found, server_in, with_file, with_rules, line_told, told_of};
+ghost use Rattle.lease_lines.specs.ServerLines.{call_of, server_place};
+ghost use Rattle.lease_lines.specs.ServerTables.{after_call, applies, found, server_in, with_file, with_rules, line_told};
 ghost use Rattle.lease_lines.specs.ServerTables.{server_answered};
 ghost use Rattle.lease_lines.specs.ServerTables as tables;
 ghost use Rattle.lease_lines.specs.Tables.{stage_of};
 ghost use Rattle.lease_model.specs.server.Calls.{called};
 
-use crate::client_table::push_fault;
+use crate::refusals::Answer;
 use crate::server_answers::{push_content, push_done, push_fid, push_outs, push_yes};
-use crate::server_lines::{Query, ServerCall, ServerLine, read_server_line};
+use crate::server_lines::{Query, ServerCall, ServerLine, read_server_line, server_table};
 use lease_state::{Content, Memory, Rules};
 use lease_texts::{LineFault, is_passed_over};
 use share_server::{Out, Server};
@@ -40,7 +41,7 @@ fn push_after(text: &mut String, applies: bool, after: (Server, Vec<Out>)) -> Re
         × (string_bytes text.new ≡ string_bytes text.old ++ (after_call applies progress).text)) }
 {
     let (server, outs) = after;
-    push_outs(text, outs.as_slice())?;
+    push_outs(text, outs)?;
     push_done(text, applies)?;
     Ok(server)
 }
@@ -144,35 +145,38 @@ impl Stage {
         }
     }
 
-    // Takes a line where it is one.
-    fn take_text(self, line: &[u8], text: &mut String) -> Result<(Stage, bool), Memory>
-        ensures { IfOk result (λ r. Takes (told_of (stage_of self) (server_line_in line.now)) r.1 (stage_of self) (stage_of r.0)
-            (string_bytes text.old) (string_bytes text.new)) }
+    // A line of this number that is one: where it may not stand there, it is refused.
+    fn told(self, alloc: Global, number: u64, line: ServerLine) -> Result<(Stage, Answer), Memory>
+        ensures { IfOk result (λ r. IsAnswered (or_fault (stage_of self) number (place_line number (server_place line))
+            (line_told (stage_of self) line)) (stage_of r.0) r.1) }
     {
-        match read_server_line(*text.allocator(), line) {
-            Ok(asked) => self.take_line(asked, text),
-            Err(LineFault::Refused) => Ok((self, false)),
-            Err(LineFault::Memory) => Err(Memory),
+        let place = line.place();
+        let mut answer = Answer::nothing(alloc);
+        let (stage, taken) = self.take_line(line, &mut answer.text)?;
+        if taken {
+            return Ok((stage, answer));
         }
+        Ok((stage, Answer::misplaced(alloc, number, place)?))
     }
 
-    /// A line of this number comes: what it is answered is added to a text.
+    /// A line of this number comes: the server after it, and what it is answered.
     ///
     /// # Errors
     ///
     /// `Memory` where there is none left; the server is lost then.
     #[tactic(auto, unfolding(crate::specs::ServerTables::server_answered))]
-    pub fn answer(self, number: u64, line: &[u8], text: &mut String) -> Result<Stage, Memory>
-        ensures { IfOk result (λ after. Adds (server_answered (stage_of self) number line.now) (stage_of after)
-            (string_bytes text.old) (string_bytes text.new)) }
+    pub fn answer(self, alloc: Global, number: u64, line: &[u8]) -> Result<(Stage, Answer), Memory>
+        ensures { IfOk result (λ r. IsAnswered (server_answered (stage_of self) number line.now) (stage_of r.0) r.1) }
     {
         if is_passed_over(line) {
-            return Ok(self);
+            return Ok((self, Answer::nothing(alloc)));
         }
-        let (stage, taken) = self.take_text(line, text)?;
-        if !taken {
-            push_fault(text, number)?;
+        match read_server_line(alloc, line) {
+            Ok(told) => self.told(alloc, number, told),
+            Err(LineFault::Refused) => {
+                Ok((self, Answer::unread(alloc, server_table(), number, line)?))
+            }
+            Err(LineFault::Memory) => Err(Memory),
         }
-        Ok(stage)
     }
 }

@@ -1,7 +1,7 @@
 -- A complaint about a line by a table whose kinds have names of their own is of the first field that no line has.
 use Rattle.std.proofs.Common.{◌&&◌, ◌++◌, ◌+◌, ◌∙◌, ◌∷◌, ◌≡◌, ◌↔◌, Bool, List, None, Option, Some, ℕ, [], ap, arith}
-use Rattle.std.proofs.Common.{append-nil, append_assoc, bytes_eq, codes, false, if◌then◌else◌, inl, inr, map, not, refl, subst, suc}
-use Rattle.std.proofs.Common.{sym, true, zero, ◌||◌}
+use Rattle.std.proofs.Common.{append-nil, append_assoc, bytes_eq, codes, false, if◌then◌else◌, inl, inr, map, not, refl, subst}
+use Rattle.std.proofs.Common.{suc, sym, true, zero, ◌||◌}
 use Rattle.std.specs.Prelude.{is_some, length, drop}
 use Rattle.std.specs.Option.{option_map}
 use Rattle.std.specs.List.{list_all, list_any}
@@ -16,8 +16,8 @@ use Rattle.lease_state.specs.declared.request.Request.TheVariants as request
 use Rattle.lease_state.specs.declared.status.Status.TheVariants as status
 use Rattle.lease_state.specs.Rules.{profile_rules}
 use Rattle.lease_texts.specs.Complaints as complaints
-use Rattle.lease_texts.specs.Complaints.{Complaint, Row, fields_behind, if_fits, is_nil, leaves, leaves_table}
-use Rattle.lease_texts.specs.Complaints.{or_goes_on, row, rows_in, stands}
+use Rattle.lease_texts.specs.Complaints.{Complaint, Expected, Row, Table, fields_behind, if_fits, is_nil, leaves, leaves_table}
+use Rattle.lease_texts.specs.Complaints.{or_goes_on, reply_table, request_table, row, stands}
 use Rattle.lease_texts.specs.Fields.{number_in, ordinal_in, sized_in, state_of_wire}
 use Rattle.lease_texts.specs.FirstFaults.{AreTold, Begin, ComplainsExactly, IsFirstFault, NoneHas, first_of, is_expected, is_name}
 use Rattle.lease_texts.specs.Kinds.{Kind, Telling, Value, Words, client_no, file_id, file_no, lease_key, value_in}
@@ -27,12 +27,8 @@ use Rattle.lease_texts.specs.Replies.{plain, reply_kinds}
 use Rattle.lease_texts.specs.Requests.{request_kinds}
 use Rattle.lease_texts.specs.Statuses.{known}
 use Rattle.lease_texts.specs.Tables.{CanBeSaid, FieldSays, HasBytes, IsOneOf, ReadsExactly, Say, Saying, Tells, WordSays}
-use Rattle.lease_texts.specs.declared.complaints.expected.Expected.{Expected}
-use Rattle.lease_texts.specs.declared.complaints.expected.Expected.TheVariants as expected
 use Rattle.lease_texts.specs.declared.kinds.Field.{Field}
 use Rattle.lease_texts.specs.declared.kinds.Field.TheVariants as field
-use Rattle.lease_texts.specs.declared.kinds.Table.{Table}
-use Rattle.lease_texts.specs.declared.kinds.Table.TheVariants as table
 use Rattle.lease_texts.proofs.ReadBack.{field_says}
 use Rattle.lease_texts.proofs.Tables.{are_apart, no_more, none_told, of_one, one_of_a_name, replies_apart, requests_apart}
 use Rattle.lease_texts.proofs.Tables.{same_parts}
@@ -333,18 +329,18 @@ if_some true fields = refl
 if_some false fields = refl
 
 is_behind : (field : Field) (fields : List Field) (word : List ℕ)
-    → is_some (complaints.behind field word fields) ≡ is_expected (expected.Holds field) word
+    → is_some (complaints.behind field word fields) ≡ is_expected (Expected.Holds field) word
 is_behind field.Durable fields word = by_word (bytes_eq word (codes "durable"))
   where
     by_word : (b : Bool) → is_some (if_fits (is_some (if b then Some true else None)) fields) ≡ b
     by_word true = refl
     by_word false = refl
-is_behind field.Request fields word = is_named (rows_in table.Requests) word
-is_behind field.Reply fields word = is_named (rows_in table.Replies) word
+is_behind field.Request fields word = is_named request_table.rows word
+is_behind field.Reply fields word = is_named reply_table.rows word
 is_behind other fields word = if_some (complaints.says other word) fields ∙ says_is other word refl
 
 field_may : (field : Field) (fields : List Field) (word : List ℕ) → are_placed (field ∷ fields) ≡ true
-    → May (Fill FieldSays (field ∷ fields)) word (is_expected (expected.Holds field) word)
+    → May (Fill FieldSays (field ∷ fields)) word (is_expected (Expected.Holds field) word)
 field_may field fields word placed =
     subst (λ (b : Bool). May (Fill FieldSays (field ∷ fields)) word b) (is_behind field fields word)
     (may_lead (Fill FieldSays (field ∷ fields)) word (complaints.behind field word fields) (field_leads field fields word placed))
@@ -416,8 +412,8 @@ no_words other fields differs (value, behind, (word, are, is), more) = no_more (
 
 ends : (number : ℕ) (one : Field) (fields : List Field) → are_placed (one ∷ fields) ≡ true → (one ≡ field.Durable → ⊥)
     → IsFirstFault (Fill FieldSays (one ∷ fields)) number []
-    (record { field = number; expected = expected.Holds one; found = None; is_last = true })
-ends number one fields placed other = at_once (Fill FieldSays (one ∷ fields)) number (expected.Holds one) []
+    (record { field = number; expected = Expected.Holds one; found = None; is_last = true })
+ends number one fields placed other = at_once (Fill FieldSays (one ∷ fields)) number (Expected.Holds one) []
     (completed (one ∷ fields) placed) (no_words one fields other) (λ word. field_may one fields word placed)
 
 follows : (words : Words) (number : ℕ) (fields : List Field) → are_placed fields ≡ true
@@ -427,10 +423,10 @@ follows [] number [] placed = refl
 follows [] number (field.Durable ∷ []) placed = (false, [], (refl, refl), refl)
 follows [] number (field.Durable ∷ next ∷ fields) placed = let c : ⊥ = cc in absurd c
 follows [] number (field ∷ fields) placed = ends number field fields placed (λ same. cc)
-follows (word ∷ words) number [] placed = at_once (Fill FieldSays []) number expected.End (word ∷ words) ([], refl)
+follows (word ∷ words) number [] placed = at_once (Fill FieldSays []) number Expected.End (word ∷ words) ([], refl)
     (λ (rest, are). no_more are) (λ other. (λ (rest, are). no_more are, λ is. let c : ⊥ = cc in absurd c))
 follows (word ∷ words) number (field ∷ fields) placed =
-    on_from (Fill FieldSays (field ∷ fields)) number (expected.Holds field) word words (complaints.behind field word fields)
+    on_from (Fill FieldSays (field ∷ fields)) number (Expected.Holds field) word words (complaints.behind field word fields)
     (field_leads field fields word placed) (completed (field ∷ fields) placed) (λ other. field_may field fields other placed)
     (λ fields placed. follows words (number + 1) fields placed)
 
@@ -443,24 +439,24 @@ begins_some (kind ∷ kinds) placed =
     let all = told_filled FieldSays kind.fields kind.tells words.0 words.1 in
     (kind.name ∷ words.0, (all.0, record { kind = kind; is_one = inl refl; behind = words.0; are = refl; say = all.1 }))
 
-table_follows : {A : Type 0} (kinds : List (Kind A)) (names : Table) → rows_in names ≡ map row kinds → are_apart kinds ≡ true
+table_follows : {A : Type 0} (kinds : List (Kind A)) (names : Table) → names.rows ≡ map row kinds → are_apart kinds ≡ true
     → all_placed kinds ≡ true → (words : Words) → Follows (leaves_table names words) (AreTold FieldSays kinds) 1 words
 table_follows {A} kinds names rows apart placed = go
   where
-    may : (word : List ℕ) → Leads (fields_behind (rows_in names) word) (AreTold FieldSays kinds) word
+    may : (word : List ℕ) → Leads (fields_behind names.rows word) (AreTold FieldSays kinds) word
         → May (AreTold FieldSays kinds) word (is_name names word)
-    may word leads = subst (λ (b : Bool). May (AreTold FieldSays kinds) word b) (is_named (rows_in names) word)
-        (may_lead (AreTold FieldSays kinds) word (fields_behind (rows_in names) word) leads)
+    may word leads = subst (λ (b : Bool). May (AreTold FieldSays kinds) word b) (is_named names.rows word)
+        (may_lead (AreTold FieldSays kinds) word (fields_behind names.rows word) leads)
 
-    leads : (word : List ℕ) → Leads (fields_behind (rows_in names) word) (AreTold FieldSays kinds) word
+    leads : (word : List ℕ) → Leads (fields_behind names.rows word) (AreTold FieldSays kinds) word
     leads word = subst (λ (rs : List Row). Leads (fields_behind rs word) (AreTold FieldSays kinds) word) (sym rows)
         (table_leads FieldSays kinds apart (each_placed kinds placed)
         (λ kind is words. (λ filled. filled, λ filled. filled)) word)
 
     go : (words : Words) → Follows (leaves_table names words) (AreTold FieldSays kinds) 1 words
-    go [] = at_once (AreTold FieldSays kinds) 1 (expected.Names names) [] (begins_some kinds placed)
+    go [] = at_once (AreTold FieldSays kinds) 1 (Expected.Names names) [] (begins_some kinds placed)
         (λ (told, tells). no_more (sym tells.are)) (λ word. may word (leads word))
-    go (word ∷ words) = on_from (AreTold FieldSays kinds) 1 (expected.Names names) word words (fields_behind (rows_in names) word)
+    go (word ∷ words) = on_from (AreTold FieldSays kinds) 1 (Expected.Names names) word words (fields_behind names.rows word)
         (leads word) (begins_some kinds placed) (λ other. may other (leads other))
         (λ fields placed. follows words 2 fields placed)
 
@@ -475,7 +471,7 @@ faulty Are number words complaint fault are = no_line fault.before fault.from fa
         none (from, subst (λ (w : Words). Are w) (same ∙ sym (append_assoc before (word ∷ []) from)) are)
 
 pub complains_exactly : {A : Type 0} (kinds : List (Kind A)) (read : List ℕ → Option A) (names : Table)
-    → rows_in names ≡ map row kinds → are_apart kinds ≡ true → all_placed kinds ≡ true → ReadsExactly kinds read
+    → names.rows ≡ map row kinds → are_apart kinds ≡ true → all_placed kinds ≡ true → ReadsExactly kinds read
     → ComplainsExactly FieldSays kinds read (complaints.complaint names)
 complains_exactly {A} kinds read names rows apart placed reads = record {
   refused = λ line. by_got line (complaints.complaint names line) (table_follows kinds names rows apart placed (fields_of line));

@@ -107,7 +107,7 @@ all_words (one ∷ others) (here, can) =
 -- ---- rows that say it
 
 -- what may be missing stands last
-abbrev pub MayStand : Field → List Spoken → Type 0
+abbrev pub MayStand : {X : Type 0} → Field → List X → Type 0
 MayStand field.Durable behind = behind ≡ []
 MayStand other behind = ⊤
 
@@ -199,12 +199,7 @@ row_says {A} {kinds} {said} {told} row can rest =
       say = plain_says row.kind.fields row.kind.tells said.spoken told rest row.is_said can;
     }
 
--- where a word may be missing, nothing stands behind
-abbrev pub NothingBehind : Field → Words → Type 0
-NothingBehind field.Durable rest = rest ≡ []
-NothingBehind other rest = ⊤
-
-pub field_says : (field : Field) (value : Value field) (rest : Words) → CanBeSaid field value → NothingBehind field rest
+pub field_says : (field : Field) (value : Value field) (rest : Words) → CanBeSaid field value → MayStand field rest
     → FieldSays field (words_for field value ++ rest) value rest
 field_says field.Durable true rest can ends = refl
 field_says field.Durable false rest can ends = (ends, ends)
@@ -214,7 +209,7 @@ field_says field.Reply told rest (can, is) ends =
     (row_says (reply_row told.reply) can rest)
 field_says other value rest can ends = (word_for other value, refl, word_back other value can)
 
-nothing_behind : (field : Field) (others : List Spoken) → MayStand field others → NothingBehind field (spoken_words others)
+nothing_behind : (field : Field) (others : List Spoken) → MayStand field others → MayStand field (spoken_words others)
 nothing_behind field.Durable others ends = ap (λ (all : List Spoken). spoken_words all) ends
 nothing_behind other others ends = tt
 

@@ -4,14 +4,13 @@ use Rattle.lease_client.specs.declared.values.command.Command.TheVariants as com
 use Rattle.lease_facts.specs.declared.fact.Fact.{Fact}
 use Rattle.lease_facts.specs.declared.fact.Fact.TheVariants as fact
 use Rattle.lease_facts.specs.declared.setup.Event.TheVariants as event
-use Rattle.lease_texts.specs.Complaints.{complaint}
+use Rattle.lease_texts.specs.Complaints.{complaint, fact_table, part_table}
 use Rattle.lease_texts.specs.FirstFaults.{ComplainsExactly}
 use Rattle.lease_texts.specs.Kinds.{say}
 use Rattle.lease_texts.specs.Records.{fact_in, fact_kinds, fact_said}
 use Rattle.lease_texts.specs.Schedules.{part_in, part_kinds, part_said}
 use Rattle.lease_texts.specs.Tables.{AreReadBack, FieldSays, ReadsExactly}
 use Rattle.lease_texts.specs.declared.kinds.Field.TheVariants as field
-use Rattle.lease_texts.specs.declared.kinds.Table.TheVariants as table
 use Rattle.lease_texts.specs.declared.parts.Part.{Part}
 use Rattle.lease_texts.specs.declared.parts.Part.TheVariants as part
 use Rattle.lease_texts.proofs.FirstFaults.{complains_exactly}
@@ -52,8 +51,8 @@ pub facts_told : ReadsExactly fact_kinds fact_in
 unfolding fact_in
 facts_told = reads_exactly fact_kinds facts_apart
 
-pub facts_complained : ComplainsExactly FieldSays fact_kinds fact_in (complaint table.Facts)
-facts_complained = complains_exactly fact_kinds fact_in table.Facts refl facts_apart refl facts_told
+pub facts_complained : ComplainsExactly FieldSays fact_kinds fact_in (complaint fact_table)
+facts_complained = complains_exactly fact_kinds fact_in fact_table refl facts_apart refl facts_told
 
 pub facts_back : AreReadBack fact_said fact_in
 unfolding fact_in
@@ -94,8 +93,8 @@ pub parts_told : ReadsExactly part_kinds part_in
 unfolding part_in
 parts_told = reads_exactly part_kinds parts_apart
 
-pub parts_complained : ComplainsExactly FieldSays part_kinds part_in (complaint table.Parts)
-parts_complained = complains_exactly part_kinds part_in table.Parts refl parts_apart refl parts_told
+pub parts_complained : ComplainsExactly FieldSays part_kinds part_in (complaint part_table)
+parts_complained = complains_exactly part_kinds part_in part_table refl parts_apart refl parts_told
 
 pub parts_back : AreReadBack part_said part_in
 unfolding part_in

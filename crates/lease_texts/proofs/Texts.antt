@@ -72,7 +72,8 @@ pub records_go_on : (facts more : List Fact) → Each (λ told. CanBeWritten (fa
     → reads_on records.with_line number facts (lines_of (record_text more ++ rest))
     ≡ reads_on records.with_line (number + length more) (facts ++ more) (lines_of rest)
 records_go_on facts more can number rest =
-    lines_add records.with_line with_fact fact_in facts_count fact_line more (each_fact_back more can) facts (facts ++ more) (facts_add facts more) number rest
+    lines_add records.with_line with_fact fact_in facts_count fact_line more (each_fact_back more can) facts (facts ++ more)
+    (facts_add facts more) number rest
 
 pub texts_go_on : TextsGoOn
 texts_go_on facts rest can = records_go_on [] facts can 1 rest
@@ -177,4 +178,5 @@ pub schedules_back : SchedulesAreReadBack
 unfolding reads_on pieces
 schedules_back draft can = ap (λ (text : List ℕ). schedule_in text)
     (text_of_parts draft ∙ sym (append-nil (flat_map part_line (parts_of draft))))
-    ∙ lines_add schedules.with_line with_part part_in parts_count part_line (parts_of draft) (parts_are_back draft can) (drafted [] [] []) draft (parts_add draft) 1 []
+    ∙ lines_add schedules.with_line with_part part_in parts_count part_line (parts_of draft) (parts_are_back draft can)
+    (drafted [] [] []) draft (parts_add draft) 1 []

@@ -1,6 +1,6 @@
 -- The word that is written for a value says that value, and has no space in it.
-use Rattle.std.proofs.Common.{◌&&◌, ◌*◌, ◌++◌, ◌+◌, ◌/◌, ◌%◌, ◌<◌, ◌==◌, ◌^◌, ◌∙◌, ◌∷◌, ◌≡◌, ◌≤◌, All, Bool, List, None, Option, Some}
-use Rattle.std.proofs.Common.{ℕ, [], ap, arith, bytes_eq, codes, decimal, false, inl, length, nat_le, nat_lt, option_map, refl}
+use Rattle.std.proofs.Common.{◌&&◌, ◌*◌, ◌++◌, ◌+◌, ◌/◌, ◌%◌, ◌<◌, ◌==◌, ◌^◌, ◌∙◌, ◌∷◌, ◌≡◌, ◌≤◌, All, Bool, List, None, Option}
+use Rattle.std.proofs.Common.{Some, ℕ, [], ap, arith, bytes_eq, codes, decimal, false, inl, length, nat_le, nat_lt, option_map, refl}
 use Rattle.std.proofs.Common.{slice_index, subst, suc, sym, true, zero}
 use Rattle.std.proofs.lemmas.Bool.Decides.{nat_tests}
 use Rattle.std.proofs.lemmas.Fmt.{decimal_by_steps, decimal_digit, decimal_nonempty, first_decimal}
@@ -14,12 +14,12 @@ use Rattle.lease_state.specs.declared.state.LeaseState.{LeaseState}
 use Rattle.lease_state.specs.declared.status.Status.{Status}
 use Rattle.lease_state.specs.declared.rules.Order.{Order}
 use Rattle.lease_state.specs.declared.rules.Rise.{Rise}
-use Rattle.lease_texts.specs.Fields.{access_in, bytes_in, content_in, digit_behind, number_after, number_in, offset_in, ordinal_in}
-use Rattle.lease_texts.specs.Fields.{outcome_in, rules_in, share_in, sized_in, state_in, state_of_wire, way_in}
+use Rattle.lease_texts.specs.Fields.{bytes_in, content_in, digit_behind, number_after, number_in, offset_in, ordinal_in}
+use Rattle.lease_texts.specs.Fields.{rules_in, sized_in, state_in, state_of_wire}
 use Rattle.lease_texts.specs.Kinds.{Value, client_no, file_id, file_no, lease_key, value_in, word_for}
-use Rattle.lease_texts.specs.Statuses.{given_word, known, status_in, status_named, status_word}
+use Rattle.lease_texts.specs.Statuses.{given_word, known, status_in, status_word}
 use Rattle.lease_texts.specs.Tables.{HasBytes, HasWord}
-use Rattle.lease_texts.specs.Words.{digits_word, rules_word, state_word}
+use Rattle.lease_texts.specs.Words.{digits_word, of_word, rules_word, state_word}
 use Rattle.lease_texts.specs.declared.kinds.Field.{Field}
 use Rattle.lease_texts.specs.declared.kinds.Field.TheVariants as field
 use Rattle.lease_texts.specs.declared.status.GivenStatus.{GivenStatus}
@@ -129,7 +129,7 @@ sized_back : (size : ℕ) (bytes : List ℕ) → length bytes ≡ size → IsByt
 sized_back size bytes long are = rw (decode_sized-encode_lower bytes size long are) refl
 
 name_back : (status : Status) → status_in (status_word status) ≡ Some (known status)
-unfolding status_in status_word status_named
+unfolding status_in status_word of_word
 name_back status = grind arith
 
 name_above : (status : Status) → all_above 32 (status_word status) ≡ true
@@ -150,7 +150,7 @@ status_above given named = subst (λ (g : GivenStatus). all_above 32 (given_word
 
 rules_back : (order : Order) (rise : Rise) → rules_in (rules_word (record { order = order; rise = rise }))
     ≡ Some (record { order = order; rise = rise })
-unfolding rules_in
+unfolding of_word
 rules_back Order.ByClient Rise.AsFree = refl
 rules_back Order.ByClient Rise.Whole = refl
 rules_back Order.ByKey Rise.AsFree = refl
@@ -163,7 +163,7 @@ rules_above Order.ByKey Rise.AsFree = refl
 rules_above Order.ByKey Rise.Whole = refl
 
 pub word_back : (field : Field) (value : Value field) → HasWord field value → value_in field (word_for field value) ≡ Some value
-unfolding access_in share_in way_in outcome_in
+unfolding of_word
 word_back field.Client client (some, small) = ap (λ (o : Option ℕ). option_map client_no o) (ordinal_back client.0 some small)
 word_back field.File file (some, small) = ap (λ (o : Option ℕ). option_map file_no o) (ordinal_back file.0 some small)
 word_back field.FileId fid fits = ap (λ (o : Option ℕ). option_map file_id o) (number_back fid.0 fits)

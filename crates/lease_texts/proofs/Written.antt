@@ -39,7 +39,8 @@ plain_behind (one ∷ others) =
     ap (λ (t : List ℕ). 32 ∷ t ++ flat_map (λ (one : Spoken). 32 ∷ word_for one.field one.value) (map spoken_of others))
     (word_is one) ∙ ap (λ (t : List ℕ). 32 ∷ said_word one ++ t) (plain_behind others)
 
-all_behind : (said : List Said) → flat_map (λ (one : Spoken). text_for one.field one.value) (map spoken_of said) ≡ texts_behind said
+all_behind : (said : List Said)
+    → flat_map (λ (one : Spoken). text_for one.field one.value) (map spoken_of said) ≡ texts_behind said
 all_behind [] = refl
 all_behind (one ∷ others) =
     ap (λ (t : List ℕ). t ++ flat_map (λ (one : Spoken). text_for one.field one.value) (map spoken_of others)) (text_is one)

@@ -14,13 +14,12 @@ use Rattle.lease_texts.specs.Replies.{reply_kinds}
 use Rattle.lease_texts.specs.Requests.{request_kinds}
 use Rattle.lease_texts.specs.Schedules.{part_kinds}
 use Rattle.lease_texts.specs.declared.complaints.finding.Complaint as code
-use Rattle.lease_texts.specs.declared.complaints.expected.Expected.{Expected}
+use Rattle.lease_texts.specs.declared.complaints.expected.Expected as expectations
 use Rattle.lease_texts.specs.declared.complaints.expected.Expected.TheVariants as expected
 use Rattle.lease_texts.specs.declared.kinds.Field.{Field}
 use Rattle.lease_texts.specs.declared.kinds.Field.TheVariants as field
 use Rattle.lease_texts.specs.declared.kinds.Row as rows
-use Rattle.lease_texts.specs.declared.kinds.Table.{Table}
-use Rattle.lease_texts.specs.declared.kinds.Table.TheVariants as table
+use Rattle.lease_texts.specs.declared.kinds.Table as tables
 
 -- ---- the tables
 
@@ -32,15 +31,32 @@ pub record Row : Type 0 where
 abbrev pub row : {A : Type 0} → Kind A → Row
 row kind = record { name = kind.name; fields = kind.fields }
 
-abbrev pub rows_in : Table → List Row
-rows_in table.Facts = map row fact_kinds
-rows_in table.Parts = map row part_kinds
-rows_in table.Requests = map row request_kinds
-rows_in table.Replies = map row reply_kinds
+-- a table: what is said of a word that is to name one of its kinds, and the kinds
+pub record Table : Type 0 where
+  pub word : List ℕ
+  pub rows : List Row
 
--- a row of the code
+abbrev pub table : {A : Type 0} → List ℕ → List (Kind A) → Table
+table word kinds = record { word = word; rows = map row kinds }
+
+abbrev pub fact_table : Table
+fact_table = table (codes "a kind of fact") fact_kinds
+
+abbrev pub part_table : Table
+part_table = table (codes "a kind of line") part_kinds
+
+abbrev pub request_table : Table
+request_table = table (codes "a request") request_kinds
+
+abbrev pub reply_table : Table
+reply_table = table (codes "a message of the server") reply_kinds
+
+-- a row of the code, and a table of it
 abbrev pub row_of : rows.Row → Row
 row_of one = record { name = one.0.now; fields = one.1.now }
+
+abbrev pub table_of : tables.Table → Table
+table_of one = record { word = one.word.now; rows = map row_of one.rows.now }
 
 unfoldable pub fields_behind : List Row → List ℕ → Option (List Field)
 fields_behind [] word = None
@@ -62,10 +78,21 @@ says other word = is_some (value_in other word)
 
 -- the fields that are expected after a word, where the word is one that was expected
 abbrev pub behind : Field → List ℕ → List Field → Option (List Field)
-behind field.Request word rest = fields_behind (rows_in table.Requests) word
-behind field.Reply word rest = fields_behind (rows_in table.Replies) word
+behind field.Request word rest = fields_behind request_table.rows word
+behind field.Reply word rest = fields_behind reply_table.rows word
 behind field.Durable word rest = if_fits (is_some (durable_word word)) rest
 behind other word rest = if_fits (says other word) rest
+
+-- what is expected in a field: the word of a kind in a table, what the field holds, or no more
+pub data Expected : Type 0 where
+  Names : (kinds : Table) → Expected
+  Holds : (one : Field) → Expected
+  End : Expected
+
+abbrev pub expected_of : expectations.Expected → Expected
+expected_of (expected.Names kinds) = Expected.Names (table_of kinds)
+expected_of (expected.Holds one) = Expected.Holds one
+expected_of expected.End = Expected.End
 
 -- What was expected in the field of a number, and what stands there: nothing, where the line ends before it; whether the line
 -- ends after it.
@@ -79,7 +106,7 @@ pub record Complaint : Type 0 where
 abbrev pub complaint_of : code.Complaint → Complaint
 complaint_of complaint = record {
   field = complaint.field;
-  expected = complaint.expected;
+  expected = expected_of complaint.expected;
   found = option_copied complaint.found;
   is_last = complaint.is_last;
 }
@@ -96,7 +123,7 @@ abbrev pub at_end : ℕ → List Field → Option Complaint
 at_end number [] = None
 at_end number (field.Durable ∷ rest) = None
 at_end number (one ∷ rest) =
-    Some (record { field = number; expected = expected.Holds one; found = None; is_last = true })
+    Some (record { field = number; expected = Expected.Holds one; found = None; is_last = true })
 
 abbrev pub or_goes_on : Complaint → Option (List Field) → (List Field → Option Complaint) → Option Complaint
 or_goes_on complaint None more = Some complaint
@@ -105,15 +132,15 @@ or_goes_on complaint (Some rest) more = more rest
 -- The first field at which words leave what is expected.
 unfoldable pub leaves : ℕ → List Field → Words → Option Complaint
 leaves number fields [] = at_end number fields
-leaves number [] (word ∷ words) = Some (stands number expected.End word words)
+leaves number [] (word ∷ words) = Some (stands number Expected.End word words)
 leaves number (one ∷ rest) (word ∷ words) =
-    or_goes_on (stands number (expected.Holds one) word words) (behind one word rest) (λ fields. leaves (number + 1) fields words)
+    or_goes_on (stands number (Expected.Holds one) word words) (behind one word rest) (λ fields. leaves (number + 1) fields words)
 
 -- The same from the first word on, which names a kind of the table.
 abbrev pub leaves_table : Table → Words → Option Complaint
-leaves_table kinds [] = Some (record { field = 1; expected = expected.Names kinds; found = None; is_last = true })
+leaves_table kinds [] = Some (record { field = 1; expected = Expected.Names kinds; found = None; is_last = true })
 leaves_table kinds (word ∷ words) =
-    or_goes_on (stands 1 (expected.Names kinds) word words) (fields_behind (rows_in kinds) word) (λ fields. leaves 2 fields words)
+    or_goes_on (stands 1 (Expected.Names kinds) word words) (fields_behind kinds.rows word) (λ fields. leaves 2 fields words)
 
 -- why a line is none of a table
 abbrev pub complaint : Table → List ℕ → Option Complaint
@@ -128,17 +155,8 @@ listed (word ∷ []) = word
 listed (word ∷ other ∷ []) = word ++ codes " or " ++ other
 listed (word ∷ second ∷ third ∷ words) = word ++ codes ", " ++ listed (second ∷ third ∷ words)
 
-abbrev pub names_in : Table → List ℕ
-names_in kinds = listed (map (λ row. row.name) (rows_in kinds))
-
-abbrev pub table_word : Table → List ℕ
-table_word table.Facts = codes "a kind of fact"
-table_word table.Parts = codes "a kind of line"
-table_word table.Requests = codes "a request"
-table_word table.Replies = codes "a message of the server"
-
 abbrev pub table_words : Table → List ℕ
-table_words kinds = table_word kinds ++ codes ", which is " ++ names_in kinds
+table_words kinds = kinds.word ++ codes ", which is " ++ listed (map (λ row. row.name) kinds.rows)
 
 abbrev pub held_words : Field → List ℕ
 held_words field.Client = codes "a client, which is a number from 1 to 255 without leading zeros"
@@ -165,14 +183,14 @@ held_words field.Reply = []
 
 -- a table is for what takes all that is left
 abbrev pub field_words : Field → List ℕ
-field_words field.Request = table_words table.Requests
-field_words field.Reply = table_words table.Replies
+field_words field.Request = table_words request_table
+field_words field.Reply = table_words reply_table
 field_words other = held_words other
 
 abbrev pub expected_words : Expected → List ℕ
-expected_words (expected.Names kinds) = table_words kinds
-expected_words (expected.Holds one) = field_words one
-expected_words expected.End = codes "the line's end"
+expected_words (Expected.Names kinds) = table_words kinds
+expected_words (Expected.Holds one) = field_words one
+expected_words Expected.End = codes "the line's end"
 
 abbrev pub has : ℕ → List ℕ → Bool
 has byte word = list_any (λ other. other == byte) word
@@ -208,3 +226,10 @@ expected_part number expected = codes "field " ++ decimal number ++ codes ": " +
 
 abbrev pub complaint_words : Complaint → List ℕ
 complaint_words complaint = expected_part complaint.field complaint.expected ++ found_words complaint
+
+-- the same as a line, with the number of the line that it is about
+unfoldable pub line_words : ℕ → List ℕ
+line_words number = codes "line " ++ decimal number ++ codes ", "
+
+abbrev pub complaint_line : ℕ → Complaint → List ℕ
+complaint_line number complaint = line_words number ++ complaint_words complaint ++ 10 ∷ []

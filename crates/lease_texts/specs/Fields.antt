@@ -14,6 +14,7 @@ use Rattle.lease_state.specs.declared.access.Share.{Share}
 use Rattle.lease_state.specs.declared.access.Share.TheVariants as share
 use Rattle.lease_state.specs.declared.content.TheConstants.{FILE_LIMIT}
 use Rattle.lease_state.specs.declared.state.LeaseState.{LeaseState}
+use Rattle.lease_texts.specs.Words.{access_word, of_word, outcome_word, rules_word, share_word, way_word}
 
 -- a decimal number of 64 bits, without sign and without leading zeros
 abbrev pub digit_behind : ℕ → ℕ → Option ℕ
@@ -36,28 +37,18 @@ unfoldable pub bytes_in : List ℕ → Option (List ℕ)
 bytes_in [] = None
 bytes_in (first ∷ digits) = if bytes_eq (first ∷ digits) (codes "-") then Some [] else result_ok (decode_of (first ∷ digits))
 
-unfoldable pub access_in : List ℕ → Option Access
-access_in field =
-    if bytes_eq field (codes "r") then Some access.Read
-    else if bytes_eq field (codes "w") then Some access.Write
-    else if bytes_eq field (codes "rw") then Some access.ReadWrite
-    else None
+abbrev pub access_in : List ℕ → Option Access
+access_in word = of_word access_word (access.Read ∷ access.Write ∷ access.ReadWrite ∷ []) word
 
-unfoldable pub share_in : List ℕ → Option Share
-share_in field =
-    if bytes_eq field (codes "-") then Some share.Nothing
-    else if bytes_eq field (codes "r") then Some share.Read
-    else if bytes_eq field (codes "w") then Some share.Write
-    else if bytes_eq field (codes "rw") then Some share.ReadWrite
-    else None
+abbrev pub share_in : List ℕ → Option Share
+share_in word = of_word share_word (share.Nothing ∷ share.Read ∷ share.Write ∷ share.ReadWrite ∷ []) word
 
-unfoldable pub rules_in : List ℕ → Option Rules
-rules_in field =
-    if bytes_eq field (codes "by-client,as-free") then Some (record { order = Order.ByClient; rise = Rise.AsFree })
-    else if bytes_eq field (codes "by-client,whole") then Some (record { order = Order.ByClient; rise = Rise.Whole })
-    else if bytes_eq field (codes "by-key,as-free") then Some (record { order = Order.ByKey; rise = Rise.AsFree })
-    else if bytes_eq field (codes "by-key,whole") then Some (record { order = Order.ByKey; rise = Rise.Whole })
-    else None
+abbrev pub rules : Order → Rise → Rules
+rules order rise = record { order = order; rise = rise }
+
+abbrev pub rules_in : List ℕ → Option Rules
+rules_in word = of_word rules_word (rules Order.ByClient Rise.AsFree ∷ rules Order.ByClient Rise.Whole
+    ∷ rules Order.ByKey Rise.AsFree ∷ rules Order.ByKey Rise.Whole ∷ []) word
 
 -- the state of a number of the wire
 abbrev pub state_of_wire : ℕ → LeaseState
@@ -75,19 +66,12 @@ state_in field =
     else if bytes_eq field (codes "RWH") then Some (state_of_wire 7)
     else None
 
-unfoldable pub way_in : List ℕ → Option Bool
-way_in field =
-    if bytes_eq field (codes "buffered") then Some true
-    else if bytes_eq field (codes "through") then Some false
-    else None
+abbrev pub way_in : List ℕ → Option Bool
+way_in word = of_word way_word (true ∷ false ∷ []) word
 
-unfoldable pub outcome_in : List ℕ → Option Settlement
-outcome_in field =
-    if bytes_eq field (codes "done") then Some settlement.Done
-    else if bytes_eq field (codes "failed") then Some settlement.Failed
-    else if bytes_eq field (codes "unknown") then Some settlement.Unknown
-    else if bytes_eq field (codes "lost") then Some settlement.Lost
-    else None
+abbrev pub outcome_in : List ℕ → Option Settlement
+outcome_in word =
+    of_word outcome_word (settlement.Done ∷ settlement.Failed ∷ settlement.Unknown ∷ settlement.Lost ∷ []) word
 
 -- as many bytes as a message has
 abbrev pub sized_in : ℕ → List ℕ → Option (List ℕ)

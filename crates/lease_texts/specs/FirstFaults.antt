@@ -2,15 +2,11 @@
 use Rattle.std.specs.Prelude.{◌≡◌, ◌↔◌, ◌+◌, ◌++◌, ℕ, Bool, true, false, List, [], ◌∷◌, length, drop, bytes_eq, codes, is_some}
 use Rattle.std.specs.Prelude.{Option, Some, None}
 use Rattle.std.specs.List.{list_any}
-use Rattle.lease_texts.specs.Complaints.{Complaint, Row, is_nil, rows_in}
+use Rattle.lease_texts.specs.Complaints.{Complaint, Expected, Row, Table, is_nil, reply_table, request_table}
 use Rattle.lease_texts.specs.Kinds.{Kind, Words, value_in}
 use Rattle.lease_texts.specs.Pieces.{fields_of}
 use Rattle.lease_texts.specs.Tables.{Saying, Tells}
-use Rattle.lease_texts.specs.declared.complaints.expected.Expected.{Expected}
-use Rattle.lease_texts.specs.declared.complaints.expected.Expected.TheVariants as expected
 use Rattle.lease_texts.specs.declared.kinds.Field.TheVariants as field
-use Rattle.lease_texts.specs.declared.kinds.Table.{Table}
-use Rattle.lease_texts.specs.declared.kinds.Table.TheVariants as table
 
 -- some kinds of words
 abbrev pub WordsThat : Type 1
@@ -34,16 +30,16 @@ first_of [] = None
 first_of (word ∷ words) = Some word
 
 abbrev pub is_name : Table → List ℕ → Bool
-is_name kinds word = list_any (λ (row : Row). bytes_eq word row.name) (rows_in kinds)
+is_name kinds word = list_any (λ (row : Row). bytes_eq word row.name) kinds.rows
 
 -- the word is one of those that were expected
 abbrev pub is_expected : Expected → List ℕ → Bool
-is_expected (expected.Names kinds) word = is_name kinds word
-is_expected (expected.Holds field.Durable) word = bytes_eq word (codes "durable")
-is_expected (expected.Holds field.Request) word = is_name table.Requests word
-is_expected (expected.Holds field.Reply) word = is_name table.Replies word
-is_expected (expected.Holds other) word = is_some (value_in other word)
-is_expected expected.End word = false
+is_expected (Expected.Names kinds) word = is_name kinds word
+is_expected (Expected.Holds field.Durable) word = bytes_eq word (codes "durable")
+is_expected (Expected.Holds field.Request) word = is_name request_table word
+is_expected (Expected.Holds field.Reply) word = is_name reply_table word
+is_expected (Expected.Holds other) word = is_some (value_in other word)
+is_expected Expected.End word = false
 
 -- The complaint, about words of which the first has this number, is of the first field that no line has: with the fields before
 -- it some line begins, with this one behind them none; and the words that may stand there are those that were expected.

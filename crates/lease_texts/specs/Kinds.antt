@@ -16,8 +16,8 @@ use Rattle.lease_state.specs.declared.key.LeaseKey.{LeaseKey}
 use Rattle.lease_state.specs.declared.request.Request as requests
 use Rattle.lease_state.specs.declared.state.LeaseState.{LeaseState}
 use Rattle.lease_state.specs.declared.rules.Rules.{Rules}
-use Rattle.lease_texts.specs.Fields.{ordinal_in, number_in, offset_in, bytes_in, content_in, access_in, share_in, rules_in, state_in}
-use Rattle.lease_texts.specs.Fields.{way_in, outcome_in, sized_in}
+use Rattle.lease_texts.specs.Fields.{ordinal_in, number_in, offset_in, bytes_in, content_in, access_in, share_in, rules_in}
+use Rattle.lease_texts.specs.Fields.{state_in, way_in, outcome_in, sized_in}
 use Rattle.lease_texts.specs.Statuses.{given_word, status_in}
 use Rattle.lease_texts.specs.Words.{state_word, digits_word, access_word, share_word, rules_word, outcome_word, way_word}
 use Rattle.lease_texts.specs.declared.kinds.Field.{Field}

@@ -1,14 +1,13 @@
 -- What is true of records and schedules as texts.
 use Rattle.std.specs.Prelude.{◌≡◌, ◌+◌, ◌++◌, ℕ, List, length, Ok}
 use Rattle.lease_facts.specs.declared.fact.Fact.{Fact}
-use Rattle.lease_texts.specs.Complaints.{complaint}
+use Rattle.lease_texts.specs.Complaints.{complaint, fact_table, part_table}
 use Rattle.lease_texts.specs.FirstFaults.{ComplainsExactly}
 use Rattle.lease_texts.specs.Pieces.{lines_of}
 use Rattle.lease_texts.specs.Reading.{reads_on}
 use Rattle.lease_texts.specs.Records.{fact_in, fact_kinds, fact_said, record_in, record_text, with_line}
 use Rattle.lease_texts.specs.Schedules.{Draft, part_in, part_kinds, part_said, schedule_in, schedule_text}
 use Rattle.lease_texts.specs.Tables.{AreReadBack, CanBeWritten, Each, FieldSays, ReadsExactly}
-use Rattle.lease_texts.specs.declared.kinds.Table.TheVariants as table
 use Rattle.lease_texts.specs.declared.parts.Part.TheVariants as part
 
 -- What is read in a line is the fact, or the part of a schedule, that the line tells.
@@ -20,10 +19,10 @@ LinesTellParts = ReadsExactly part_kinds part_in
 
 -- What is said of a line that is no fact, or no part of a schedule, is its first fault.
 abbrev pub FactFaultsAreFirst : Type 0
-FactFaultsAreFirst = ComplainsExactly FieldSays fact_kinds fact_in (complaint table.Facts)
+FactFaultsAreFirst = ComplainsExactly FieldSays fact_kinds fact_in (complaint fact_table)
 
 abbrev pub PartFaultsAreFirst : Type 0
-PartFaultsAreFirst = ComplainsExactly FieldSays part_kinds part_in (complaint table.Parts)
+PartFaultsAreFirst = ComplainsExactly FieldSays part_kinds part_in (complaint part_table)
 
 -- A line can say the fact, and so can one the part of a schedule.
 abbrev pub CanBeTold : Fact → Type 0

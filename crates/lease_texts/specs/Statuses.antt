@@ -1,11 +1,12 @@
 -- Statuses as they are written (MS-ERREF 2.3.1): by a name where the rules have one, and else by the eight digits of a number.
-use Rattle.std.specs.Prelude.{ℕ, ◌==◌, List, codes, bytes_eq, if◌then◌else◌, Option, Some, None, Result, Ok, Err}
+use Rattle.std.specs.Prelude.{ℕ, ◌==◌, List, codes, [], ◌∷◌, if◌then◌else◌, Option, Some, None, Result, Ok, Err}
 use Rattle.std.specs.Int.{w32, to_be_bytes, from_be_bytes}
 use Rattle.hex.specs.Hex.{decode_sized, encode_lower}
 use Rattle.hex.specs.declared.error.FromHexError.{FromHexError}
 use Rattle.lease_state.specs.Status.{code_of}
 use Rattle.lease_state.specs.declared.status.Status.{Status}
 use Rattle.lease_state.specs.declared.status.Status.TheVariants as status
+use Rattle.lease_texts.specs.Words.{of_word}
 use Rattle.lease_texts.specs.declared.status.GivenStatus.{GivenStatus}
 
 unfoldable pub status_word : Status → List ℕ
@@ -25,17 +26,10 @@ given_word (Some number) status = encode_lower (to_be_bytes w32 number)
 
 -- ---- what a field says
 
-unfoldable pub status_named : List ℕ → Option Status
-status_named field =
-    if bytes_eq field (codes "STATUS_UNSUCCESSFUL") then Some status.Unsuccessful
-    else if bytes_eq field (codes "STATUS_INVALID_PARAMETER") then Some status.InvalidParameter
-    else if bytes_eq field (codes "STATUS_ACCESS_DENIED") then Some status.AccessDenied
-    else if bytes_eq field (codes "STATUS_OBJECT_NAME_NOT_FOUND") then Some status.ObjectNameNotFound
-    else if bytes_eq field (codes "STATUS_SHARING_VIOLATION") then Some status.SharingViolation
-    else if bytes_eq field (codes "STATUS_INSUFFICIENT_RESOURCES") then Some status.InsufficientResources
-    else if bytes_eq field (codes "STATUS_REQUEST_NOT_ACCEPTED") then Some status.RequestNotAccepted
-    else if bytes_eq field (codes "STATUS_FILE_CLOSED") then Some status.FileClosed
-    else None
+abbrev pub status_named : List ℕ → Option Status
+status_named word = of_word status_word (status.Unsuccessful ∷ status.InvalidParameter ∷ status.AccessDenied
+    ∷ status.ObjectNameNotFound ∷ status.SharingViolation ∷ status.InsufficientResources ∷ status.RequestNotAccepted
+    ∷ status.FileClosed ∷ []) word
 
 -- the status of a number, where the rules have it
 unfoldable pub status_numbered : ℕ → Option Status

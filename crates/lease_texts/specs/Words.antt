@@ -1,5 +1,5 @@
 -- The words that are written for values.
-use Rattle.std.specs.Prelude.{ℕ, Bool, true, false, List, [], ◌∷◌, codes}
+use Rattle.std.specs.Prelude.{ℕ, Bool, true, false, List, [], ◌∷◌, codes, bytes_eq, if◌then◌else◌, Option, Some, None}
 use Rattle.hex.specs.Hex.{encode_lower}
 use Rattle.lease_client.specs.declared.values.note.Settlement.{Settlement}
 use Rattle.lease_client.specs.declared.values.note.Settlement.TheVariants as settlement
@@ -11,6 +11,11 @@ use Rattle.lease_state.specs.declared.access.Share.TheVariants as share
 use Rattle.lease_state.specs.declared.rules.Order.{Order}
 use Rattle.lease_state.specs.declared.rules.Rise.{Rise}
 use Rattle.lease_state.specs.declared.rules.Rules.{Rules}
+
+-- the value with this word, among some of which each has one
+unfoldable pub of_word : {X : Type 0} → (X → List ℕ) → List X → List ℕ → Option X
+of_word word_of [] word = None
+of_word word_of (x ∷ xs) word = if bytes_eq word (word_of x) then Some x else of_word word_of xs word
 
 -- the letters of a state in the order R, W, H, or "none"
 abbrev pub state_word : State → List ℕ

@@ -6,4 +6,4 @@ mod telling;
 
 pub use expected::Expected;
 pub use finding::{Complaint, complaint_about};
-pub use telling::push_complaint;
+pub use telling::{push_complaint, push_complaint_line};

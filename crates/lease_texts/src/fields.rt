@@ -9,8 +9,8 @@ use crate::fault::LineFault;
 use crate::pieces::split_first;
 use crate::status::{GivenStatus, status_in};
 use crate::words::{
-    access_in, bytes_in, content_in, guid_in, key_in, message_in, notification_in, number_in,
-    offset_in, ordinal_in, outcome_in, rules_in, share_in, state_in, way_in,
+    access_in, bytes_in, content_in, guid_in, number_in, offset_in, ordinal_in, outcome_in,
+    rules_in, share_in, sized_in, state_in, way_in,
 };
 use lease_client::Settlement;
 use lease_facts::is;
@@ -85,30 +85,24 @@ impl<'a> Fields<'a> {
     pub fn client(&mut self) -> Result<ClientNo, LineFault>
         ensures { Takes (word_read field.Client) self.old self.new result }
     {
-        match ordinal_in(self.next()?) {
-            Some(number) => Ok(ClientNo(number)),
-            None => Err(LineFault::Refused),
-        }
+        let number = ordinal_in(self.next()?).ok_or(LineFault::Refused)?;
+        Ok(ClientNo(number))
     }
 
     /// The number of a file, from 1 to 255.
     pub fn file(&mut self) -> Result<FileNo, LineFault>
         ensures { Takes (word_read field.File) self.old self.new result }
     {
-        match ordinal_in(self.next()?) {
-            Some(number) => Ok(FileNo(number)),
-            None => Err(LineFault::Refused),
-        }
+        let number = ordinal_in(self.next()?).ok_or(LineFault::Refused)?;
+        Ok(FileNo(number))
     }
 
     /// A FileId, of at most 64 bits.
     pub fn file_id(&mut self) -> Result<FileId, LineFault>
         ensures { Takes (word_read field.FileId) self.old self.new result }
     {
-        match number_in(self.next()?) {
-            Some(number) => Ok(FileId(number)),
-            None => Err(LineFault::Refused),
-        }
+        let number = number_in(self.next()?).ok_or(LineFault::Refused)?;
+        Ok(FileId(number))
     }
 
     /// A decimal number of at most 64 bits, without sign and without leading zeros.
@@ -203,24 +197,22 @@ impl<'a> Fields<'a> {
     pub fn message(&mut self) -> Result<[u8; 36], LineFault>
         ensures { Takes (word_read field.Message) self.old self.new result }
     {
-        message_in(self.next()?).ok_or(LineFault::Refused)
+        sized_in(self.next()?).ok_or(LineFault::Refused)
     }
 
     /// A lease key, as the 32 digits of its bytes.
     pub fn key(&mut self) -> Result<LeaseKey, LineFault>
         ensures { Takes (word_read field.Key) self.old self.new result }
     {
-        match key_in(self.next()?) {
-            Some(key) => Ok(LeaseKey(key)),
-            None => Err(LineFault::Refused),
-        }
+        let key = sized_in(self.next()?).ok_or(LineFault::Refused)?;
+        Ok(LeaseKey(key))
     }
 
     /// A lease break notification's 44 bytes.
     pub fn notification(&mut self) -> Result<[u8; 44], LineFault>
         ensures { Takes (word_read field.Notification) self.old self.new result }
     {
-        notification_in(self.next()?).ok_or(LineFault::Refused)
+        sized_in(self.next()?).ok_or(LineFault::Refused)
     }
 
     /// A status, by its name or by the eight hexadecimal digits of its number.

@@ -9,11 +9,13 @@ ghost use Rattle.lease_texts.specs.Laws.{SchedulesAreReadBack, TextsGoOn};
 /// between single spaces stand the name of a kind of fact and the words of its fields. No line is
 /// that of two facts, or of one by two kinds, and a line is refused exactly where it is that of
 /// none. Does nothing.
+#[tactic(auto, using(crate::proofs::Rows::facts_told))]
 pub fn lines_tell_facts()
     ensures facts { LinesTellFacts }
 {}
 
 /// The same of the lines of schedules: their files and clients, and what happens. Does nothing.
+#[tactic(auto, using(crate::proofs::Rows::parts_told))]
 pub fn lines_tell_parts()
     ensures parts { LinesTellParts }
 {}
@@ -22,6 +24,7 @@ pub fn lines_tell_parts()
 /// schedule. It is of the first field that no line has: some line of the table begins with the fields
 /// before it, and none goes on with this one, or none ends there. The words that may stand in that
 /// field are those that it says were expected. Does nothing.
+#[tactic(auto, using(crate::proofs::Rows::facts_complained, crate::proofs::Rows::parts_complained))]
 pub fn complaints_name_first_faults()
     ensures facts { FactFaultsAreFirst }
     ensures parts { PartFaultsAreFirst }
@@ -29,6 +32,7 @@ pub fn complaints_name_first_faults()
 
 /// The line of each fact that can be written is one line, counts for something, and is read as that
 /// fact; and so it is with the files, clients and events of schedules. Does nothing.
+#[tactic(auto, using(crate::proofs::Rows::facts_back, crate::proofs::Rows::parts_back))]
 pub fn lines_are_read_back()
     ensures facts { FactsAreReadBack }
     ensures parts { PartsAreReadBack }
@@ -36,6 +40,7 @@ pub fn lines_are_read_back()
 
 /// The text of each record whose facts can be written is read as that record, and what follows it
 /// in a text is read after it. Does nothing.
+#[tactic(auto, using(crate::proofs::Texts::records_back, crate::proofs::Texts::texts_go_on))]
 pub fn records_are_read_back()
     ensures records { RecordsAreReadBack }
     ensures behind { TextsGoOn }
@@ -43,6 +48,7 @@ pub fn records_are_read_back()
 
 /// The text of a schedule, its setup and its events, is read as that schedule, if lines can hold
 /// it. Does nothing.
+#[tactic(auto, using(crate::proofs::Texts::schedules_back))]
 pub fn schedules_are_read_back()
     ensures schedules { SchedulesAreReadBack }
 {}

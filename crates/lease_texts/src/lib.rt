@@ -3,7 +3,8 @@
 //! `read_schedule` gives the setup and the events of a run, and `push_setup` and `push_event` write
 //! their lines. `read_fact` gives the fact that a line of a record is, and `push_fact` writes that
 //! line. A line is cut into `Fields`, which are read one after the other, as the row of its kind in
-//! a `Table` has them. docs/FORMATS.md has every line.
+//! a `Table` has them; `complaint_about` says what a line lacks to be one of a table. docs/FORMATS.md
+//! has every line.
 #![tactic(auto)]
 
 mod complaints;
@@ -23,7 +24,7 @@ mod schedule;
 mod status;
 mod words;
 
-pub use complaints::{Complaint, Expected, complaint_about, push_complaint};
+pub use complaints::{Complaint, Expected, complaint_about, push_complaint, push_complaint_line};
 pub use fault::{LineFault, TextFault};
 pub use fields::Fields;
 pub use kinds::{Field, Row, Table};
@@ -33,11 +34,11 @@ pub use laws::{
 };
 pub use lease_facts::is;
 pub use lines::{first_line, is_passed_over};
-pub use parts::{Part, push_event, read_part, read_part_of};
+pub use parts::{Part, part_table, push_event, read_part};
 pub use quoting::{push_all_escaped, push_quoted};
-pub use records::{push_changed, push_fact, push_opened, read_fact};
-pub use replies::{Arrival, read_arrival};
-pub use requests::read_request;
+pub use records::{fact_table, push_fact, read_fact};
+pub use replies::{Arrival, read_arrival, reply_table};
+pub use requests::{read_request, request_table};
 pub use said::{Said, push_line};
 pub use schedule::{Schedule, push_setup, read_schedule};
 pub use status::{GivenStatus, push_given, status_word};

@@ -3,6 +3,7 @@
 ghost use Rattle.std.specs.Prelude.{◌≡◌, ◌++◌, Some, None, MatchResult, OnOk, drop};
 ghost use Rattle.std.specs.String.{string_bytes};
 ghost use Rattle.lease_facts.specs.declared.setup.Event.TheVariants as event;
+ghost use Rattle.lease_texts.specs.Complaints.{part_table, table_of};
 ghost use Rattle.lease_texts.specs.Kinds.{named};
 ghost use Rattle.lease_texts.specs.Lines.{field_read};
 ghost use Rattle.lease_texts.specs.Schedules.{app, event_line, part_in, part_kinds, part_line};
@@ -10,22 +11,53 @@ ghost use Rattle.lease_texts.specs.Takes.{Takes, Reads};
 
 use crate::fault::LineFault;
 use crate::fields::Fields;
+use crate::kinds::Field::{
+    Access, Bytes, Client, Content, Durable, File, Guid, Offset, Request, Share, State,
+};
+use crate::kinds::{Row, Table};
 use crate::requests::read_request;
-use crate::said::Said::{Access, Bytes, Client, Durable, File, Offset, Request, Share, State};
-use crate::said::push_line;
+use crate::said::line;
 use lease_client::Command;
 use lease_facts::{Event, is};
-use lease_state::{ClientNo, Content, Patch};
+use lease_state::{ClientNo, Patch};
 use std::alloc::{AllocError, Global};
 
 /// What one line adds to a schedule.
 #[derive(Debug, Drop)]
 pub enum Part {
     /// A file with its first bytes.
-    File(Content),
+    File(lease_state::Content),
     /// A client with its ClientGuid.
     Client([u8; 16]),
     Happens(Event),
+}
+
+const PARTS: &[Row] = &[
+    Row("file", &[Content]),
+    Row("client", &[Guid]),
+    Row("open", &[Client, File, Access, Share, State, Durable]),
+    Row("close", &[Client, File]),
+    Row("read", &[Client, File]),
+    Row("flush", &[Client, File]),
+    Row("write", &[Client, File, Offset, Bytes]),
+    Row("serve", &[Client]),
+    Row("take", &[Client]),
+    Row("cut", &[Client]),
+    Row("notice", &[Client]),
+    Row("connect", &[Client]),
+    Row("expire", &[Client, File]),
+    Row("scavenge", &[Client, File]),
+    Row("raw", &[Client, Request]),
+];
+
+/// The lines of schedules.
+pub fn part_table() -> Table
+    ensures { table_of result ≡ part_table }
+{
+    Table {
+        word: "a kind of line",
+        rows: PARTS,
+    }
 }
 
 // ---- reading
@@ -98,13 +130,9 @@ fn read_command(alloc: Global, word: &[u8], fields: &mut Fields) -> Result<Part,
     }
 }
 
-/// What a line of a kind adds to a schedule, by the fields after the word that names the kind.
-///
-/// # Errors
-///
-/// `Refused` where they are none of that kind, and `Memory` where there is none left for it.
+// What a line of a kind adds to a schedule, by its word and the fields after it.
 #[tactic(auto, unfolding(crate::specs::Kinds::named, crate::specs::Kinds::taken))]
-pub fn read_part_of(alloc: Global, word: &[u8], fields: &mut Fields) -> Result<Part, LineFault>
+fn read_named(alloc: Global, word: &[u8], fields: &mut Fields) -> Result<Part, LineFault>
     ensures { Takes (named field_read part_kinds word.now) fields.old fields.new result }
 {
     if is(word, b"file") {
@@ -127,7 +155,7 @@ pub fn read_part(alloc: Global, line: &[u8]) -> Result<Part, LineFault>
 {
     let mut fields = Fields::of(line);
     let word = fields.next()?;
-    let part = read_part_of(alloc, word, &mut fields)?;
+    let part = read_named(alloc, word, &mut fields)?;
     fields.end()?;
     Ok(part)
 }
@@ -145,31 +173,13 @@ fn push_command(text: &mut String, client: ClientNo, command: &Command) -> Resul
             share,
             want,
             durable,
-        } => push_line(
-            text,
-            "open",
-            &[
-                Client(client),
-                File(*file),
-                Access(*access),
-                Share(*share),
-                State(*want),
-                Durable(*durable),
-            ],
-        ),
-        Command::Close { file } => push_line(text, "close", &[Client(client), File(*file)]),
-        Command::Read { file } => push_line(text, "read", &[Client(client), File(*file)]),
-        Command::Write { file, patch } => push_line(
-            text,
-            "write",
-            &[
-                Client(client),
-                File(*file),
-                Offset(patch.offset),
-                Bytes(patch.bytes.as_slice()),
-            ],
-        ),
-        Command::Flush { file } => push_line(text, "flush", &[Client(client), File(*file)]),
+        } =>
+            line!(text, "open", Client: client, File: *file, Access: *access, Share: *share, State: *want, Durable: *durable),
+        Command::Close { file } => line!(text, "close", Client: client, File: *file),
+        Command::Read { file } => line!(text, "read", Client: client, File: *file),
+        Command::Write { file, patch } =>
+            line!(text, "write", Client: client, File: *file, Offset: patch.offset, Bytes: patch.bytes.as_slice()),
+        Command::Flush { file } => line!(text, "flush", Client: client, File: *file),
     }
 }
 
@@ -179,17 +189,13 @@ pub fn push_event(text: &mut String, happening: &Event) -> Result<(), AllocError
 {
     match happening {
         Event::App(client, command) => push_command(text, *client, command),
-        Event::ServerTakes(client) => push_line(text, "serve", &[Client(*client)]),
-        Event::ClientTakes(client) => push_line(text, "take", &[Client(*client)]),
-        Event::Cut(client) => push_line(text, "cut", &[Client(*client)]),
-        Event::Notice(client) => push_line(text, "notice", &[Client(*client)]),
-        Event::Connect(client) => push_line(text, "connect", &[Client(*client)]),
-        Event::Expire(client, file) => push_line(text, "expire", &[Client(*client), File(*file)]),
-        Event::Scavenge(client, file) => push_line(
-            text,
-            "scavenge",
-            &[Client(*client), File(*file)],
-        ),
-        Event::Raw(client, asked) => push_line(text, "raw", &[Client(*client), Request(asked)]),
+        Event::ServerTakes(client) => line!(text, "serve", Client: *client),
+        Event::ClientTakes(client) => line!(text, "take", Client: *client),
+        Event::Cut(client) => line!(text, "cut", Client: *client),
+        Event::Notice(client) => line!(text, "notice", Client: *client),
+        Event::Connect(client) => line!(text, "connect", Client: *client),
+        Event::Expire(client, file) => line!(text, "expire", Client: *client, File: *file),
+        Event::Scavenge(client, file) => line!(text, "scavenge", Client: *client, File: *file),
+        Event::Raw(client, asked) => line!(text, "raw", Client: *client, Request: asked),
     }
 }

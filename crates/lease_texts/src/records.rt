@@ -2,7 +2,7 @@
 
 ghost use Rattle.std.specs.Prelude.{◌≡◌, ◌++◌, Some, None, MatchResult, OnOk, drop};
 ghost use Rattle.std.specs.String.{string_bytes};
-ghost use Rattle.lease_facts.specs.declared.fact.Fact.TheVariants as fact;
+ghost use Rattle.lease_texts.specs.Complaints.{fact_table, table_of};
 ghost use Rattle.lease_texts.specs.Kinds.{named};
 ghost use Rattle.lease_texts.specs.Lines.{field_read};
 ghost use Rattle.lease_texts.specs.Records.{fact_in, fact_kinds, fact_line};
@@ -10,12 +10,39 @@ ghost use Rattle.lease_texts.specs.Takes.{Takes, Reads};
 
 use crate::fault::LineFault;
 use crate::fields::Fields;
-use crate::said::Said::{Bytes, Client, Content, File, Number, Offset, Outcome, State, Way};
-use crate::said::push_line;
+use crate::kinds::Field::{Bytes, Client, Content, File, Number, Offset, Outcome, State, Way};
+use crate::kinds::{Row, Table};
+use crate::said::line;
 use lease_client::SharedBytes;
 use lease_facts::{Fact, is};
-use lease_state::{ClientNo, FileNo, Patch};
+use lease_state::Patch;
 use std::alloc::{AllocError, Global};
+
+const FACTS: &[Row] = &[
+    Row("start", &[File, Content]),
+    Row("joined", &[Client]),
+    Row("dropped", &[Client]),
+    Row("expired", &[Client, File]),
+    Row("sent", &[Client]),
+    Row("took", &[Client]),
+    Row("opened", &[File, Client]),
+    Row("changed", &[File, Client, Number, Offset, Bytes]),
+    Row("wrote", &[Client, File, Number, Offset, Bytes, Way]),
+    Row("settled", &[Client, Number, Outcome]),
+    Row("believes", &[Client, File, State]),
+    Row("cachedread", &[Client, File, Bytes]),
+    Row("strayed", &[Client]),
+];
+
+/// The lines of records.
+pub fn fact_table() -> Table
+    ensures { table_of result ≡ fact_table }
+{
+    Table {
+        word: "a kind of fact",
+        rows: FACTS,
+    }
+}
 
 // ---- reading
 
@@ -95,84 +122,30 @@ pub fn read_fact(alloc: Global, line: &[u8]) -> Result<Fact, LineFault>
 
 // ---- writing
 
-/// Adds the line of the fact that the server opened a file for a client.
-pub fn push_opened(text: &mut String, file: FileNo, client: ClientNo) -> Result<(), AllocError>
-    ensures { OnOk result (string_bytes text.new ≡ string_bytes text.old ++ fact_line (fact.Opened file client)) }
-{
-    push_line(text, "opened", &[File(file), Client(client)])
-}
-
-/// Adds the line of the fact that the server changed a file by a client's write of this number.
-pub fn push_changed(
-    text: &mut String,
-    file: FileNo,
-    client: ClientNo,
-    number: u64,
-    patch: &Patch,
-) -> Result<(), AllocError>
-    ensures { OnOk result (string_bytes text.new
-        ≡ string_bytes text.old ++ fact_line (fact.Changed file client number patch.now)) }
-{
-    let bytes = Bytes(patch.bytes.as_slice());
-    push_line(
-        text,
-        "changed",
-        &[
-            File(file),
-            Client(client),
-            Number(number),
-            Offset(patch.offset),
-            bytes,
-        ],
-    )
-}
-
 /// Adds the line of a fact.
 pub fn push_fact(text: &mut String, told: &Fact) -> Result<(), AllocError>
     ensures { OnOk result (string_bytes text.new ≡ string_bytes text.old ++ fact_line told.now) }
 {
     match told {
-        Fact::Start(file, bytes) => push_line(
-            text,
-            "start",
-            &[File(*file), Content(bytes.as_slice())],
-        ),
-        Fact::Joined(client) => push_line(text, "joined", &[Client(*client)]),
-        Fact::Dropped(client) => push_line(text, "dropped", &[Client(*client)]),
-        Fact::Expired(client, file) => push_line(text, "expired", &[Client(*client), File(*file)]),
-        Fact::Sent(client) => push_line(text, "sent", &[Client(*client)]),
-        Fact::Took(client) => push_line(text, "took", &[Client(*client)]),
-        Fact::Opened(file, client) => push_opened(text, *file, *client),
-        Fact::Changed(file, client, number, patch) => push_changed(
-            text, *file, *client, *number, patch,
-        ),
-        Fact::Wrote(client, file, number, patch, buffered) => push_line(
-            text,
-            "wrote",
-            &[
-                Client(*client),
-                File(*file),
-                Number(*number),
-                Offset(patch.offset),
-                Bytes(patch.bytes.as_slice()),
-                Way(*buffered),
-            ],
-        ),
-        Fact::Settled(client, number, outcome) => push_line(
-            text,
-            "settled",
-            &[Client(*client), Number(*number), Outcome(*outcome)],
-        ),
-        Fact::Believes(client, file, state) => push_line(
-            text,
-            "believes",
-            &[Client(*client), File(*file), State(*state)],
-        ),
-        Fact::CachedRead(client, file, bytes) => push_line(
-            text,
-            "cachedread",
-            &[Client(*client), File(*file), Bytes(bytes.as_slice())],
-        ),
-        Fact::Strayed(client) => push_line(text, "strayed", &[Client(*client)]),
+        Fact::Start(file, bytes) => line!(text, "start", File: *file, Content: bytes.as_slice()),
+        Fact::Joined(client) => line!(text, "joined", Client: *client),
+        Fact::Dropped(client) => line!(text, "dropped", Client: *client),
+        Fact::Expired(client, file) => line!(text, "expired", Client: *client, File: *file),
+        Fact::Sent(client) => line!(text, "sent", Client: *client),
+        Fact::Took(client) => line!(text, "took", Client: *client),
+        Fact::Opened(file, client) => line!(text, "opened", File: *file, Client: *client),
+        Fact::Changed(file, client, number, patch) =>
+            line!(text, "changed", File: *file, Client: *client, Number: *number,
+                Offset: patch.offset, Bytes: patch.bytes.as_slice()),
+        Fact::Wrote(client, file, number, patch, buffered) =>
+            line!(text, "wrote", Client: *client, File: *file, Number: *number,
+                Offset: patch.offset, Bytes: patch.bytes.as_slice(), Way: *buffered),
+        Fact::Settled(client, number, outcome) =>
+            line!(text, "settled", Client: *client, Number: *number, Outcome: *outcome),
+        Fact::Believes(client, file, state) =>
+            line!(text, "believes", Client: *client, File: *file, State: *state),
+        Fact::CachedRead(client, file, bytes) =>
+            line!(text, "cachedread", Client: *client, File: *file, Bytes: bytes.as_slice()),
+        Fact::Strayed(client) => line!(text, "strayed", Client: *client),
     }
 }

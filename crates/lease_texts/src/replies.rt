@@ -2,6 +2,7 @@
 
 ghost use Rattle.std.specs.Prelude.{◌≡◌, ◌++◌, Some, None, MatchResult, OnOk, drop};
 ghost use Rattle.std.specs.String.{string_bytes};
+ghost use Rattle.lease_texts.specs.Complaints.{reply_table, table_of};
 ghost use Rattle.lease_texts.specs.Kinds.{named, word_read};
 ghost use Rattle.lease_texts.specs.Replies.{arrival_in, reply_kinds, reply_said};
 ghost use Rattle.lease_texts.specs.Requests.{plain_text};
@@ -9,8 +10,9 @@ ghost use Rattle.lease_texts.specs.Takes.{Takes};
 
 use crate::fault::LineFault;
 use crate::fields::Fields;
-use crate::said::Said::{Bytes, File, FileId, Message, Notification, Number, Status};
-use crate::said::push_plain;
+use crate::kinds::Field::{Bytes, File, FileId, Message, Notification, Number, Status};
+use crate::kinds::{Row, Table};
+use crate::said::plain;
 use crate::status::GivenStatus;
 use lease_facts::is;
 use lease_state::Reply;
@@ -25,6 +27,30 @@ pub struct Arrival {
     pub other: Option<u32>,
 }
 
+const REPLIES: &[Row] = &[
+    Row("created", &[File, FileId, Bytes]),
+    Row("createfailed", &[File, Status]),
+    Row("readdone", &[FileId, Bytes]),
+    Row("readfailed", &[FileId, Status]),
+    Row("writedone", &[FileId, Number]),
+    Row("writefailed", &[FileId, Number, Status]),
+    Row("closed", &[FileId]),
+    Row("closefailed", &[FileId, Status]),
+    Row("break", &[Notification]),
+    Row("ackdone", &[Message]),
+    Row("ackfailed", &[Status]),
+];
+
+/// What a server sends.
+pub fn reply_table() -> Table
+    ensures { table_of result ≡ reply_table }
+{
+    Table {
+        word: "a message of the server",
+        rows: REPLIES,
+    }
+}
+
 // A message, with the number of a status that the rules don't have.
 fn given(other: Option<u32>, reply: Reply) -> Arrival
     ensures { result ≡ record { reply = reply; other = other } }
@@ -37,12 +63,8 @@ fn read_later(word: &[u8], fields: &mut Fields) -> Result<Arrival, LineFault>
     ensures { Takes (named word_read (drop 6 reply_kinds) word.now) fields.old fields.new result }
 {
     if is(word, b"closed") {
-        Ok(given(
-            None,
-            Reply::Closed {
-                fid: fields.file_id()?,
-            },
-        ))
+        let fid = fields.file_id()?;
+        Ok(given(None, Reply::Closed { fid }))
     } else if is(word, b"closefailed") {
         let (fid, GivenStatus { status, other }) = (fields.file_id()?, fields.status()?);
         Ok(given(other, Reply::CloseFailed { fid, status }))
@@ -131,48 +153,25 @@ pub(crate) fn push_reply(text: &mut String, told: &Reply) -> Result<(), AllocErr
             file,
             fid,
             contexts,
-        } => push_plain(
-            text,
-            "created",
-            &[File(*file), FileId(*fid), Bytes(contexts.as_slice())],
-        ),
-        Reply::CreateFailed { file, status } => push_plain(
-            text,
-            "createfailed",
-            &[File(*file), Status(*status)],
-        ),
-        Reply::ReadDone { fid, bytes } => push_plain(
-            text,
-            "readdone",
-            &[FileId(*fid), Bytes(bytes.as_slice())],
-        ),
-        Reply::ReadFailed { fid, status } => push_plain(
-            text,
-            "readfailed",
-            &[FileId(*fid), Status(*status)],
-        ),
-        Reply::WriteDone { fid, number } => push_plain(
-            text,
-            "writedone",
-            &[FileId(*fid), Number(*number)],
-        ),
+        } => plain!(text, "created", File: *file, FileId: *fid, Bytes: contexts.as_slice()),
+        Reply::CreateFailed { file, status } =>
+            plain!(text, "createfailed", File: *file, Status: *status),
+        Reply::ReadDone { fid, bytes } =>
+            plain!(text, "readdone", FileId: *fid, Bytes: bytes.as_slice()),
+        Reply::ReadFailed { fid, status } =>
+            plain!(text, "readfailed", FileId: *fid, Status: *status),
+        Reply::WriteDone { fid, number } =>
+            plain!(text, "writedone", FileId: *fid, Number: *number),
         Reply::WriteFailed {
             fid,
             number,
             status,
-        } => push_plain(
-            text,
-            "writefailed",
-            &[FileId(*fid), Number(*number), Status(*status)],
-        ),
-        Reply::Closed { fid } => push_plain(text, "closed", &[FileId(*fid)]),
-        Reply::CloseFailed { fid, status } => push_plain(
-            text,
-            "closefailed",
-            &[FileId(*fid), Status(*status)],
-        ),
-        Reply::Break(message) => push_plain(text, "break", &[Notification(message.as_slice())]),
-        Reply::AckDone(message) => push_plain(text, "ackdone", &[Message(message.as_slice())]),
-        Reply::AckFailed { status } => push_plain(text, "ackfailed", &[Status(*status)]),
+        } => plain!(text, "writefailed", FileId: *fid, Number: *number, Status: *status),
+        Reply::Closed { fid } => plain!(text, "closed", FileId: *fid),
+        Reply::CloseFailed { fid, status } =>
+            plain!(text, "closefailed", FileId: *fid, Status: *status),
+        Reply::Break(message) => plain!(text, "break", Notification: message.as_slice()),
+        Reply::AckDone(message) => plain!(text, "ackdone", Message: message.as_slice()),
+        Reply::AckFailed { status } => plain!(text, "ackfailed", Status: *status),
     }
 }

@@ -2,17 +2,37 @@
 
 ghost use Rattle.std.specs.Prelude.{◌≡◌, ◌++◌, Some, None, MatchResult, OnOk};
 ghost use Rattle.std.specs.String.{string_bytes};
+ghost use Rattle.lease_texts.specs.Complaints.{request_table, table_of};
 ghost use Rattle.lease_texts.specs.Kinds.{named, word_read};
 ghost use Rattle.lease_texts.specs.Requests.{plain_text, request_in, request_kinds, request_said};
 ghost use Rattle.lease_texts.specs.Takes.{Takes};
 
 use crate::fault::LineFault;
 use crate::fields::Fields;
-use crate::said::Said::{Access, Bytes, File, FileId, Message, Number, Offset, Share};
-use crate::said::push_plain;
+use crate::kinds::Field::{Access, Bytes, File, FileId, Message, Number, Offset, Share};
+use crate::kinds::{Row, Table};
+use crate::said::plain;
 use lease_facts::is;
 use lease_state::{Patch, Request};
 use std::alloc::{AllocError, Global};
+
+const REQUESTS: &[Row] = &[
+    Row("create", &[File, Access, Share, Bytes]),
+    Row("read", &[FileId]),
+    Row("close", &[FileId]),
+    Row("write", &[FileId, Number, Offset, Bytes]),
+    Row("ack", &[Message]),
+];
+
+/// What is asked in a client's name.
+pub fn request_table() -> Table
+    ensures { table_of result ≡ request_table }
+{
+    Table {
+        word: "a request",
+        rows: REQUESTS,
+    }
+}
 
 #[tactic(auto, unfolding(crate::specs::Kinds::named, crate::specs::Kinds::taken))]
 fn read_named(alloc: Global, word: &[u8], fields: &mut Fields) -> Result<Request, LineFault>
@@ -26,13 +46,11 @@ fn read_named(alloc: Global, word: &[u8], fields: &mut Fields) -> Result<Request
             contexts: fields.bytes(alloc)?,
         })
     } else if is(word, b"read") {
-        Ok(Request::Read {
-            fid: fields.file_id()?,
-        })
+        let fid = fields.file_id()?;
+        Ok(Request::Read { fid })
     } else if is(word, b"close") {
-        Ok(Request::Close {
-            fid: fields.file_id()?,
-        })
+        let fid = fields.file_id()?;
+        Ok(Request::Close { fid })
     } else if is(word, b"write") {
         Ok(Request::Write {
             fid: fields.file_id()?,
@@ -71,28 +89,12 @@ pub(crate) fn push_request(text: &mut String, asked: &Request) -> Result<(), All
             access,
             share,
             contexts,
-        } => push_plain(
-            text,
-            "create",
-            &[
-                File(*file),
-                Access(*access),
-                Share(*share),
-                Bytes(contexts.as_slice()),
-            ],
-        ),
-        Request::Read { fid } => push_plain(text, "read", &[FileId(*fid)]),
-        Request::Close { fid } => push_plain(text, "close", &[FileId(*fid)]),
-        Request::Write { fid, number, patch } => push_plain(
-            text,
-            "write",
-            &[
-                FileId(*fid),
-                Number(*number),
-                Offset(patch.offset),
-                Bytes(patch.bytes.as_slice()),
-            ],
-        ),
-        Request::Ack(message) => push_plain(text, "ack", &[Message(message.as_slice())]),
+        } =>
+            plain!(text, "create", File: *file, Access: *access, Share: *share, Bytes: contexts.as_slice()),
+        Request::Read { fid } => plain!(text, "read", FileId: *fid),
+        Request::Close { fid } => plain!(text, "close", FileId: *fid),
+        Request::Write { fid, number, patch } =>
+            plain!(text, "write", FileId: *fid, Number: *number, Offset: patch.offset, Bytes: patch.bytes.as_slice()),
+        Request::Ack(message) => plain!(text, "ack", Message: message.as_slice()),
     }
 }

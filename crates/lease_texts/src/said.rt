@@ -23,6 +23,23 @@ use lease_state::{
 use std::alloc::AllocError;
 use uuid::Uuid;
 
+// Adds a line by its word, and by its fields with what they hold.
+macro_rules! line {
+    ($text:expr, $name:literal $(, $field:ident: $value:expr)*) => {
+        $crate::said::push_line($text, $name, &[$($crate::said::Said::$field($value)),*])
+    };
+}
+
+// Adds a word behind a space, and fields of one word each.
+macro_rules! plain {
+    ($text:expr, $name:literal $(, $field:ident: $value:expr)*) => {
+        $crate::said::push_plain($text, $name, &[$($crate::said::Said::$field($value)),*])
+    };
+}
+
+pub(crate) use line;
+pub(crate) use plain;
+
 /// A field with what it holds.
 #[derive(Clone, Copy, Debug)]
 pub enum Said<'a> {

@@ -11,7 +11,7 @@ ghost use Rattle.lease_texts.specs.declared.parts.Part.TheVariants as part;
 use crate::fault::{LineFault, TextFault};
 use crate::lines::{first_line, is_passed_over};
 use crate::parts::{Part, read_part};
-use crate::said::{Said, push_line};
+use crate::said::line;
 use lease_facts::{Event, Setup};
 use lease_state::Content;
 use std::alloc::{AllocError, Global};
@@ -94,7 +94,7 @@ fn push_files(text: &mut String, files: &[Content]) -> Result<(), AllocError>
         ≡ string_bytes text.old ++ flat_map (λ content. part_line (part.File content)) files.now) }
 {
     for content in files {
-        push_line(text, "file", &[Said::Content(content.bytes())])?;
+        line!(text, "file", Content: content.bytes())?;
     }
     Ok(())
 }
@@ -104,7 +104,7 @@ fn push_clients(text: &mut String, guids: &[[u8; 16]]) -> Result<(), AllocError>
         ≡ string_bytes text.old ++ flat_map (λ guid. part_line (part.Client guid)) guids.now) }
 {
     for guid in guids {
-        push_line(text, "client", &[Said::Guid(guid)])?;
+        line!(text, "client", Guid: guid)?;
     }
     Ok(())
 }

@@ -47,7 +47,7 @@ pub fn push_given(text: &mut String, status: Status, other: Option<u32>) -> Resu
     }
 }
 
-#[tactic(auto, unfolding(crate::specs::Statuses::status_named))]
+#[tactic(auto, unfolding(crate::specs::Statuses::status_word, crate::specs::Words::of_word))]
 fn status_named(field: &[u8]) -> Option<Status>
     ensures { result ≡ status_named field.now }
 {

@@ -79,10 +79,7 @@ fn ordinal_digit(digit: u8) -> Option<u8>
 pub(crate) fn offset_in(digits: &[u8]) -> Option<u32>
     ensures { result ≡ offset_in digits.now }
 {
-    match u32::try_from(number_in(digits)?) {
-        Ok(offset) => Some(offset),
-        Err(_) => None,
-    }
+    u32::try_from(number_in(digits)?).ok()
 }
 
 // A digit.
@@ -145,22 +142,11 @@ pub fn digits_of(alloc: Global, bytes: &[u8]) -> Result<String, AllocError>
     }
 }
 
-pub(crate) fn message_in(digits: &[u8]) -> Option<[u8; 36]>
-    ensures { result ≡ sized_in 36 digits.now }
+// So many bytes.
+pub(crate) fn sized_in<const N: usize>(digits: &[u8]) -> Option<[u8; N]>
+    ensures { result ≡ sized_in N digits.now }
 {
-    <[u8; 36] as FromHex>::from_hex(digits).ok()
-}
-
-pub(crate) fn notification_in(digits: &[u8]) -> Option<[u8; 44]>
-    ensures { result ≡ sized_in 44 digits.now }
-{
-    <[u8; 44] as FromHex>::from_hex(digits).ok()
-}
-
-pub(crate) fn key_in(digits: &[u8]) -> Option<[u8; 16]>
-    ensures { result ≡ sized_in 16 digits.now }
-{
-    <[u8; 16] as FromHex>::from_hex(digits).ok()
+    <[u8; N] as FromHex>::from_hex(digits).ok()
 }
 
 pub(crate) fn guid_in(text: &[u8]) -> Option<[u8; 16]>
@@ -174,7 +160,7 @@ pub(crate) fn guid_in(text: &[u8]) -> Option<[u8; 16]>
 
 // ---- values with words of their own
 
-#[tactic(auto, unfolding(crate::specs::Fields::access_in))]
+#[tactic(auto, unfolding(crate::specs::Words::of_word))]
 pub(crate) fn access_in(word: &[u8]) -> Option<Access>
     ensures { result ≡ access_in word.now }
 {
@@ -198,7 +184,7 @@ pub(crate) fn access_word(access: Access) -> &'static str
 
 /// The rules of a server that a word stands for: `by-client` or `by-key`, a comma, and `as-free` or `whole`. None where it is
 /// no such word.
-#[tactic(auto, unfolding(crate::specs::Fields::rules_in))]
+#[tactic(auto, unfolding(crate::specs::Words::of_word))]
 pub fn rules_in(word: &[u8]) -> Option<Rules>
     ensures { result ≡ rules_in word.now }
 {
@@ -227,7 +213,7 @@ pub(crate) fn rules_word(rules: Rules) -> &'static str
     }
 }
 
-#[tactic(auto, unfolding(crate::specs::Fields::share_in))]
+#[tactic(auto, unfolding(crate::specs::Words::of_word))]
 pub(crate) fn share_in(word: &[u8]) -> Option<Share>
     ensures { result ≡ share_in word.now }
 {
@@ -295,7 +281,7 @@ pub fn state_letters(state: LeaseState) -> &'static str
     }
 }
 
-#[tactic(auto, unfolding(crate::specs::Fields::way_in))]
+#[tactic(auto, unfolding(crate::specs::Words::of_word))]
 pub(crate) fn way_in(word: &[u8]) -> Option<bool>
     ensures { result ≡ way_in word.now }
 {
@@ -308,7 +294,7 @@ pub(crate) fn way_in(word: &[u8]) -> Option<bool>
     }
 }
 
-#[tactic(auto, unfolding(crate::specs::Fields::outcome_in))]
+#[tactic(auto, unfolding(crate::specs::Words::of_word))]
 pub(crate) fn outcome_in(word: &[u8]) -> Option<Settlement>
     ensures { result ≡ outcome_in word.now }
 {

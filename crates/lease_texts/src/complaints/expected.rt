@@ -1,12 +1,15 @@
 ghost use Rattle.std.specs.Prelude.{◌≡◌, ◌++◌, OnOk, map};
 ghost use Rattle.std.specs.String.{string_bytes};
-ghost use Rattle.lease_texts.specs.Complaints.{expected_words, field_words, held_words, listed, row_of, table_word, table_words};
+ghost use Rattle.lease_texts.specs.Complaints.{expected_of, expected_words, field_words, held_words};
+ghost use Rattle.lease_texts.specs.Complaints.{listed, row_of, table_of, table_words};
 
 use crate::kinds::{Field, Row, Table};
+use crate::replies::reply_table;
+use crate::requests::request_table;
 use std::alloc::AllocError;
 
 /// What is expected in a field of a line.
-#[derive(Clone, Copy, Debug, PartialEq, Eq)]
+#[derive(Clone, Copy, Debug)]
 pub enum Expected {
     /// The word of a kind in a table.
     Names(Table),
@@ -38,23 +41,12 @@ fn push_listed(text: &mut String, rows: &[Row]) -> Result<(), AllocError>
     }
 }
 
-fn table_word(table: Table) -> &'static str
-    ensures { result.now ≡ table_word table }
-{
-    match table {
-        Table::Facts => "a kind of fact",
-        Table::Parts => "a kind of line",
-        Table::Requests => "a request",
-        Table::Replies => "a message of the server",
-    }
-}
-
 fn push_table(text: &mut String, table: Table) -> Result<(), AllocError>
-    ensures { OnOk result (string_bytes text.new ≡ string_bytes text.old ++ table_words table) }
+    ensures { OnOk result (string_bytes text.new ≡ string_bytes text.old ++ table_words (table_of table)) }
 {
-    text.push_str(table_word(table))?;
+    text.push_str(table.word)?;
     text.push_str(", which is ")?;
-    push_listed(text, table.rows())
+    push_listed(text, table.rows)
 }
 
 // What is held by a field that no table is for.
@@ -91,8 +83,8 @@ fn push_held(text: &mut String, field: Field) -> Result<(), AllocError>
     ensures { OnOk result (string_bytes text.new ≡ string_bytes text.old ++ field_words field) }
 {
     match field {
-        Field::Request => push_table(text, Table::Requests),
-        Field::Reply => push_table(text, Table::Replies),
+        Field::Request => push_table(text, request_table()),
+        Field::Reply => push_table(text, reply_table()),
         _ => text.push_str(held_words(field)),
     }
 }
@@ -100,7 +92,7 @@ fn push_held(text: &mut String, field: Field) -> Result<(), AllocError>
 impl Expected {
     /// Adds what is expected, in words.
     pub(crate) fn push(self, text: &mut String) -> Result<(), AllocError>
-        ensures { OnOk result (string_bytes text.new ≡ string_bytes text.old ++ expected_words self) }
+        ensures { OnOk result (string_bytes text.new ≡ string_bytes text.old ++ expected_words (expected_of self)) }
     {
         match self {
             Expected::Names(table) => push_table(text, table),

@@ -1,16 +1,18 @@
 ghost use Rattle.std.specs.Prelude.{◌≡◌, ◌+◌, IfOk, MatchResult, is_some, true, false};
 ghost use Rattle.std.specs.Option.{option_map};
 ghost use Rattle.lease_texts.specs.Complaints as complaints;
-ghost use Rattle.lease_texts.specs.Complaints.{complaint_of, rows_in};
+ghost use Rattle.lease_texts.specs.Complaints.{complaint_of, expected_of, table_of};
 
 use crate::complaints::Expected;
 use crate::fault::LineFault;
 use crate::fields::Fields;
 use crate::kinds::{Field, Table};
+use crate::replies::reply_table;
+use crate::requests::request_table;
 use crate::status::status_in;
 use crate::words::{
-    access_in, bytes_in, content_in, guid_in, key_in, message_in, notification_in, number_in,
-    offset_in, ordinal_in, outcome_in, rules_in, share_in, state_in, way_in,
+    access_in, bytes_in, content_in, guid_in, number_in, offset_in, ordinal_in, outcome_in,
+    rules_in, share_in, sized_in, state_in, way_in,
 };
 use lease_facts::is;
 use lease_state::Bytes;
@@ -31,9 +33,9 @@ pub struct Complaint<'a> {
 // The fields after the word of a kind in a table.
 #[tactic(auto, unfolding(crate::specs::Complaints::fields_behind))]
 fn fields_behind(table: Table, word: &[u8]) -> Option<&'static [Field]>
-    ensures { option_map (λ fields. fields.now) result ≡ complaints.fields_behind (rows_in table) word.now }
+    ensures { option_map (λ fields. fields.now) result ≡ complaints.fields_behind (table_of table).rows word.now }
 {
-    for row in table.rows() {
+    for row in table.rows {
         if is(word, row.0.as_bytes()) {
             return Some(row.1);
         }
@@ -68,9 +70,9 @@ fn does_say(alloc: Global, field: Field, word: &[u8]) -> Result<bool, LineFault>
         Field::Way => Ok(way_in(word).is_some()),
         Field::Outcome => Ok(outcome_in(word).is_some()),
         Field::Guid => Ok(guid_in(word).is_some()),
-        Field::Message => Ok(message_in(word).is_some()),
-        Field::Key => Ok(key_in(word).is_some()),
-        Field::Notification => Ok(notification_in(word).is_some()),
+        Field::Message => Ok(sized_in::<36>(word).is_some()),
+        Field::Key => Ok(sized_in::<16>(word).is_some()),
+        Field::Notification => Ok(sized_in::<44>(word).is_some()),
         Field::Status => Ok(status_in(word).is_some()),
         Field::Durable | Field::Request | Field::Reply => Ok(false),
     }
@@ -92,8 +94,8 @@ fn behind(
     ensures { IfOk result (λ more. option_map (λ fields. fields.now) more ≡ complaints.behind field word.now rest.now) }
 {
     match field {
-        Field::Request => Ok(fields_behind(Table::Requests, word)),
-        Field::Reply => Ok(fields_behind(Table::Replies, word)),
+        Field::Request => Ok(fields_behind(request_table(), word)),
+        Field::Reply => Ok(fields_behind(reply_table(), word)),
         Field::Durable => Ok(if_fits(is(word, b"durable"), rest)),
         _ => Ok(if_fits(does_say(alloc, field, word)?, rest)),
     }
@@ -101,7 +103,7 @@ fn behind(
 
 // A word that isn't what is expected in the field of a number, and those behind it.
 fn stands<'a>(field: u64, expected: Expected, word: &'a [u8], behind: &Fields<'a>) -> Complaint<'a>
-    ensures { complaint_of result ≡ complaints.stands field expected word.now behind.now }
+    ensures { complaint_of result ≡ complaints.stands field (expected_of expected) word.now behind.now }
 {
     Complaint {
         field,
@@ -161,7 +163,7 @@ pub fn complaint_about<'a>(
     table: Table,
     line: &'a [u8],
 ) -> Result<Option<Complaint<'a>>, LineFault>
-    ensures { IfOk result (λ complaint. option_map complaint_of complaint ≡ complaints.complaint table line.now) }
+    ensures { IfOk result (λ complaint. option_map complaint_of complaint ≡ complaints.complaint (table_of table) line.now) }
 {
     let mut words = Fields::of(line);
     let Ok(word) = words.next() else {

@@ -1,7 +1,7 @@
 ghost use Rattle.std.specs.Prelude.{◌≡◌, ◌++◌, ◌∷◌, [], bytes_eq, take, OnOk};
 ghost use Rattle.std.specs.String.{string_bytes};
 ghost use Rattle.lease_texts.specs.Complaints as complaints;
-ghost use Rattle.lease_texts.specs.Complaints.{complaint_of};
+ghost use Rattle.lease_texts.specs.Complaints.{complaint_of, expected_of};
 
 use crate::complaints::{Complaint, Expected};
 use crate::quoting::push_quoted;
@@ -69,7 +69,8 @@ fn push_found(alloc: Global, text: &mut String, complaint: &Complaint<'_>) -> Re
 
 #[tactic(auto, unfolding(crate::specs::Complaints::expected_part))]
 fn push_expected(text: &mut String, field: u64, expected: Expected) -> Result<(), AllocError>
-    ensures { OnOk result (string_bytes text.new ≡ string_bytes text.old ++ complaints.expected_part field expected) }
+    ensures { OnOk result (string_bytes text.new
+        ≡ string_bytes text.old ++ complaints.expected_part field (expected_of expected)) }
 {
     write!(text, "field {field}: ")?;
     expected.push(text)?;
@@ -87,4 +88,27 @@ pub fn push_complaint(
 {
     push_expected(text, complaint.field, complaint.expected)?;
     push_found(alloc, text, complaint)
+}
+
+// What stands before a complaint: the number of the line that it is about.
+#[tactic(auto, unfolding(crate::specs::Complaints::line_words))]
+fn push_line_number(text: &mut String, number: u64) -> Result<(), AllocError>
+    ensures { OnOk result (string_bytes text.new ≡ string_bytes text.old ++ complaints.line_words number) }
+{
+    write!(text, "line {number}, ")
+}
+
+/// The same as a line, with the number of the line that it is about.
+pub fn push_complaint_line(
+    alloc: Global,
+    text: &mut String,
+    number: u64,
+    complaint: &Complaint<'_>,
+) -> Result<(), AllocError>
+    ensures { OnOk result (string_bytes text.new
+        ≡ string_bytes text.old ++ complaints.complaint_line number (complaint_of complaint.now)) }
+{
+    push_line_number(text, number)?;
+    push_complaint(alloc, text, complaint)?;
+    text.push_str("\n")
 }

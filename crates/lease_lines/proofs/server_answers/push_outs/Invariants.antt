@@ -1,8 +1,8 @@
-use Rattle.std.proofs.Common.{◌≡◌, ◌++◌, take}
+use Rattle.std.proofs.Common.{◌≡◌, ◌++◌}
 use Rattle.std.specs.List.{flat_map}
 use Rattle.std.specs.String.{string_bytes}
 use Rattle.lease_lines.specs.ServerAnswers.{out_line}
 use Rattle.lease_lines.proofs.server_answers.push_outs.Given as goal
 
 abbrev pub invariant-loop-given : goal.invariant-loop-given
-invariant-loop-given l = string_bytes l.text ≡ string_bytes l.fn.text ++ flat_map out_line (take l.given-index l.outs)
+invariant-loop-given l = string_bytes l.text ≡ string_bytes l.fn.text ++ flat_map out_line l.yielded
