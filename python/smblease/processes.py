@@ -3,6 +3,7 @@ from __future__ import annotations
 
 import logging
 import subprocess
+import tempfile
 from collections.abc import Sequence
 from typing import Protocol
 
@@ -38,14 +39,18 @@ class LineProcess:
 
     def __init__(self, program: str, task: str, setup: Sequence[str] = ()) -> None:
         self._task = task
-        try:
+        # Standard error is a file: a pipe that nobody reads would fill with the reasons of refused lines.
+        with tempfile.NamedTemporaryFile() as errors:
+            try:
+                # pylint: disable-next=consider-using-with
+                self._process = subprocess.Popen([program, task], stdin=subprocess.PIPE, stdout=subprocess.PIPE,
+                                                 stderr=errors, text=True, bufsize=1)
+            except OSError as fault:
+                raise ToolFault(f"{program}: {fault.strerror}") from None
             # pylint: disable-next=consider-using-with
-            self._process = subprocess.Popen([program, task], stdin=subprocess.PIPE, stdout=subprocess.PIPE,
-                                             stderr=subprocess.PIPE, text=True, bufsize=1)
-        except OSError as fault:
-            raise ToolFault(f"{program}: {fault.strerror}") from None
-        assert self._process.stdin and self._process.stdout and self._process.stderr
-        self._input, self._output, self._errors = self._process.stdin, self._process.stdout, self._process.stderr
+            self._errors = open(errors.name, encoding="utf-8", errors="replace")
+        assert self._process.stdin and self._process.stdout
+        self._input, self._output = self._process.stdin, self._process.stdout
         for line in setup:
             self._give(line)
 
@@ -58,6 +63,8 @@ class LineProcess:
             if not said:
                 raise self._ended(line)
             lines.append(said.rstrip("\n"))
+        if lines[-1].startswith("fault "):
+            LOG.info("the %s machine refuses a line: %s", self._task, self._errors.read().strip())
         return lines
 
     def close(self) -> None:
@@ -66,18 +73,22 @@ class LineProcess:
             self._input.close()
         except OSError:
             LOG.debug("the %s machine had ended already", self._task)
-        try:
-            self._process.wait(timeout=SECONDS_TO_END)
-        except subprocess.TimeoutExpired:
-            self._process.kill()
-            self._process.wait()
+        self._wait()
         self._output.close()
         self._errors.close()
 
     def _ended(self, line: str) -> ToolFault:
         """What is said of a machine that isn't there any more: want of memory ends it."""
-        said = self._errors.readline().strip() or "without a word"
+        self._wait()
+        said = (self._errors.read().splitlines() or ["without a word"])[-1]
         return ToolFault(f"the {self._task} machine has ended, {said}, at: {line[:200]}")
+
+    def _wait(self) -> None:
+        try:
+            self._process.wait(timeout=SECONDS_TO_END)
+        except subprocess.TimeoutExpired:
+            self._process.kill()
+            self._process.wait()
 
     def _give(self, line: str) -> None:
         try:

@@ -2,12 +2,14 @@
 
 - tests/conversations: `> ` begins a line that is given to the machines that the file's first line names; after it come the lines
   that they answer, each read before the next line is given, so that an answer that isn't written and flushed at once is missed.
+- Refused lines: what is said of each on standard error.
 - Schedules: the links are kept by smblease.world. The record, with the messages that go over the links, has to be that of
   `leasecheck replay`.
 """
 from __future__ import annotations
 
 import contextlib
+import re
 import select
 import subprocess
 from pathlib import Path
@@ -15,7 +17,7 @@ from typing import Iterator
 
 import pytest
 
-from smblease.processes import LineClients, client_process
+from smblease.processes import LineClients, LineProcess, client_process
 from smblease.schedules import Schedule
 from smblease.world import MachineWorld
 from tests.paths import EXAMPLE, SCHEDULES, TESTS, built_program, files_of, name_of
@@ -104,6 +106,56 @@ def test_conversation(machine: Machine, lines: list[str]) -> None:
     assert machine.end() == (b"", 0)
 
 
+# What is given to a machine, what it answers, and what it says of the lines that it refuses.
+REFUSED_LINES = {
+    "client": (
+        "files 0;files 1;files 2;client 11111111-1111-1111-1111-111111111111;client {11111111-1111-1111-1111-111111111111};"
+        "read 2 1;serve 1;take 1 created 1 1;read 1 1",
+        "fault line 1;fault line 3;fault line 5;fault line 6;fault line 7;fault line 8;answer refused notopen",
+        "line 1, field 2: a file, which is a number from 1 to 255 without leading zeros; it is \"0\";"
+        "line 3: the number of files is given once, before the first client;"
+        "line 5: clients come after the number of files, at most 255, each with a GUID of its own;"
+        "line 6: there is no client of this number;"
+        "line 7, field 1: a kind of line, which is files, client, connect, notice, take, open, close, read, flush or write; "
+        "it is \"serve\";"
+        "line 8, field 6: bytes, of two hexadecimal digits each, or - for none; the line ends before it"),
+    "server": (
+        "rules by-key;file -;rules by-key,whole;join 1;file -;receive 1 ask;expire 1 00;content 1 ;content 1",
+        "fault line 1;fault line 3;answer done;fault line 5;fault line 6;fault line 7;fault line 8;answer bytes -",
+        "line 1, field 2: rules, which are by-client or by-key, a comma, and as-free or whole; it is \"by-key\";"
+        "line 3: rules stand before all other lines;"
+        "line 5: at most 255 files stand before the first call;"
+        "line 6, field 3: a request, which is create, read, close, write or ack; it is \"ask\";"
+        "line 7, field 3: a lease key of 16 bytes, which are 32 hexadecimal digits; it is \"00\";"
+        "line 8, field 3: the line's end; the line ends with a space"),
+}
+
+
+def as_lines(text: str) -> bytes:
+    """What stands between semicolons, a line each; a semicolon with a space behind it is none of them."""
+    return re.sub(";(?! )", "\n", f"{text};").encode()
+
+
+@pytest.mark.parametrize("task", REFUSED_LINES)
+def test_reasons_of_refused_lines(task: str) -> None:
+    given, answers, reasons = map(as_lines, REFUSED_LINES[task])
+    assert run([task], given) == Ended(0, answers, reasons)
+
+
+def test_a_reason_stands_before_its_answer() -> None:
+    ended = subprocess.run([built_program(), "server"], input=b"join 0\njoin 1\nrules x\n", stdout=subprocess.PIPE,
+                           stderr=subprocess.STDOUT, timeout=SECONDS, check=False)
+    lines = ended.stdout.decode().splitlines()
+    assert [it.split(",")[0] for it in lines] == ["line 1", "fault line 1", "answer done", "line 3", "fault line 3"]
+
+
+def test_many_refused_lines(program: str) -> None:
+    """More reasons than a pipe holds stop neither the machine nor who asks it."""
+    with contextlib.closing(LineProcess(program, "server")) as process:
+        for number in range(1, 2001):
+            assert process.say("x") == [f"fault line {number}"]
+
+
 def test_input_that_ends_within_a_line() -> None:
     assert run(["server"], b"file -\njoin 1\ncontent 1") == Ended(0, b"answer done\nanswer bytes -\n")
 
@@ -120,3 +172,10 @@ def test_output_that_is_full() -> None:
         ended = subprocess.run([built_program(), "server"], input=b"join 1\n", stdout=full,
                                stderr=subprocess.PIPE, timeout=SECONDS, check=False)
     assert (ended.returncode, ended.stderr) == (1, b"fault output\n")
+
+
+def test_reasons_that_nothing_takes() -> None:
+    with open("/dev/full", "wb") as full:
+        ended = subprocess.run([built_program(), "server"], input=b"join 1\njoin 0\njoin 2\n",
+                               stdout=subprocess.PIPE, stderr=full, timeout=SECONDS, check=False)
+    assert (ended.returncode, ended.stdout) == (1, b"answer done\n")

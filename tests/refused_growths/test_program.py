@@ -113,13 +113,14 @@ def test_replay_of_several_blocks(tmp_path: Path, task: list[str]) -> None:
 
 @pytest.mark.parametrize(("name", "task"), [("clients", "client"), ("servers", "server")])
 def test_conversation(tmp_path: Path, name: str, task: str) -> None:
-    """What was answered before memory ran out stays written."""
+    """What was answered before memory ran out stays written, and why lines were refused."""
     lines = (TESTS / "conversations" / name).read_text(encoding="ascii").split("\n")
     given = "\n".join(line[1:].removeprefix(" ") for line in lines if line.startswith(">"))
     early = growths_of(tmp_path, [task])
 
     def fits(whole: Ended, ended: Ended, number: int) -> bool:
-        wants = ended.status == 1 and ended.faults == b"fault memory\n"
+        reasons = ended.faults.removesuffix(b"fault memory\n")
+        wants = ended.status == 1 and reasons != ended.faults and whole.faults.startswith(reasons)
         is_early = number <= early and ended.status in (1, 2)
         return ended == whole or (whole.out.startswith(ended.out) and (wants or is_early))
     Refusing(tmp_path, [built_program(), task], given.encode()).check(0, fits)

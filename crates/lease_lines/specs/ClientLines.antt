@@ -57,6 +57,6 @@ client_line_in text = told_in client_kinds text
 
 -- where lines of a kind stand, as it is said of one that may not stand where it does
 abbrev pub client_place : ClientLine → List ℕ
-client_place (line.Files count) = codes "files are told once, before the first client"
-client_place (line.Client guid) = codes "clients stand behind files, at most 255, each with a GUID of its own"
+client_place (line.Files count) = codes "the number of files is given once, before the first client"
+client_place (line.Client guid) = codes "clients come after the number of files, at most 255, each with a GUID of its own"
 client_place (line.Asks client asked) = codes "there is no client of this number"

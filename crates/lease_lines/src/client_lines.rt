@@ -41,9 +41,9 @@ impl ClientLine {
         ensures { result.now ≡ client_place self.now }
     {
         match self {
-            ClientLine::Files(_) => "files are told once, before the first client",
+            ClientLine::Files(_) => "the number of files is given once, before the first client",
             ClientLine::Client(_) => {
-                "clients stand behind files, at most 255, each with a GUID of its own"
+                "clients come after the number of files, at most 255, each with a GUID of its own"
             }
             ClientLine::Asks(..) => "there is no client of this number",
         }

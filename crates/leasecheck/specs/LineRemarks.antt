@@ -2,20 +2,12 @@
 use Rattle.std.specs.Prelude.{ℕ, ◌-◌, ◌++◌, List, [], ◌∷◌, codes, slice_index_or, Option, Some, None}
 use Rattle.std.specs.Fmt.{decimal}
 use Rattle.std.specs.Option.{option_map}
-use Rattle.lease_texts.specs.Complaints.{Complaint, complaint, complaint_words}
+use Rattle.lease_texts.specs.Complaints.{Complaint, complaint, complaint_line, fact_table, part_table}
 use Rattle.lease_texts.specs.Pieces.{lines_of}
-use Rattle.lease_texts.specs.declared.kinds.Table.TheVariants as table
-
--- what stands before the complaint: the number of the line
-unfoldable pub line_words : ℕ → List ℕ
-line_words number = codes "line " ++ decimal number ++ codes ", "
-
-abbrev pub complaint_line : ℕ → Complaint → List ℕ
-complaint_line number complaint = line_words number ++ complaint_words complaint ++ 10 ∷ []
 
 -- of a line of a record
 abbrev pub fact_remark : ℕ → List ℕ → Option (List ℕ)
-fact_remark number line = option_map (complaint_line number) (complaint table.Facts line)
+fact_remark number line = option_map (complaint_line number) (complaint fact_table line)
 
 -- a line of a schedule that is one is refused where it stands
 abbrev pub place_line : ℕ → List ℕ
@@ -26,7 +18,7 @@ line_or_place number None = place_line number
 line_or_place number (Some complaint) = complaint_line number complaint
 
 abbrev pub part_remark : ℕ → List ℕ → List ℕ
-part_remark number line = line_or_place number (complaint table.Parts line)
+part_remark number line = line_or_place number (complaint part_table line)
 
 -- the line of a number, from 1
 abbrev pub line_among : List (List ℕ) → ℕ → List ℕ

@@ -1,9 +1,9 @@
 -- What the program does for the words of a command line, end to end.
 use Rattle.std.specs.Prelude.{◌≡◌, ◌⊎◌, ℕ, List, Option}
-use Rattle.std.specs.Io.KnownBytes.{Appends}
+use Rattle.std.specs.Io.KnownBytes.{Appends, Keeps}
 use Rattle.clap.specs.Words.{Text}
 use Rattle.lease_lines.specs.ClientTables.{no_clients}
-use Rattle.lease_lines.specs.Machines.{Machines, transcript}
+use Rattle.lease_lines.specs.Machines.{Machines, reasons, transcript}
 use Rattle.lease_lines.specs.ServerTables.{Stage}
 use Rattle.leasecheck.specs.CommandLine.{AsksFor, IsUsageOf, Request, TellsUsage, request_of}
 use Rattle.leasecheck.specs.Printed.{Prints}
@@ -21,17 +21,18 @@ abbrev pub AsksForMachines : List Text → Machines → Type 0
 AsksForMachines words machines = (AsksFor words Request.Clients × (machines ≡ Machines.AreClients no_clients))
     ⊎ (AsksFor words Request.Server × (machines ≡ Machines.IsServer Stage.Fresh))
 
--- The words ask for machines, which answered some lines. Which ones the input has no contract says.
-abbrev pub LetsSpeak : List Text → Option (List ℕ) → Option (List ℕ) → Type 0
-LetsSpeak words old new = (machines : Machines) × (lines : List (List ℕ)) × AsksForMachines words machines
-    × Appends old new (transcript machines 1 lines)
+-- The words ask for machines, which answered some lines, and said on the other stream why lines are refused. Which ones the input
+-- has no contract says.
+abbrev pub LetsSpeak : List Text → Option (List ℕ) → Option (List ℕ) → Option (List ℕ) → Option (List ℕ) → Type 0
+LetsSpeak words old new faults told = (machines : Machines) × (lines : List (List ℕ)) × AsksForMachines words machines
+    × Appends old new (transcript machines 1 lines) × Appends faults told (reasons machines 1 lines)
 
 -- the words ask for help, which was told
 abbrev pub TellsHelp : List Text → Option (List ℕ) → Option (List ℕ) → ℕ → Type 0
 TellsHelp words old new status = (told : Usage) × IsUsageOf words told × TellsUsage told old new status
 
--- What is done where nothing is refused and nothing fails.
-abbrev pub Does : List Text → Option (List ℕ) → Option (List ℕ) → ℕ → Type 0
-Does words old new status = DoesTask words old new status
-    ⊎ ((status ≡ 0) × LetsSpeak words old new)
-    ⊎ TellsHelp words old new status
+-- What is done where nothing is refused and nothing fails: a task or help say nothing on the other stream.
+abbrev pub Does : List Text → Option (List ℕ) → Option (List ℕ) → Option (List ℕ) → Option (List ℕ) → ℕ → Type 0
+Does words old new faults told status = (DoesTask words old new status × Keeps faults told)
+    ⊎ ((status ≡ 0) × LetsSpeak words old new faults told)
+    ⊎ (TellsHelp words old new status × Keeps faults told)

@@ -1,7 +1,7 @@
 ghost use Rattle.std.specs.Prelude.{◌≡◌, ◌≢◌, ◌≤◌, ◌⊎◌, ℕ, List, Option, IfOk, IsErr, map};
 ghost use Rattle.std.specs.String.{string_bytes};
 ghost use Rattle.std.specs.Io.KnownBytes.{Appends, Keeps};
-ghost use Rattle.lease_lines.specs.Machines.{transcript};
+ghost use Rattle.lease_lines.specs.Machines.{reasons, transcript};
 ghost use Rattle.lease_lines.specs.Tables.{machines_of};
 ghost use Rattle.leasecheck.specs.CommandLine.{TellsUsage, all_words};
 ghost use Rattle.leasecheck.specs.Printed.{Prints};
@@ -81,7 +81,8 @@ fn perform_on_file<R: Files + Input + AllocGlobal, O: Write, F: Write>(
     }
 }
 
-// Lets machines speak on standard input and output. The input is read in blocks: a pipe by itself is read a byte at a time.
+// Lets machines speak on standard input and output, and say on the other stream why lines are refused. The input is read in
+// blocks: a pipe by itself is read a byte at a time.
 fn speak<R: Input + AllocGlobal, O: Write, F: Write>(
     rt: &R,
     machines: Machines,
@@ -89,12 +90,12 @@ fn speak<R: Input + AllocGlobal, O: Write, F: Write>(
     faults: &mut F,
 ) -> u8
     ensures status { result ≤ 1 }
-    ensures silent { result ≡ 0 → Keeps (F.contents faults.old) (F.contents faults.new) }
     ensures answered { result ≡ 0 → (lines : List (List ℕ))
-        × Appends (O.contents out.old) (O.contents out.new) (transcript (machines_of machines) 1 lines) }
+        × Appends (O.contents out.old) (O.contents out.new) (transcript (machines_of machines) 1 lines)
+        × Appends (F.contents faults.old) (F.contents faults.new) (reasons (machines_of machines) 1 lines) }
 {
     let spoken = match BufReader::new(rt.alloc(), rt.reader()) {
-        Ok(mut input) => converse(rt.alloc(), machines, &mut input, out),
+        Ok(mut input) => converse(rt.alloc(), machines, &mut input, out, faults),
         Err(_) => Err(Failure::Memory),
     };
     match spoken {
@@ -110,7 +111,8 @@ fn speak<R: Input + AllocGlobal, O: Write, F: Write>(
 /// exit status: 0 where it was done or help was printed, 1 where the input is refused, memory ran
 /// out or a write failed, 2 where the words are refused, 3 where a judged record is unsafe.
 ///
-/// What is printed with status 0 or 3 is what the words ask for.
+/// What is printed with status 0 or 3 is what the words ask for. With these nothing goes to `faults`, but for why machines refuse
+/// lines.
 ///
 /// Where the words can't be had, since one is no text or there is no memory for them, they are
 /// refused too.
@@ -121,11 +123,11 @@ pub fn run_words<R: Files + Input + AllocGlobal, O: Write, F: Write>(
     faults: &mut F,
 ) -> u8
     ensures status { result ≤ 3 }
-    ensures silent { result ≡ 0 → Keeps (F.contents faults.old) (F.contents faults.new) }
     ensures refused { result ≡ 2 → Keeps (O.contents out.old) (O.contents out.new) }
     ensures unread { IsErr given → result ≡ 2 }
     ensures done { IfOk given (λ words. result ≢ 1 → result ≢ 2
-        → Does (all_words (map string_bytes words.items)) (O.contents out.old) (O.contents out.new) result) }
+        → Does (all_words (map string_bytes words.items)) (O.contents out.old) (O.contents out.new) (F.contents faults.old)
+        (F.contents faults.new) result) }
 {
     let Ok(owned) = given else {
         let _ = writeln!(

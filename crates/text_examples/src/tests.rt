@@ -4,9 +4,10 @@ use lease_state::{
     Share, Status,
 };
 use lease_texts::{
-    Arrival, Complaint, Field, Fields, LineFault, Part, Said, Table, complaint_about, outcome_word,
-    push_changed, push_complaint, push_event, push_fact, push_line, push_opened, push_quoted,
-    push_setup, read_arrival, read_fact, read_part, read_schedule, rules_in,
+    Arrival, Complaint, Field, Fields, LineFault, Part, Said, complaint_about, fact_table,
+    outcome_word, part_table, push_complaint, push_complaint_line, push_event, push_fact,
+    push_line, push_quoted, push_setup, read_arrival, read_fact, read_part, read_schedule,
+    reply_table, request_table, rules_in,
 };
 use lease_world::{Event, Fact};
 use std::alloc::Global;
@@ -237,21 +238,21 @@ fn refused_facts_are_complained_of(rt: HostRuntime) -> Result<(), Fail> {
     let alloc = rt.alloc();
     let state = said(
         alloc,
-        complaint_about(alloc, Table::Facts, b"believes 1 1 HR")?,
+        complaint_about(alloc, fact_table(), b"believes 1 1 HR")?,
     )?;
     let wanted = "field 4: a state, which is none or letters of RWH in that order; it is \"HR\"";
     assert_eq!(rt; state.as_str(), wanted);
-    let short = said(alloc, complaint_about(alloc, Table::Facts, b"settled 1 7")?)?;
+    let short = said(alloc, complaint_about(alloc, fact_table(), b"settled 1 7")?)?;
     let wanted =
         "field 4: an outcome, which is done, failed, unknown or lost; the line ends before it";
     assert_eq!(rt; short.as_str(), wanted);
-    let long = said(alloc, complaint_about(alloc, Table::Facts, b"sent 1 ")?)?;
+    let long = said(alloc, complaint_about(alloc, fact_table(), b"sent 1 ")?)?;
     assert_eq!(rt;
         long.as_str(),
         "field 3: the line's end; the line ends with a space"
     );
     assert_eq!(rt;
-        said(alloc, complaint_about(alloc, Table::Facts, b"sent 1")?)?.as_str(),
+        said(alloc, complaint_about(alloc, fact_table(), b"sent 1")?)?.as_str(),
         ""
     );
     Ok(())
@@ -262,15 +263,29 @@ fn refused_parts_are_complained_of(rt: HostRuntime) -> Result<(), Fail> {
     let alloc = rt.alloc();
     let word = said(
         alloc,
-        complaint_about(alloc, Table::Parts, b"open 1 1 r r none always")?,
+        complaint_about(alloc, part_table(), b"open 1 1 r r none always")?,
     )?;
     let wanted = "field 7: the word durable or the line's end; it is \"always\"";
     assert_eq!(rt; word.as_str(), wanted);
-    let asked = said(alloc, complaint_about(alloc, Table::Parts, b"raw 1 ask")?)?;
+    let asked = said(alloc, complaint_about(alloc, part_table(), b"raw 1 ask")?)?;
     let wanted = "field 3: a request, which is create, read, close, write or ack; it is \"ask\"";
     assert_eq!(rt; asked.as_str(), wanted);
-    let open = complaint_about(alloc, Table::Parts, b"open 1 1 r r none")?;
+    let open = complaint_about(alloc, part_table(), b"open 1 1 r r none")?;
     assert_eq!(rt; said(alloc, open)?.as_str(), "");
+    Ok(())
+}
+
+#[test]
+fn a_complaint_has_the_number_of_its_line(rt: HostRuntime) -> Result<(), Fail> {
+    let alloc = rt.alloc();
+    let mut text = String::new(alloc);
+    if let Some(complaint) = complaint_about(alloc, part_table(), b"serve")? {
+        push_complaint_line(alloc, &mut text, 12, &complaint)?;
+    }
+    let wanted =
+        "line 12, field 2: a client, which is a number from 1 to 255 without leading zeros; \
+        the line ends before it\n";
+    assert_eq!(rt; text.as_str(), wanted);
     Ok(())
 }
 
@@ -301,22 +316,6 @@ fn a_line_is_written_field_by_field(rt: HostRuntime) -> Result<(), Fail> {
         "sent 1 createfailed 2 STATUS_SHARING_VIOLATION\n"
     );
     assert_eq!(rt; outcome_word(Settlement::Lost), "lost");
-    Ok(())
-}
-
-#[test]
-fn what_a_server_did_is_written(rt: HostRuntime) -> Result<(), Fail> {
-    let alloc = rt.alloc();
-    let mut text = String::new(alloc);
-    push_opened(&mut text, FileNo(2), ClientNo(3))?;
-    push_changed(
-        &mut text,
-        FileNo(2),
-        ClientNo(3),
-        4,
-        &patch(alloc, 5, b"x")?,
-    )?;
-    assert_eq!(rt; text.as_str(), "opened 2 3\nchanged 2 3 4 5 78\n");
     Ok(())
 }
 
@@ -352,10 +351,11 @@ fn one_line_is_read(rt: HostRuntime) -> Result<(), Fail> {
 
 #[test]
 fn tables_have_the_lines_of_their_kinds(rt: HostRuntime) -> Result<(), Fail> {
-    let rows = Table::Requests.rows();
+    let rows = request_table().rows;
     assert_eq!(rt; rows.len(), 5);
     assert_eq!(rt; rows[1].0, "read");
     assert_eq!(rt; rows[1].1, [Field::FileId].as_slice());
+    assert_eq!(rt; reply_table().rows.len(), 11);
     Ok(())
 }
 

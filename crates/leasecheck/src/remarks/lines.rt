@@ -1,29 +1,22 @@
 ghost use Rattle.std.specs.Prelude.{◌≡◌, ◌++◌, Some, IfOk, IfSome, OnOk};
 ghost use Rattle.std.specs.String.{string_bytes};
-ghost use Rattle.lease_texts.specs.Complaints.{complaint_of};
+ghost use Rattle.lease_texts.specs.Complaints.{complaint_line, complaint_of};
 ghost use Rattle.leasecheck.specs.LineRemarks as remarks;
 
-use lease_texts::{Complaint, Table, complaint_about, first_line, push_complaint};
+use lease_texts::{
+    Complaint, complaint_about, fact_table, first_line, part_table, push_complaint_line,
+};
 use std::alloc::{AllocError, Global};
-
-#[tactic(auto, unfolding(crate::specs::LineRemarks::line_words))]
-fn push_number(text: &mut String, number: u64) -> Result<(), AllocError>
-    ensures { OnOk result (string_bytes text.new ≡ string_bytes text.old ++ remarks.line_words number) }
-{
-    write!(text, "line {number}, ")
-}
 
 fn complaint_line(
     alloc: Global,
     number: u64,
     complaint: &Complaint<'_>,
 ) -> Result<String, AllocError>
-    ensures { IfOk result (λ text. string_bytes text ≡ remarks.complaint_line number (complaint_of complaint.now)) }
+    ensures { IfOk result (λ text. string_bytes text ≡ complaint_line number (complaint_of complaint.now)) }
 {
     let mut text = String::new(alloc);
-    push_number(&mut text, number)?;
-    push_complaint(alloc, &mut text, complaint)?;
-    text.push_str("\n")?;
+    push_complaint_line(alloc, &mut text, number, complaint)?;
     Ok(text)
 }
 
@@ -31,7 +24,7 @@ fn complaint_line(
 pub(crate) fn fact_remark(alloc: Global, number: u64, line: &[u8]) -> Option<String>
     ensures { IfSome result (λ text. remarks.fact_remark number line.now ≡ Some (string_bytes text)) }
 {
-    match complaint_about(alloc, Table::Facts, line) {
+    match complaint_about(alloc, fact_table(), line) {
         Ok(Some(complaint)) => complaint_line(alloc, number, &complaint).ok(),
         _ => None,
     }
@@ -52,7 +45,7 @@ fn place_line(alloc: Global, number: u64) -> Result<String, AllocError>
 pub(crate) fn part_remark(alloc: Global, number: u64, line: &[u8]) -> Option<String>
     ensures { IfSome result (λ text. string_bytes text ≡ remarks.part_remark number line.now) }
 {
-    match complaint_about(alloc, Table::Parts, line) {
+    match complaint_about(alloc, part_table(), line) {
         Ok(Some(complaint)) => complaint_line(alloc, number, &complaint).ok(),
         Ok(None) => place_line(alloc, number).ok(),
         Err(_) => None,

@@ -2,16 +2,20 @@ use lease_lines::Machines;
 use std::alloc::Global;
 use std::test::Fail;
 
-// What machines answer to the lines of a text.
-fn answers(alloc: Global, machines: Machines, lines: &[&str]) -> Result<String, Fail> {
+// What machines answer to the lines of a text, and why they refuse lines.
+fn answers(alloc: Global, machines: Machines, lines: &[&str]) -> Result<(String, String), Fail> {
     let mut text = String::new(alloc);
+    let mut why = String::new(alloc);
     let mut machines = machines;
     let mut number = 0u64;
     for line in lines {
         number = number.saturating_add(1);
-        machines = machines.answer(number, line.as_bytes(), &mut text)?;
+        let (next, answer) = machines.answer(alloc, number, line.as_bytes())?;
+        text.push_str(answer.text.as_str())?;
+        why.push_str(answer.reason.as_str())?;
+        machines = next;
     }
-    Ok(text)
+    Ok((text, why))
 }
 
 const LEASE: &str =
@@ -30,12 +34,13 @@ fn a_client_opens_and_is_refused(rt: HostRuntime) -> Result<(), Fail> {
         "take 1 createfailed 1 c0000999",
         "open 2 1 rw rw RWH",
     ];
-    let told = answers(alloc, Machines::clients(alloc), lines.as_slice())?;
+    let (told, why) = answers(alloc, Machines::clients(alloc), lines.as_slice())?;
     let expected = format!(in alloc;
         "answer refused offline\nanswer quiet\nrequest create 1 rw rw {LEASE}\nanswer waiting\n\
         answer failed c0000999\nfault line 8\n"
     )?;
     assert_eq!(rt; told.as_str(), expected.as_str());
+    assert_eq!(rt; why.as_str(), "line 8: there is no client of this number\n");
     Ok(())
 }
 
@@ -52,10 +57,14 @@ fn a_server_opens_and_reads(rt: HostRuntime) -> Result<(), Fail> {
         "content 2",
         "file -",
     ];
-    let told = answers(alloc, Machines::server(), lines.as_slice())?;
+    let (told, why) = answers(alloc, Machines::server(), lines.as_slice())?;
     let expected = "answer done\nanswer nothing\nopened 1 1\nsent 1 created 1 1 -\nanswer done\n\
         sent 1 readdone 1 6162\nanswer done\nanswer none\nanswer none\nfault line 8\n";
     assert_eq!(rt; told.as_str(), expected);
+    assert_eq!(rt;
+        why.as_str(),
+        "line 8: at most 255 files stand before the first call\n"
+    );
     Ok(())
 }
 
@@ -71,8 +80,13 @@ fn a_server_is_told_its_rules_before_all_else(rt: HostRuntime) -> Result<(), Fai
         "content 1",
         "rules by-key,whole",
     ];
-    let told = answers(alloc, Machines::server(), lines.as_slice())?;
+    let (told, why) = answers(alloc, Machines::server(), lines.as_slice())?;
     let expected = "fault line 1\nfault line 3\nfault line 5\nanswer bytes 6162\nfault line 7\n";
     assert_eq!(rt; told.as_str(), expected);
+    let reasons =
+        "line 1, field 2: rules, which are by-client or by-key, a comma, and as-free or whole; it is \"by-key\"\n\
+        line 3: rules stand before all other lines\nline 5: rules stand before all other lines\n\
+        line 7: rules stand before all other lines\n";
+    assert_eq!(rt; why.as_str(), reasons);
     Ok(())
 }

@@ -16,10 +16,13 @@ pub returns-in-Err-clause-done : goal.returns-in-Err-clause-done
 returns-in-Err-clause-done g c =
     let same = ap (λ (ws : List (Bor Text)). all_words (map (λ word. word.now) ws)) c.as_slice-2.ensures.value
     ∙ ap all_words (c.in-Ok-views.ensures ∙ ap (map string_bytes) c.as_slice.ensures.value) in
-    rw c.in-Ok.is (λ _ _. inr (inr (
-      c.in-Err.usage,
-      subst (λ (ws : List Text). IsUsageOf ws c.in-Err.usage) same c.in-Err.ensures.usage,
-      c.tell_usage.ensures.told,
+    rw c.in-Ok.is (λ _ other. inr (inr (
+      (
+        c.in-Err.usage,
+        subst (λ (ws : List Text). IsUsageOf ws c.in-Err.usage) same c.in-Err.ensures.usage,
+        c.tell_usage.ensures.told,
+      ),
+      c.tell_usage.ensures.silent other,
     )))
 
 pub returns-in-Ok-Task-clause-done : goal.returns-in-Ok-Task-clause-done
@@ -30,12 +33,15 @@ returns-in-Ok-Task-clause-done g c =
     let other = c.in-Ok-Task.task-is in
     let is : c.in-Ok-Task.field-0 ≡ asked.Task c.in-Ok-Task.task = cc in
     rw c.in-Ok.is (λ ne _. let told = c.perform_on_file.ensures.printed ne in inl (
-      c.in-Ok-Task.task,
-      told.0,
-      subst (λ (ws : List Text). AsksFor ws (request_of (asked.Task c.in-Ok-Task.task))) same
-          (subst (λ (a : Asked). AsksFor (all_words (map (λ word. word.now) c.as_slice-2.result.now)) (request_of a)) is
-          c.in-Ok-Task.ensures.asked),
-      told.1,
+      (
+        c.in-Ok-Task.task,
+        told.0,
+        subst (λ (ws : List Text). AsksFor ws (request_of (asked.Task c.in-Ok-Task.task))) same
+            (subst (λ (a : Asked). AsksFor (all_words (map (λ word. word.now) c.as_slice-2.result.now)) (request_of a)) is
+            c.in-Ok-Task.ensures.asked),
+        told.1,
+      ),
+      c.perform_on_file.ensures.silent ne,
     ))
 
 pub returns-in-Ok-Clients-clause-done : goal.returns-in-Ok-Clients-clause-done
@@ -57,6 +63,7 @@ returns-in-Ok-Clients-clause-done g c =
         told.0,
         inl (asks, c.clients.ensures),
         told.1,
+        told.2,
       ),
     )))
 
@@ -79,5 +86,6 @@ returns-clause-done g c =
         told.0,
         inr (asks, c.server.ensures),
         told.1,
+        told.2,
       ),
     )))
