@@ -1,11 +1,15 @@
 pub mod Called
+pub mod Commands
 pub mod Delivered
 pub mod Events
+pub mod Exact
 pub mod First
 pub mod Happening
 pub mod Kept
 pub mod Keys
+pub mod Obstacles
 pub mod Replies
+pub mod Scavenged
 pub mod Seats
 pub mod Speaking
 pub mod Standing

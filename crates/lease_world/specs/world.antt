@@ -1,5 +1,6 @@
 pub mod First
 pub mod Messages
+pub mod Obstacles
 pub mod Seats
 pub mod Stands
 pub mod Worlds

@@ -17,6 +17,7 @@
 
 mod copies;
 mod judging;
+mod obstacle;
 mod running;
 mod setup;
 mod verdict;
@@ -25,7 +26,11 @@ mod world;
 
 pub use judging::Judge;
 pub use lease_facts::{Event, Fact, Setup};
-pub use running::{run, run_under, run_with_messages, run_with_messages_under};
+pub use obstacle::{Idle, Obstacle};
+pub use running::{
+    Told, obstacles_are_exact, run, run_explained_under, run_under, run_with_messages,
+    run_with_messages_under,
+};
 pub use setup::RunFault;
 pub use verdict::{Rule, Verdict};
 pub use whole::{judge, judge_each};

@@ -1,4 +1,4 @@
-ghost use Rattle.std.specs.Prelude.{◌≡◌, ◌≢◌, ◌↔◌, ◌≤◌, Ok, Err, true, false, map, length, IfOk};
+ghost use Rattle.std.specs.Prelude.{◌≡◌, ◌≢◌, ◌↔◌, ◌≤◌, ◌++◌, [], Ok, Err, Some, true, false, map, length, IfOk, OnOk};
 ghost use Rattle.lease_model.specs.messages.FromBytes.{reply_of};
 ghost use Rattle.lease_model.specs.records.Safe.{Safe};
 ghost use Rattle.lease_model.specs.records.Verdict.{Verdict, verdict};
@@ -8,9 +8,11 @@ ghost use Rattle.lease_model.specs.world.World.{first_world_under};
 ghost use Rattle.lease_facts.specs.Facts.{fact_of};
 ghost use Rattle.lease_facts.specs.Setups.{setup_of, event_of};
 ghost use Rattle.lease_world.specs.world.Messages.{messages_told, messages_told_under, speaking};
+ghost use Rattle.lease_world.specs.world.Obstacles.{idle_meant, idle_noted, idle_told_under, ObstaclesAreExact, RefusalsAreNamed};
 ghost use Rattle.lease_world.specs.world.Stands.{Stands};
 ghost use Rattle.lease_world.specs.world.Worlds.{KeepsBehind};
 
+use crate::obstacle::{Idle, Obstacle};
 use crate::setup::{RunFault, is_allowed};
 use crate::world::World;
 use crate::world::messages::Messages;
@@ -19,6 +21,17 @@ use lease_facts::{Event, Fact, Setup};
 use lease_laws::verdict_decides;
 use lease_state::{Memory, Reply, Rules};
 use std::alloc::Global;
+
+/// What a run tells.
+#[derive(Debug, Drop)]
+pub struct Told {
+    /// Its record.
+    pub facts: Vec<Fact>,
+    /// The messages that the record speaks of.
+    pub messages: Vec<Reply>,
+    /// The events that did nothing, in order.
+    pub idle: Vec<Idle>,
+}
 
 // The most events of a run.
 const EVENTS_LIMIT: usize = 10_000;
@@ -148,6 +161,59 @@ pub fn run_with_messages_under(
     }
 }
 
+/// The record of a run and its messages, as `run_with_messages_under` gives them, and the events that did nothing, each with
+/// what stood in its way. These are the events that leave the world as it was; commands that are refused are among them.
+///
+/// # Errors
+///
+/// Those of `run`, in the same cases.
+#[tactic(auto, using(crate::proofs::worlds::Speaking::each_told))]
+pub fn run_explained_under(
+    alloc: Global,
+    rules: Rules,
+    setup: &Setup,
+    events: &[Event],
+) -> Result<Told, RunFault>
+    ensures bad_setup { (result ≡ Err RunFault.BadSetup) ↔ (is_allowed_setup (setup_of setup.now) ≡ false) }
+    ensures too_many { (result ≡ Err RunFault.TooMany)
+        ↔ ((is_allowed_setup (setup_of setup.now) ≡ true) × (are_too_many (map event_of events.now) ≡ true)) }
+    ensures record { IfOk result (λ told. map fact_of told.facts.items
+        ≡ recorded_under rules (setup_of setup.now) (map event_of events.now)) }
+    ensures messages { IfOk result (λ told. map reply_of told.messages.items
+        ≡ messages_told_under rules (setup_of setup.now) (map event_of events.now)) }
+    ensures each { IfOk result (λ told. speaking (map fact_of told.facts.items) ≡ length told.messages.items) }
+    ensures idle { IfOk result (λ told. map idle_meant told.idle.items
+        ≡ idle_told_under rules (setup_of setup.now) (map event_of events.now)) }
+    ensures safe { IfOk result (λ told. Safe (map fact_of told.facts.items)) }
+{
+    coherent();
+    if !is_allowed(setup) {
+        return Err(RunFault::BadSetup);
+    }
+    if are_too_many(events) {
+        return Err(RunFault::TooMany);
+    }
+    let mut idle = Vec::new(alloc);
+    match play_explained(alloc, rules, setup, events, &mut idle) {
+        Ok(world) => {
+            let (facts, messages) = world.into_parts();
+            Ok(Told {
+                facts,
+                messages: messages.into_list(alloc),
+                idle,
+            })
+        }
+        Err(Memory) => Err(RunFault::Memory),
+    }
+}
+
+/// What stands in the way of an event stands there exactly where the event leaves the world as it was; of a command that is
+/// refused it is the refusal. Does nothing.
+pub fn obstacles_are_exact()
+    ensures exact { ObstaclesAreExact }
+    ensures refusals { RefusalsAreNamed }
+{}
+
 fn are_too_many(events: &[Event]) -> bool
     ensures { result ≡ are_too_many (map event_of events.now) }
 {
@@ -172,4 +238,48 @@ fn play(
         world.happen(event)?;
     }
     Ok(world)
+}
+
+// The same, which keeps messages, and adds the events that did nothing to a list that is empty.
+fn play_explained(
+    alloc: Global,
+    rules: Rules,
+    setup: &Setup,
+    events: &[Event],
+    idle: &mut Vec<Idle>,
+) -> Result<World, Memory>
+    requires few { length setup.now.files.items ≤ 255 }
+    requires none { idle.old.items ≡ [] }
+    ensures stands { IfOk result (λ world. Stands world (after (first_world_under rules (setup_of setup.now)) (map event_of events.now))) }
+    ensures kept { IfOk result
+        (λ world. KeepsBehind (Some []) (messages_told_under rules (setup_of setup.now) (map event_of events.now)) world) }
+    ensures idle { OnOk result (map idle_meant idle.new.items
+        ≡ idle_told_under rules (setup_of setup.now) (map event_of events.now)) }
+{
+    let mut world = World::new(alloc, rules, setup, Messages::new(alloc))?;
+    for (place, event) in events.iter().enumerate() {
+        let facts = world.count();
+        let obstacle = world.happen_explained(event)?;
+        note_idle(idle, place, facts, obstacle)?;
+    }
+    Ok(world)
+}
+
+// Adds the event in this place, where something stood in its way.
+fn note_idle(
+    idle: &mut Vec<Idle>,
+    event: usize,
+    facts: usize,
+    obstacle: Option<Obstacle>,
+) -> Result<(), Memory>
+    ensures { OnOk result (idle.new.items ≡ idle.old.items ++ idle_noted event facts obstacle) }
+{
+    if let Some(obstacle) = obstacle {
+        idle.push(Idle {
+            event,
+            facts,
+            obstacle,
+        })?;
+    }
+    Ok(())
 }

@@ -1,8 +1,11 @@
-ghost use Rattle.std.specs.Prelude.{◌≡◌, ◌<◌, ◌≤◌, ◌+◌, ◌^◌, ◌&&◌, [], ◌∷◌, IfOk, OnOk, length, is_some, nat_le, true};
+ghost use Rattle.std.specs.Prelude.{◌≡◌, ◌<◌, ◌≤◌, ◌+◌, ◌^◌, ◌&&◌, ◌==◌, [], ◌∷◌, IfOk, OnOk, length, is_some, nat_le, true};
+ghost use Rattle.std.specs.Prelude.{false};
 ghost use Rattle.lease_laws.specs.messages.Written.{CallHasFileId};
 ghost use Rattle.lease_model.specs.client.Calls.{ClientCall};
 ghost use Rattle.lease_model.specs.messages.FromBytes.{request_of, reply_of};
 ghost use Rattle.lease_model.specs.world.Events as model;
+ghost use Rattle.lease_model.specs.world.Events.{client_of};
+ghost use Rattle.lease_world.specs.world.Obstacles.{against_command, is_command, obstacle_meant, Meets, MeetsThere};
 ghost use Rattle.lease_world.specs.world.Stands.{link_of, Stands};
 ghost use Rattle.lease_world.specs.world.Worlds.{Happens, Tells, Delivers, Links, CutsLink, Sends, Applies};
 ghost use Rattle.lease_world.specs.world.Seats.{IsPresent, HasKept, is_link, seat_in};
@@ -17,6 +20,7 @@ ghost use Rattle.lease_facts.specs.Setups.{event_of, setup_of};
 ghost use Rattle.lease_model.specs.world.World.{first_world_under};
 
 use crate::copies::{copy_command, copy_request};
+use crate::obstacle::Obstacle;
 use crate::world::delivering::{deliver, tell_notes};
 use crate::world::link::Link;
 use crate::world::messages::Messages;
@@ -30,7 +34,7 @@ use std::marker::Model;
 
 mod delivering;
 mod first;
-mod link;
+pub mod link;
 pub mod messages;
 mod seat;
 
@@ -106,7 +110,10 @@ impl World {
             return Ok(());
         }
         match event {
-            Event::App(_, command) => self.command(client, command),
+            Event::App(_, command) => {
+                self.command(client, command)?;
+                Ok(())
+            }
             Event::ServerTakes(_) => self.server_takes(client),
             Event::ClientTakes(_) => self.client_takes(client),
             Event::Cut(_) => self.cut(client),
@@ -131,6 +138,34 @@ impl World {
         (facts, messages)
     }
 
+    /// An event happens, as by `happen`, and what stood in its way is given.
+    ///
+    /// # Errors
+    ///
+    /// `Memory` where there is none left.
+    pub fn happen_explained(&mut self, event: &Event) -> Result<Option<Obstacle>, Memory>
+        ensures happens { OnOk result (Happens (event_of event.now) self.old self.new) }
+        ensures meets { IfOk result (λ found. Meets (event_of event.now) self.old found) }
+    {
+        let client = event.client();
+        if !self.has(client) {
+            return Ok(Some(Obstacle::NoClient(client)));
+        }
+        if let Event::App(_, command) = event {
+            return self.command(client, command);
+        }
+        let obstacle = self.obstacle(client, event);
+        self.happen(event)?;
+        Ok(obstacle)
+    }
+
+    /// How many facts the record has.
+    pub fn count(&self) -> usize
+        ensures { result ≡ length self.now.facts }
+    {
+        self.facts.len()
+    }
+
     // Whether there is a client of this number.
     fn has(&self, client: ClientNo) -> bool
         ensures value { result ≡ (nat_le 1 client.0 && nat_le client.0 (length self.now.seats)) }
@@ -139,15 +174,106 @@ impl World {
         1 <= client.0 && usize::from(client.0) <= self.seats.len()
     }
 
-    // A client's application gives a command.
-    fn command(&mut self, client: ClientNo, command: &Command) -> Result<(), Memory>
+    // A client's application gives a command, and what stands in its way is given.
+    fn command(&mut self, client: ClientNo, command: &Command) -> Result<Option<Obstacle>, Memory>
         requires { IsPresent client.0 self.old.seats }
-        ensures { OnOk result (Applies (model.Event.App client.0 (command_of command.now)) self.old self.new) }
+        ensures applies { OnOk result (Applies (model.Event.App client.0 (command_of command.now)) self.old self.new) }
+        ensures meets { IfOk result (MeetsThere (model.Event.App client.0 (command_of command.now)) self.old) }
     {
-        let command = copy_command(command)?;
+        let asked = copy_command(command)?;
         let seat = &mut self.seats[place_of(client)];
-        seat.app(command, &mut self.given)?;
-        tell_notes(&mut self.facts, client, &mut self.given)
+        seat.app(asked, &mut self.given)?;
+        let obstacle = against(client, command, &self.given);
+        tell_notes(&mut self.facts, client, &mut self.given)?;
+        Ok(obstacle)
+    }
+
+    // What stands in the way of an event that is no command.
+    fn obstacle(&self, client: ClientNo, event: &Event) -> Option<Obstacle>
+        requires there { IsPresent client.0 self.now.seats }
+        requires named { client.0 ≡ client_of (event_of event.now) }
+        ensures { is_command (event_of event.now) ≡ false → MeetsThere (event_of event.now) self.now result }
+    {
+        match event {
+            Event::App(_, _) => None,
+            Event::ServerTakes(_) => self.no_request(client),
+            Event::ClientTakes(_) => self.no_reply(client),
+            Event::Cut(_) | Event::Raw(_, _) => Obstacle::unless_up(client, self.link(client)),
+            Event::Notice(_) => Obstacle::unless_cut(client, self.link(client)),
+            Event::Connect(_) => Obstacle::unless_down(client, self.link(client)),
+            Event::Expire(_, file) => self.no_break(client, *file),
+            Event::Scavenge(_, file) => self.none_kept(client, *file),
+        }
+    }
+
+    fn no_request(&self, client: ClientNo) -> Option<Obstacle>
+        requires { IsPresent client.0 self.now.seats }
+        ensures { MeetsThere (model.Event.ServerTakes client.0) self.now result }
+    {
+        if self.has_no_request(client) {
+            Some(Obstacle::NoRequest(client))
+        } else {
+            None
+        }
+    }
+
+    fn no_reply(&self, client: ClientNo) -> Option<Obstacle>
+        requires { IsPresent client.0 self.now.seats }
+        ensures { MeetsThere (model.Event.ClientTakes client.0) self.now result }
+    {
+        if self.has_no_reply(client) {
+            Some(Obstacle::NoReply(client))
+        } else {
+            None
+        }
+    }
+
+    fn no_break(&self, client: ClientNo, file: FileNo) -> Option<Obstacle>
+        requires { IsPresent client.0 self.now.seats }
+        ensures { MeetsThere (model.Event.Expire client.0 file.0) self.now result }
+    {
+        if self.server.content(file).is_none() {
+            return Some(Obstacle::NoFile(file));
+        }
+        let key = self.key(client, file);
+        if self.server.breaking(client, key) {
+            None
+        } else {
+            Some(Obstacle::NoBreak(client, file))
+        }
+    }
+
+    fn none_kept(&self, client: ClientNo, file: FileNo) -> Option<Obstacle>
+        ensures { MeetsThere (model.Event.Scavenge client.0 file.0) self.now result }
+    {
+        match self.kept(client, file) {
+            Some(_) => None,
+            None => Some(Obstacle::NoOpen(client, file)),
+        }
+    }
+
+    fn has_no_request(&self, client: ClientNo) -> bool
+        requires { IsPresent client.0 self.now.seats }
+        ensures { result ≡ (length (seat_in self.now.seats client.0).requests == 0) }
+    {
+        let seat = &self.seats[place_of(client)];
+        seat.has_no_request()
+    }
+
+    fn has_no_reply(&self, client: ClientNo) -> bool
+        requires { IsPresent client.0 self.now.seats }
+        ensures { result ≡ (length (seat_in self.now.seats client.0).replies == 0) }
+    {
+        let seat = &self.seats[place_of(client)];
+        seat.has_no_reply()
+    }
+
+    fn link(&self, client: ClientNo) -> Link
+        requires { IsPresent client.0 self.now.seats }
+        ensures { result ≡ (seat_in self.now.seats client.0).link }
+    {
+        let seat = &self.seats[place_of(client)];
+        seat.link()
     }
 
     // A fact is recorded.
@@ -361,6 +487,13 @@ impl World {
         self.tell(Fact::Strayed(client))?;
         self.send(client, request)
     }
+}
+
+// What stands in the way of a client's command that gives out this.
+fn against(client: ClientNo, command: &Command, given: &Given) -> Option<Obstacle>
+    ensures { option_map obstacle_meant result ≡ against_command client.0 (command_of command.now) given.now.answer }
+{
+    Obstacle::of_command(client, command, &given.answer)
 }
 
 // Where the seat of a client is.

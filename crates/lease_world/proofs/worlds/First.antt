@@ -45,7 +45,7 @@ drop_all [] (suc n) le = refl
 drop_all (x ∷ xs) zero le = absurd (omega arith)
 drop_all (x ∷ xs) (suc n) le = drop_all xs n (omega arith)
 
-take_all : {X : Type 0} (xs : List X) (n : ℕ) → length xs ≤ n → take n xs ≡ xs
+pub take_all : {X : Type 0} (xs : List X) (n : ℕ) → length xs ≤ n → take n xs ≡ xs
 take_all [] zero le = refl
 take_all [] (suc n) le = refl
 take_all (x ∷ xs) zero le = absurd (omega arith)
@@ -209,7 +209,7 @@ unfolding after
 after_one_more world [] event = refl
 after_one_more world (e ∷ events) event = after_one_more (happens world e) events event
 
-take_map : {X Y : Type 0} (f : X → Y) (xs : List X) (n : ℕ) → take n (map f xs) ≡ map f (take n xs)
+pub take_map : {X Y : Type 0} (f : X → Y) (xs : List X) (n : ℕ) → take n (map f xs) ≡ map f (take n xs)
 take_map f [] zero = refl
 take_map f [] (suc n) = refl
 take_map f (x ∷ xs) zero = refl

@@ -1,7 +1,9 @@
-ghost use Rattle.std.specs.Prelude.{◌≡◌, ◌++◌, [], ◌∷◌, OnOk, MatchOption};
+ghost use Rattle.std.specs.Prelude.{◌≡◌, ◌++◌, [], ◌∷◌, ◌==◌, OnOk, MatchOption, length};
 ghost use Rattle.lease_model.specs.client.Calls.{ClientCall};
 ghost use Rattle.lease_model.specs.messages.FromBytes.{reply_of};
 ghost use Rattle.lease_client.specs.Answers.{command_of};
+ghost use Rattle.lease_client.specs.Known.{client_of};
+ghost use Rattle.lease_model.specs.client.Commanded.{commanded};
 ghost use Rattle.lease_world.specs.world.Seats.{is_link, queued, with_replies, with_requests, PopsRequest, PopsReply, StepsSeat};
 
 use crate::world::link::Link;
@@ -89,7 +91,8 @@ impl Seat {
     ///
     /// `Memory` where there is none left.
     pub fn app(&mut self, command: Command, given: &mut Given) -> Result<(), Memory>
-        ensures { OnOk result (StepsSeat (ClientCall.Commanded (command_of command)) given.new.notes self.old self.new) }
+        ensures steps { OnOk result (StepsSeat (ClientCall.Commanded (command_of command)) given.new.notes self.old self.new) }
+        ensures answer { OnOk result (given.new.answer ≡ (commanded (client_of self.old.client) (command_of command)).answer) }
     {
         self.client.app_in_place(command, given)?;
         self.send_all(given)
@@ -136,11 +139,33 @@ impl Seat {
     fn send_all(&mut self, given: &mut Given) -> Result<(), Memory>
         ensures sent { OnOk result (self.new ≡ with_requests given.old.requests self.old) }
         ensures notes { given.new.notes ≡ given.old.notes }
+        ensures answer { given.new.answer ≡ given.old.answer }
     {
         if self.link == Link::Up && !given.requests.is_empty() {
             push_all(&mut self.requests, given)?;
         }
         Ok(())
+    }
+
+    /// How the client is connected.
+    pub fn link(&self) -> Link
+        ensures { result ≡ self.now.link }
+    {
+        self.link
+    }
+
+    /// Whether no request of the client is on its way.
+    pub fn has_no_request(&self) -> bool
+        ensures { result ≡ (length self.now.requests == 0) }
+    {
+        self.requests.is_empty()
+    }
+
+    /// Whether no reply is on its way to the client.
+    pub fn has_no_reply(&self) -> bool
+        ensures { result ≡ (length self.now.replies == 0) }
+    {
+        self.replies.is_empty()
     }
 
     /// A reply is on its way to the client.
@@ -188,6 +213,7 @@ impl Seat {
 fn push_all(queue: &mut VecDeque<Request>, given: &mut Given) -> Result<(), Memory>
     ensures requests { OnOk result (queue.new.items ≡ queue.old.items ++ given.old.requests) }
     ensures notes { given.new.notes ≡ given.old.notes }
+    ensures answer { given.new.answer ≡ given.old.answer }
 {
     for request in given.requests.drain(..) {
         queue.push_back(request)?;

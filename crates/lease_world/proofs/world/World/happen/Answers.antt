@@ -1,19 +1,21 @@
-use Rattle.lease_laws.proofs.Words.{◌∙◌, Event, request_of, sym}
+use Rattle.lease_laws.proofs.Words.{◌∙◌, Event, ℕ, request_of, subst, sym}
 use Rattle.lease_client.specs.Answers.{command_of}
 use Rattle.lease_facts.specs.Setups.{event_of}
-use Rattle.lease_world.proofs.worlds.Events.{nothing_happens, told_happens}
+use Rattle.lease_world.specs.world.Worlds.{Applies}
+use Rattle.lease_world.proofs.worlds.Events.{event_happens, nothing_happens, told_happens}
 use Rattle.lease_world.proofs.world.World.happen.Goals as goal
 
 pub returns-then-not-has : goal.returns-then-not-has
 returns-then-not-has c = nothing_happens c.args.self.now c.client-client.result.0 (event_of c.args.event.now)
     c.client-client.ensures.number (sym c.has.ensures.value ∙ c.if-not-has.true)
 
-pub returns-in-App : goal.returns-in-App
-returns-in-App c =
+pub returns-in_ok-command-in-App : goal.returns-in_ok-command-in-App
+returns-in_ok-command-in-App c =
     let same = rw c.in-App.is at c.client-client.ensures.number in
-    rw c.in-App.is (told_happens c.command.result c.args.self.now c.command.new.self c.client-client.result.0
-    c.in-App.field-0.0 (λ n. Event.App n (command_of c.in-App.command))
-    same same (sym c.has.ensures.value ∙ c.if-not-has.false) c.command.ensures)
+    rw c.in-App.is (event_happens c.args.self.now c.command.new.self c.client-client.result.0
+    (Event.App c.in-App.field-0.0 (command_of c.in-App.command)) same (sym c.has.ensures.value ∙ c.if-not-has.false)
+    (subst (λ (n : ℕ). Applies (Event.App n (command_of c.in-App.command)) c.args.self.now c.command.new.self) same
+    c.in_ok-command-in-App.ensures.applies))
 
 pub returns-in-ServerTakes : goal.returns-in-ServerTakes
 returns-in-ServerTakes c =
