@@ -2,7 +2,8 @@
 
 Each fact of the record has one mark, in order, with its kind and its words. Those that `judge --explain` names are marked as bad,
 and what it says stands below. Arrows lead from where a message was sent to where it is taken, bars reach from a belief to the
-next one, and a client's line is solid where it is connected.
+next one, and a client's line is solid where it is connected. No arrow crosses words: these stand to the right of a lane's line,
+ten pixels from it, and between the edges of their row.
 """
 from __future__ import annotations
 
@@ -90,7 +91,9 @@ class Picture:
                 count = taken.get(client, 0)
                 taken[client] = count + 1
                 if count < len(sent.get(client, [])):
-                    expected = [(middle(self.marks[sent[client][count] - 1]), middle(self.marks[place - 1]))]
+                    (server, begin), (end, row) = middle(self.marks[sent[client][count] - 1]), middle(self.marks[place - 1])
+                    turn = (server + 5 if end > server else server - 5, row - ROW // 2)
+                    expected = [((turn[0], begin), turn), (turn, (end, turn[1]))]
             assert [ends(it) for it in self.marks[place - 1].findall(f"{SVG}line")] == expected, place
 
     def look_at_beliefs(self) -> None:

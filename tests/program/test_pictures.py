@@ -17,7 +17,7 @@ MOST = 5000
 PICTURES = {"shared.svg": "examples/shared.txt", "lease_outlives_its_open.svg": "drive/found/lease_outlives_its_open.record"}
 FOUND = TOP / "drive" / "found"
 ALL_RECORDS = [*RECORDS, *RUNS, *files_of(FOUND, "*.record")]
-LABELS = {"created": " opened", "createfailed": "not opened", "readdone": "bytes read", "readfailed": "not read",
+LABELS = {"created": " opened", "createfailed": "not opened", "readdone": " read", "readfailed": "not read",
           "writedone": "done",
           "writefailed": "failed", "closed": "closed", "closefailed": "not closed", "break": "break ", "ackdone": "accepted",
           "ackfailed": "refused"}

@@ -28,6 +28,7 @@ look_word look.Connection = codes "connection"
 look_word look.Row = codes "row"
 look_word look.Number = codes "number"
 look_word look.Label = codes "label"
+look_word look.Way = codes "way"
 look_word look.Message = codes "message"
 look_word look.WriteCaching = codes "writecaching"
 look_word look.Caching = codes "caching"
@@ -107,7 +108,8 @@ style_text =
     ++ (codes " .row {fill: #e53935; fill-opacity: 0.2}" ++ ((10 ∷ [])
     ++ (codes ".bad text {fill: #b00020; font-weight: bold} .bad circle {stroke: #b00020; stroke-width: 3}" ++ ((10 ∷ [])
     ++ (codes ".lane {stroke: #ccc; stroke-dasharray: 2 4} .connection {stroke: #333; stroke-width: 2}" ++ ((10 ∷ [])
-    ++ (codes ".message {stroke: #1565c0; marker-end: url(#arrow)} .caching {fill: #a5d6a7} .writecaching {fill: #ffb74d}"
+    ++ (codes
+    ".way, .message {stroke: #1565c0} .message {marker-end: url(#arrow)} .caching {fill: #a5d6a7} .writecaching {fill: #ffb74d}"
     ++ ((10 ∷ [])
     ++ (codes ".event {fill: #333} .accepted {fill: #6a1b9a} .cachedread {fill: #2e7d32}" ++ ((10 ∷ [])
     ++ (codes ".loss, .stray {fill: #fff; stroke: #b00020; stroke-width: 2}</style>" ++ ((10 ∷ [])

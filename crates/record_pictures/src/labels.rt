@@ -4,6 +4,14 @@ use lease_texts::{outcome_word, state_letters};
 use lease_wire::{Notification, read_create_reply};
 use std::alloc::{AllocError, Global};
 
+fn push_count(text: &mut String, bytes: usize) -> Result<(), AllocError> {
+    if bytes == 1 {
+        text.push_str("1 byte")
+    } else {
+        write!(text, "{bytes} bytes")
+    }
+}
+
 // Adds what is granted beside an open.
 fn push_granted(text: &mut String, contexts: &Bytes) -> Result<(), AllocError> {
     let Ok(answer) = read_create_reply(contexts.as_slice()) else {
@@ -45,8 +53,8 @@ fn push_message(text: &mut String, message: &Reply) -> Result<(), AllocError> {
             write!(text, "file {file} not opened")
         }
         Reply::ReadDone { bytes, .. } => {
-            let count = bytes.as_slice().len();
-            write!(text, "{count} bytes read")
+            push_count(text, bytes.as_slice().len())?;
+            text.push_str(" read")
         }
         Reply::ReadFailed { .. } => text.push_str("not read"),
         Reply::WriteDone { number, .. } => write!(text, "write {number} done"),
@@ -100,8 +108,9 @@ fn push_client_label(text: &mut String, fact: &Fact) -> Result<(), AllocError> {
 fn push_server_label(text: &mut String, fact: &Fact) -> Result<(), AllocError> {
     match fact {
         Fact::Start(file, bytes) => {
-            let (file, count) = (file.0, bytes.as_slice().len());
-            write!(text, "file {file}: {count} bytes")
+            let file = file.0;
+            write!(text, "file {file}: ")?;
+            push_count(text, bytes.as_slice().len())
         }
         Fact::Expired(client, file) => {
             let (client, file) = (client.0, file.0);

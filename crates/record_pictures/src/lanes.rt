@@ -100,6 +100,23 @@ pub fn spot(lane: u16, row: u16) -> Point {
     }
 }
 
+/// Next to the line of a lane, on the side of another one and before the words that stand there, in pixels from the left.
+pub fn beside(lane: u16, other: u16) -> u32 {
+    if other < lane {
+        across(lane, LINE - 5)
+    } else {
+        across(lane, LINE + 5)
+    }
+}
+
+/// The point on the line of a lane above a row, where no words stand.
+pub fn above(lane: u16, row: u16) -> Point {
+    Point {
+        x: line_of(lane),
+        y: down(row, 0),
+    }
+}
+
 /// The point at which a line of text begins that stands to the right of a lane's line.
 pub fn words_at(lane: u16, row: u16) -> Point {
     Point {

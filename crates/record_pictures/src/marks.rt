@@ -1,5 +1,5 @@
 use crate::labels::label_of;
-use crate::lanes::{Lanes, at, down, line_of, spot, words_at};
+use crate::lanes::{Lanes, above, at, beside, down, line_of, spot, words_at};
 use crate::shape::{Look, Point, Shape, Size};
 use lease_facts::Fact;
 use lease_reasons::Messages;
@@ -76,37 +76,58 @@ fn caching(state: LeaseState) -> Option<Look> {
     }
 }
 
-// The line of a message, from the row in which it was sent to the one in which it is taken.
-fn message_line(
+// The way of a message, where no words stand: beside the server's line from the row in which it was sent to the row in which it
+// is taken, and above that row to the client's line.
+fn push_message(
     alloc: Global,
+    shapes: &mut Vec<Shape>,
     lanes: &Lanes,
     facts: &[Fact],
     client: ClientNo,
     row: u16,
-) -> Result<Option<Shape>, Memory> {
+) -> Result<(), Memory> {
     let messages = Messages::of(alloc, facts, client)?;
     let Some(sent) = messages.last_sent() else {
-        return Ok(None);
+        return Ok(());
     };
-    Ok(Some(Shape::Line {
-        from: spot(lanes.server(), at(sent.saturating_sub(1))),
-        to: spot(lanes.client(client), row),
+    let (server, lane) = (lanes.server(), lanes.client(client));
+    let x = beside(server, lane);
+    let from = spot(server, at(sent.saturating_sub(1)));
+    let to = above(lane, row);
+    let turn = Point { x, y: to.y };
+    shapes.push(Shape::Line {
+        from: Point { x, y: from.y },
+        to: turn,
+        look: Look::Way,
+    })?;
+    shapes.push(Shape::Line {
+        from: turn,
+        to,
         look: Look::Message,
-    }))
+    })?;
+    Ok(())
 }
 
 // What a fact has beside its point: a belief its time, and a message that is taken its way.
-fn reach(alloc: Global, lanes: &Lanes, facts: &[Fact], row: u16) -> Result<Option<Shape>, Memory> {
+fn push_reach(
+    alloc: Global,
+    shapes: &mut Vec<Shape>,
+    lanes: &Lanes,
+    facts: &[Fact],
+    row: u16,
+) -> Result<(), Memory> {
     let index = usize::from(row);
     let (before, later) = facts.split_at(facts.len().min(index.saturating_add(1)));
     match facts.get(index) {
-        Some(Fact::Took(client)) => message_line(alloc, lanes, before, *client, row),
+        Some(Fact::Took(client)) => push_message(alloc, shapes, lanes, before, *client, row),
         Some(Fact::Believes(client, file, state)) => {
             let end = belief_end(later, row, *client, *file);
-            let lane = lanes.client(*client);
-            Ok(caching(*state).map(|look| bar(lane, (row, end), *file, look)))
+            if let Some(look) = caching(*state) {
+                shapes.push(bar(lanes.client(*client), (row, end), *file, look))?;
+            }
+            Ok(())
         }
-        _ => Ok(None),
+        _ => Ok(()),
     }
 }
 
@@ -159,9 +180,7 @@ pub fn shapes_of(
         shapes.push(band(lanes, row))?;
     }
     shapes.push(number(alloc, row)?)?;
-    if let Some(shape) = reach(alloc, lanes, facts, row)? {
-        shapes.push(shape)?;
-    }
+    push_reach(alloc, &mut shapes, lanes, facts, row)?;
     let lane = lane_of(lanes, fact);
     shapes.push(Shape::Circle {
         at: spot(lane, row),

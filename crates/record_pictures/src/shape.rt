@@ -27,7 +27,9 @@ pub enum Look {
     Number,
     /// What a fact says, in a few words.
     Label,
-    /// A message, from where it was sent to where it was taken.
+    /// The way of a message down the server's lane, from where it was sent to where it is taken.
+    Way,
+    /// A message, from the server to the client that takes it.
     Message,
     /// The time of a belief that lets a client cache writes.
     WriteCaching,

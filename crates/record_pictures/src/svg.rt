@@ -47,6 +47,7 @@ fn look_word(look: Look) -> &'static str
         Look::Row => "row",
         Look::Number => "number",
         Look::Label => "label",
+        Look::Way => "way",
         Look::Message => "message",
         Look::WriteCaching => "writecaching",
         Look::Caching => "caching",
@@ -243,7 +244,7 @@ fn push_style(text: &mut String) -> Result<(), AllocError>
         ".lane {stroke: #ccc; stroke-dasharray: 2 4} .connection {stroke: #333; stroke-width: 2}\n",
     )?;
     text.push_str(
-        ".message {stroke: #1565c0; marker-end: url(#arrow)} .caching {fill: #a5d6a7} .writecaching {fill: #ffb74d}\n",
+        ".way, .message {stroke: #1565c0} .message {marker-end: url(#arrow)} .caching {fill: #a5d6a7} .writecaching {fill: #ffb74d}\n",
     )?;
     text.push_str(".event {fill: #333} .accepted {fill: #6a1b9a} .cachedread {fill: #2e7d32}\n")?;
     text.push_str(".loss, .stray {fill: #fff; stroke: #b00020; stroke-width: 2}</style>\n")?;
