@@ -95,6 +95,10 @@ def test_each_kind_is_known(program: str) -> None:
     pytest.param("leasecheck replay --ru\tby-key,w\tsh\t", "<replay><--rules><by-key,whole><shared.txt>", id="rules and a file"),
     pytest.param("leasecheck draw rec\tfi\t", "<draw><records/first>", id="a file in a folder"),
     pytest.param("leasecheck ack sh\t", "<ack><sh>", id="bytes are no file"),
+    pytest.param("leasecheck ack @sh\t", "<ack><@shared.txt>", id="a file of bytes"),
+    pytest.param("leasecheck show break @tw\t", "<show><break><@two words.txt>", id="a file of bytes with a space"),
+    pytest.param("leasecheck ack @rec\tfi\t", "<ack><@records/first>", id="a file of bytes in a folder"),
+    pytest.param("leasecheck show @sh\t", "<show><@sh>", id="a kind comes first"),
     pytest.param("leasecheck replay shared.txt tw\t", "<replay><shared.txt><tw>", id="no second file"),
     pytest.param("leasecheck other sh\t", "<other><sh>", id="no such command"),
 ])

@@ -1,7 +1,9 @@
--- The bytes that an argument of `ack` and `show` writes.
-use Rattle.std.specs.Prelude.{ℕ, ◌==◌, ◌||◌, Bool, if◌then◌else◌, List, ◌∷◌, codes, take, drop, bytes_eq, Result}
+-- The bytes that an argument of `ack` and `show` gives.
+use Rattle.std.specs.Prelude.{◌≡◌, ℕ, ◌==◌, ◌||◌, Bool, if◌then◌else◌, List, ◌∷◌, codes, take, drop, bytes_eq, Result, Ok, Option, Some, None}
+use Rattle.std.specs.Prelude.{IfSome}
 use Rattle.hex.specs.Hex.{decode_of}
 use Rattle.hex.specs.declared.error.FromHexError.{FromHexError}
+use Rattle.leasecheck.specs.Paths.{file_named}
 
 -- a colon or a space
 abbrev pub is_separator : ℕ → Bool
@@ -19,6 +21,14 @@ digits_in text = text
 abbrev pub without_prefix : List ℕ → List ℕ
 without_prefix text = if bytes_eq (take 2 text) (codes "0x") then drop 2 text else text
 
--- the bytes of an argument, or why it has none
+-- the bytes that its digits write, or why they write none
 unfoldable pub argument_bytes : List ℕ → Result (List ℕ) FromHexError
 argument_bytes text = decode_of (digits_in (without_prefix text))
+
+-- Those of the file that it names, where they are known, or else those that its digits write.
+abbrev pub GivesBy : Option (List ℕ) → List ℕ → Option (List ℕ) → List ℕ → Type 0
+GivesBy None argument file bytes = argument_bytes argument ≡ Ok bytes
+GivesBy (Some path) argument file bytes = IfSome file (λ known. bytes ≡ known)
+
+abbrev pub Gives : List ℕ → Option (List ℕ) → List ℕ → Type 0
+Gives argument file bytes = GivesBy (file_named argument) argument file bytes

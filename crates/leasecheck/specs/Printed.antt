@@ -1,9 +1,9 @@
 -- What a task prints, end to end: from the text of its argument to the text on standard output.
-use Rattle.std.specs.Prelude.{◌≡◌, ℕ, ◌++◌, List, [], ◌∷◌, codes, Option, Ok, IfSome}
+use Rattle.std.specs.Prelude.{◌≡◌, ℕ, ◌++◌, List, [], ◌∷◌, codes, Option, IfSome}
 use Rattle.std.specs.String.{string_bytes}
 use Rattle.std.specs.Io.KnownBytes.{Appends}
 use Rattle.leasecheck.specs.Answer.{AnswersWith}
-use Rattle.leasecheck.specs.Arguments.{argument_bytes}
+use Rattle.leasecheck.specs.Arguments.{Gives}
 use Rattle.lease_world.specs.declared.verdict.Verdict.{Verdict}
 use Rattle.leasecheck.specs.Drawing.{Draws}
 use Rattle.leasecheck.specs.Shown.{Shows}
@@ -18,12 +18,13 @@ abbrev pub version_text : List ℕ
 version_text = codes "leasecheck 0.3.0" ++ 10 ∷ (codes "rattle-kit-13f logic dac8208d650f15bf" ++ 10 ∷ [])
 
 -- The text is what the task prints, and the status how it ends, where its file has these bytes. Of what a replay prints for bytes
--- that aren't known nothing is said, and of a judge's verdict on them only that it is one.
+-- that aren't known nothing is said, of a judge's verdict on them only that it is one, and of an answer or of what is shown only
+-- that there are bytes that it is of.
 abbrev pub IsTextOf : Task → Option (List ℕ) → List ℕ → ℕ → Type 0
 IsTextOf (Ack argument) file text status =
-    (status ≡ 0) × (bytes : List ℕ) × (argument_bytes (string_bytes argument) ≡ Ok bytes) × AnswersWith bytes text
+    (status ≡ 0) × (bytes : List ℕ) × Gives (string_bytes argument) file bytes × AnswersWith bytes text
 IsTextOf (Show kind argument) file text status =
-    (status ≡ 0) × (bytes : List ℕ) × (argument_bytes (string_bytes argument) ≡ Ok bytes) × Shows kind bytes text
+    (status ≡ 0) × (bytes : List ℕ) × Gives (string_bytes argument) file bytes × Shows kind bytes text
 IsTextOf (Replay path telling rules) file text status = (status ≡ 0) × IfSome file (λ schedule. Replays telling rules schedule text)
 IsTextOf (Judge path) file text status =
     (verdict : Verdict) × (text ≡ verdict_line verdict) × (status ≡ status_of verdict)

@@ -17,7 +17,7 @@ use Rattle.lease_texts.specs.Records.{record_in}
 use Rattle.leasecheck.specs.Arguments.{argument_bytes}
 use Rattle.leasecheck.specs.Drawing.{draw_refusal}
 use Rattle.leasecheck.specs.FileFaults.{FailsReading, IsUnreadRemark}
-use Rattle.leasecheck.specs.Paths.{path_of}
+use Rattle.leasecheck.specs.Paths.{file_named, path_of}
 use Rattle.leasecheck.specs.Printed.{IsTextOf, Prints}
 use Rattle.leasecheck.specs.Remarks.{IsRemark, Says}
 use Rattle.leasecheck.specs.Replayed.{replay_refusal}
@@ -70,6 +70,16 @@ abbrev pub argument_refusal : {E : Type 0} → (List ℕ → Option WireFault) �
 argument_refusal fault (Ok bytes) = option_map Wire (fault bytes)
 argument_refusal fault (Err e) = Some Hex
 
+-- what the bytes of a file are refused as, where they are known
+abbrev pub file_refusal : (List ℕ → Option WireFault) → Option (List ℕ) → Option Failure
+file_refusal fault None = None
+file_refusal fault (Some bytes) = option_map Wire (fault bytes)
+
+-- what an argument is refused as, or the file that it names
+abbrev pub given_refusal : (List ℕ → Option WireFault) → List ℕ → Option (List ℕ) → Option (List ℕ) → Option Failure
+given_refusal fault argument None file = argument_refusal fault (argument_bytes argument)
+given_refusal fault argument (Some path) file = file_refusal fault file
+
 -- what a schedule is refused as, where its bytes are known
 abbrev pub known_refusal : Option (List ℕ) → Option Failure
 known_refusal None = None
@@ -91,8 +101,10 @@ drawing_refusal (Some file) = draw_refusal file
 
 -- what the task's argument, or its file, is refused as
 abbrev pub refusal_of : Task → Option (List ℕ) → Option Failure
-refusal_of (task.Ack argument) file = argument_refusal (message_fault 44) (argument_bytes (string_bytes argument))
-refusal_of (task.Show kind argument) file = argument_refusal (shown_fault kind) (argument_bytes (string_bytes argument))
+refusal_of (task.Ack argument) file =
+    given_refusal (message_fault 44) (string_bytes argument) (file_named (string_bytes argument)) file
+refusal_of (task.Show kind argument) file =
+    given_refusal (shown_fault kind) (string_bytes argument) (file_named (string_bytes argument)) file
 refusal_of (task.Replay path telling rules) file = known_refusal file
 refusal_of (task.Judge path) file = judge_refusal file
 refusal_of (task.Explain path) file = judge_refusal file
@@ -100,6 +112,10 @@ refusal_of (task.Draw path) file = drawing_refusal file
 refusal_of task.Version file = None
 
 -- A file is refused as this: where its bytes aren't known, as some file would be.
+abbrev pub IsBytesRefusal : (List ℕ → Option WireFault) → Option (List ℕ) → Failure → Type 0
+IsBytesRefusal fault None failure = (bytes : List ℕ) × (option_map Wire (fault bytes) ≡ Some failure)
+IsBytesRefusal fault (Some bytes) failure = option_map Wire (fault bytes) ≡ Some failure
+
 abbrev pub IsScheduleRefusal : Option (List ℕ) → Failure → Type 0
 IsScheduleRefusal None failure = (schedule : List ℕ) × (replay_refusal schedule ≡ Some failure)
 IsScheduleRefusal (Some schedule) failure = replay_refusal schedule ≡ Some failure
@@ -117,6 +133,16 @@ abbrev pub RunsOutOf : Option (List ℕ) → Failure → Type 0
 RunsOutOf None failure = failure ≡ Lines
 RunsOutOf (Some text) failure = (failure ≡ Lines) × (2 ^ 64 ≤ length text + 2)
 
+-- What may end a task with an argument: it is refused, or the file that it names, or there was no memory, or a read failed.
+abbrev pub MayEndBy : (List ℕ → Option WireFault) → List ℕ → Option (List ℕ) → Option (List ℕ) → Failure → Type 0
+MayEndBy fault argument None file failure =
+    (failure ≡ Memory) ⊎ (argument_refusal fault (argument_bytes argument) ≡ Some failure)
+MayEndBy fault argument (Some path) file failure =
+    (failure ≡ Memory) ⊎ FailsReading failure ⊎ IsBytesRefusal fault file failure
+
+abbrev pub MayEndGiven : (List ℕ → Option WireFault) → List ℕ → Option (List ℕ) → Failure → Type 0
+MayEndGiven fault argument file failure = MayEndBy fault argument (file_named argument) file failure
+
 -- What may end a replay, a drawing or a judging: its file is refused, or there was no memory, or a read failed.
 abbrev pub MayEndReplay : Option (List ℕ) → Failure → Type 0
 MayEndReplay file failure = (failure ≡ Memory) ⊎ FailsReading failure ⊎ IsScheduleRefusal file failure
@@ -129,6 +155,8 @@ MayEndJudging file failure = (failure ≡ Memory) ⊎ FailsReading failure ⊎ R
 
 -- What may end a task: its argument or its file is refused, or there was no memory, or a read of its file failed.
 abbrev pub MayEnd : Task → Option (List ℕ) → Failure → Type 0
+MayEnd (task.Ack argument) file failure = MayEndGiven (message_fault 44) (string_bytes argument) file failure
+MayEnd (task.Show kind argument) file failure = MayEndGiven (shown_fault kind) (string_bytes argument) file failure
 MayEnd (task.Replay path telling rules) file failure = MayEndReplay file failure
 MayEnd (task.Judge path) file failure = MayEndJudging file failure
 MayEnd (task.Explain path) file failure = MayEndJudging file failure
@@ -144,10 +172,11 @@ AnswersOrRefuses asked file answer = MatchResult answer (λ _. refusal_of asked 
 abbrev pub SaysOf : {X : Type 0} → Task → Option (List ℕ) → Result X Refusal → Type 0
 SaysOf asked file answer = IfErr answer (λ refusal. Says refusal (IsRemark asked file))
 
--- An argument that has to write bytes without a fault is refused as that, or for want of memory.
-abbrev pub RefusesArgument : {X : Type 0} → (List ℕ → Option WireFault) → List ℕ → Result X Refusal → Type 0
-RefusesArgument fault argument answer = MatchResult answer (λ _. argument_refusal fault (argument_bytes argument) ≡ None)
-    (λ refusal. (refusal.failure ≡ Memory) ⊎ (argument_refusal fault (argument_bytes argument) ≡ Some refusal.failure))
+-- What has to give bytes without a fault is refused as that, and else answered.
+abbrev pub RefusesGiven : {X : Type 0} → (List ℕ → Option WireFault) → List ℕ → Option (List ℕ) → Result X Refusal → Type 0
+RefusesGiven fault argument file answer =
+    MatchResult answer (λ _. given_refusal fault argument (file_named argument) file ≡ None)
+    (λ refusal. MayEndGiven fault argument file refusal.failure)
 
 -- a writer whose bytes are known has got a beginning of a text
 abbrev pub Begins : Option (List ℕ) → Option (List ℕ) → List ℕ → Type 0

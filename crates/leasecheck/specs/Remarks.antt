@@ -11,6 +11,7 @@ use Rattle.leasecheck.specs.Arguments.{argument_bytes}
 use Rattle.leasecheck.specs.Drawing.{is_schedule, facts_line, count_of}
 use Rattle.leasecheck.specs.HexRemarks.{hex_remark}
 use Rattle.leasecheck.specs.LineRemarks.{fact_remark, part_remark, line_among, line_at}
+use Rattle.leasecheck.specs.Paths.{file_named}
 use Rattle.leasecheck.specs.SetupRemarks.{setup_remark, events_remark}
 use Rattle.leasecheck.specs.WireRemarks.{bare_remark, shown_remark}
 use Rattle.leasecheck.specs.declared.failure.Failure.{Failure}
@@ -32,6 +33,26 @@ IsArgumentRemark remark argument (Run fault) line = ⊥
 IsArgumentRemark remark argument Picture line = ⊥
 IsArgumentRemark remark argument Memory line = ⊥
 IsArgumentRemark remark argument Output line = ⊥
+
+-- what is said of the bytes of a file
+abbrev pub IsBytesRemark : (List ℕ → WireFault → List ℕ) → Option (List ℕ) → Failure → List ℕ → Type 0
+IsBytesRemark remark file (Wire fault) line = (bytes : List ℕ) × IfSome file (λ known. bytes ≡ known) × (line ≡ remark bytes fault)
+IsBytesRemark remark file Hex line = ⊥
+IsBytesRemark remark file (File fault) line = ⊥
+IsBytesRemark remark file Lines line = ⊥
+IsBytesRemark remark file (Line number) line = ⊥
+IsBytesRemark remark file (Run fault) line = ⊥
+IsBytesRemark remark file Picture line = ⊥
+IsBytesRemark remark file Memory line = ⊥
+IsBytesRemark remark file Output line = ⊥
+
+-- what is said of an argument, or of the file that it names
+abbrev pub IsRemarkBy : (List ℕ → WireFault → List ℕ) → List ℕ → Option (List ℕ) → Option (List ℕ) → Failure → List ℕ → Type 0
+IsRemarkBy remark argument None file failure line = IsArgumentRemark remark argument failure line
+IsRemarkBy remark argument (Some path) file failure line = IsBytesRemark remark file failure line
+
+abbrev pub IsGivenRemark : (List ℕ → WireFault → List ℕ) → List ℕ → Option (List ℕ) → Failure → List ℕ → Type 0
+IsGivenRemark remark argument file failure line = IsRemarkBy remark argument (file_named argument) file failure line
 
 -- what is said of a schedule that no run accepts
 abbrev pub draft_remark : (Draft → Option (List ℕ)) → Result Draft ℕ → Option (List ℕ)
@@ -95,8 +116,8 @@ IsFileRemark remark (Some text) failure line = remark text failure ≡ Some line
 
 -- The line is what is said after this failure of a task.
 abbrev pub IsRemark : Task → Option (List ℕ) → Failure → List ℕ → Type 0
-IsRemark (task.Ack argument) file failure line = IsArgumentRemark (bare_remark kind.Break) (string_bytes argument) failure line
-IsRemark (task.Show kind argument) file failure line = IsArgumentRemark (shown_remark kind) (string_bytes argument) failure line
+IsRemark (task.Ack argument) file failure line = IsGivenRemark (bare_remark kind.Break) (string_bytes argument) file failure line
+IsRemark (task.Show kind argument) file failure line = IsGivenRemark (shown_remark kind) (string_bytes argument) file failure line
 IsRemark (task.Replay path telling rules) file failure line = IsFileRemark schedule_remark file failure line
 IsRemark (task.Judge path) file failure line = IsFileRemark record_remark file failure line
 IsRemark (task.Explain path) file failure line = IsFileRemark record_remark file failure line

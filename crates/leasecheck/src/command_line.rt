@@ -46,7 +46,10 @@ fn ack_command<'a>(alloc: Global) -> Result<Command<'a>, AllocError>
     ensures { IfOk result (λ command. (app_of command ≡ ack_app) × ((fields_of command).has_globals ≡ false)) }
 {
     let about = "Prints the acknowledgment that a lease break notification asks for";
-    let bytes = hex_argument(alloc, "The notification's bytes as hexadecimal digits");
+    let bytes = hex_argument(
+        alloc,
+        "The notification's bytes as hexadecimal digits, or @FILE",
+    );
     command(alloc, "ack", about, help::ACK, help::ACK_END).arg(bytes)
 }
 
@@ -69,7 +72,7 @@ fn show_command<'a>(alloc: Global) -> Result<Command<'a>, AllocError>
     let about = "Prints what create contexts or a break message hold";
     command(alloc, "show", about, help::SHOW, help::SHOW_END)
         .arg(kind_argument(alloc))?
-        .arg(hex_argument(alloc, "The bytes as hexadecimal digits"))
+        .arg(hex_argument(alloc, "The bytes as hexadecimal digits, or @FILE"))
 }
 
 fn file_argument<'a>(alloc: Global, help: &'a str) -> Arg<'a>

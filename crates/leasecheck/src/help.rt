@@ -22,7 +22,8 @@ pub(crate) const ACK: &str =
 the lease break acknowledgment that a client sends for it, 72 hexadecimal
 digits, or 'no acknowledgment due' where ACK_REQUIRED is not set. Where k bytes
 follow the notification, a line 'rest k' is printed after that. HEX may begin
-with 0x, and have one colon or one space between two bytes.";
+with 0x, and have one colon or one space between two bytes; @FILE in its place
+takes the bytes of a file as they are, and @- those of standard input.";
 
 pub(crate) const ACK_END: &str = "Example:
   $ leasecheck ack 2c00000001000000000102030405060708090a0b0c0d0e0f0700000003000000000000000000000000000000
@@ -30,8 +31,8 @@ pub(crate) const ACK_END: &str = "Example:
 
 Exit status:
   0  the answer is printed
-  1  the bytes are refused, memory ran out, or a write failed: one line on
-     standard error says which, as 'fault hex' or 'fault 1 Short at 0', and a
+  1  the bytes are refused, memory ran out, or a read or a write failed: one line
+     on standard error says which, as 'fault hex' or 'fault 1 Short at 0', and a
      second one what was expected
   2  the command line is refused
 
@@ -44,7 +45,8 @@ response (reply) it prints a line for each context and one for each part of what
 they ask for or grant, or 'nothing'. For a lease break notification (break),
 acknowledgment (ack) or response (response) it prints one line, and 'rest k'
 where k bytes follow. HEX may begin with 0x, and have one colon or one space
-between two bytes.";
+between two bytes; @FILE in its place takes the bytes of a file as they are, and
+@- those of standard input.";
 
 pub(crate) const SHOW_END: &str = "Example:
   $ leasecheck show break 2c00000001000000000102030405060708090a0b0c0d0e0f0700000003000000000000000000000000000000
@@ -52,9 +54,9 @@ pub(crate) const SHOW_END: &str = "Example:
 
 Exit status:
   0  what the bytes hold is printed
-  1  the bytes are refused, memory ran out, or a write failed: one line on
-     standard error says which, as 'fault hex' or 'fault 3 BadNext at 56', and a
-     second one what was expected
+  1  the bytes are refused, memory ran out, or a read or a write failed: one line
+     on standard error says which, as 'fault hex' or 'fault 3 BadNext at 56', and
+     a second one what was expected
   2  the command line is refused
 
 docs/FORMATS.md in the project's repository has the layouts, the lines that are

@@ -1,4 +1,4 @@
-ghost use Rattle.std.specs.Prelude.{◌≡◌, ◌≢◌, ◌≤◌, ◌⊎◌, ◌++◌, ℕ, List, Ok, Some, None, MatchResult, IfSome, IfOk, IfErr, IsSome};
+ghost use Rattle.std.specs.Prelude.{◌≡◌, ◌≢◌, ◌≤◌, ◌⊎◌, ◌++◌, ℕ, List, Option, Ok, Some, None, MatchResult, IfSome, IfOk, IfErr, IsSome};
 ghost use Rattle.std.specs.Prelude.{OnOk, length, take};
 ghost use Rattle.std.specs.String.{string_bytes};
 ghost use Rattle.std.specs.Io.KnownBytes.{Appends, Keeps};
@@ -11,14 +11,15 @@ ghost use Rattle.leasecheck.specs.Drawing.{Draws};
 ghost use Rattle.leasecheck.specs.Explaining.{ExplainsVerdict};
 ghost use Rattle.leasecheck.specs.Judging.{IsVerdictOn};
 ghost use Rattle.lease_wire.specs.WireFaults.{message_fault};
+ghost use Rattle.lease_wire.specs.declared.fault.WireFault.{WireFault};
 ghost use Rattle.leasecheck.specs.Answer.{AnswersWith};
-ghost use Rattle.leasecheck.specs.Arguments.{argument_bytes};
+ghost use Rattle.leasecheck.specs.Arguments.{Gives};
 ghost use Rattle.leasecheck.specs.Shown.{Shows};
 ghost use Rattle.leasecheck.specs.WireRemarks.{bare_remark, shown_remark};
-ghost use Rattle.leasecheck.specs.Remarks.{Says, IsArgumentRemark, IsFileRemark, IsDrawingRemark, record_remark, schedule_remark};
+ghost use Rattle.leasecheck.specs.Remarks.{Says, IsGivenRemark, IsFileRemark, IsDrawingRemark, record_remark, schedule_remark};
 ghost use Rattle.leasecheck.specs.Remarks.{second_of};
 ghost use Rattle.leasecheck.specs.declared.tasks.Kind.TheVariants as kind;
-ghost use Rattle.leasecheck.specs.Refusals.{AnswersOrRefuses, SaysOf, RefusesArgument, shown_fault, EndsWith, Ends, Begins, Puts};
+ghost use Rattle.leasecheck.specs.Refusals.{AnswersOrRefuses, SaysOf, RefusesGiven, MayEndGiven, shown_fault, EndsWith, Ends, Begins, Puts};
 ghost use Rattle.leasecheck.specs.Refusals.{MayEndReplay, MayEndDrawing, MayEndJudging, drawing_refusal, known_refusal};
 ghost use Rattle.leasecheck.specs.Refusals.{judge_refusal, refusal_of, failure_line};
 
@@ -31,7 +32,7 @@ use crate::reading::read_all;
 use crate::recording::{Record, write_record};
 use crate::refusal::Refusal;
 use crate::replaying::replay;
-use crate::tasks::{Kind, Task, Telling, VERSION};
+use crate::tasks::{Kind, Task, Telling, VERSION, file_named};
 use crate::wire::{ack_lines, render};
 use arrayvec::ArrayString;
 use lease_state::Rules;
@@ -136,14 +137,32 @@ fn drawn<I: Read>(alloc: Global, input: &mut I) -> Result<Printed, Refusal>
     }
 }
 
-fn acknowledged(alloc: Global, argument: &str) -> Result<Printed, Refusal>
-    ensures printed { IfOk result (λ printed. (printed.status ≡ 0)
-        × (bytes : List ℕ) × (argument_bytes argument.now ≡ Ok bytes) × AnswersWith bytes (string_bytes printed.text)) }
-    ensures refused { RefusesArgument (message_fault 44) argument.now result }
-    ensures said { IfErr result (λ refusal. Says refusal (IsArgumentRemark (bare_remark kind.Break) argument.now)) }
+// The bytes of the file that an argument names, or those that its digits write.
+fn bytes_given<I: Read>(alloc: Global, argument: &str, input: &mut I) -> Result<Vec<u8>, Refusal>
+    ensures given { IfOk result (λ bytes. Gives argument.now (I.remaining input.old) bytes.items) }
+    ensures refused { IfErr result (λ refusal. (fault : List ℕ → Option WireFault)
+        → MayEndGiven fault argument.now (I.remaining input.old) refusal.failure) }
+    ensures said { IfErr result (λ refusal. (remark : List ℕ → WireFault → List ℕ)
+        → Says refusal (IsGivenRemark remark argument.now (I.remaining input.old))) }
 {
-    match hexadecimal::argument_bytes(alloc, argument) {
-        Err(failure) => Err(Refusal::of_digits(alloc, failure, argument)),
+    match file_named(argument) {
+        Some(_) => Ok(read_all(alloc, input)?),
+        None => match hexadecimal::argument_bytes(alloc, argument) {
+            Ok(bytes) => Ok(bytes),
+            Err(failure) => Err(Refusal::of_digits(alloc, failure, argument)),
+        },
+    }
+}
+
+fn acknowledged<I: Read>(alloc: Global, argument: &str, input: &mut I) -> Result<Printed, Refusal>
+    ensures printed { IfOk result (λ printed. (printed.status ≡ 0)
+        × (bytes : List ℕ) × Gives argument.now (I.remaining input.old) bytes × AnswersWith bytes (string_bytes printed.text)) }
+    ensures refused { RefusesGiven (message_fault 44) argument.now (I.remaining input.old) result }
+    ensures said { IfErr result
+        (λ refusal. Says refusal (IsGivenRemark (bare_remark kind.Break) argument.now (I.remaining input.old))) }
+{
+    match bytes_given(alloc, argument, input) {
+        Err(refusal) => Err(refusal),
         Ok(bytes) => match ack_lines(alloc, bytes.as_slice()) {
             Ok(text) => Ok(done(text)),
             Err(failure) => Err(Refusal::of_notification(alloc, failure, bytes.as_slice())),
@@ -151,14 +170,20 @@ fn acknowledged(alloc: Global, argument: &str) -> Result<Printed, Refusal>
     }
 }
 
-fn shown(alloc: Global, kind: Kind, argument: &str) -> Result<Printed, Refusal>
+fn shown<I: Read>(
+    alloc: Global,
+    kind: Kind,
+    argument: &str,
+    input: &mut I,
+) -> Result<Printed, Refusal>
     ensures printed { IfOk result (λ printed. (printed.status ≡ 0)
-        × (bytes : List ℕ) × (argument_bytes argument.now ≡ Ok bytes) × Shows kind bytes (string_bytes printed.text)) }
-    ensures refused { RefusesArgument (shown_fault kind) argument.now result }
-    ensures said { IfErr result (λ refusal. Says refusal (IsArgumentRemark (shown_remark kind) argument.now)) }
+        × (bytes : List ℕ) × Gives argument.now (I.remaining input.old) bytes × Shows kind bytes (string_bytes printed.text)) }
+    ensures refused { RefusesGiven (shown_fault kind) argument.now (I.remaining input.old) result }
+    ensures said { IfErr result
+        (λ refusal. Says refusal (IsGivenRemark (shown_remark kind) argument.now (I.remaining input.old))) }
 {
-    match hexadecimal::argument_bytes(alloc, argument) {
-        Err(failure) => Err(Refusal::of_digits(alloc, failure, argument)),
+    match bytes_given(alloc, argument, input) {
+        Err(refusal) => Err(refusal),
         Ok(bytes) => match render(alloc, kind, bytes.as_slice()) {
             Ok(text) => Ok(done(text)),
             Err(failure) => Err(Refusal::of_shown(alloc, failure, kind, bytes.as_slice())),
@@ -173,8 +198,10 @@ fn make<I: Read>(alloc: Global, task: &Task, input: &mut I) -> Result<Made, Refu
     ensures said { SaysOf task.now (I.remaining input.old) result }
 {
     match task {
-        Task::Ack(argument) => Ok(Made::Text(acknowledged(alloc, argument.as_str())?)),
-        Task::Show(kind, argument) => Ok(Made::Text(shown(alloc, *kind, argument.as_str())?)),
+        Task::Ack(argument) => Ok(Made::Text(acknowledged(alloc, argument.as_str(), input)?)),
+        Task::Show(kind, argument) => {
+            Ok(Made::Text(shown(alloc, *kind, argument.as_str(), input)?))
+        }
         Task::Replay(_, telling, rules) => {
             Ok(Made::Record(replayed(alloc, *telling, *rules, input)?))
         }

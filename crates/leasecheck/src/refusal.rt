@@ -40,18 +40,18 @@ fn some_of(text: Result<Option<String>, AllocError>) -> Option<String>
 }
 
 impl Refusal {
-    ghost use Rattle.std.specs.Prelude.{◌⊎◌, List, ℕ, Ok, IfSome};
+    ghost use Rattle.std.specs.Prelude.{◌⊎◌, List, ℕ, Option, IfSome};
     ghost use Rattle.std.specs.String.{string_bytes};
     ghost use Rattle.lease_texts.specs.Drafts.{draft_of};
     ghost use Rattle.lease_wire.specs.declared.fault.WireFault.{WireFault};
-    ghost use Rattle.leasecheck.specs.Arguments.{argument_bytes};
+    ghost use Rattle.leasecheck.specs.Arguments.{Gives};
     ghost use Rattle.leasecheck.specs.Drawing.{facts_line, picture_failure};
     ghost use Rattle.leasecheck.specs.FileFaults.{IsUnreadRemark};
     ghost use Rattle.leasecheck.specs.Judging.{SaysLine};
     ghost use Rattle.record_pictures.specs.declared.fault.PictureFault.TheVariants as picture_fault;
     ghost use Rattle.leasecheck.specs.LineRemarks.{line_at, part_remark};
     ghost use Rattle.leasecheck.specs.Paths.{path_of};
-    ghost use Rattle.leasecheck.specs.Remarks.{Says, IsArgumentRemark, run_remark};
+    ghost use Rattle.leasecheck.specs.Remarks.{Says, IsArgumentRemark, IsGivenRemark, run_remark};
     ghost use Rattle.leasecheck.specs.WireRemarks.{bare_remark, shown_remark};
     ghost use Rattle.leasecheck.specs.declared.tasks.Kind.TheVariants as kind;
 
@@ -95,11 +95,11 @@ impl Refusal {
         }
     }
 
-    /// The failure of the bytes of an argument, those of a notification without a header.
+    /// The failure of the bytes that an argument gives, those of a notification without a header.
     pub fn of_notification(alloc: Global, failure: Failure, bytes: &[u8]) -> Refusal
         ensures failure { result.failure ≡ failure }
-        ensures said { (argument : List ℕ) → argument_bytes argument ≡ Ok bytes.now
-            → Says result (IsArgumentRemark (bare_remark kind.Break) argument) }
+        ensures said { (argument : List ℕ) (file : Option (List ℕ)) → Gives argument file bytes.now
+            → Says result (IsGivenRemark (bare_remark kind.Break) argument file) }
     {
         match failure {
             Failure::Wire(fault) => Refusal {
@@ -113,8 +113,8 @@ impl Refusal {
     /// The same of bytes that are shown.
     pub fn of_shown(alloc: Global, failure: Failure, kind: Kind, bytes: &[u8]) -> Refusal
         ensures failure { result.failure ≡ failure }
-        ensures said { (argument : List ℕ) → argument_bytes argument ≡ Ok bytes.now
-            → Says result (IsArgumentRemark (shown_remark kind) argument) }
+        ensures said { (argument : List ℕ) (file : Option (List ℕ)) → Gives argument file bytes.now
+            → Says result (IsGivenRemark (shown_remark kind) argument file) }
     {
         match failure {
             Failure::Wire(fault) => Refusal {

@@ -1,3 +1,6 @@
+ghost use Rattle.std.specs.Prelude.{◌≡◌, option_map};
+ghost use Rattle.leasecheck.specs.Paths.{file_named};
+
 use lease_state::Rules;
 
 /// The kinds of bytes that can be shown.
@@ -27,9 +30,10 @@ pub enum Telling {
 /// What a command line asks for.
 #[derive(Debug, PartialEq, Eq, Drop)]
 pub enum Task {
-    /// The acknowledgment of the break notification whose bytes this argument gives.
+    /// The acknowledgment of the break notification whose bytes this argument gives: hexadecimal digits, or `@` and the name
+    /// of a file that has the bytes.
     Ack(String),
-    /// What the bytes of this argument hold.
+    /// What the bytes hold that this argument gives in one of these ways.
     Show(Kind, String),
     /// The record of the run that the schedule in this file asks for, with a server of these rules.
     Replay(String, Telling, Rules),
@@ -56,6 +60,13 @@ pub enum Asked {
 /// The program's name and version, and the line of the kit that it is proved and built with.
 pub const VERSION: &str = "leasecheck 0.3.0\nrattle-kit-13f logic dac8208d650f15bf\n";
 
+/// The file that an argument of `ack` or `show` names, which begins with `@`.
+pub fn file_named(argument: &str) -> Option<&str>
+    ensures { option_map (λ path. path.now) result ≡ file_named argument.now }
+{
+    argument.strip_prefix('@')
+}
+
 impl Task {
     ghost use Rattle.std.specs.Prelude.{◌≡◌, option_map};
     ghost use Rattle.leasecheck.specs.Paths.{path_of};
@@ -65,7 +76,8 @@ impl Task {
         ensures { option_map (λ path. path.now) result ≡ path_of self.now }
     {
         match self {
-            Task::Ack(_) | Task::Show(_, _) | Task::Version => None,
+            Task::Ack(argument) | Task::Show(_, argument) => file_named(argument.as_str()),
+            Task::Version => None,
             Task::Replay(path, _, _) | Task::Judge(path) | Task::Explain(path) | Task::Draw(path) =>
                 Some(path.as_str()),
         }
