@@ -64,7 +64,8 @@ at_sign b same = cc
 
 without_sign : (b : ℕ) (rest : List ℕ) → (b ∷ rest ≡ 64 ∷ rest → ⊥) → file_named (b ∷ rest) ≡ None
 without_sign b rest other = if_cases (λ (o : Option (List ℕ)). o ≡ None) (bytes_eq (b ∷ []) (64 ∷ [])) (Some rest) None
-    (λ same. absurd (other (ap (λ (c : ℕ). c ∷ rest) (at_sign b ((bytes_eq-Decides (b ∷ []) (64 ∷ [])).0 same))))) (λ differs. refl)
+    (λ same. absurd (other (ap (λ (c : ℕ). c ∷ rest) (at_sign b ((bytes_eq-Decides (b ∷ []) (64 ∷ [])).0 same)))))
+    (λ differs. refl)
 
 not_named : (bytes : List ℕ) → ((rest : List ℕ) → bytes ≢ 64 ∷ rest) → file_named bytes ≡ None
 not_named [] none = refl

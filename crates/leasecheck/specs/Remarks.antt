@@ -36,7 +36,8 @@ IsArgumentRemark remark argument Output line = ⊥
 
 -- what is said of the bytes of a file
 abbrev pub IsBytesRemark : (List ℕ → WireFault → List ℕ) → Option (List ℕ) → Failure → List ℕ → Type 0
-IsBytesRemark remark file (Wire fault) line = (bytes : List ℕ) × IfSome file (λ known. bytes ≡ known) × (line ≡ remark bytes fault)
+IsBytesRemark remark file (Wire fault) line =
+    (bytes : List ℕ) × IfSome file (λ known. bytes ≡ known) × (line ≡ remark bytes fault)
 IsBytesRemark remark file Hex line = ⊥
 IsBytesRemark remark file (File fault) line = ⊥
 IsBytesRemark remark file Lines line = ⊥

@@ -1,4 +1,5 @@
-ghost use Rattle.std.specs.Prelude.{◌≡◌, ◌≢◌, ◌≤◌, ◌⊎◌, ◌++◌, ℕ, List, Option, Ok, Some, None, MatchResult, IfSome, IfOk, IfErr, IsSome};
+ghost use Rattle.std.specs.Prelude.{◌≡◌, ◌≢◌, ◌≤◌, ◌⊎◌, ◌++◌, ℕ, List, Option, Ok, Some, None, MatchResult, IfSome, IfOk};
+ghost use Rattle.std.specs.Prelude.{IfErr, IsSome};
 ghost use Rattle.std.specs.Prelude.{OnOk, length, take};
 ghost use Rattle.std.specs.String.{string_bytes};
 ghost use Rattle.std.specs.Io.KnownBytes.{Appends, Keeps};
@@ -19,7 +20,8 @@ ghost use Rattle.leasecheck.specs.WireRemarks.{bare_remark, shown_remark};
 ghost use Rattle.leasecheck.specs.Remarks.{Says, IsGivenRemark, IsFileRemark, IsDrawingRemark, record_remark, schedule_remark};
 ghost use Rattle.leasecheck.specs.Remarks.{second_of};
 ghost use Rattle.leasecheck.specs.declared.tasks.Kind.TheVariants as kind;
-ghost use Rattle.leasecheck.specs.Refusals.{AnswersOrRefuses, SaysOf, RefusesGiven, MayEndGiven, shown_fault, EndsWith, Ends, Begins, Puts};
+ghost use Rattle.leasecheck.specs.Refusals.{AnswersOrRefuses, SaysOf, RefusesGiven, MayEndGiven, shown_fault, EndsWith, Ends};
+ghost use Rattle.leasecheck.specs.Refusals.{Begins, Puts};
 ghost use Rattle.leasecheck.specs.Refusals.{MayEndReplay, MayEndDrawing, MayEndJudging, drawing_refusal, known_refusal};
 ghost use Rattle.leasecheck.specs.Refusals.{judge_refusal, refusal_of, failure_line};
 
