@@ -1,5 +1,5 @@
 -- Bytes that an argument gives, or the file that it names.
-use Rattle.lease_laws.proofs.Words.{◌∙◌, ◌≡◌, ◌⊎◌, Err, IfSome, List, None, Ok, Option, Result, Some, ℕ, ap, inl, inr}
+use Rattle.lease_laws.proofs.Words.{◌∙◌, ◌≡◌, ◌⊎◌, Err, List, None, Ok, Option, Result, Some, ℕ, ap, inl, inr}
 use Rattle.lease_laws.proofs.Words.{option_map, refl, subst, sym}
 use Rattle.lease_laws.proofs.Words.{◌∷◌, ◌≢◌, [], bytes_eq, bytes_eq-Decides}
 use Rattle.lease_laws.proofs.server.Lists.{if_cases}
@@ -9,7 +9,6 @@ use Rattle.leasecheck.specs.Paths.{file_named}
 use Rattle.hex.specs.declared.error.FromHexError.{FromHexError}
 use Rattle.lease_wire.specs.declared.fault.WireFault.{WireFault}
 use Rattle.leasecheck.specs.Arguments.{GivesBy, argument_bytes}
-use Rattle.leasecheck.specs.FileFaults.{FailsReading}
 use Rattle.leasecheck.specs.Refusals.{MayEndBy, argument_refusal, file_refusal, given_refusal}
 use Rattle.leasecheck.specs.Remarks.{IsRemarkBy}
 use Rattle.leasecheck.specs.declared.failure.Failure.{Failure}

@@ -23,7 +23,6 @@ use Rattle.leasecheck.specs.declared.tasks.Kind.{Kind}
 use Rattle.leasecheck.specs.declared.tasks.Kind.TheVariants as kind
 use Rattle.leasecheck.specs.declared.tasks.Task.TheVariants as task
 use Rattle.leasecheck.specs.declared.tasks.Telling.{Telling}
-use Rattle.leasecheck.specs.declared.tasks.Telling.TheVariants as telling
 use Rattle.leasecheck.specs.declared.tasks.Usage.{Usage}
 use Rattle.leasecheck.specs.declared.tasks.Usage.TheVariants as usage
 
@@ -70,7 +69,8 @@ rules_rule rules = record (new_rule (codes "RULES")) { long = Some (codes "rules
 
 abbrev pub replay_app : ValueParser → App
 replay_app rules = with_rule
-    (with_rule (with_rule (new_app (codes "replay")) (needed (codes "FILE"))) (flag (codes "messages"))) (rules_rule rules)
+    (with_rule (with_rule (with_rule (new_app (codes "replay")) (needed (codes "FILE"))) (flag (codes "messages")))
+    (flag (codes "explain"))) (rules_rule rules)
 
 abbrev pub judge_app : App
 judge_app = with_rule (with_rule (new_app (codes "judge")) (needed (codes "FILE"))) (flag (codes "explain"))
@@ -145,8 +145,8 @@ abbrev pub is_given : Option Text → Bool
 is_given (Some value) = bytes_eq value (codes "true")
 is_given None = false
 
-abbrev pub telling_of : Bool → Telling
-telling_of messages = if messages then telling.Messages else telling.Facts
+abbrev pub telling_of : Bool → Bool → Telling
+telling_of messages explains = record { messages = messages; idle = explains }
 
 abbrev pub judged : Bool → Option Text → Option Request
 judged explains path = option_map (λ path. if explains then Explain path else Judge path) path
@@ -158,8 +158,9 @@ requested name rows =
     else if bytes_eq name (codes "show")
     then shown (option_and_then kind_named (first_of (codes "KIND") rows)) (first_of (codes "HEX") rows)
     else if bytes_eq name (codes "replay")
-    then replayed (telling_of (is_given (first_of (codes "messages") rows))) (rules_asked (first_of (codes "RULES") rows))
-    (first_of (codes "FILE") rows)
+    then replayed
+    (telling_of (is_given (first_of (codes "messages") rows)) (is_given (first_of (codes "explain") rows)))
+    (rules_asked (first_of (codes "RULES") rows)) (first_of (codes "FILE") rows)
     else if bytes_eq name (codes "judge")
     then judged (is_given (first_of (codes "explain") rows)) (first_of (codes "FILE") rows)
     else if bytes_eq name (codes "draw") then option_map Draw (first_of (codes "FILE") rows)

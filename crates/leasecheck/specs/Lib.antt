@@ -9,6 +9,7 @@ pub mod Answer
 pub mod Words
 pub mod Shown
 pub mod Messages
+pub mod Idle
 pub mod Replayed
 pub mod Judging
 pub mod Explaining

@@ -2,7 +2,7 @@
 use Rattle.std.specs.Prelude.{◌≡◌, ◌⊎◌, ◌++◌, ℕ, Bool, false, if◌then◌else◌, List, [], codes, Option}
 use Rattle.std.specs.Io.KnownBytes.{Appends, Keeps}
 use Rattle.std.specs.String.{string_bytes}
-use Rattle.leasecheck.specs.Messages.{record_with_messages}
+use Rattle.leasecheck.specs.Idle.{idle_line, record_told}
 use Rattle.leasecheck.specs.Refusals.{Begins}
 use Rattle.lease_texts.specs.Remarks.{rules_remark}
 use Rattle.leasecheck.specs.Replayed.{verdict_line}
@@ -17,9 +17,13 @@ use Rattle.leasecheck.specs.declared.recording.Record.{Record}
 abbrev pub end_of : Rules → Verdict → List ℕ
 end_of rules verdict = rules_remark rules.order rules.rise ++ (codes "# " ++ verdict_line verdict)
 
--- the lines of the facts, each after the message that it speaks of, and the end
+-- the lines of the facts, each after the message that it speaks of, and those of the events that did nothing
+abbrev pub facts_told : Record → List ℕ
+facts_told one = record_told (idle_line one.lines.items) 0 one.facts.items one.messages.items one.idle.items
+
+-- the same, and the end
 abbrev pub recorded_text : Record → List ℕ
-recorded_text one = record_with_messages one.facts.items one.messages.items ++ end_of one.rules one.verdict
+recorded_text one = facts_told one ++ end_of one.rules one.verdict
 
 -- why a text is not made for want of memory: where some of it is written, its writing has failed
 abbrev pub not_made : Bool → Failure

@@ -1,5 +1,5 @@
 -- What `leasecheck replay` prints, and why it refuses a schedule.
-use Rattle.std.specs.Prelude.{◌≡◌, ◌⊎◌, ◌++◌, ℕ, map, if◌then◌else◌, List, [], ◌∷◌, codes, length, Option, Some, None, Result, Ok}
+use Rattle.std.specs.Prelude.{◌≡◌, ◌⊎◌, ◌++◌, ℕ, Bool, true, false, map, if◌then◌else◌, List, [], ◌∷◌, codes, length, Option, Some, None, Result, Ok}
 use Rattle.std.specs.Prelude.{Err, MatchResult}
 use Rattle.std.specs.Fmt.{decimal}
 use Rattle.lease_model.specs.records.Facts as model
@@ -22,12 +22,15 @@ use Rattle.lease_texts.specs.Schedules.{Draft, schedule_in}
 use Rattle.lease_state.specs.declared.rules.Rules.{Rules}
 use Rattle.lease_texts.specs.Remarks.{safe_end}
 use Rattle.lease_world.specs.world.Messages.{messages_told_under, speaking}
+use Rattle.lease_texts.specs.Pieces.{lines_of}
+use Rattle.lease_world.specs.declared.obstacle.Idle as code_idle
+use Rattle.lease_world.specs.world.Obstacles.{Idle, idle_meant, idle_told_under}
+use Rattle.leasecheck.specs.Idle.{event_lines, idle_line, record_told}
 use Rattle.leasecheck.specs.Messages.{record_with_messages}
 use Rattle.leasecheck.specs.declared.failure.Failure.{Failure}
 use Rattle.leasecheck.specs.declared.failure.Failure.TheVariants as failure
 use Rattle.leasecheck.specs.declared.refusal.Refusal.{Refusal}
 use Rattle.leasecheck.specs.declared.tasks.Telling.{Telling}
-use Rattle.leasecheck.specs.declared.tasks.Telling.TheVariants as telling
 
 abbrev pub setup_of : Draft → Setup
 setup_of draft = record { files = draft.files; clients = draft.clients }
@@ -52,23 +55,35 @@ record_of rules draft = recorded_under rules (setup_of draft) (map event_of draf
 abbrev pub messages_of : Rules → Draft → List model_replies.Reply
 messages_of rules draft = messages_told_under rules (setup_of draft) (map event_of draft.events)
 
--- the text tells the facts of a run, alone or with their messages, of which there is one for each fact that speaks of one
-abbrev pub IsToldBy : Telling → Rules → Draft → List Fact → List ℕ → Type 0
-IsToldBy telling.Facts rules draft facts text = text ≡ record_text facts
-IsToldBy telling.Messages rules draft facts text =
-    (messages : List Reply) × (map reply_of messages ≡ messages_of rules draft)
-    × (speaking (map fact_of facts) ≡ length messages) × (text ≡ record_with_messages facts messages)
+-- the events of this run that did nothing
+abbrev pub idle_of : Rules → Draft → List Idle
+idle_of rules draft = idle_told_under rules (setup_of draft) (map event_of draft.events)
 
--- the text is the record of the run of this draft
-abbrev pub Tells : Telling → Rules → Draft → List ℕ → Type 0
-Tells telling rules draft text =
-    (facts : List Fact) × (map fact_of facts ≡ record_of rules draft) × IsToldBy telling rules draft facts text
+-- the messages of a run, of which there is one for each fact that speaks of one, where they are told
+abbrev pub AreMessages : Bool → Rules → Draft → List Fact → List Reply → Type 0
+AreMessages false rules draft facts messages = messages ≡ []
+AreMessages true rules draft facts messages =
+    (map reply_of messages ≡ messages_of rules draft) × (speaking (map fact_of facts) ≡ length messages)
+
+-- The text tells the facts of a run: alone, with their messages, or with the events that did nothing, whose lines these are.
+abbrev pub IsToldBy : (messages : Bool) (idle : Bool) → Rules → Draft → List ℕ → List Fact → List ℕ → Type 0
+IsToldBy false false rules draft lines facts text = text ≡ record_text facts
+IsToldBy true false rules draft lines facts text = (messages : List Reply) × AreMessages true rules draft facts messages
+    × (text ≡ record_with_messages facts messages)
+IsToldBy told true rules draft lines facts text = (messages : List Reply) × AreMessages told rules draft facts messages
+    × (idle : List code_idle.Idle) × (map idle_meant idle ≡ idle_of rules draft)
+    × (text ≡ record_told (idle_line lines) 0 facts messages idle)
+
+-- the text is the record of the run of this draft, whose events stand in these lines
+abbrev pub Tells : Telling → Rules → Draft → List ℕ → List ℕ → Type 0
+Tells telling rules draft lines text = (facts : List Fact) × (map fact_of facts ≡ record_of rules draft)
+    × IsToldBy telling.messages telling.idle rules draft lines facts text
 
 -- the text is the record of the run that the schedule asks for, the rules where they are others, and that it is safe
 abbrev pub Replays : Telling → Rules → List ℕ → List ℕ → Type 0
 Replays telling rules schedule text =
-    (draft : Draft) × (told : List ℕ) × (schedule_in schedule ≡ Ok draft) × Tells telling rules draft told
-    × (text ≡ told ++ safe_end rules)
+    (draft : Draft) × (told : List ℕ) × (schedule_in schedule ≡ Ok draft)
+    × Tells telling rules draft (event_lines 1 (lines_of schedule)) told × (text ≡ told ++ safe_end rules)
 
 -- why there is no run, as the program tells it
 abbrev pub run_failure : RunFault → Failure

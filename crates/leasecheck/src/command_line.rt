@@ -116,20 +116,25 @@ fn replay_command<'a>(alloc: Global) -> Result<Command<'a>, AllocError>
     let about = "Prints the record of the run that a schedule asks for";
     let file = file_argument(alloc, "The schedule; - is standard input");
     let messages = messages_argument(alloc);
+    let explain = explain_argument(
+        alloc,
+        "Says of each event that did nothing what stood in its way, in a comment line",
+    );
     command(alloc, "replay", about, help::REPLAY, help::REPLAY_END)
         .arg(file)?
         .arg(messages)?
+        .arg(explain)?
         .arg(rules_argument(alloc))
 }
 
-fn explain_argument<'a>(alloc: Global) -> Arg<'a>
+fn explain_argument<'a>(alloc: Global, help: &'a str) -> Arg<'a>
     ensures rule { rule_of result ≡ flag (codes "explain") }
     ensures own { result.global ≡ false }
 {
     Arg::new(alloc, "explain")
         .long("explain")
         .action(ArgAction::SetTrue)
-        .help("Says why, by the lines of the facts that make it so")
+        .help(help)
 }
 
 fn judge_command<'a>(alloc: Global) -> Result<Command<'a>, AllocError>
@@ -137,7 +142,7 @@ fn judge_command<'a>(alloc: Global) -> Result<Command<'a>, AllocError>
 {
     let about = "Prints whether a record is safe, or where it first is not";
     let file = file_argument(alloc, "The record; - is standard input");
-    let explain = explain_argument(alloc);
+    let explain = explain_argument(alloc, "Says why, by the lines of the facts that make it so");
     command(alloc, "judge", about, help::JUDGE, help::JUDGE_END)
         .arg(file)?
         .arg(explain)
@@ -282,12 +287,12 @@ fn is_given(given: &ArgMatches, name: &str) -> bool
 }
 
 fn telling_of(given: &ArgMatches) -> Telling
-    ensures { result ≡ telling_of (is_given (first_of (codes "messages") (rows_of (found_of given.now)))) }
+    ensures { result ≡ telling_of (is_given (first_of (codes "messages") (rows_of (found_of given.now))))
+        (is_given (first_of (codes "explain") (rows_of (found_of given.now)))) }
 {
-    if is_given(given, "messages") {
-        Telling::Messages
-    } else {
-        Telling::Facts
+    Telling {
+        messages: is_given(given, "messages"),
+        idle: is_given(given, "explain"),
     }
 }
 
@@ -327,7 +332,8 @@ fn show_asked(alloc: Global, given: &ArgMatches) -> Result<Option<Asked>, AllocE
 
 fn replay_asked(alloc: Global, given: &ArgMatches) -> Result<Option<Asked>, AllocError>
     ensures { IfOk result (λ found. option_map request_of found
-        ≡ replayed (telling_of (is_given (first_of (codes "messages") (rows_of (found_of given.now)))))
+        ≡ replayed (telling_of (is_given (first_of (codes "messages") (rows_of (found_of given.now))))
+        (is_given (first_of (codes "explain") (rows_of (found_of given.now)))))
         (rules_asked (first_of (codes "RULES") (rows_of (found_of given.now))))
         (first_of (codes "FILE") (rows_of (found_of given.now)))) }
 {

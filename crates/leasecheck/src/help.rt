@@ -67,8 +67,10 @@ pub(crate) const REPLAY: &str =
 server and the clients, and prints the record, one fact a line, with '# safe'
 after it. The whole output is a record that 'judge' reads. With --messages a
 comment line before each 'sent' and 'took' says what is in the message. With
---rules by-key,whole the server has these rules and not the profile's, and a
-comment line before the last one says so (docs/PROFILE.md).";
+--explain a comment line says of each event that did nothing, by its line in the
+schedule, what stood in its way. With --rules by-key,whole the server has these
+rules and not the profile's, and a comment line before the last one says so
+(docs/PROFILE.md).";
 
 pub(crate) const REPLAY_END: &str = "Example:
   $ printf 'file 61\\nclient 11111111-1111-1111-1111-111111111111\\nconnect 1\\n' | leasecheck replay -

@@ -21,6 +21,7 @@ mod failure;
 mod file_fault;
 mod help;
 mod hexadecimal;
+mod idle;
 mod judging;
 mod messages;
 mod printing;

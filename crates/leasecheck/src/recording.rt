@@ -1,31 +1,36 @@
 ghost use Rattle.std.specs.Prelude.{◌≡◌, ◌++◌, ℕ, List, Option, [], false, OnOk, IfOk, IfErr, MatchResult};
 ghost use Rattle.std.specs.Io.KnownBytes.{Appends};
 ghost use Rattle.std.specs.String.{string_bytes};
-ghost use Rattle.lease_texts.specs.Records.{fact_line};
-ghost use Rattle.leasecheck.specs.Messages.{message_before, messages_behind, record_with_messages};
-ghost use Rattle.leasecheck.specs.Recording.{end_of, recorded_text, not_made, IsUnwritten, HasGathered};
+ghost use Rattle.std.specs.List.{flat_map};
+ghost use Rattle.leasecheck.specs.Idle.{idle_behind, idle_line, lines_of_fact};
+ghost use Rattle.leasecheck.specs.Messages.{messages_behind};
+ghost use Rattle.leasecheck.specs.Recording.{end_of, facts_told, recorded_text, not_made, IsUnwritten, HasGathered};
 ghost use Rattle.leasecheck.specs.Refusals.{Begins};
 ghost use Rattle.lease_texts.specs.Remarks.{rules_remark};
 
 use crate::failure::Failure;
+use crate::idle::{push_all_idle, push_idle_before};
 use crate::judging::push_verdict;
 use crate::messages::push_lines_of;
 use crate::printing::{print_text, put};
 use lease_facts::Fact;
 use lease_state::{Order, Reply, Rise, Rules};
 use lease_texts::{Said, push_line};
-use lease_world::Verdict;
+use lease_world::{Idle, Verdict};
 use std::alloc::{AllocError, Global};
 use std::io::Write;
 
 // How many bytes of a record's text gather before they are written.
 const BLOCK: usize = 65_536;
 
-/// A record, the messages that it speaks of, where they are wanted, the rules of its server, and the verdict on it.
+/// A record, the messages that it speaks of, where they are wanted, the events that did nothing, where these are, with the
+/// numbers of the lines in which events stand, the rules of the server, and the verdict on it.
 #[derive(Drop)]
 pub struct Record {
     pub facts: Vec<Fact>,
     pub messages: Vec<Reply>,
+    pub lines: Vec<u64>,
+    pub idle: Vec<Idle>,
     pub rules: Rules,
     pub verdict: Verdict,
 }
@@ -61,12 +66,38 @@ fn push_rules(text: &mut String, rules: Rules) -> Result<(), AllocError>
 }
 
 // The rules and the verdict on a record after its text, with a sign that they are none of the facts.
-fn push_end(text: &mut String, rules: Rules, verdict: &Verdict) -> Result<(), AllocError>
+fn push_verdict_line(text: &mut String, rules: Rules, verdict: &Verdict) -> Result<(), AllocError>
     ensures { OnOk result (string_bytes text.new ≡ string_bytes text.old ++ end_of rules verdict.now) }
 {
     push_rules(text, rules)?;
     text.push_str("# ")?;
     push_verdict(text, verdict)
+}
+
+fn push_end(text: &mut String, recorded: &Record, idle: &[Idle]) -> Result<(), AllocError>
+    ensures { OnOk result (string_bytes text.new ≡ string_bytes text.old
+        ++ (flat_map (idle_line recorded.now.lines.items) idle.now ++ end_of recorded.now.rules recorded.now.verdict)) }
+{
+    push_all_idle(text, recorded.lines.as_slice(), idle)?;
+    push_verdict_line(text, recorded.rules, &recorded.verdict)
+}
+
+fn push_told<'a>(
+    text: &mut String,
+    lines: &[u64],
+    count: usize,
+    fact: &Fact,
+    messages: &'a [Reply],
+    idle: &'a [Idle],
+) -> Result<(&'a [Reply], &'a [Idle]), AllocError>
+    ensures lines { OnOk result (string_bytes text.new ≡ string_bytes text.old
+        ++ lines_of_fact (idle_line lines.now) count fact.now messages.now idle.now) }
+    ensures behind { IfOk result (λ behind. (behind.0.now ≡ messages_behind fact.now messages.now)
+        × (behind.1.now ≡ idle_behind count idle.now)) }
+{
+    let later = push_idle_before(text, lines, count, idle)?;
+    let behind = push_lines_of(text, fact, messages)?;
+    Ok((behind, later))
 }
 
 impl Gathered {
@@ -80,28 +111,37 @@ impl Gathered {
         }
     }
 
-    // The lines of a fact, with its message if it speaks of one of these; those after it are given.
-    fn push<'a>(&mut self, fact: &Fact, messages: &'a [Reply]) -> Result<&'a [Reply], Failure>
-        ensures lines { OnOk result (string_bytes self.new.text
-            ≡ string_bytes self.old.text ++ (message_before fact.now messages.now ++ fact_line fact.now)) }
+    // The lines of a fact, before which so many are: of the events that did nothing before it, of its message if it speaks of
+    // one of these, and its own. The messages and the events after it are given.
+    fn push<'a>(
+        &mut self,
+        lines: &[u64],
+        count: usize,
+        fact: &Fact,
+        messages: &'a [Reply],
+        idle: &'a [Idle],
+    ) -> Result<(&'a [Reply], &'a [Idle]), Failure>
+        ensures lines { OnOk result (string_bytes self.new.text ≡ string_bytes self.old.text
+            ++ lines_of_fact (idle_line lines.now) count fact.now messages.now idle.now) }
         ensures begun { self.new.begun ≡ self.old.begun }
-        ensures behind { IfOk result (λ behind. behind.now ≡ messages_behind fact.now messages.now) }
+        ensures behind { IfOk result (λ behind. (behind.0.now ≡ messages_behind fact.now messages.now)
+            × (behind.1.now ≡ idle_behind count idle.now)) }
         ensures failed { IfErr result (λ failure. failure ≡ not_made self.old.begun) }
     {
-        match push_lines_of(&mut self.text, fact, messages) {
+        match push_told(&mut self.text, lines, count, fact, messages, idle) {
             Ok(behind) => Ok(behind),
             Err(_) => Err(not_made(self.begun)),
         }
     }
 
-    // The lines of the rules and of the verdict.
-    fn push_end(&mut self, rules: Rules, verdict: &Verdict) -> Result<(), Failure>
-        ensures line { OnOk result (string_bytes self.new.text
-            ≡ string_bytes self.old.text ++ end_of rules verdict.now) }
+    // The lines of the events that did nothing after all facts, of the rules and of the verdict.
+    fn push_end(&mut self, recorded: &Record, idle: &[Idle]) -> Result<(), Failure>
+        ensures line { OnOk result (string_bytes self.new.text ≡ string_bytes self.old.text
+            ++ (flat_map (idle_line recorded.now.lines.items) idle.now ++ end_of recorded.now.rules recorded.now.verdict)) }
         ensures begun { self.new.begun ≡ self.old.begun }
         ensures failed { IfErr result (λ failure. failure ≡ not_made self.old.begun) }
     {
-        match push_end(&mut self.text, rules, verdict) {
+        match push_end(&mut self.text, recorded, idle) {
             Ok(()) => Ok(()),
             Err(_) => Err(not_made(self.begun)),
         }
@@ -124,30 +164,35 @@ impl Gathered {
     }
 }
 
-// Writes the lines of the facts but for what has gathered last.
-fn write_facts<O: Write>(
-    recorded: &Record,
+// Writes the lines of the facts but for what has gathered last, and gives the events that did nothing after them.
+fn write_facts<'a, O: Write>(
+    recorded: &'a Record,
     gathered: &mut Gathered,
     out: &mut O,
-) -> Result<(), Failure>
+) -> Result<&'a [Idle], Failure>
     requires { HasGathered (O.contents out.old) (O.contents out.old) gathered.old [] }
     ensures { MatchResult result
-        (λ _. HasGathered (O.contents out.old) (O.contents out.new) gathered.new
-        (record_with_messages recorded.now.facts.items recorded.now.messages.items))
+        (λ left. (told : List ℕ) × HasGathered (O.contents out.old) (O.contents out.new) gathered.new told
+        × (told ++ flat_map (idle_line recorded.now.lines.items) left.now ≡ facts_told recorded.now))
         (λ failure. (rest : List ℕ) → IsUnwritten failure (O.contents out.old) (O.contents out.new)
-        (record_with_messages recorded.now.facts.items recorded.now.messages.items ++ rest)) }
+        (facts_told recorded.now ++ rest)) }
 {
-    let mut left = recorded.messages.as_slice();
-    for fact in recorded.facts.as_slice() {
-        match gathered.push(fact, left) {
-            Ok(behind) => left = behind,
+    let lines = recorded.lines.as_slice();
+    let mut messages = recorded.messages.as_slice();
+    let mut idle = recorded.idle.as_slice();
+    for (count, fact) in recorded.facts.as_slice().iter().enumerate() {
+        match gathered.push(lines, count, fact, messages, idle) {
+            Ok((behind, later)) => {
+                messages = behind;
+                idle = later;
+            }
             Err(failure) => return Err(failure),
         }
         if let Err(failure) = gathered.write_block(out) {
             return Err(failure);
         }
     }
-    Ok(())
+    Ok(idle)
 }
 
 /// Writes the text of a record, as long as it may be, in blocks.
@@ -162,10 +207,11 @@ pub fn write_record<O: Write>(alloc: Global, recorded: &Record, out: &mut O) -> 
         IsUnwritten failure (O.contents out.old) (O.contents out.new) (recorded_text recorded.now)) }
 {
     let mut gathered = Gathered::new(alloc);
-    if let Err(failure) = write_facts(recorded, &mut gathered, out) {
-        return Err(failure);
-    }
-    match gathered.push_end(recorded.rules, &recorded.verdict) {
+    let idle = match write_facts(recorded, &mut gathered, out) {
+        Ok(idle) => idle,
+        Err(failure) => return Err(failure),
+    };
+    match gathered.push_end(recorded, idle) {
         Ok(()) => print_text(gathered.text.as_str(), out),
         Err(failure) => Err(failure),
     }

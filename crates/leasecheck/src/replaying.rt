@@ -1,23 +1,24 @@
-ghost use Rattle.std.specs.Prelude.{◌≡◌, ◌⊎◌, ℕ, map, Some, None, Ok, Err, IfOk, IfErr, MatchResult};
+ghost use Rattle.std.specs.Prelude.{◌≡◌, ◌⊎◌, ℕ, List, [], true, false, if◌then◌else◌, map, Some, None, Ok, Err, IfOk, IfErr, MatchResult};
 ghost use Rattle.lease_model.specs.records.Safe.{Safe};
 ghost use Rattle.lease_facts.specs.Facts.{fact_of};
 ghost use Rattle.lease_world.specs.declared.verdict.Verdict.TheVariants as verdict;
 ghost use Rattle.lease_texts.specs.Drafts.{draft_of};
 ghost use Rattle.lease_texts.specs.Schedules.{schedule_in};
-ghost use Rattle.leasecheck.specs.Messages.{record_with_messages};
-ghost use Rattle.leasecheck.specs.Recording.{recorded_text};
+ghost use Rattle.lease_texts.specs.Pieces.{lines_of};
+ghost use Rattle.leasecheck.specs.Idle.{event_lines};
+ghost use Rattle.leasecheck.specs.Recording.{facts_told, recorded_text};
 ghost use Rattle.leasecheck.specs.Remarks.{Says, run_remark, schedule_remark};
 ghost use Rattle.leasecheck.specs.Replayed.{Replays, Tells, RefusesReplay, RefusesRun, run_failure};
-ghost use Rattle.leasecheck.specs.declared.tasks.Telling.TheVariants as telling;
 
 use crate::failure::Failure;
+use crate::idle::{event_lines, unsaid_is_plain};
 use crate::recording::Record;
 use crate::refusal::Refusal;
 use crate::tasks::Telling;
 use lease_laws::verdict_decides;
-use lease_state::Rules;
+use lease_state::{Reply, Rules};
 use lease_texts::{Schedule, TextFault, read_schedule};
-use lease_world::{RunFault, judge, run_under, run_with_messages_under};
+use lease_world::{RunFault, judge, run_explained_under, run_under, run_with_messages_under};
 use std::alloc::Global;
 
 pub(crate) fn not_run(fault: RunFault) -> Failure
@@ -29,29 +30,31 @@ pub(crate) fn not_run(fault: RunFault) -> Failure
     }
 }
 
-// The record of a run with a server of these rules, with its messages where they are asked for, and the verdict on it.
+// The record of a run with a server of these rules, with its messages where they are asked for, and with the events that did
+// nothing, which stand in these lines, where that is; and the verdict on it.
 fn ran(
     alloc: Global,
     telling: Telling,
     rules: Rules,
     schedule: &Schedule,
+    lines: Vec<u64>,
 ) -> Result<Record, Refusal>
-    ensures told { IfOk result (λ ran. Tells telling rules (draft_of schedule.now)
-        (record_with_messages ran.facts.items ran.messages.items)) }
+    ensures told { IfOk result (λ ran. Tells telling rules (draft_of schedule.now) lines.items (facts_told ran)) }
     ensures safe { IfOk result (λ ran. ran.verdict ≡ verdict.Safe) }
     ensures rules { IfOk result (λ ran. ran.rules ≡ rules) }
     ensures refused { RefusesRun (draft_of schedule.now) result }
     ensures said { IfErr result (λ told. Says told (λ failure line. run_remark failure (draft_of schedule.now) ≡ Some line)) }
 {
-    match telling {
-        Telling::Facts => ran_alone(alloc, rules, schedule),
-        Telling::Messages => ran_with_messages(alloc, rules, schedule),
+    match (telling.messages, telling.idle) {
+        (false, false) => ran_alone(alloc, rules, schedule),
+        (true, false) => ran_with_messages(alloc, rules, schedule),
+        (messages, true) => ran_explained(alloc, messages, rules, schedule, lines),
     }
 }
 
 fn ran_alone(alloc: Global, rules: Rules, schedule: &Schedule) -> Result<Record, Refusal>
-    ensures told { IfOk result (λ ran. Tells telling.Facts rules (draft_of schedule.now)
-        (record_with_messages ran.facts.items ran.messages.items)) }
+    ensures told { IfOk result (λ ran. (lines : List ℕ)
+        → Tells (record { messages = false; idle = false }) rules (draft_of schedule.now) lines (facts_told ran)) }
     ensures safe { IfOk result (λ ran. ran.verdict ≡ verdict.Safe) }
     ensures rules { IfOk result (λ ran. ran.rules ≡ rules) }
     ensures refused { RefusesRun (draft_of schedule.now) result }
@@ -64,6 +67,8 @@ fn ran_alone(alloc: Global, rules: Rules, schedule: &Schedule) -> Result<Record,
             Ok(Record {
                 facts,
                 messages: Vec::new(alloc),
+                lines: Vec::new(alloc),
+                idle: Vec::new(alloc),
                 rules,
                 verdict,
             })
@@ -73,8 +78,8 @@ fn ran_alone(alloc: Global, rules: Rules, schedule: &Schedule) -> Result<Record,
 }
 
 fn ran_with_messages(alloc: Global, rules: Rules, schedule: &Schedule) -> Result<Record, Refusal>
-    ensures told { IfOk result (λ ran. Tells telling.Messages rules (draft_of schedule.now)
-        (record_with_messages ran.facts.items ran.messages.items)) }
+    ensures told { IfOk result (λ ran. (lines : List ℕ)
+        → Tells (record { messages = true; idle = false }) rules (draft_of schedule.now) lines (facts_told ran)) }
     ensures safe { IfOk result (λ ran. ran.verdict ≡ verdict.Safe) }
     ensures rules { IfOk result (λ ran. ran.rules ≡ rules) }
     ensures refused { RefusesRun (draft_of schedule.now) result }
@@ -87,11 +92,65 @@ fn ran_with_messages(alloc: Global, rules: Rules, schedule: &Schedule) -> Result
             Ok(Record {
                 facts,
                 messages,
+                lines: Vec::new(alloc),
+                idle: Vec::new(alloc),
                 rules,
                 verdict,
             })
         }
         Err(fault) => Err(Refusal::of_run(alloc, not_run(fault), schedule)),
+    }
+}
+
+// The messages, where they are asked for.
+fn asked_for(alloc: Global, asked: bool, messages: Vec<Reply>) -> Vec<Reply>
+    ensures { result.items ≡ (if asked then messages.items else []) }
+{
+    if asked { messages } else { Vec::new(alloc) }
+}
+
+fn ran_explained(
+    alloc: Global,
+    messages: bool,
+    rules: Rules,
+    schedule: &Schedule,
+    lines: Vec<u64>,
+) -> Result<Record, Refusal>
+    ensures told { IfOk result (λ ran.
+        Tells (record { messages = messages; idle = true }) rules (draft_of schedule.now) lines.items (facts_told ran)) }
+    ensures safe { IfOk result (λ ran. ran.verdict ≡ verdict.Safe) }
+    ensures rules { IfOk result (λ ran. ran.rules ≡ rules) }
+    ensures refused { RefusesRun (draft_of schedule.now) result }
+    ensures said { IfErr result (λ told. Says told (λ failure line. run_remark failure (draft_of schedule.now) ≡ Some line)) }
+{
+    verdict_decides();
+    match run_explained_under(alloc, rules, &schedule.setup, schedule.events.as_slice()) {
+        Ok(told) => {
+            let verdict = judge(alloc, told.facts.as_slice())?;
+            Ok(Record {
+                facts: told.facts,
+                messages: asked_for(alloc, messages, told.messages),
+                lines,
+                idle: told.idle,
+                rules,
+                verdict,
+            })
+        }
+        Err(fault) => Err(Refusal::of_run(alloc, not_run(fault), schedule)),
+    }
+}
+
+// The numbers of the lines that tell events, where they are asked for.
+fn lines_asked_for(alloc: Global, telling: Telling, text: &[u8]) -> Result<Vec<u64>, Failure>
+    ensures lines { telling.idle ≡ true → IfOk result (λ lines. lines.items ≡ event_lines 1 (lines_of text.now)) }
+    ensures failed { IfErr result (λ failure. failure ≡ Failure.Memory) }
+{
+    if !telling.idle {
+        return Ok(Vec::new(alloc));
+    }
+    match event_lines(alloc, text) {
+        Ok(lines) => Ok(lines),
+        Err(_) => Err(Failure::Memory),
     }
 }
 
@@ -109,7 +168,8 @@ fn schedule_of(alloc: Global, text: &[u8]) -> Result<Schedule, Refusal>
 }
 
 /// What `leasecheck replay` prints for the text of a schedule: the record of its run with a server of these rules, with its
-/// messages where they are asked for, and the verdict on it, which is that it is safe.
+/// messages where they are asked for, and the events that did nothing where these are; and the verdict on it, which is that it
+/// is safe.
 ///
 /// # Errors
 ///
@@ -127,6 +187,8 @@ pub fn replay(
     ensures refused { RefusesReplay schedule.now result }
     ensures said { IfErr result (λ told. Says told (λ failure line. schedule_remark schedule.now failure ≡ Some line)) }
 {
-    let schedule = schedule_of(alloc, schedule)?;
-    ran(alloc, telling, rules, &schedule)
+    unsaid_is_plain();
+    let draft = schedule_of(alloc, schedule)?;
+    let lines = lines_asked_for(alloc, telling, schedule)?;
+    ran(alloc, telling, rules, &draft, lines)
 }

@@ -18,13 +18,13 @@ pub enum Kind {
     Response,
 }
 
-/// What a replay prints of a run.
+/// What a replay prints of a run besides its facts.
 #[derive(Clone, Copy, Debug, PartialEq, Eq)]
-pub enum Telling {
-    /// The facts.
-    Facts,
-    /// The facts, and before each that speaks of a message a comment line with what is in it.
-    Messages,
+pub struct Telling {
+    /// Before each fact that speaks of a message a comment line with what is in it.
+    pub messages: bool,
+    /// For each event that did nothing a comment line with what stood in its way.
+    pub idle: bool,
 }
 
 /// What a command line asks for.

@@ -1,3 +1,4 @@
+mod idle;
 mod reads;
 mod runs;
 mod verdicts;

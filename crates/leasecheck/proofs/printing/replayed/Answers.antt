@@ -1,5 +1,7 @@
-use Rattle.lease_laws.proofs.Words.{◌∙◌, ◌≡◌, ◌⊎◌, IfSome, List, None, Option, Some, ℕ, inl, inr, subst}
-use Rattle.leasecheck.specs.Replayed.{replay_refusal}
+use Rattle.lease_laws.proofs.Words.{◌∙◌, ◌≡◌, ◌⊎◌, IfSome, List, None, Option, Some, ℕ, ap, inl, inr, subst}
+use Rattle.lease_state.specs.declared.rules.Rules.{Rules}
+use Rattle.leasecheck.specs.Replayed.{Replays, replay_refusal, status_of}
+use Rattle.leasecheck.specs.declared.tasks.Telling.{Telling}
 use Rattle.leasecheck.specs.Refusals.{MayEndReplay}
 use Rattle.leasecheck.specs.Remarks.{IsFileRemark, schedule_remark}
 use Rattle.leasecheck.proofs.Puts.{says_more}
@@ -33,3 +35,17 @@ pub returns-clause-refused : goal.returns-clause-refused
 returns-clause-refused g c =
     of_known _ c.as_slice.result.now _ c.in-Err.refusal.failure c.as_slice.ensures.value
     c.in_ok-bytes.ensures.read c.in-Err.ensures.refused
+
+replays_known : (telling : Telling) (rules : Rules) (known : Option (List ℕ)) (slice items text : List ℕ) → slice ≡ items
+    → IfSome known (λ bytes. items ≡ bytes) → Replays telling rules slice text
+    → IfSome known (λ schedule. Replays telling rules schedule text)
+replays_known telling rules None slice items text is same replays = tt
+replays_known telling rules (Some bytes) slice items text is same replays =
+    subst (λ (t : List ℕ). Replays telling rules t text) (is ∙ same) replays
+
+pub returns-in-Ok-clause-printed : goal.returns-in-Ok-clause-printed
+returns-in-Ok-clause-printed g c = (
+  ap status_of c.in-Ok.ensures.safe,
+  replays_known c.args.telling c.args.rules _ c.as_slice.result.now _ _ c.as_slice.ensures.value c.in_ok-bytes.ensures.read
+      c.in-Ok.ensures.printed,
+)

@@ -1,28 +1,35 @@
-use Rattle.lease_laws.proofs.Words.{◌++◌, ◌≡◌, List, ℕ, refl, subst}
+use Rattle.lease_laws.proofs.Words.{◌++◌, ◌∙◌, ◌≡◌, List, ℕ, ap, append_assoc, flat_map, subst, sym}
 use Rattle.std.specs.Prelude.{IfErr}
-use Rattle.leasecheck.specs.Messages.{record_with_messages}
-use Rattle.leasecheck.specs.Recording.{HasGathered, end_of}
+use Rattle.leasecheck.specs.Idle.{idle_line}
+use Rattle.leasecheck.specs.Recording.{HasGathered, IsUnwritten, end_of, recorded_text}
 use Rattle.leasecheck.specs.Refusals.{Begins}
 use Rattle.leasecheck.specs.declared.failure.Failure.TheVariants as failure
 use Rattle.leasecheck.proofs.Recorded.{gathered_more, unmade, unwritten_whole}
 use Rattle.leasecheck.proofs.recording.write_record.Goals as goal
 
-pub returns-in-Ok-clause-failed : goal.returns-in-Ok-clause-failed
-returns-in-Ok-clause-failed g c =
+pub returns-in-Ok-push_end-clause-failed : goal.returns-in-Ok-push_end-clause-failed
+returns-in-Ok-push_end-clause-failed g c =
     let first = g.O.Write.contents c.args.out.now in
     let current = g.O.Write.contents c.write_facts.new.out in
-    let facts : List ℕ = record_with_messages c.args.recorded.now.facts.items c.args.recorded.now.messages.items in
-    let line : List ℕ = end_of c.args.recorded.now.rules c.args.recorded.now.verdict in
-    let has : HasGathered first current c.push_end.new.self (facts ++ line) =
-    gathered_more first current c.write_facts.new.gathered c.push_end.new.self facts line c.in_default.ensures
-    c.in-Ok.ensures.line c.push_end.ensures.begun in
-    unwritten_whole first current (g.O.Write.contents c.print_text.new.out) c.push_end.new.self (facts ++ line)
+    let new = g.O.Write.contents c.print_text.new.out in
+    let told = c.in-Ok.ensures.0 in
+    let last : List ℕ = flat_map (idle_line c.args.recorded.now.lines.items) c.in-Ok.idle.now in
+    let end : List ℕ = end_of c.args.recorded.now.rules c.args.recorded.now.verdict in
+    let whole : told ++ (last ++ end) ≡ recorded_text c.args.recorded.now =
+    sym (append_assoc told last end) ∙ ap (λ (t : List ℕ). t ++ end) c.in-Ok.ensures.2 in
+    let has : HasGathered first current c.push_end.new.self (told ++ (last ++ end)) =
+    gathered_more first current c.write_facts.new.gathered c.push_end.new.self told (last ++ end) c.in-Ok.ensures.1
+    c.in-Ok-push_end.ensures.line c.push_end.ensures.begun in
+    subst (λ (t : List ℕ). IfErr c.print_text.result (λ why. IsUnwritten why first new t)) whole
+    (unwritten_whole first current new c.push_end.new.self (told ++ (last ++ end))
     c.print_text.result has (subst (λ (t : List ℕ). IfErr c.print_text.result (λ why. (why ≡ failure.Output)
-    × Begins current (g.O.Write.contents c.print_text.new.out) t)) c.as_str.ensures.value c.print_text.ensures.refused)
+    × Begins current new t)) c.as_str.ensures.value c.print_text.ensures.refused))
 
 pub returns-clause-failed : goal.returns-clause-failed
 returns-clause-failed g c =
-    let facts : List ℕ = record_with_messages c.args.recorded.now.facts.items c.args.recorded.now.messages.items in
-    let line : List ℕ = end_of c.args.recorded.now.rules c.args.recorded.now.verdict in
-    unmade (g.O.Write.contents c.args.out.now) (g.O.Write.contents c.write_facts.new.out) c.write_facts.new.gathered facts line
-    (facts ++ line) c.in-Err-push_end.failure c.in_default.ensures c.in-Err-push_end.ensures.failed refl
+    let told = c.in-Ok.ensures.0 in
+    let last : List ℕ = flat_map (idle_line c.args.recorded.now.lines.items) c.in-Ok.idle.now in
+    let end : List ℕ = end_of c.args.recorded.now.rules c.args.recorded.now.verdict in
+    unmade (g.O.Write.contents c.args.out.now) (g.O.Write.contents c.write_facts.new.out) c.write_facts.new.gathered told
+    (last ++ end) (recorded_text c.args.recorded.now) c.in-Err-push_end.failure c.in-Ok.ensures.1 c.in-Err-push_end.ensures.failed
+    (sym (append_assoc told last end) ∙ ap (λ (t : List ℕ). t ++ end) c.in-Ok.ensures.2)

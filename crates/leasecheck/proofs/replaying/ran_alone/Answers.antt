@@ -1,12 +1,16 @@
-use Rattle.lease_laws.proofs.Words.{◌∙◌, List, ap, rules}
+use Rattle.lease_laws.proofs.Words.{◌∙◌, List, [], ap₂, rules}
 use Rattle.lease_state.specs.declared.reply.Reply.{Reply}
-use Rattle.leasecheck.specs.Messages.{record_with_messages}
+use Rattle.lease_world.specs.declared.obstacle.Idle.{Idle}
+use Rattle.leasecheck.specs.Idle.{idle_line, record_told}
 use Rattle.leasecheck.proofs.Recorded.{told_alone}
+use Rattle.leasecheck.proofs.Told.{none_idle}
 use Rattle.leasecheck.proofs.replaying.ran_alone.Goals as goal
 
 pub returns-in_ok-verdict-in-Ok-clause-told : goal.returns-in_ok-verdict-in-Ok-clause-told
-returns-in_ok-verdict-in-Ok-clause-told c = (
+returns-in_ok-verdict-in-Ok-clause-told c = λ lines. (
   c.in-Ok.facts.items,
   search rules,
-  ap (λ (ms : List Reply). record_with_messages c.in-Ok.facts.items ms) c.new.ensures.items ∙ told_alone c.in-Ok.facts.items,
+  ap₂ (λ (ms : List Reply) (js : List Idle). record_told (idle_line c.new-in-Ok.result.items) 0 c.in-Ok.facts.items ms js)
+      c.new.ensures.items c.new-in-Ok-2.ensures.items
+      ∙ (none_idle (idle_line c.new-in-Ok.result.items) 0 c.in-Ok.facts.items [] ∙ told_alone c.in-Ok.facts.items),
 )
