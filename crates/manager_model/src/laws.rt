@@ -9,25 +9,25 @@ pub fn law_of_bytes()
     ensures { BytesDecideNothing }
 {}
 
-/// Passes of a manager over the requests that wait on a file end by themselves, and only files where requests wait need any.
-/// Does nothing.
+/// Passes of a manager over the requests that wait on a file end by themselves, and only files where requests wait need any. Does
+/// nothing.
 pub fn law_of_passes()
     ensures answer { PassesAnswer }
     ensures enough { PassesAreEnough }
     ensures files { FilesAreEnough }
 {}
 
-/// A manager and a host that does what it is told, in its order, are the server of the rules: whatever comes, the host sends what
-/// the server sends, and its files have the bytes that the server's have. The host keeps what it asked under each tag, and of
-/// each open the file; `GoesOn` copies the bytes of a file or patches them, and nothing else changes one. Does nothing.
+/// A manager and a host that carries out its decisions, in their order, are the server of the rules: whatever comes, the host
+/// sends what the server sends, and its files have the bytes that the server's have. The host keeps what it asked under each tag,
+/// and of each open the file; `GoesOn` copies the bytes of a file or patches them, and nothing else changes one. Does nothing.
 pub fn law_of_hosts()
     ensures calls { HostsAreServers }
     ensures withdrawals { WithdrawalsAreServed }
     ensures runs { RunsOfHosts }
 {}
 
-/// A host learns which opens are no more: of each that is there before a call, or before a request is withdrawn, and isn't after it,
-/// it is told that it ended, or that a close is done that was asked for it. Does nothing.
+/// A host learns which opens are no more: of each that is there before a call, or before a request is withdrawn, and isn't after
+/// it, a decision says that it ended, or that a close is done that was asked for it. Does nothing.
 pub fn law_of_ends()
     ensures calls { EndsAreTold }
     ensures withdrawals { EndsByWithdrawalAreTold }

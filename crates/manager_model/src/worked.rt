@@ -7,14 +7,14 @@ pub fn managers_tell_by_tags()
     ensures bytes { WriteIsThere }
 {}
 
-/// A create that waits is withdrawn: that is told, and nothing more of it. One that doesn't wait isn't. Does nothing.
+/// A create that waits is withdrawn: a decision says so, and none follows for it. One that doesn't wait isn't. Does nothing.
 pub fn managers_withdraw()
     ensures told { WithdrawnIsTold }
     ensures gone { WithdrawnIsGone }
     ensures none { NoneIsWithdrawn }
 {}
 
-/// An open that its client didn't close ends: one that was left behind, when another client opens the file, and one that isn't
+/// An open that its client didn't close ends: one whose client was cut, when another client opens the file, and one that isn't
 /// durable, when its client is cut. Does nothing.
 pub fn managers_tell_what_ends()
     ensures ends { LeftIsTold }

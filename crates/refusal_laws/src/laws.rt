@@ -4,14 +4,14 @@ ghost use Rattle.refusal_laws.specs.Refusals.{PassesAreOfHeld, RefusedAcknowledg
 ghost use Rattle.refusal_laws.specs.Refusals.{RefusedOnceTried};
 
 /// A request that is refused changes no content, and takes away no open but those that its own
-/// breaks closed: those that aren't connected and whose key is wanted in a round of its try. That is
-/// said of every try in which a refusal is sent, the create that finds no FileId left among them, as
-/// the request comes and once it was held. One that is refused as it comes changes nothing at all, and every Close that is refused is refused
-/// as it comes; an acknowledgment that is refused changes nothing either. The same is true of whole
-/// calls: where a Close or an acknowledgment is refused, the call reports that and makes the passes
-/// over held requests, over the server as it was. Whatever passes change, a held request did: a
-/// content changes only by a held write, and an open goes only where a held Close closes it, or a
-/// break for a held request did. Does nothing.
+/// breaks closed: those that aren't connected and whose key is wanted in a round of its try. So it
+/// is for every try in which a refusal is sent, the create that finds no FileId left among them, as
+/// the request comes and once it was held. One that is refused as it comes changes nothing at all,
+/// and every Close that is refused is refused as it comes; an acknowledgment that is refused
+/// changes nothing either. The same is true of whole calls: where a Close or an acknowledgment is
+/// refused, the call reports that and makes the passes over held requests, over the server as it
+/// was. Whatever passes change, a held request did: a content changes only by a held write, and an
+/// open goes only where a held Close closes it, or a break for a held request did. Does nothing.
 pub fn refusals_leave_files_alone()
     ensures as_they_come { RefusedAsTheyCome }
     ensures once_tried { RefusedOnceTried }
