@@ -26,11 +26,9 @@ def test_as_of_digits(words: tuple[str, ...], message: str, tmp_path: Path) -> N
 def test_random_bytes(chooser: random.Random, tmp_path: Path) -> None:
     path = tmp_path / "message"
     for _ in range(100):
-        message = bytearray(bytes.fromhex(chooser.choice(MESSAGES)))
-        for _ in range(chooser.randrange(4)):
-            message[chooser.randrange(len(message)):] = chooser.randbytes(chooser.randrange(8)) if message else b""
-            if not message:
-                break
+        message = bytes.fromhex(chooser.choice(MESSAGES))
+        if chooser.randrange(2):
+            message = message[:chooser.randrange(len(message) + 1)] + chooser.randbytes(chooser.randrange(8))
         path.write_bytes(message)
         words = chooser.choice([("ack",), *(("show", kind) for kind in KINDS)])
         assert run([*words, f"@{path}"]) == run([*words, message.hex()]), message.hex()
