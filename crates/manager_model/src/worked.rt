@@ -1,4 +1,5 @@
-ghost use Rattle.manager_model.specs.Worked.{LeftIsTold, NoneIsWithdrawn, SharedIsTold, WithdrawnIsGone, WithdrawnIsTold, WriteIsThere};
+ghost use Rattle.manager_model.specs.Worked.{LeftIsTold, NoneIsWithdrawn, SharedIsTold, WithdrawnIsGone, WithdrawnIsTold};
+ghost use Rattle.manager_model.specs.Worked.{WriteIsThere};
 
 /// Two clients share a file: the second one's create waits until the first one has flushed and has acknowledged the break of its
 /// lease. Each is answered under its tag, and the host's file has the flushed byte. Does nothing.
