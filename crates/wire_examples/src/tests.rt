@@ -1,4 +1,6 @@
+mod captures;
 mod messages;
+mod requests;
 
 use lease_state::{FileId, LeaseKey, LeaseState};
 use lease_wire::{

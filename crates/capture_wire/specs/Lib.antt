@@ -1,0 +1,6 @@
+pub mod Fields
+pub mod Faults
+pub mod Contexts
+pub mod Header
+pub mod Connecting
+pub mod Files
