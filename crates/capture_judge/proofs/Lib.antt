@@ -1,0 +1,16 @@
+pub mod Agreeing
+pub mod Calm
+pub mod Completing
+pub mod Covering
+pub mod Feasible
+pub mod Filtered
+pub mod Going
+pub mod Keeping
+pub mod Late
+pub mod Orders
+pub mod Places
+pub mod Positions
+pub mod Shown
+pub mod Standing
+pub mod Taking
+pub mod Tracing

@@ -1,0 +1,5 @@
+use Rattle.capture_judge.proofs.Shown.{reversed-contradictory}
+use Rattle.capture_judge.proofs.worked.contradictions_have_no_placement.Goals as goal
+
+pub returns : goal.returns
+returns c = reversed-contradictory

@@ -1,0 +1,5 @@
+pub mod Beginnings
+pub mod Placing
+pub mod Searching
+pub mod Verdicts
+pub mod Worked

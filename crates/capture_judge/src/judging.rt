@@ -1,0 +1,33 @@
+ghost use Rattle.std.specs.Prelude.{IfOk};
+ghost use Rattle.capture_judge.specs.Verdicts.{IsVerdict};
+
+use crate::bounds::{are_feasible, last_positions};
+use crate::values::{Chain, Placing};
+use crate::ways::Ways;
+use lease_state::Memory;
+use std::alloc::Global;
+
+/// The verdict on the chains of a file: whether their changes can be placed within their bounds so that no two clients clash
+/// after any of them. There is no order between changes of different chains but that of positions, and positions are whatever
+/// numbers grow with time.
+///
+/// Fails where there is no memory.
+pub fn judge_placing(alloc: Global, chains: &[Chain]) -> Result<Placing, Memory>
+    ensures { IfOk result (λ placing. IsVerdict chains.now placing) }
+{
+    if !are_feasible(chains) {
+        return Ok(Placing::Contradictory);
+    }
+    let positions = last_positions(alloc, chains)?;
+    let mut ways = Ways::new(alloc, chains.len())?;
+    for position in &positions {
+        if !ways.close(chains, *position)? {
+            return Ok(Placing::TooMany);
+        }
+        ways.drop_late(chains, *position);
+        if ways.ways.is_empty() {
+            return Ok(Placing::Unsafe(*position));
+        }
+    }
+    Ok(Placing::Clean(ways.steps_to(alloc, 0)?))
+}

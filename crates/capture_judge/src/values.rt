@@ -1,0 +1,55 @@
+/// What a client caches of a file. Two clients clash where one caches writes and the other anything.
+#[derive(Clone, Copy, Debug, PartialEq, Eq)]
+pub enum Level {
+    /// Nothing is cached.
+    Nothing,
+    /// Something is cached, and no writes.
+    Something,
+    /// Writes are cached.
+    Writes,
+}
+
+/// A change of what a client caches, which happens at a position from the first to the last one. Where there is no last one, it
+/// may have been left out.
+#[derive(Clone, Copy, Debug, PartialEq, Eq)]
+pub struct Change {
+    /// What is cached from this change on.
+    pub level: Level,
+    /// The first position at which it may happen.
+    pub first: u64,
+    /// The last position at which it may happen.
+    pub last: Option<u64>,
+}
+
+/// The changes of one lease of a client, in their order.
+#[derive(Debug, Drop)]
+pub struct Chain {
+    /// The number of the client. It may have several chains.
+    pub client: u64,
+    /// The changes, in the order in which they happen.
+    pub changes: Vec<Change>,
+}
+
+/// A change that is given its place: it happens at this position.
+#[derive(Clone, Copy, Debug, PartialEq, Eq)]
+pub struct Step {
+    /// Where it happens.
+    pub position: u64,
+    /// The index of its chain.
+    pub chain: usize,
+    /// The index of the change in the chain.
+    pub change: usize,
+}
+
+/// What is said of chains.
+#[derive(Debug, Drop)]
+pub enum Placing {
+    /// The changes can't be placed within their bounds at all.
+    Contradictory,
+    /// These steps place them, and no two clients clash after any of them.
+    Clean(Vec<Step>),
+    /// However they are placed, two clients clash after a step at this position or before it, which is the first such one.
+    Unsafe(u64),
+    /// There are too many ways to place them, and nothing is known.
+    TooMany,
+}

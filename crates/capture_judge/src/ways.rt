@@ -1,0 +1,360 @@
+ghost use Rattle.std.specs.Prelude.{◌≡◌, ◌<◌, ◌+◌, ◌^◌, ℕ, List, Some, not, length, reverse, slice_get, slice_index};
+ghost use Rattle.std.specs.Prelude.{drop, IfOk, IfSome, IsTrue, MatchBool};
+ghost use Rattle.std.specs.List.{filter};
+ghost use Rattle.capture_judge.specs.declared.values.Chain.{Chain};
+ghost use Rattle.capture_judge.specs.declared.values.Step.{Step};
+ghost use Rattle.capture_judge.specs.Placing.{height};
+ghost use Rattle.capture_judge.specs.Beginnings.{IsCrowded};
+ghost use Rattle.capture_judge.specs.Searching.{is_late, level_in, IsApart, IsSearch, Leads, MayPass, Took, Closed};
+ghost use Rattle.capture_judge.specs.Searching.{after, Admits, Has, IsStart, StartsAlone, MayKeep, Keeps};
+ghost use Rattle.capture_judge.specs.Searching.{IsFall, TakesFall, Went, Worth, may_go_on};
+ghost use Rattle.capture_judge.specs.declared.ways.Way.{Way};
+
+use crate::bounds::is_overdue;
+use crate::values::{Chain, Change, Level, Step};
+use lease_state::Memory;
+use std::alloc::Global;
+
+/// How many ways to have placed the changes up to a position are kept at most.
+pub const WAY_LIMIT: usize = 1024;
+
+// How far each chain has come: 0 at its start, and one more than the index of its change that was placed last. The link counts
+// the links of the trail up to the one of the last step.
+#[derive(Drop)]
+pub(crate) struct Way {
+    came: Vec<usize>,
+    link: usize,
+}
+
+// A step, and the link of the way from which it was taken.
+#[derive(Clone, Copy)]
+struct Link {
+    step: Step,
+    before: usize,
+}
+
+#[derive(Drop)]
+pub(crate) struct Ways {
+    pub(crate) ways: Vec<Way>,
+    trail: Vec<Link>,
+}
+
+fn height(level: Level) -> u8
+    ensures { result ≡ height level }
+{
+    match level {
+        Level::Nothing => 0,
+        Level::Something => 1,
+        Level::Writes => 2,
+    }
+}
+
+fn level_at(chain: &Chain, came: usize) -> u8
+    ensures level { result ≡ level_in chain.now came }
+    ensures bound { result < 3 }
+{
+    if came == 0 {
+        return 0;
+    }
+    match chain.changes.as_slice().get(came - 1) {
+        Some(change) => height(change.level),
+        None => 0,
+    }
+}
+
+// Whether no chain of another client clashes with this one.
+fn is_apart(chains: &[Chain], came: &[usize], chain: usize) -> bool
+    requires count { length came.now ≡ length chains.now }
+    requires inside { chain < length chains.now }
+    ensures { MatchBool result (IsApart chains.now came.now chain) (IsApart chains.now came.now chain → ⊥) }
+{
+    let client = chains[chain].client;
+    let level = level_at(&chains[chain], came[chain]);
+    for (i, other) in chains.iter().enumerate() {
+        if other.client != client && level + level_at(other, came[i]) > 2 {
+            return false;
+        }
+    }
+    true
+}
+
+// Whether the change may happen at the position.
+fn is_within(change: Change, position: u64) -> bool
+    ensures { MatchBool result (Admits change position) (Admits change position → ⊥) }
+{
+    match change.last {
+        Some(last) => change.first <= position && position <= last,
+        None => change.first <= position,
+    }
+}
+
+// Whether the next change of the chain may happen at the position and doesn't raise its level.
+fn is_fall(chain: &Chain, came: usize, position: u64) -> bool
+    ensures { IsTrue result → IsFall chain.now came position }
+{
+    match chain.changes.as_slice().get(came) {
+        Some(change) => is_within(*change, position)
+            && height(change.level) <= level_at(chain, came),
+        None => false,
+    }
+}
+
+// Whether some change from an index on may be the next one of its chain, and may have begun by the position.
+fn may_go_on(changes: &[Change], from: usize, position: u64) -> bool
+    ensures { result ≡ may_go_on position (drop from changes.now) }
+{
+    for i in from..changes.len() {
+        let change = changes[i];
+        if change.first <= position {
+            return true;
+        }
+        if change.last.is_some() {
+            return false;
+        }
+    }
+    false
+}
+
+// Whether the step need be taken now: it doesn't raise the level of its chain, or it is due, or its chain may go on from there.
+// A rise can wait until then.
+fn is_worth(chain: &Chain, came: usize, step: Step) -> bool
+    requires { step.change < length chain.now.changes.items }
+    ensures { Worth chain.now came step → IsTrue result }
+{
+    let change = chain.changes[step.change];
+    height(change.level) <= level_at(chain, came)
+        || change.last == Some(step.position)
+        || may_go_on(chain.changes.as_slice(), step.change + 1, step.position)
+}
+
+// A way in which no chain has begun.
+fn start(alloc: Global, count: usize) -> Result<Way, Memory>
+    ensures { IfOk result (λ way. IsStart count way) }
+{
+    let mut came = Vec::new(alloc);
+    for _i in 0..count {
+        came.push(0)?;
+    }
+    Ok(Way { came, link: 0 })
+}
+
+// Without the ways that have left out a change that must have happened by now.
+fn drop_late(ways: &mut Vec<Way>, chains: &[Chain], position: u64)
+    ensures { ways.new.items ≡ filter (λ way. not (is_late position way.came.items 0 chains.now)) ways.old.items }
+{
+    ways.retain(|way| !way.is_late(chains, position));
+}
+
+fn turn_around(steps: &mut Vec<Step>)
+    ensures { steps.new.items ≡ reverse steps.old.items }
+{
+    steps.as_mut_slice().reverse();
+}
+
+impl Way {
+    fn after(&self, step: Step) -> Result<Vec<usize>, Memory>
+        requires inside { step.chain < length self.now.came.items }
+        requires bound { step.change + 1 < 2 ^ 64 }
+        ensures { IfOk result (λ came. came.items ≡ after self.now.came.items step) }
+    {
+        let mut came = Vec::from_slice(*self.came.allocator(), self.came.as_slice())?;
+        came[step.chain] = step.change + 1;
+        Ok(came)
+    }
+
+    fn is_late(&self, chains: &[Chain], position: u64) -> bool
+        ensures { result ≡ is_late position self.now.came.items 0 chains.now }
+    {
+        for (i, chain) in chains.iter().enumerate() {
+            let from = self.came.as_slice().get(i).copied().unwrap_or(0);
+            if is_overdue(chain.changes.as_slice(), from, position) {
+                return true;
+            }
+        }
+        false
+    }
+}
+
+impl Ways {
+    pub(crate) fn new(alloc: Global, count: usize) -> Result<Ways, Memory>
+        ensures { IfOk result (λ search. StartsAlone count search) }
+    {
+        let mut ways = Vec::new(alloc);
+        ways.push(start(alloc, count)?)?;
+        Ok(Ways {
+            ways,
+            trail: Vec::new(alloc),
+        })
+    }
+
+    fn holds(&self, came: &[usize]) -> bool
+        ensures { MatchBool result (Has self.now.ways.items came.now) (Has self.now.ways.items came.now → ⊥) }
+    {
+        for way in &self.ways {
+            if way.came.as_slice() == came {
+                return true;
+            }
+        }
+        false
+    }
+
+    // Keeps where a step leads that no way has come to. It is false where there is no room.
+    fn keep(
+        &mut self,
+        chains: &[Chain],
+        way: usize,
+        step: Step,
+        came: Vec<usize>,
+    ) -> Result<bool, Memory>
+        requires search { IsSearch chains.now step.position self.old }
+        requires may { MayKeep chains.now self.old way step came.items }
+        ensures { IfOk result (λ room. MatchBool room (Keeps chains.now step.position self.old self.new came.items)
+            (IsCrowded chains.now)) }
+    {
+        if self.ways.len() >= WAY_LIMIT {
+            return Ok(false);
+        }
+        let before = self.ways[way].link;
+        self.trail.push(Link { step, before })?;
+        let link = self.trail.len();
+        self.ways.push(Way { came, link })?;
+        Ok(true)
+    }
+
+    // Takes the step from a way, where it can be taken and leads to another. It is false where that one finds no room.
+    fn take(&mut self, chains: &[Chain], way: usize, step: Step) -> Result<bool, Memory>
+        requires search { IsSearch chains.now step.position self.old }
+        requires way { way < length self.old.ways.items }
+        requires chain { step.chain < length chains.now }
+        requires change { (chain : Chain) → slice_get chains.now step.chain ≡ Some chain
+            → step.change < length chain.changes.items }
+        requires pass { (w : Way) → slice_get self.old.ways.items way ≡ Some w
+            → MayPass chains.now (slice_index w.came.items step.chain) step }
+        ensures { IfOk result (λ room. MatchBool room (Took chains.now step.position self.old self.new way (λ s. s ≡ step))
+            (IsCrowded chains.now)) }
+    {
+        if !is_within(chains[step.chain].changes[step.change], step.position) {
+            return Ok(true);
+        }
+        if !is_worth(&chains[step.chain], self.ways[way].came[step.chain], step) {
+            return Ok(true);
+        }
+        let came = self.ways[way].after(step)?;
+        if !is_apart(chains, came.as_slice(), step.chain) || self.holds(came.as_slice()) {
+            return Ok(true);
+        }
+        self.keep(chains, way, step, came)
+    }
+
+    // Takes each step of a chain from a way. Changes that must happen aren't passed over.
+    fn go_along(
+        &mut self,
+        chains: &[Chain],
+        position: u64,
+        way: usize,
+        chain: usize,
+    ) -> Result<bool, Memory>
+        requires search { IsSearch chains.now position self.old }
+        requires way { way < length self.old.ways.items }
+        requires chain { chain < length chains.now }
+        ensures { IfOk result (λ room. MatchBool room (Took chains.now position self.old self.new way (λ s. s.chain ≡ chain))
+            (IsCrowded chains.now)) }
+    {
+        let changes = chains[chain].changes.as_slice();
+        for change in self.ways[way].came[chain]..changes.len() {
+            let step = Step {
+                position,
+                chain,
+                change,
+            };
+            if !self.take(chains, way, step)? {
+                return Ok(false);
+            }
+            if changes[change].last.is_some() {
+                return Ok(true);
+            }
+        }
+        Ok(true)
+    }
+
+    // A step from the way that doesn't raise the level of its chain, if there is one.
+    fn next_fall(&self, chains: &[Chain], position: u64, way: usize) -> Option<Step>
+        requires search { IsSearch chains.now position self.now }
+        requires way { way < length self.now.ways.items }
+        ensures { IfSome result (λ step. (w : Way) → slice_get self.now.ways.items way ≡ Some w
+            → TakesFall chains.now position w.came.items step) }
+    {
+        let came = self.ways[way].came.as_slice();
+        for (chain, one) in chains.iter().enumerate() {
+            let change = came[chain];
+            if is_fall(one, change, position) {
+                return Some(Step {
+                    position,
+                    chain,
+                    change,
+                });
+            }
+        }
+        None
+    }
+
+    // Takes a fall from the way, since that only helps, or where there is none each step.
+    fn go_on(&mut self, chains: &[Chain], position: u64, way: usize) -> Result<bool, Memory>
+        requires search { IsSearch chains.now position self.old }
+        requires way { way < length self.old.ways.items }
+        ensures { IfOk result (λ room. MatchBool room (Went chains.now position self.old self.new way)
+            (IsCrowded chains.now)) }
+    {
+        if let Some(step) = self.next_fall(chains, position, way) {
+            return self.take(chains, way, step);
+        }
+        for chain in 0..chains.len() {
+            if !self.go_along(chains, position, way, chain)? {
+                return Ok(false);
+            }
+        }
+        Ok(true)
+    }
+
+    // Goes on from each way, and from the ways that these lead to as well. It is false where one finds no room.
+    pub(crate) fn close(&mut self, chains: &[Chain], position: u64) -> Result<bool, Memory>
+        requires { IsSearch chains.now position self.old }
+        ensures { IfOk result (λ room. MatchBool room (Closed chains.now position self.old self.new) (IsCrowded chains.now)) }
+    {
+        let mut way = 0;
+        while way < self.ways.len() {
+            if !self.go_on(chains, position, way)? {
+                return Ok(false);
+            }
+            way += 1;
+        }
+        Ok(true)
+    }
+
+    pub(crate) fn drop_late(&mut self, chains: &[Chain], position: u64)
+        ensures ways { self.new.ways.items
+            ≡ filter (λ way. not (is_late position way.came.items 0 chains.now)) self.old.ways.items }
+        ensures trail { self.new.trail.items ≡ self.old.trail.items }
+    {
+        drop_late(&mut self.ways, chains, position);
+    }
+
+    // The steps that led to a way, in their order.
+    pub(crate) fn steps_to(&self, alloc: Global, way: usize) -> Result<Vec<Step>, Memory>
+        requires way { way < length self.now.ways.items }
+        requires leads { (w : Way) → slice_get self.now.ways.items way ≡ Some w
+            → (past : List Step) × Leads self.now.trail.items w.link past }
+        ensures { IfOk result (λ steps. (w : Way) (past : List Step) → slice_get self.now.ways.items way ≡ Some w
+            → Leads self.now.trail.items w.link past → reverse steps.items ≡ past) }
+    {
+        let mut steps = Vec::new(alloc);
+        let mut link = self.ways[way].link;
+        while link > 0 {
+            let Link { step, before } = self.trail[link - 1];
+            steps.push(step)?;
+            link = before;
+        }
+        turn_around(&mut steps);
+        Ok(steps)
+    }
+}
