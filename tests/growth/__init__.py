@@ -1,1 +1,1 @@
-"""How the cost of `leasecheck judge` and `leasecheck replay` grows with their input."""
+"""How the cost of `leasecheck judge`, `judge --explain` and `replay` grows with their input."""

@@ -11,13 +11,15 @@ LINEAR = 1.25
 @dataclass(frozen=True)
 class Family:
     """`make(n)` is the input of size n, a record for `judge` or a schedule for `replay`. Its doc string says what the family
-    shows; `make(0)` is the set-up, whose cost is subtracted."""
+    shows; `make(0)` is the set-up, whose cost is subtracted. `command` may have options behind a space."""
 
     name: str
     command: str
     make: Callable[[int], str]
     smallest: int
     unit: str
+    # The rule that the last fact breaks; none where the record is safe.
+    rule: Optional[int] = None
     # How many lines of the replayed record begin with these words, as a multiple of n.
     facts: dict[str, int] = field(default_factory=dict)
     # The most instructions for one unit, where that is limited too.
@@ -29,10 +31,19 @@ class Family:
         """Four sizes, each twice the one before."""
         return [max(1, self.smallest // divisor) << step for step in range(4)]
 
+    @property
+    def status(self) -> int:
+        """The exit status that the program has to end with."""
+        return 3 if self.rule else 0
+
     def check_answer(self, size: int, answer: str) -> None:
-        """The answer has to be safe, and a replayed record has to have the facts of its family."""
+        """The answer has to be safe or name the family's rule, and a replayed record has to have the facts of its family."""
         lines = answer.splitlines()
-        assert lines[-1] == ("safe" if self.command == "judge" else "# safe"), size
+        verdict = lines[-1] if self.command == "replay" else lines[0]
+        if self.rule:
+            assert verdict.startswith("unsafe ") and verdict.endswith(f" {self.rule}"), (size, verdict)
+        else:
+            assert verdict in ("safe", "# safe"), (size, verdict)
         for words, times in self.facts.items():
             count = sum(f"{line} ".startswith(f"{words} ") for line in lines)
             assert not size or 0 <= count - times * size <= 1, (words, size, count)

@@ -1,6 +1,8 @@
-"""Families of records for `leasecheck judge`. All writes go to the first byte of a file of one
+"""Families of records for `leasecheck judge`, also with `--explain`. All writes go to the first byte of a file of one
 byte, and write what is there, so that a record is as long as its facts are many."""
 from __future__ import annotations
+
+import math
 
 from tests.growth.colliding import colliding_numbers
 from tests.growth.family import Family
@@ -52,10 +54,29 @@ def joined_among_many(count: int) -> str:
     return text(lines + ['joined 1'] * count)
 
 
+def rivals_of_the_last_file(count: int) -> str:
+    """n beliefs of as many files as clients, and then two clients' conflicting beliefs of the last of these files: which file it
+    is, and whose beliefs conflict, is to be found without reading the record for each file or client."""
+    lines = [f'start {file} 61' for file in range(1, FILES + 1)]
+    lines += [f'joined {client}' for client in range(1, CLIENTS + 1)]
+    side = max(1, math.isqrt(max(0, count - 1)) + 1)
+    lines += [f'believes {number // side + 1} {number % side + 1} R' for number in range(count)]
+    return text(lines + [f'believes {CLIENTS} {side} R', f'believes 1 {side} RW'])
+
+
+def facts_of_many(count: int) -> str:
+    """n facts of 255 clients, half of which joined: which clients these are, and which didn't join, is to be found without
+    reading the record for each client."""
+    lines = [f'joined {client}' for client in range(1, CLIENTS + 1, 2)]
+    return text(lines + [f'sent {number % CLIENTS + 1}' for number in range(count)])
+
+
 RECORDS = [
     Family('judge-chosen-numbers', 'judge', chosen_numbers, 1024, 'write'),
     Family('judge-settled-one-by-one', 'judge', settled_one_by_one, 256, 'write'),
     Family('judge-changed-by-another', 'judge', changed_by_another, 256, 'write'),
     Family('judge-joined-among-many', 'judge', joined_among_many, 16, 'line',
            most_instructions=10_000),
+    Family('explain-rivals', 'judge --explain', rivals_of_the_last_file, 8128, 'belief', rule=1),
+    Family('explain-facts-of-many', 'judge --explain', facts_of_many, 16384, 'line', most_instructions=1_000),
 ]

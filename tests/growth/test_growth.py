@@ -33,22 +33,22 @@ class Sample(NamedTuple):
     memory: int
 
 
-def run(command: Sequence[str]) -> "subprocess.CompletedProcess[str]":
+def run(command: Sequence[str], status: int) -> "subprocess.CompletedProcess[str]":
     done = subprocess.run(command, stdin=subprocess.DEVNULL, capture_output=True, text=True, check=False)
-    assert done.returncode == 0, (command, done.stderr or done.stdout)
+    assert done.returncode == status, (command, done.stderr or done.stdout)
     return done
 
 
 def measured(family: Family, size: int, folder: Path, setup: int = 0) -> Sample:
     path, note = folder / "input", folder / "peak"
     path.write_text(family.make(size), encoding="ascii")
-    command = [built_program(), family.command, str(path)]
-    done = run(["valgrind", "--tool=callgrind", "--callgrind-out-file=/dev/null", *command])
+    command = [built_program(), *family.command.split(), str(path)]
+    done = run(["valgrind", "--tool=callgrind", "--callgrind-out-file=/dev/null", *command], family.status)
     counted = re.search(r"Collected : (\d+)", done.stderr)
     assert counted, done.stderr
     family.check_answer(size, done.stdout)
     # (a child of Python itself would count the memory of Python, from before it became the program)
-    run(["/usr/bin/time", "-f", "%M", "-o", str(note), *command])
+    run(["/usr/bin/time", "-f", "%M", "-o", str(note), *command], family.status)
     memory = int(note.read_text(encoding="ascii").split()[-1]) * 1024
     return Sample(size, path.stat().st_size, max(1, int(counted[1]) - setup), memory)
 

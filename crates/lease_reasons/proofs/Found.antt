@@ -1,7 +1,7 @@
 -- Places that are found, against what the definitions say of a past.
 use Rattle.lease_laws.proofs.Words.{◌&&◌, ◌+◌, ◌==◌, ◌||◌, ◌∙◌, ◌∷◌, ◌≡◌, ◌≤◌, Bool, ClientNo, Fact, FileNo, List, None, Option}
-use Rattle.lease_laws.proofs.Words.{Some, ℕ, [], ap, arith, both_ways, false, has_buffered, has_joined, has_strayed}
-use Rattle.lease_laws.proofs.Words.{if◌then◌else◌, is_good, is_served, is_some, is_started, is_touched, length, nat_le, not, refl}
+use Rattle.lease_laws.proofs.Words.{Some, ℕ, [], ap, arith, both_ways, false, has_buffered, has_joined}
+use Rattle.lease_laws.proofs.Words.{if◌then◌else◌, is_some, is_started, is_touched, length, nat_le, not, refl}
 use Rattle.lease_laws.proofs.Words.{sym, true}
 use Rattle.std.proofs.lemmas.Bool.{le-leb}
 use Rattle.lease_model.specs.records.Past.{has_number}
@@ -27,21 +27,6 @@ joined-place client [] = refl
 joined-place client (Fact.Joined other ∷ past) =
     here_or_before (other == client.0) (has_joined client.0 past) (length past + 1) _ (joined-place client past)
 joined-place client (_ ∷ past) = joined-place client past
-
-pub strayed-place : (client : ClientNo) (past : List Fact)
-    → is_some (last_place (fits (mark.Straying client)) past) ≡ has_strayed client.0 past
-unfolding last_place fits has_strayed
-strayed-place client [] = refl
-strayed-place client (Fact.Strayed other ∷ past) =
-    here_or_before (other == client.0) (has_strayed client.0 past) (length past + 1) _ (strayed-place client past)
-strayed-place client (_ ∷ past) = strayed-place client past
-
-pub good-is : (client : ClientNo) (past : List Fact) (strayed : Option ℕ) → strayed ≡ last_place (fits (mark.Straying client))
-    past → is_good client.0 past ≡ (not (is_some strayed) && is_served client.0 past)
-unfolding is_good
-good-is client past strayed e =
-    ap (λ (b : Bool). not b && is_served client.0 past) (sym (strayed-place client past) ∙ ap (λ (o : Option ℕ). is_some o) (sym
-    e))
 
 pub number-place : (client : ClientNo) (number : ℕ) (past : List Fact)
     → is_some (last_place (fits (mark.Write client number)) past) ≡ has_number client.0 number past

@@ -2,9 +2,10 @@ pub mod Pasts
 pub mod Places
 pub mod Found
 pub mod Posts
+pub mod Lists
+pub mod Tables
 pub mod Noted
-pub mod Served
 pub mod Seen
 pub mod Bad
 pub mod Telling
-pub mod Naming
+pub mod Standings

@@ -1,15 +1,14 @@
 -- What a client believes of a file's lease, and since where.
-use Rattle.std.specs.Prelude.{◌≡◌, ◌≢◌, ⊤, ℕ, ◌+◌, Bool, true, List, ◌∷◌, [], ◌++◌, length, Option, Some, None, is_some}
-use Rattle.std.specs.Prelude.{if◌then◌else◌, ◌==◌, ◌&&◌, ◌||◌, not}
-use Rattle.std.specs.List.{list_any, filter, find}
+use Rattle.std.specs.Prelude.{◌≡◌, ◌≢◌, ⊤, ℕ, ◌+◌, Bool, true, List, ◌∷◌, [], length, Option, Some, None, MatchOption}
+use Rattle.std.specs.Prelude.{if◌then◌else◌, ◌==◌, ◌&&◌, not, false, slice_get, unwrap_or}
+use Rattle.std.specs.List.{list_any, filter, find, flat_map}
+use Rattle.std.specs.Option.{option_to_list}
 use Rattle.lease_state.specs.State.{State, state_of, nothing_cached}
-use Rattle.lease_facts.specs.declared.fact.Fact as code
-use Rattle.lease_facts.specs.declared.fact.Fact.TheVariants as fact
 use Rattle.lease_model.specs.records.Facts.{Fact}
 use Rattle.lease_model.specs.records.Past.{is_good, believed}
 use Rattle.lease_model.specs.values.LeaseStates.{holds_any}
-use Rattle.lease_state.specs.declared.number.FileNo.{FileNo}
 use Rattle.lease_reasons.specs.declared.beliefs.Rivals.{Rivals}
+use Rattle.lease_reasons.specs.declared.last_beliefs.LastBeliefs.{LastBeliefs}
 use Rattle.lease_reasons.specs.declared.reason.Belief.{Belief}
 
 pub record Noted : Type 0 where
@@ -38,7 +37,7 @@ pub record AreRivals (past : List Fact) (file : ℕ) (writer other : Belief) : T
   pub writes : (state_of writer.state).write ≡ true
   pub caches : holds_any (state_of other.state) ≡ true
 
--- ---- what is gathered
+-- ---- lists of beliefs
 
 abbrev pub Each : {X : Type 0} → (X → Type 0) → List X → Type 0
 Each P [] = ⊤
@@ -47,49 +46,63 @@ Each P (x ∷ xs) = P x × Each P xs
 abbrev pub noted_of : Belief → Noted
 noted_of belief = record { place = belief.place; state = state_of belief.state }
 
--- Each is the last belief of the file that its client noted, and no client that noted one is left out.
-pub record AreNoted (past : List Fact) (file : ℕ) (beliefs : List Belief) : Type 0 where
-  pub each : Each (λ belief. last_noted belief.client.0 file past ≡ Some (noted_of belief)) beliefs
-  pub all : (client : ℕ) → is_some (last_noted client file past) ≡ true
-      → list_any (λ belief. belief.client.0 == client) beliefs ≡ true
+-- ---- tables of beliefs
 
--- the belief in place of an earlier one of its client
-abbrev pub put_belief : Belief → List Belief → List Belief
-put_belief belief beliefs = filter (λ other. not (other.client.0 == belief.client.0)) beliefs ++ belief ∷ []
+-- the belief of a client, by the numbers of clients
+abbrev pub cell_in : List (Option Belief) → ℕ → Option Belief
+cell_in cells client = unwrap_or (slice_get cells client) None
 
--- No file is left out of which a client noted a belief.
-abbrev pub AreFiles : List Fact → List FileNo → Type 0
-AreFiles past files = (client file : ℕ) → is_some (last_noted client file past) ≡ true → list_any (λ f. f.0 == file) files ≡ true
+-- the beliefs of a file, by the numbers of files
+abbrev pub row_in : List (List (Option Belief)) → ℕ → List (Option Belief)
+row_in rows file = unwrap_or (slice_get rows file) []
 
--- the belief of a file that the fact at a place tells
-abbrev pub belief_told : ℕ → ℕ → code.Fact → Option Belief
-belief_told file place (fact.Believes client other state) =
-    if other.0 == file then Some (record { client = client; place = place; state = state }) else None
-belief_told file place _ = None
+abbrev pub is_empty : List (Option Belief) → Bool
+is_empty cells = length cells == 0
 
-abbrev pub with_belief : Option Belief → List Belief → List Belief
-with_belief None beliefs = beliefs
-with_belief (Some belief) beliefs = put_belief belief beliefs
+-- The belief stands in place of an earlier one of its client.
+pub record HasCell (belief : Belief) (before now : List (Option Belief)) : Type 0 where
+  pub cells : (client : ℕ) → cell_in now client ≡ (if client == belief.client.0 then Some belief else cell_in before client)
+  pub filled : is_empty now ≡ false
 
--- the file of which a fact tells a belief
-abbrev pub file_told : code.Fact → Option FileNo
-file_told (fact.Believes client file state) = Some file
-file_told _ = None
+abbrev pub HasSameCells : List (Option Belief) → List (Option Belief) → Type 0
+HasSameCells before now = (client : ℕ) → cell_in now client ≡ cell_in before client
 
-abbrev pub with_file : Option FileNo → List FileNo → List FileNo
-with_file None files = files
-with_file (Some file) files = if list_any (λ f. f.0 == file.0) files then files else files ++ file ∷ []
+abbrev pub HasSameRows : List (List (Option Belief)) → List (List (Option Belief)) → Type 0
+HasSameRows before now = (file : ℕ) → row_in now file ≡ row_in before file
 
--- whether a client is served after a fact
-abbrev pub served_after : ℕ → Fact → Bool → Bool
-served_after client (Fact.Joined other) served = other == client || served
-served_after client (Fact.Dropped other) served = not (other == client) && served
-served_after client (Fact.Expired other file) served = not (other == client) && served
-served_after client _ served = served
+-- No file is left out of which a belief is in the table.
+abbrev pub AreListed : LastBeliefs → Type 0
+AreListed beliefs =
+    (file : ℕ) → is_empty (row_in beliefs.rows.items file) ≡ false → list_any (λ f. f.0 == file) beliefs.files.items ≡ true
 
--- the belief is one of a good client, and holds something
-abbrev pub may_clash : List Fact → Belief → Bool
-may_clash past belief = holds_any (state_of belief.state) && is_good belief.client.0 past
+-- The belief of the file stands in place of an earlier one of its client.
+pub record HasBelief (file : ℕ) (belief : Belief) (before now : LastBeliefs) : Type 0 where
+  pub cells : (f client : ℕ) → cell_in (row_in now.rows.items f) client ≡
+      (if f == file && client == belief.client.0 then Some belief else cell_in (row_in before.rows.items f) client)
+  pub listed : AreListed before → AreListed now
+
+-- It is the last belief of the file that the client noted; nothing, if it noted none.
+abbrev pub IsLast : List Fact → ℕ → ℕ → Option Belief → Type 0
+IsLast past file client None = last_noted client file past ≡ None
+IsLast past file client (Some belief) = (belief.client.0 ≡ client) × (last_noted client file past ≡ Some (noted_of belief))
+
+abbrev pub AreLastOf : List Fact → ℕ → List (Option Belief) → Type 0
+AreLastOf past file cells = (client : ℕ) → IsLast past file client (cell_in cells client)
+
+-- The table has the last belief of each client of each file, and the list the files of which it has some.
+pub record AreLast (past : List Fact) (beliefs : LastBeliefs) : Type 0 where
+  pub cells : (file : ℕ) → AreLastOf past file (row_in beliefs.rows.items file)
+  pub listed : AreListed beliefs
+
+-- ---- rivals
+
+-- the belief is one of a client that passes as good, and holds something
+abbrev pub may_clash : (ℕ → Bool) → Belief → Bool
+may_clash good belief = holds_any (state_of belief.state) && good belief.client.0
+
+-- those in a row of a table that may go ill with another
+abbrev pub clashing : (ℕ → Bool) → List (Option Belief) → List Belief
+clashing good cells = filter (may_clash good) (flat_map option_to_list cells)
 
 abbrev pub rivals_of : Belief → Option Belief → Option Rivals
 rivals_of writer None = None
@@ -108,3 +121,8 @@ abbrev pub HasNoRivals : List Fact → ℕ → Type 0
 HasNoRivals past file = (client other : ℕ) → other ≢ client → is_good client past ≡ true → (believed client file past).write ≡
     true
     → is_good other past ≡ true → believed other file past ≡ nothing_cached
+
+-- These are rivals, or there are none.
+abbrev pub AreRivalsIfAny : List Fact → ℕ → Option Rivals → Type 0
+AreRivalsIfAny past file found =
+    MatchOption found (HasNoRivals past file) (λ rivals. AreRivals past file rivals.writer rivals.other)

@@ -6,3 +6,4 @@ pub mod Reads
 pub mod Reasons
 pub mod Searches
 pub mod Extent
+pub mod Clients

@@ -9,7 +9,6 @@ unfoldable pub fits : Mark → Fact → Bool
 fits (mark.Start file) (Fact.Start other bytes) = other == file.0
 fits (mark.Change file) (Fact.Changed other client number patch) = other == file.0
 fits (mark.Joining client) (Fact.Joined other) = other == client.0
-fits (mark.Straying client) (Fact.Strayed other) = other == client.0
 fits (mark.Taking client) (Fact.Took other) = other == client.0
 fits (mark.Write client number) (Fact.Wrote writer file used patch buffered) = writer == client.0 && used == number
 fits (mark.ChangeBy client number) (Fact.Changed file writer used patch) = writer == client.0 && used == number

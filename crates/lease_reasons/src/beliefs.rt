@@ -1,145 +1,56 @@
-ghost use Rattle.std.specs.Prelude.{◌≡◌, ◌++◌, ◌∷◌, [], ◌&&◌, OnOk, IfOk, MatchOption, not, ◌==◌};
+ghost use Rattle.std.specs.Prelude.{◌≡◌, ◌++◌, ◌==◌, ℕ, List, OnOk, IfOk, MatchOption, not};
 ghost use Rattle.std.specs.List.{filter, find};
+ghost use Rattle.std.specs.List.Sorted.{IsNonDecreasingBy, IsPermutation};
+ghost use Rattle.std.specs.Option.{option_to_list};
 ghost use Rattle.lease_state.specs.State.{state_of};
-ghost use Rattle.lease_facts.specs.Facts.{fact_of};
-ghost use Rattle.lease_model.specs.records.Past.{is_good, is_served};
+ghost use Rattle.lease_model.specs.records.Facts as model;
 ghost use Rattle.lease_model.specs.records.Safe.{OneWriteCache};
-ghost use Rattle.lease_model.specs.values.LeaseStates.{holds_any};
-ghost use Rattle.lease_reasons.specs.Beliefs.{AreNoted, AreFiles, AreRivals, HasNoRivals, served_after, belief_told, with_belief};
-ghost use Rattle.lease_reasons.specs.Beliefs.{put_belief, file_told, with_file, may_clash, rivals_among};
+ghost use Rattle.lease_reasons.specs.Beliefs.{AreRivals, AreRivalsIfAny, AreLastOf, clashing, may_clash, rivals_among};
+ghost use Rattle.lease_reasons.specs.Clients.{Describes, is_good_in};
 ghost use Rattle.lease_reasons.specs.Places.{past_of};
 
-use crate::marks::Mark;
+use crate::clients::Clients;
+use crate::last_beliefs::LastBeliefs;
 use crate::reason::Belief;
 use lease_facts::Fact;
-use lease_state::{ClientNo, FileNo, LeaseState, Memory};
+use lease_state::{ClientNo, FileNo, Memory};
 use std::alloc::Global;
 
-// Whether the client is served after a fact, where it was or wasn't before.
-fn served_after(served: bool, client: ClientNo, fact: &Fact) -> bool
-    ensures { result ≡ served_after client.0 (fact_of fact.now) served }
+// Whether the belief may go ill with another: its client is good, and it holds something.
+fn may_clash(clients: &Clients, belief: &Belief) -> bool
+    ensures { result ≡ may_clash (is_good_in clients.now.standings.items) belief.now }
 {
-    match fact {
-        Fact::Joined(other) => *other == client || served,
-        Fact::Dropped(other) => *other != client && served,
-        Fact::Expired(other, _) => *other != client && served,
-        _ => served,
-    }
+    !belief.state.is_none() && clients.is_good(belief.client)
 }
 
-// Whether the client joined, and neither was its connection lost nor did a timer of its run out since.
-fn is_served(facts: &[Fact], client: ClientNo) -> bool
-    ensures { result ≡ is_served client.0 (past_of facts.now) }
+fn note_clash(
+    clashing: &mut Vec<Belief>,
+    clients: &Clients,
+    last: Option<Belief>,
+) -> Result<(), Memory>
+    ensures { OnOk result (clashing.new.items
+        ≡ clashing.old.items ++ filter (may_clash (is_good_in clients.now.standings.items)) (option_to_list last)) }
 {
-    let mut served = false;
-    for fact in facts {
-        served = served_after(served, client, fact);
-    }
-    served
-}
-
-// Whether the client is served, and never strayed.
-fn is_good(facts: &[Fact], client: ClientNo) -> bool
-    ensures { result ≡ is_good client.0 (past_of facts.now) }
-{
-    match Mark::Straying(client).last(facts) {
-        Some(_) => false,
-        None => is_served(facts, client),
-    }
-}
-
-// The belief stands in place of an earlier one of its client.
-fn put_belief(beliefs: &mut Vec<Belief>, belief: Belief) -> Result<(), Memory>
-    ensures { OnOk result (beliefs.new.items ≡ put_belief belief beliefs.old.items) }
-{
-    beliefs.retain(|other| other.client != belief.client);
-    beliefs.push(belief)?;
-    Ok(())
-}
-
-// The belief of the file that the fact at this place reports.
-fn belief_told(fact: &Fact, file: FileNo, place: usize) -> Option<Belief>
-    ensures { result ≡ belief_told file.0 place fact.now }
-{
-    match fact {
-        Fact::Believes(client, other, state) if *other == file => Some(Belief {
-            client: *client,
-            place,
-            state: *state,
-        }),
-        _ => None,
-    }
-}
-
-fn note_belief(beliefs: &mut Vec<Belief>, told: Option<Belief>) -> Result<(), Memory>
-    ensures { OnOk result (beliefs.new.items ≡ with_belief told beliefs.old.items) }
-{
-    match told {
-        Some(belief) => put_belief(beliefs, belief),
-        None => Ok(()),
-    }
-}
-
-// The last beliefs of a file, one of each client that noted some.
-fn beliefs_of(alloc: Global, facts: &[Fact], file: FileNo) -> Result<Vec<Belief>, Memory>
-    ensures { IfOk result (λ beliefs. AreNoted (past_of facts.now) file.0 beliefs.items) }
-{
-    let mut beliefs = Vec::new(alloc);
-    for (index, fact) in facts.iter().enumerate() {
-        note_belief(&mut beliefs, belief_told(fact, file, index + 1))?;
-    }
-    Ok(beliefs)
-}
-
-// The file of which a fact reports a belief.
-fn file_told(fact: &Fact) -> Option<FileNo>
-    ensures { result ≡ file_told fact.now }
-{
-    match fact {
-        Fact::Believes(_, file, _) => Some(*file),
-        _ => None,
-    }
-}
-
-fn note_file(files: &mut Vec<FileNo>, told: Option<FileNo>) -> Result<(), Memory>
-    ensures { OnOk result (files.new.items ≡ with_file told files.old.items) }
-{
-    let Some(file) = told else {
+    let Some(belief) = last else {
         return Ok(());
     };
-    if !files.contains(&file) {
-        files.push(file)?;
+    if may_clash(clients, &belief) {
+        clashing.push(belief)?;
     }
     Ok(())
 }
 
-// The files of which some client noted a belief.
-fn files_of(alloc: Global, facts: &[Fact]) -> Result<Vec<FileNo>, Memory>
-    ensures { IfOk result (λ files. AreFiles (past_of facts.now) files.items) }
-{
-    let mut files = Vec::new(alloc);
-    for fact in facts {
-        note_file(&mut files, file_told(fact))?;
-    }
-    Ok(files)
-}
-
-// Whether the belief may go ill with another: its client is good, and it holds something.
-fn may_clash(facts: &[Fact], belief: &Belief) -> bool
-    ensures { result ≡ may_clash (past_of facts.now) belief.now }
-{
-    !belief.state.is_none() && is_good(facts, belief.client)
-}
-
-// The beliefs that may go ill with another.
-fn clashing(alloc: Global, facts: &[Fact], beliefs: &[Belief]) -> Result<Vec<Belief>, Memory>
-    ensures { IfOk result (λ clashing. clashing.items ≡ filter (may_clash (past_of facts.now)) beliefs.now) }
+// Of the last beliefs of a file those that may go ill with another.
+fn clashing(
+    alloc: Global,
+    clients: &Clients,
+    beliefs: &[Option<Belief>],
+) -> Result<Vec<Belief>, Memory>
+    ensures { IfOk result (λ found. found.items ≡ clashing (is_good_in clients.now.standings.items) beliefs.now) }
 {
     let mut clashing = Vec::new(alloc);
     for belief in beliefs {
-        if may_clash(facts, belief) {
-            clashing.push(*belief)?;
-        }
+        note_clash(&mut clashing, clients, *belief)?;
     }
     Ok(clashing)
 }
@@ -177,17 +88,29 @@ fn rivals_among(beliefs: &[Belief]) -> Option<Rivals>
     Some(Rivals { writer, other })
 }
 
-// Two good clients that cache this file, one of them writes.
-fn rivals_on(alloc: Global, facts: &[Fact], file: FileNo) -> Result<Option<Rivals>, Memory>
-    ensures { IfOk result (λ found. MatchOption found (HasNoRivals (past_of facts.now) file.0)
-        (λ rivals. AreRivals (past_of facts.now) file.0 rivals.writer rivals.other)) }
+// Puts beliefs into the order in which they were noted.
+fn put_in_order(beliefs: &mut Vec<Belief>)
+    ensures same { IsPermutation beliefs.old.items beliefs.new.items }
+    ensures ordered { IsNonDecreasingBy (λ belief. belief.place) beliefs.new.items }
 {
-    let beliefs = beliefs_of(alloc, facts, file)?;
-    let clashing = clashing(alloc, facts, beliefs.as_slice())?;
+    beliefs.sort_unstable_by_key(|belief| belief.place);
+}
+
+// Two good clients that cache a file, one of them writes, by the last beliefs of the file. The earliest are told.
+fn rivals_on(
+    alloc: Global,
+    clients: &Clients,
+    beliefs: &[Option<Belief>],
+) -> Result<Option<Rivals>, Memory>
+    ensures { IfOk result (λ found. (past : List model.Fact) (file : ℕ) → Describes past clients.now
+        → AreLastOf past file beliefs.now → AreRivalsIfAny past file found) }
+{
+    let mut clashing = clashing(alloc, clients, beliefs)?;
+    put_in_order(&mut clashing);
     Ok(rivals_among(clashing.as_slice()))
 }
 
-/// Two good clients that cache one file, one of them writes.
+/// Two good clients that cache one file, one of them writes: of the file that a belief was noted of first, the earliest beliefs.
 ///
 /// # Errors
 ///
@@ -196,9 +119,10 @@ pub fn two_caches(alloc: Global, facts: &[Fact]) -> Result<Option<(FileNo, Rival
     ensures { IfOk result (λ found. MatchOption found (OneWriteCache (past_of facts.now))
         (λ there. AreRivals (past_of facts.now) there.0.0 there.1.writer there.1.other)) }
 {
-    let files = files_of(alloc, facts)?;
-    for file in files.as_slice() {
-        if let Some(rivals) = rivals_on(alloc, facts, *file)? {
+    let clients = Clients::of(alloc, facts)?;
+    let beliefs = LastBeliefs::of(alloc, facts)?;
+    for file in beliefs.files.as_slice() {
+        if let Some(rivals) = rivals_on(alloc, &clients, beliefs.of_file(*file))? {
             return Ok(Some((*file, rivals)));
         }
     }

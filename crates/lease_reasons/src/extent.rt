@@ -1,12 +1,10 @@
-ghost use Rattle.std.specs.Prelude.{◌≡◌, map, not, OnOk, IfOk};
+ghost use Rattle.std.specs.Prelude.{◌≡◌, not, IfOk};
 ghost use Rattle.std.specs.List.{filter};
-ghost use Rattle.lease_model.specs.records.Past.{has_joined, has_strayed};
 ghost use Rattle.lease_world.specs.Verdicts.{verdict_of};
-ghost use Rattle.lease_reasons.specs.Extent.{with_client, clients_named, judged_count, IsExtent, numbers};
-ghost use Rattle.lease_reasons.specs.Places.{past_of};
-ghost use Rattle.lease_facts.specs.Facts.{client_number};
+ghost use Rattle.lease_reasons.specs.Clients.{standing_in};
+ghost use Rattle.lease_reasons.specs.Extent.{judged_count, IsExtent};
 
-use crate::marks::Mark;
+use crate::clients::Clients;
 use lease_facts::Fact;
 use lease_state::{ClientNo, Memory};
 use lease_world::Verdict;
@@ -26,59 +24,26 @@ pub struct Extent {
     pub strayed: Vec<ClientNo>,
 }
 
-fn note_client(clients: &mut Vec<ClientNo>, told: Option<ClientNo>) -> Result<(), Memory>
-    ensures { OnOk result (numbers clients.new.items ≡ with_client (numbers clients.old.items) (client_number told)) }
-{
-    let Some(client) = told else {
-        return Ok(());
-    };
-    if !clients.contains(&client) {
-        clients.push(client)?;
-    }
-    Ok(())
-}
-
-// The clients that facts are about.
-fn clients_named(alloc: Global, facts: &[Fact]) -> Result<Vec<ClientNo>, Memory>
-    ensures { IfOk result (λ clients. numbers clients.items ≡ clients_named (past_of facts.now)) }
-{
-    let mut clients = Vec::new(alloc);
-    for fact in facts {
-        note_client(&mut clients, fact.client())?;
-    }
-    Ok(clients)
-}
-
-fn has_joined(facts: &[Fact], client: ClientNo) -> bool
-    ensures { result ≡ has_joined client.0 (past_of facts.now) }
-{
-    Mark::Joining(client).last(facts).is_some()
-}
-
-fn has_strayed(facts: &[Fact], client: ClientNo) -> bool
-    ensures { result ≡ has_strayed client.0 (past_of facts.now) }
-{
-    Mark::Straying(client).last(facts).is_some()
-}
-
-fn unjoined(alloc: Global, facts: &[Fact], clients: &[ClientNo]) -> Result<Vec<ClientNo>, Memory>
-    ensures { IfOk result (λ some. some.items ≡ filter (λ client. not (has_joined client.0 (past_of facts.now))) clients.now) }
+fn unjoined(alloc: Global, clients: &Clients) -> Result<Vec<ClientNo>, Memory>
+    ensures { IfOk result (λ some. some.items
+        ≡ filter (λ client. not (standing_in clients.now.standings.items client.0).joined) clients.now.named.items) }
 {
     let mut some = Vec::new(alloc);
-    for client in clients {
-        if !has_joined(facts, *client) {
+    for client in &clients.named {
+        if !clients.standing(*client).joined {
             some.push(*client)?;
         }
     }
     Ok(some)
 }
 
-fn strayed(alloc: Global, facts: &[Fact], clients: &[ClientNo]) -> Result<Vec<ClientNo>, Memory>
-    ensures { IfOk result (λ some. some.items ≡ filter (λ client. has_strayed client.0 (past_of facts.now)) clients.now) }
+fn strayed(alloc: Global, clients: &Clients) -> Result<Vec<ClientNo>, Memory>
+    ensures { IfOk result (λ some. some.items
+        ≡ filter (λ client. (standing_in clients.now.standings.items client.0).strayed) clients.now.named.items) }
 {
     let mut some = Vec::new(alloc);
-    for client in clients {
-        if has_strayed(facts, *client) {
+    for client in &clients.named {
+        if clients.standing(*client).strayed {
             some.push(*client)?;
         }
     }
@@ -104,13 +69,12 @@ pub fn extent_of(alloc: Global, facts: &[Fact], verdict: &Verdict) -> Result<Ext
     ensures { IfOk result (IsExtent facts.now verdict.now) }
 {
     let count = judged_count(facts.len(), verdict);
-    let seen = &facts[..count];
-    let clients = clients_named(alloc, seen)?;
-    let unjoined = unjoined(alloc, seen, clients.as_slice())?;
-    let strayed = strayed(alloc, seen, clients.as_slice())?;
+    let clients = Clients::of(alloc, &facts[..count])?;
+    let unjoined = unjoined(alloc, &clients)?;
+    let strayed = strayed(alloc, &clients)?;
     Ok(Extent {
         facts: count,
-        clients,
+        clients: clients.named,
         unjoined,
         strayed,
     })

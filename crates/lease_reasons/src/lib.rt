@@ -2,8 +2,10 @@
 #![tactic(auto)]
 
 mod beliefs;
+mod clients;
 mod explaining;
 mod extent;
+mod last_beliefs;
 mod malformed;
 mod marks;
 mod messages;

@@ -15,8 +15,6 @@ pub enum Mark {
     Change(FileNo),
     /// The client joins.
     Joining(ClientNo),
-    /// The client strays.
-    Straying(ClientNo),
     /// The client takes a message.
     Taking(ClientNo),
     /// The client is given a write of this number.
@@ -39,7 +37,6 @@ impl Mark {
             (Mark::Start(file), Fact::Start(other, _)) => *other == file,
             (Mark::Change(file), Fact::Changed(other, _, _, _)) => *other == file,
             (Mark::Joining(client), Fact::Joined(other)) => *other == client,
-            (Mark::Straying(client), Fact::Strayed(other)) => *other == client,
             (Mark::Taking(client), Fact::Took(other)) => *other == client,
             (Mark::Write(client, number), Fact::Wrote(writer, _, used, _, _)) => {
                 *writer == client && *used == number
