@@ -38,7 +38,7 @@ pub use parts::{Part, part_table, push_event, read_part};
 pub use quoting::{push_all_escaped, push_quoted};
 pub use records::{fact_table, push_fact, read_fact};
 pub use replies::{Arrival, read_arrival, reply_table};
-pub use requests::{read_request, request_table};
+pub use requests::{push_request, read_request, request_table};
 pub use said::{Said, push_line};
 pub use schedule::{Schedule, push_setup, read_schedule};
 pub use status::{GivenStatus, push_given, status_word};

@@ -79,8 +79,8 @@ pub fn read_request(alloc: Global, fields: &mut Fields) -> Result<Request, LineF
     read_named(alloc, word, fields)
 }
 
-// Adds a request, with a space before each of its words.
-pub(crate) fn push_request(text: &mut String, asked: &Request) -> Result<(), AllocError>
+/// Adds a request as its line has it after the client, with a space before each of its words.
+pub fn push_request(text: &mut String, asked: &Request) -> Result<(), AllocError>
     ensures { OnOk result (string_bytes text.new ≡ string_bytes text.old ++ plain_text (request_said asked.now)) }
 {
     match asked {

@@ -8,6 +8,7 @@ pub mod Happening
 pub mod Kept
 pub mod Keys
 pub mod Obstacles
+pub mod Passages
 pub mod Replies
 pub mod Scavenged
 pub mod Seats

@@ -18,6 +18,7 @@
 mod copies;
 mod judging;
 mod obstacle;
+mod passage;
 mod running;
 mod setup;
 mod verdict;
@@ -27,6 +28,7 @@ mod world;
 pub use judging::Judge;
 pub use lease_facts::{Event, Fact, Setup};
 pub use obstacle::{Idle, Obstacle};
+pub use passage::Passage;
 pub use running::{
     Told, obstacles_are_exact, run, run_explained_under, run_under, run_with_messages,
     run_with_messages_under,

@@ -9,10 +9,12 @@ ghost use Rattle.lease_facts.specs.Facts.{fact_of};
 ghost use Rattle.lease_facts.specs.Setups.{setup_of, event_of};
 ghost use Rattle.lease_world.specs.world.Messages.{messages_told, messages_told_under, speaking};
 ghost use Rattle.lease_world.specs.world.Obstacles.{idle_meant, idle_noted, idle_told_under, ObstaclesAreExact, RefusalsAreNamed};
+ghost use Rattle.lease_world.specs.world.Passages.{passage_meant, passages_told_under};
 ghost use Rattle.lease_world.specs.world.Stands.{Stands};
 ghost use Rattle.lease_world.specs.world.Worlds.{KeepsBehind};
 
 use crate::obstacle::{Idle, Obstacle};
+use crate::passage::Passage;
 use crate::setup::{RunFault, is_allowed};
 use crate::world::World;
 use crate::world::messages::Messages;
@@ -31,6 +33,8 @@ pub struct Told {
     pub messages: Vec<Reply>,
     /// The events that did nothing, in order.
     pub idle: Vec<Idle>,
+    /// What became of the requests that clients sent, in order.
+    pub passages: Vec<Passage>,
 }
 
 // The most events of a run.
@@ -161,8 +165,9 @@ pub fn run_with_messages_under(
     }
 }
 
-/// The record of a run and its messages, as `run_with_messages_under` gives them, and the events that did nothing, each with
-/// what stood in its way. These are the events that leave the world as it was; commands that are refused are among them.
+/// The record of a run and its messages, as `run_with_messages_under` gives them, the events that did nothing, each with
+/// what stood in its way, and what became of requests. The events that did nothing are those that leave the world as it was;
+/// commands that are refused are among them.
 ///
 /// # Errors
 ///
@@ -184,6 +189,8 @@ pub fn run_explained_under(
     ensures each { IfOk result (λ told. speaking (map fact_of told.facts.items) ≡ length told.messages.items) }
     ensures idle { IfOk result (λ told. map idle_meant told.idle.items
         ≡ idle_told_under rules (setup_of setup.now) (map event_of events.now)) }
+    ensures passages { IfOk result (λ told. map passage_meant told.passages.items
+        ≡ passages_told_under rules (setup_of setup.now) (map event_of events.now)) }
     ensures safe { IfOk result (λ told. Safe (map fact_of told.facts.items)) }
 {
     coherent();
@@ -193,14 +200,15 @@ pub fn run_explained_under(
     if are_too_many(events) {
         return Err(RunFault::TooMany);
     }
-    let mut idle = Vec::new(alloc);
-    match play_explained(alloc, rules, setup, events, &mut idle) {
+    let (mut idle, mut passages) = (Vec::new(alloc), Vec::new(alloc));
+    match play_explained(alloc, rules, setup, events, &mut idle, &mut passages) {
         Ok(world) => {
             let (facts, messages) = world.into_parts();
             Ok(Told {
                 facts,
                 messages: messages.into_list(alloc),
                 idle,
+                passages,
             })
         }
         Err(Memory) => Err(RunFault::Memory),
@@ -229,7 +237,8 @@ fn play(
     messages: Messages,
 ) -> Result<World, Memory>
     requires { length setup.now.files.items ≤ 255 }
-    ensures stands { IfOk result (λ world. Stands world (after (first_world_under rules (setup_of setup.now)) (map event_of events.now))) }
+    ensures stands { IfOk result
+        (λ world. Stands world (after (first_world_under rules (setup_of setup.now)) (map event_of events.now))) }
     ensures kept { IfOk result
         (λ world. KeepsBehind messages (messages_told_under rules (setup_of setup.now) (map event_of events.now)) world) }
 {
@@ -240,27 +249,34 @@ fn play(
     Ok(world)
 }
 
-// The same, which keeps messages, and adds the events that did nothing to a list that is empty.
+// The same, which keeps messages, and adds the events that did nothing and what became of requests to lists that are empty.
 fn play_explained(
     alloc: Global,
     rules: Rules,
     setup: &Setup,
     events: &[Event],
     idle: &mut Vec<Idle>,
+    passages: &mut Vec<Passage>,
 ) -> Result<World, Memory>
     requires few { length setup.now.files.items ≤ 255 }
     requires none { idle.old.items ≡ [] }
-    ensures stands { IfOk result (λ world. Stands world (after (first_world_under rules (setup_of setup.now)) (map event_of events.now))) }
+    requires none_sent { passages.old.items ≡ [] }
+    ensures stands { IfOk result
+        (λ world. Stands world (after (first_world_under rules (setup_of setup.now)) (map event_of events.now))) }
     ensures kept { IfOk result
         (λ world. KeepsBehind (Some []) (messages_told_under rules (setup_of setup.now) (map event_of events.now)) world) }
     ensures idle { OnOk result (map idle_meant idle.new.items
         ≡ idle_told_under rules (setup_of setup.now) (map event_of events.now)) }
+    ensures passages { OnOk result (map passage_meant passages.new.items
+        ≡ passages_told_under rules (setup_of setup.now) (map event_of events.now)) }
 {
     let mut world = World::new(alloc, rules, setup, Messages::new(alloc))?;
     for (place, event) in events.iter().enumerate() {
         let facts = world.count();
+        let waiting = world.waiting(event.client());
         let obstacle = world.happen_explained(event)?;
         note_idle(idle, place, facts, obstacle)?;
+        world.note_passages(passages, event, facts, waiting)?;
     }
     Ok(world)
 }

@@ -1,11 +1,12 @@
-ghost use Rattle.std.specs.Prelude.{◌≡◌, ◌<◌, ◌≤◌, ◌+◌, ◌^◌, ◌&&◌, ◌==◌, [], ◌∷◌, IfOk, OnOk, length, is_some, nat_le, true};
-ghost use Rattle.std.specs.Prelude.{false};
+ghost use Rattle.std.specs.Prelude.{◌≡◌, ◌<◌, ◌≤◌, ◌+◌, ◌++◌, ◌^◌, ◌&&◌, ◌==◌, [], ◌∷◌, IfOk, OnOk, length, is_some};
+ghost use Rattle.std.specs.Prelude.{drop, false, if◌then◌else◌, nat_le, true};
 ghost use Rattle.lease_laws.specs.messages.Written.{CallHasFileId};
 ghost use Rattle.lease_model.specs.client.Calls.{ClientCall};
 ghost use Rattle.lease_model.specs.messages.FromBytes.{request_of, reply_of};
 ghost use Rattle.lease_model.specs.world.Events as model;
 ghost use Rattle.lease_model.specs.world.Events.{client_of};
 ghost use Rattle.lease_world.specs.world.Obstacles.{against_command, is_command, obstacle_meant, Meets, MeetsThere};
+ghost use Rattle.lease_world.specs.world.Passages.{gone_noted, passages_noted, sent_noted};
 ghost use Rattle.lease_world.specs.world.Stands.{link_of, Stands};
 ghost use Rattle.lease_world.specs.world.Worlds.{Happens, Tells, Delivers, Links, CutsLink, Sends, Applies};
 ghost use Rattle.lease_world.specs.world.Seats.{IsPresent, HasKept, is_link, seat_in};
@@ -21,6 +22,7 @@ ghost use Rattle.lease_model.specs.world.World.{first_world_under};
 
 use crate::copies::{copy_command, copy_request};
 use crate::obstacle::Obstacle;
+use crate::passage::Passage;
 use crate::world::delivering::{deliver, tell_notes};
 use crate::world::link::Link;
 use crate::world::messages::Messages;
@@ -164,6 +166,56 @@ impl World {
         ensures { result ≡ length self.now.facts }
     {
         self.facts.len()
+    }
+
+    /// How many requests of a client are on their way; none of one that there isn't.
+    pub fn waiting(&self, client: ClientNo) -> usize
+        ensures { result ≡ length (seat_in self.now.seats client.0).requests }
+    {
+        if !self.has(client) {
+            return 0;
+        }
+        let seat = &self.seats[place_of(client)];
+        seat.count_requests()
+    }
+
+    /// Adds what became of requests by an event that happened, before which the record had so many facts, and so many requests
+    /// of the event's client were on their way.
+    ///
+    /// # Errors
+    ///
+    /// `Memory` where there is none left for them.
+    pub fn note_passages(
+        &self,
+        passages: &mut Vec<Passage>,
+        event: &Event,
+        facts: usize,
+        waiting: usize,
+    ) -> Result<(), Memory>
+        ensures { OnOk result (passages.new.items ≡ passages.old.items ++ passages_noted event.now facts waiting self.now) }
+    {
+        let client = event.client();
+        if !self.has(client) {
+            return Ok(());
+        }
+        let left = self.waiting(client);
+        push_gone(passages, event, facts, left < waiting)?;
+        self.push_sent(passages, client, waiting)
+    }
+
+    // Adds the requests of a client that are on their way, but for so many of the oldest.
+    fn push_sent(
+        &self,
+        passages: &mut Vec<Passage>,
+        client: ClientNo,
+        waiting: usize,
+    ) -> Result<(), Memory>
+        requires { IsPresent client.0 self.now.seats }
+        ensures { OnOk result (passages.new.items ≡ passages.old.items
+            ++ sent_noted client (length self.now.facts) (drop waiting (seat_in self.now.seats client.0).requests)) }
+    {
+        let seat = &self.seats[place_of(client)];
+        seat.push_sent(passages, client, waiting, self.facts.len())
     }
 
     // Whether there is a client of this number.
@@ -494,6 +546,22 @@ fn against(client: ClientNo, command: &Command, given: &Given) -> Option<Obstacl
     ensures { option_map obstacle_meant result ≡ against_command client.0 (command_of command.now) given.now.answer }
 {
     Obstacle::of_command(client, command, &given.answer)
+}
+
+// Adds what became of requests by an event, where some are gone.
+fn push_gone(
+    passages: &mut Vec<Passage>,
+    event: &Event,
+    facts: usize,
+    are_gone: bool,
+) -> Result<(), Memory>
+    ensures { OnOk result (passages.new.items
+        ≡ passages.old.items ++ (if are_gone then gone_noted event.now facts ∷ [] else [])) }
+{
+    if are_gone {
+        passages.push(Passage::gone(event, facts))?;
+    }
+    Ok(())
 }
 
 // Where the seat of a client is.

@@ -1,4 +1,5 @@
 mod idle;
+mod passages;
 mod reads;
 mod runs;
 mod verdicts;

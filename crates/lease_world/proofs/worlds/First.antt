@@ -229,6 +229,13 @@ pub no_event : (old : CodeWorld) (first : World) (kept : Option (List code_reply
 unfolding after messages_from
 no_event old first kept events s e = (s, behind_none old kept e)
 
+pub next_event : (events : List code_event.Event) (n : ℕ) (d : code_event.Event) → n < length events
+    → take (n + 1) (map event_of events) ≡ take n (map event_of events) ++ event_of (get_or events n d) ∷ []
+next_event events n d lt =
+    take_map event_of events (n + 1) ∙ ap (map event_of) (take_next events n d lt)
+    ∙ map-append event_of (take n events) (get_or events n d ∷ [])
+    ∙ ap (λ es. es ++ event_of (get_or events n d) ∷ []) (sym (take_map event_of events n))
+
 pub one_more_event : (old new : CodeWorld) (first : World) (kept : Option (List code_reply.Reply)) (events : List code_event.Event)
     → (n : ℕ) (d : code_event.Event) → n < length events → Stands old (after first (take n (map event_of events)))
     × KeepsBehind kept (messages_from first (take n (map event_of events))) old → Happens (event_of (get_or events n d)) old new
@@ -237,10 +244,7 @@ pub one_more_event : (old new : CodeWorld) (first : World) (kept : Option (List 
 one_more_event old new first kept events n d lt held happens =
     let event : Event = event_of (get_or events n d) in
     let before : List Event = take n (map event_of events) in
-    let next : take (n + 1) (map event_of events) ≡ before ++ event ∷ [] =
-    take_map event_of events (n + 1) ∙ ap (map event_of) (take_next events n d lt)
-    ∙ map-append event_of (take n events) (get_or events n d ∷ [])
-    ∙ ap (λ es. es ++ event ∷ []) (sym (take_map event_of events n)) in
+    let next : take (n + 1) (map event_of events) ≡ before ++ event ∷ [] = next_event events n d lt in
     let one = happens (after first before) held.0 in
     subst (λ (es : List Event). Stands new (after first es) × KeepsBehind kept (messages_from first es) new) (sym next) (
       subst (λ (w : World). Stands new w) (sym (after_one_more first before event)) one.0,

@@ -22,7 +22,7 @@ use Rattle.lease_client.specs.Known.{client_of as client_of_known}
 use Rattle.lease_client.specs.declared.values.command.Command as code_command
 use Rattle.lease_laws.proofs.Words.{Answer, Command, commanded}
 use Rattle.lease_world.proofs.Places.{value_there}
-use Rattle.lease_world.proofs.worlds.First.{take_all, take_map, take_next}
+use Rattle.lease_world.proofs.worlds.First.{next_event, take_all}
 use Rattle.share_server.specs.Table.{server_of}
 
 -- ---- by the link and the queues of a client
@@ -121,7 +121,7 @@ noted_meant : (event facts : ℕ) (found : Option code.Obstacle)
 noted_meant event facts None = refl
 noted_meant event facts (Some found) = refl
 
-facts_counted : (old : CodeWorld) (world : World) → Stands old world → length old.facts ≡ length world.past
+pub facts_counted : (old : CodeWorld) (world : World) → Stands old world → length old.facts ≡ length world.past
 facts_counted old world s = sym (length-map old.facts fact_of) ∙ (ap length s.facts ∙ length-reverse world.past)
 
 length_taken : {X : Type 0} (xs : List X) (n : ℕ) → n < length xs → length (take n xs) ≡ n
@@ -138,10 +138,7 @@ pub one_more_idle : (old : CodeWorld) (first : World) (events : List code_event.
 one_more_idle old first events n d facts found idle new lt stands count meets is so_far =
     let event : Event = event_of (get_or events n d) in
     let before : List Event = take n (map event_of events) in
-    let next : take (n + 1) (map event_of events) ≡ before ++ event ∷ [] =
-    take_map event_of events (n + 1) ∙ ap (map event_of) (take_next events n d lt)
-    ∙ map-append event_of (take n events) (get_or events n d ∷ [])
-    ∙ ap (λ es. es ++ event ∷ []) (sym (take_map event_of events n)) in
+    let next : take (n + 1) (map event_of events) ≡ before ++ event ∷ [] = next_event events n d lt in
     let last : World = after first before in
     let taken : length before ≡ n = length_taken (map event_of events) n (omega (arith, lt, length-map events event_of)) in
     let counted : n ≡ 0 + length before = omega (arith, taken) in

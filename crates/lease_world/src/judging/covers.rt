@@ -22,7 +22,7 @@ pub struct Layer {
 #[derive(Clone, Copy, Debug)]
 struct Cover {
     layer: Layer,
-    below: u32,
+    below: usize,
 }
 
 /// For each position of a file, as far as writes cover it, the bytes of these writes there, the last on top.
@@ -31,7 +31,7 @@ struct Cover {
 pub struct Covers {
     covers: Vec<Cover>,
     /// By positions, the topmost covers.
-    tops: Vec<u32>,
+    tops: Vec<usize>,
 }
 
 impl Model for Covers {
@@ -71,11 +71,8 @@ impl Covers {
         reach(&mut self.tops, position)?;
         let below = self.tops[position];
         let count = self.covers.len();
-        if count >= u32::MAX as usize {
-            return Err(Memory);
-        }
         self.covers.push(Cover { layer, below })?;
-        self.tops[position] = count as u32 + 1;
+        self.tops[position] = count + 1;
         Ok(())
     }
 
@@ -83,7 +80,7 @@ impl Covers {
     ///
     /// # Errors
     ///
-    /// `Memory` where there is none left, or there are more bytes of writes than numbers of 32 bits.
+    /// `Memory` where there is none left.
     pub fn lay(&mut self, number: u64, patch: &Patch) -> Result<(), Memory>
         ensures { OnOk result ((position : ℕ) → stack_in self.new position
             ≡ layer_of position (record { number = number; patch = patch.now }) ++ stack_in self.old position) }
@@ -121,7 +118,7 @@ impl Covers {
         if top == 0 {
             byte_or_zero(base, position)
         } else {
-            self.covers[top as usize - 1].layer.byte
+            self.covers[top - 1].layer.byte
         }
     }
 
@@ -165,7 +162,7 @@ fn byte_or_zero(bytes: &[u8], position: usize) -> u8
 
 // The positions up to this one have a place.
 #[tactic(auto, using(crate::proofs::Linked::stack_more, crate::proofs::Linked::tops_more))]
-fn reach(tops: &mut Vec<u32>, position: usize) -> Result<(), Memory>
+fn reach(tops: &mut Vec<usize>, position: usize) -> Result<(), Memory>
     ensures there { OnOk result (position < vec_len tops.new) }
     ensures stacks { (covers : List Cover) (n : ℕ) → stack_in (map (layers_under covers) tops.new.items) n
         ≡ stack_in (map (layers_under covers) tops.old.items) n }
@@ -178,7 +175,7 @@ fn reach(tops: &mut Vec<u32>, position: usize) -> Result<(), Memory>
 }
 
 // The topmost cover of those from this one down whose write isn't settled, or 0.
-fn uncovered(covers: &[Cover], top: u32, settled: &Numbers) -> u32
+fn uncovered(covers: &[Cover], top: usize, settled: &Numbers) -> usize
     requires linked { AreLinked covers.now }
     requires inside { top ≤ length covers.now }
     ensures inside { result ≤ length covers.now }
@@ -186,7 +183,7 @@ fn uncovered(covers: &[Cover], top: u32, settled: &Numbers) -> u32
 {
     let mut top = top;
     while top > 0 {
-        let cover = &covers[top as usize - 1];
+        let cover = &covers[top - 1];
         if !settled.contains(cover.layer.number) {
             return top;
         }
@@ -196,7 +193,7 @@ fn uncovered(covers: &[Cover], top: u32, settled: &Numbers) -> u32
 }
 
 // At each position the settled writes that lie on top are taken off.
-fn uncover_each(covers: &[Cover], tops: &mut Vec<u32>, settled: &Numbers)
+fn uncover_each(covers: &[Cover], tops: &mut Vec<usize>, settled: &Numbers)
     requires linked { AreLinked covers.now }
     requires tops { AreTops covers.now tops.old.items }
     ensures tops { AreTops covers.now tops.new.items }
@@ -209,7 +206,7 @@ fn uncover_each(covers: &[Cover], tops: &mut Vec<u32>, settled: &Numbers)
 }
 
 // How far positions are covered.
-fn covered(tops: &[u32]) -> usize
+fn covered(tops: &[usize]) -> usize
     ensures within { result ≤ length tops.now }
     ensures rest { (n : ℕ) → result ≤ n → get_or tops.now n 0 ≡ 0 }
     ensures last { (result ≡ 0) ⊎ (get_or tops.now (result - 1) 0 ≢ 0) }

@@ -1,4 +1,5 @@
-ghost use Rattle.std.specs.Prelude.{◌≡◌, ◌++◌, [], ◌∷◌, ◌==◌, OnOk, MatchOption, length};
+ghost use Rattle.std.specs.Prelude.{◌≡◌, ◌++◌, [], ◌∷◌, ◌==◌, OnOk, MatchOption, length, drop};
+ghost use Rattle.lease_world.specs.world.Passages.{sent_noted};
 ghost use Rattle.lease_model.specs.client.Calls.{ClientCall};
 ghost use Rattle.lease_model.specs.messages.FromBytes.{reply_of};
 ghost use Rattle.lease_client.specs.Answers.{command_of};
@@ -6,9 +7,11 @@ ghost use Rattle.lease_client.specs.Known.{client_of};
 ghost use Rattle.lease_model.specs.client.Commanded.{commanded};
 ghost use Rattle.lease_world.specs.world.Seats.{is_link, queued, with_replies, with_requests, PopsRequest, PopsReply, StepsSeat};
 
+use crate::copies::copy_request;
+use crate::passage::Passage;
 use crate::world::link::Link;
 use lease_client::{Client, Command, Given};
-use lease_state::{Memory, Reply, Request};
+use lease_state::{ClientNo, Memory, Reply, Request};
 use std::alloc::Global;
 use std::collections::VecDeque;
 use std::marker::Model;
@@ -152,6 +155,38 @@ impl Seat {
         ensures { result ≡ self.now.link }
     {
         self.link
+    }
+
+    /// How many requests of the client are on their way.
+    pub fn count_requests(&self) -> usize
+        ensures { result ≡ length self.now.requests }
+    {
+        self.requests.len()
+    }
+
+    /// Adds the requests on their way but for so many of the oldest, each as sent after so many facts.
+    ///
+    /// # Errors
+    ///
+    /// `Memory` where there is none left for them.
+    pub fn push_sent(
+        &self,
+        passages: &mut Vec<Passage>,
+        client: ClientNo,
+        waiting: usize,
+        facts: usize,
+    ) -> Result<(), Memory>
+        ensures { OnOk result (passages.new.items
+            ≡ passages.old.items ++ sent_noted client facts (drop waiting self.now.requests)) }
+    {
+        for place in waiting..self.count_requests() {
+            passages.push(Passage::Sent {
+                client,
+                request: copy_request(&self.requests[place])?,
+                facts,
+            })?;
+        }
+        Ok(())
     }
 
     /// Whether no request of the client is on its way.

@@ -3,16 +3,20 @@ use Rattle.lease_facts.specs.Setups.{setup_of, event_of}
 use Rattle.lease_world.specs.declared.obstacle.Idle.{Idle}
 use Rattle.lease_world.specs.world.Messages.{messages_from}
 use Rattle.lease_world.specs.world.Obstacles.{idle_from, idle_meant}
+use Rattle.lease_world.specs.declared.passage.Passage.{Passage}
+use Rattle.lease_world.specs.world.Passages.{passage_meant, passages_from}
 use Rattle.lease_world.specs.world.Stands.{CodeWorld, Stands}
 use Rattle.lease_world.specs.world.Worlds.{KeepsBehind}
 use Rattle.lease_model.specs.world.Events as model
 use Rattle.lease_world.proofs.running.play_explained.Given as goal
 
 -- after these events, from this world on
-abbrev pub So : World → List model.Event → CodeWorld → List Idle → Type 0
-So first events world idle = (Stands world (after first events) × KeepsBehind (Some []) (messages_from first events) world)
-    × (map idle_meant idle ≡ idle_from 0 first events)
+abbrev pub So : World → List model.Event → CodeWorld → List Idle → List Passage → Type 0
+So first events world idle passages =
+    (Stands world (after first events) × KeepsBehind (Some []) (messages_from first events) world)
+    × (map idle_meant idle ≡ idle_from 0 first events) × (map passage_meant passages ≡ passages_from first events)
 
 abbrev pub invariant-loop-place : goal.invariant-loop-place
 invariant-loop-place l =
     So (first_world_under l.fn.rules (setup_of l.setup)) (take l.place (map event_of l.events)) l.world l.idle.items
+    l.passages.items

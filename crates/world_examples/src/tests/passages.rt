@@ -1,0 +1,37 @@
+//! What becomes of the requests of a run.
+
+use crate::tests::runs::{open, setup};
+use lease_state::{ClientNo, Rules};
+use lease_world::{Event, Passage, run_explained_under};
+use std::test::Fail;
+
+const ONE: ClientNo = ClientNo(1);
+
+#[test]
+fn requests_are_taken(rt: HostRuntime) -> Result<(), Fail> {
+    let alloc = rt.alloc();
+    let events = [Event::Connect(ONE), open(1, 7), Event::ServerTakes(ONE)];
+    let told = run_explained_under(alloc, Rules::profile(), &setup(alloc, 1, 1)?, &events)?;
+    // Facts: the start and joined, then what the server does.
+    assert_eq!(rt; told.passages.len(), 2);
+    let taken = Passage::Taken {
+        client: ONE,
+        facts: 2,
+    };
+    assert!(rt; told.passages.get(1) == Some(&taken));
+    Ok(())
+}
+
+#[test]
+fn requests_are_lost(rt: HostRuntime) -> Result<(), Fail> {
+    let alloc = rt.alloc();
+    let events = [Event::Connect(ONE), open(1, 7), Event::Cut(ONE)];
+    let told = run_explained_under(alloc, Rules::profile(), &setup(alloc, 1, 1)?, &events)?;
+    assert_eq!(rt; told.passages.len(), 2);
+    let lost = Passage::Lost {
+        client: ONE,
+        facts: 2,
+    };
+    assert!(rt; told.passages.get(1) == Some(&lost));
+    Ok(())
+}
