@@ -1,5 +1,7 @@
 -- The lines of events that did nothing: where none is left, and one after the other.
-use Rattle.lease_laws.proofs.Words.{◌++◌, ◌+◌, ◌==◌, ◌≡◌, ◌<◌, ◌-◌, ◌≤◌, Err, IfOk, List, Ok, Result, drop, false, get_or, if◌then◌else◌, nat_le, subst, take, ℕ, [], ap, append-nil, append_assoc, arith, length, sym, true, ◌∙◌, ◌∷◌}
+use Rattle.lease_laws.proofs.Words.{◌++◌, ◌+◌, ◌==◌, ◌≡◌, ◌<◌, ◌-◌, ◌≤◌, ◌∙◌, ◌∷◌, Err, IfOk, List, Ok, Result, ℕ, [], ap}
+use Rattle.lease_laws.proofs.Words.{append-nil, append_assoc, arith, drop, false, get_or, if◌then◌else◌, length, nat_le, subst}
+use Rattle.lease_laws.proofs.Words.{sym, take, true}
 use Rattle.std.proofs.lemmas.Bool.Decides.{nat_tests}
 use Rattle.std.specs.Prelude.{OnOk}
 use Rattle.std.specs.Result.{is_ok}

@@ -1,65 +1,56 @@
 -- Records that are written as they are made.
-use Rattle.lease_laws.proofs.Words.{◌++◌, ◌∙◌, ◌∷◌, ◌≡◌, Appends, Bool, Err, List, None, Ok, Option, Result, Some, ℕ, [], ap}
-use Rattle.lease_laws.proofs.Words.{append-nil, append_assoc, arith, false, inl, inr, refl, string_bytes, sym, true}
+use Rattle.lease_laws.proofs.Words.{◌++◌, ◌∙◌, ◌∷◌, ◌≡◌, Appends, Err, List, Ok, Option, Result, ℕ, [], ap}
+use Rattle.lease_laws.proofs.Words.{append-nil, append_assoc, arith, inl, inr, refl, string_bytes, sym, true}
 use Rattle.std.specs.Prelude.{IfErr}
-use Rattle.std.specs.Io.KnownBytes.{Keeps}
 use Rattle.lease_facts.specs.declared.fact.Fact.{Fact}
 use Rattle.lease_state.specs.declared.reply.Reply.{Reply}
 use Rattle.lease_texts.specs.Records.{fact_line, record_text}
 use Rattle.leasecheck.proofs.Puts.{appends_more}
 use Rattle.leasecheck.specs.Messages.{message_before, messages_behind, record_with_messages}
-use Rattle.leasecheck.specs.Recording.{HasGathered, IsUnwritten, not_made}
-use Rattle.leasecheck.specs.Refusals.{Begins}
+use Rattle.leasecheck.specs.Recording.{HasGathered, IsUnwritten}
+use Rattle.leasecheck.specs.Refusals.{Begins, MayStop}
 use Rattle.leasecheck.specs.declared.failure.Failure.{Failure}
 use Rattle.leasecheck.specs.declared.failure.Failure.TheVariants as failure
 use Rattle.leasecheck.specs.declared.recording.Gathered.{Gathered}
 
 -- ---- what is written
 
-keeps_if_nothing : (old new : Option (List ℕ)) (part : List ℕ) → Appends old new part → part ≡ [] → Keeps old new
-keeps_if_nothing None new part had none = tt
-keeps_if_nothing (Some xs) None part had none = absurd had
-keeps_if_nothing (Some xs) (Some ys) part had none = had ∙ (ap (λ t. xs ++ t) none ∙ append-nil xs)
-
 -- ---- what has gathered
 
 pub gathered_more : (first current : Option (List ℕ)) (old new : Gathered) (told more : List ℕ)
     → HasGathered first current old told
-    → string_bytes new.text ≡ string_bytes old.text ++ more → new.begun ≡ old.begun → HasGathered first current new (told ++ more)
-gathered_more first current old new told more has text begun = record {
+    → string_bytes new.text ≡ string_bytes old.text ++ more → HasGathered first current new (told ++ more)
+gathered_more first current old new told more has text = record {
   part = has.part;
   written = has.written;
   gathers = ap (λ t. t ++ more) has.gathers
       ∙ (append_assoc has.part (string_bytes old.text) more ∙ ap (λ t. has.part ++ t) (sym text));
-  begins = λ no. has.begins (sym begun ∙ no);
 }
 
 pub wrote_block : (first old new : Option (List ℕ)) (before after : Gathered) (told : List ℕ) → HasGathered first old before told
-    → Appends old new (string_bytes before.text) → string_bytes after.text ≡ [] → after.begun ≡ true
-    → HasGathered first new after told
-wrote_block first old new before after told has wrote none begun = record {
+    → Appends old new (string_bytes before.text) → string_bytes after.text ≡ [] → HasGathered first new after told
+wrote_block first old new before after told has wrote none = record {
   part = has.part ++ string_bytes before.text;
   written = appends_more first old new has.part (string_bytes before.text) has.written wrote;
   gathers = has.gathers ∙ (sym (append-nil (has.part ++ string_bytes before.text))
       ∙ ap (λ t. (has.part ++ string_bytes before.text) ++ t) (sym none));
-  begins = λ no. absurd (let both : true ≡ false = sym begun ∙ no in cc);
 }
 
 -- ---- what is not written
 
-not_made_by : (begun : Bool) (why : Failure) (first current : Option (List ℕ)) (part rest whole : List ℕ) → why ≡ not_made begun
-    → whole ≡ part ++ rest → Appends first current part → (begun ≡ false → part ≡ []) → IsUnwritten why first current whole
-not_made_by true why first current part rest whole is cut had begins = inl (is, (part, rest, cut, had))
-not_made_by false why first current part rest whole is cut had begins =
-    inr (is, keeps_if_nothing first current part had (begins refl))
-
 -- there was no memory for what follows
 pub unmade : (first current : Option (List ℕ)) (gathered : Gathered) (told rest whole : List ℕ) (why : Failure)
-    → HasGathered first current gathered told → why ≡ not_made gathered.begun → told ++ rest ≡ whole
+    → HasGathered first current gathered told → why ≡ failure.Memory → told ++ rest ≡ whole
     → IsUnwritten why first current whole
-unmade first current gathered told rest whole why has is cut =
-    not_made_by gathered.begun why first current has.part (string_bytes gathered.text ++ rest) whole is
-    (sym cut ∙ (ap (λ t. t ++ rest) has.gathers ∙ append_assoc has.part (string_bytes gathered.text) rest)) has.written has.begins
+unmade first current gathered told rest whole why has is cut = (
+  inr is,
+  (
+    has.part,
+    string_bytes gathered.text ++ rest,
+    sym cut ∙ (ap (λ t. t ++ rest) has.gathers ∙ append_assoc has.part (string_bytes gathered.text) rest),
+    has.written,
+  ),
+)
 
 -- what has gathered was not written
 pub unwritten : (first current new : Option (List ℕ)) (gathered : Gathered) (told rest whole : List ℕ) (why : Failure)
@@ -67,9 +58,8 @@ pub unwritten : (first current new : Option (List ℕ)) (gathered : Gathered) (t
     → told ++ rest ≡ whole → IsUnwritten why first new whole
 unwritten first current new gathered told rest whole why has is (part, left, cut, had) whole-is =
     let all : told ≡ (has.part ++ part) ++ left =
-    has.gathers ∙ (ap (λ t. has.part ++ t) cut ∙ sym (append_assoc has.part part left)) in
-    inl (
-      is,
+    has.gathers ∙ (ap (λ t. has.part ++ t) cut ∙ sym (append_assoc has.part part left)) in (
+      inl is,
       (
         has.part ++ part,
         left ++ rest,
@@ -87,6 +77,11 @@ unwritten_whole first current new gathered told (Err why) has begins =
     unwritten first current new gathered told [] told why has begins.0 begins.1 (append-nil told)
 
 -- ---- how a task ends
+
+pub stopped : (why : Failure) (old new : Option (List ℕ)) (text : List ℕ) → IsUnwritten why old new text
+    → MayStop true why × Begins old new text
+stopped why old new text (inl failed, begun) = (inl failed, begun)
+stopped why old new text (inr failed, begun) = (inr (failed, refl), begun)
 
 -- ---- records that are told without messages
 

@@ -86,11 +86,12 @@ part_is : (part : Part) (start now : Machines) (number : ℕ) (lines : List (Lis
 part_is part start now number lines line (machines, counted) = ap (λ m. part (answered m number line)) machines
     ∙ ap (λ n. part (answered (after_lines start 1 lines) n line)) counted
 
-one_line_more : (part : Part) (start now : Machines) (number : ℕ) (lines : List (List ℕ)) (line : List ℕ) → Was start now number lines
+one_line_more : (part : Part) (start now : Machines) (number : ℕ) (lines : List (List ℕ)) (line : List ℕ)
+    → Was start now number lines
     → spoken part start 1 (lines ++ line ∷ []) ≡ spoken part start 1 lines ++ part (answered now number line)
 unfolding spoken
-one_line_more part start now number lines line was = spoken_behind part start 1 lines (line ∷ []) ∙ ap (λ t. spoken part start 1 lines
-    ++ t) (append-nil (part (answered (after_lines start 1 lines) (1 + length lines) line))
+one_line_more part start now number lines line was = spoken_behind part start 1 lines (line ∷ [])
+    ∙ ap (λ t. spoken part start 1 lines ++ t) (append-nil (part (answered (after_lines start 1 lines) (1 + length lines) line))
     ∙ sym (part_is part start now number lines line was))
 
 -- What was answered so far, the machines after it, and what is left to be read.

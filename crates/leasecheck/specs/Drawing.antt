@@ -1,6 +1,6 @@
 -- The picture of a record, or of the run of a schedule, and why there is none.
-use Rattle.std.specs.Prelude.{◌≡◌, ◌⊎◌, ℕ, ◌++◌, nat_lt, Bool, true, false, List, length, map, codes, if◌then◌else◌, Option, Some}
-use Rattle.std.specs.Prelude.{None, Result, Ok, Err, MatchResult}
+use Rattle.std.specs.Prelude.{◌≡◌, ◌⊎◌, ℕ, ◌++◌, nat_lt, Bool, true, false, List, [], length, map, codes, if◌then◌else◌}
+use Rattle.std.specs.Prelude.{Option, Some, None, Result, Ok, Err, MatchResult}
 use Rattle.std.specs.String.{string_bytes}
 use Rattle.lease_model.specs.records.Verdict as model
 use Rattle.lease_facts.specs.Facts.{fact_of}
@@ -17,13 +17,17 @@ use Rattle.reason_texts.specs.BadPlaces.{bad_places}
 use Rattle.reason_texts.specs.Explained.{bad_lines, bad_place, extent_lines}
 use Rattle.reason_texts.specs.Placed.{IsPlaced}
 use Rattle.reason_texts.specs.declared.placed.Placed.{Placed}
+use Rattle.lease_facts.specs.Setups.{event_of}
+use Rattle.lease_world.specs.declared.passage.Passage.{Passage}
+use Rattle.lease_world.specs.world.Passages.{passage_meant, passages_told_under}
 use Rattle.record_pictures.specs.Captions.{captions, seen_mark}
+use Rattle.record_pictures.specs.Requests.{requests_drawn, seen_request}
 use Rattle.record_pictures.specs.Svg.{picture_text}
 use Rattle.record_pictures.specs.declared.picture.Picture.{Picture}
 use Rattle.record_pictures.specs.declared.fault.PictureFault.{PictureFault}
 use Rattle.record_pictures.specs.declared.fault.PictureFault.TheVariants as fault
 use Rattle.lease_state.specs.Rules.{profile_rules}
-use Rattle.leasecheck.specs.Replayed.{record_of, run_refusal, verdict_line}
+use Rattle.leasecheck.specs.Replayed.{record_of, run_refusal, setup_of, verdict_line}
 use Rattle.leasecheck.specs.SetupRemarks.{too_many_line}
 use Rattle.leasecheck.specs.declared.failure.Failure.{Failure}
 use Rattle.leasecheck.specs.declared.failure.Failure.TheVariants as failure
@@ -32,8 +36,9 @@ use Rattle.leasecheck.specs.declared.refusal.Refusal.{Refusal}
 -- ---- what is drawn
 
 -- A picture of facts has one mark for each of them, in their order, with the fact in words. The marks of the facts that make the
--- record bad say so, and below the marks stands what `judge --explain` says.
-pub record IsDrawn (placed : Placed) (text : List ℕ) : Type 0 where
+-- record bad say so, and below the marks stands what `judge --explain` says. Where it is known what became of the requests of
+-- clients, there is a mark for each of these.
+pub record IsDrawn (placed : Placed) (passages : List Passage) (text : List ℕ) : Type 0 where
   pub verdict : Verdict
   pub reason : Option Reason
   pub extent : Extent
@@ -42,6 +47,7 @@ pub record IsDrawn (placed : Placed) (text : List ℕ) : Type 0 where
   pub explains : Explains (map fact_of placed.facts.items) verdict reason
   pub judged : IsExtent placed.facts.items verdict extent
   pub marks : map seen_mark picture.marks.items ≡ captions (bad_places verdict reason) 1 placed.facts.items
+  pub requests : map seen_request picture.requests.items ≡ requests_drawn passages
   pub notes : string_bytes picture.notes
       ≡ verdict_line verdict ++ (bad_lines placed (bad_place verdict) reason ++ extent_lines extent)
   pub text_is : text ≡ picture_text picture
@@ -50,10 +56,16 @@ pub record IsDrawn (placed : Placed) (text : List ℕ) : Type 0 where
 abbrev pub IsRunOf : Draft → Placed → Type 0
 IsRunOf draft placed = map fact_of placed.facts.items ≡ record_of profile_rules draft
 
--- The text is the picture of the record that the file is, or else of the run of the schedule that it is.
+-- what became of the requests of a run of this draft
+abbrev pub ArePassagesOf : Draft → List Passage → Type 0
+ArePassagesOf draft passages =
+    map passage_meant passages ≡ passages_told_under profile_rules (setup_of draft) (map event_of draft.events)
+
+-- The text is the picture of the record that the file is, or else of the run of the schedule that it is, with its requests.
 abbrev pub Draws : List ℕ → List ℕ → Type 0
-Draws file text = (placed : Placed) × IsDrawn placed text
-    × (IsPlaced file placed ⊎ ((draft : Draft) × (schedule_in file ≡ Ok draft) × IsRunOf draft placed))
+Draws file text = (placed : Placed) × (passages : List Passage) × IsDrawn placed passages text
+    × ((IsPlaced file placed × (passages ≡ [])) ⊎ ((draft : Draft) × (schedule_in file ≡ Ok draft) × IsRunOf draft placed
+    × ArePassagesOf draft passages))
 
 -- ---- why there is no picture
 

@@ -1,6 +1,6 @@
 -- A record whose text is written as it is made.
-use Rattle.std.specs.Prelude.{◌≡◌, ◌⊎◌, ◌++◌, ℕ, Bool, false, if◌then◌else◌, List, [], codes, Option}
-use Rattle.std.specs.Io.KnownBytes.{Appends, Keeps}
+use Rattle.std.specs.Prelude.{◌≡◌, ◌⊎◌, ◌++◌, ℕ, List, codes, Option}
+use Rattle.std.specs.Io.KnownBytes.{Appends}
 use Rattle.std.specs.String.{string_bytes}
 use Rattle.leasecheck.specs.Idle.{idle_line, record_told}
 use Rattle.leasecheck.specs.Refusals.{Begins}
@@ -25,18 +25,12 @@ facts_told one = record_told (idle_line one.lines.items) 0 one.facts.items one.m
 abbrev pub recorded_text : Record → List ℕ
 recorded_text one = facts_told one ++ end_of one.rules one.verdict
 
--- why a text is not made for want of memory: where some of it is written, its writing has failed
-abbrev pub not_made : Bool → Failure
-not_made begun = if begun then failure.Output else failure.Memory
-
--- a text is not written whole: there was no memory, and nothing was written, or the writing failed
+-- a text is not written whole, but for a beginning: the writing failed, or there was no memory for what follows
 abbrev pub IsUnwritten : Failure → Option (List ℕ) → Option (List ℕ) → List ℕ → Type 0
-IsUnwritten failed old new text =
-    ((failed ≡ failure.Output) × Begins old new text) ⊎ ((failed ≡ failure.Memory) × Keeps old new)
+IsUnwritten failed old new text = ((failed ≡ failure.Output) ⊎ (failed ≡ failure.Memory)) × Begins old new text
 
 -- of a text that is told so far a beginning is written, and the rest has gathered
 pub record HasGathered (first current : Option (List ℕ)) (gathered : Gathered) (told : List ℕ) : Type 0 where
   pub part : List ℕ
   pub written : Appends first current part
   pub gathers : told ≡ part ++ string_bytes gathered.text
-  pub begins : gathered.begun ≡ false → part ≡ []

@@ -1,6 +1,6 @@
 -- Why a task is refused, and the line that says so.
 use Rattle.std.specs.Prelude.{◌≡◌, ℕ, ◌+◌, ◌^◌, ◌≤◌, ◌++◌, List, [], ◌∷◌, codes, drop, if◌then◌else◌, Option, Some, None, Result}
-use Rattle.std.specs.Prelude.{Ok, Err, MatchResult, IfErr, ◌⊎◌, length}
+use Rattle.std.specs.Prelude.{Ok, Err, MatchResult, IfErr, ◌⊎◌, length, Bool, true, false}
 use Rattle.std.specs.Fmt.{decimal}
 use Rattle.std.specs.Option.{option_map}
 use Rattle.std.specs.Result.{result_err}
@@ -186,11 +186,19 @@ Begins old new text = (part : List ℕ) × (rest : List ℕ) × (text ≡ part +
 abbrev pub Puts : {T E : Type 0} → Option (List ℕ) → Option (List ℕ) → List ℕ → Result T E → Type 0
 Puts old new text answer = MatchResult answer (λ _. Appends old new text) (λ _. Begins old new text)
 
--- A task that ends with this failure: where a write failed nothing was refused, and a beginning of what the task prints was
--- written; else nothing was.
+abbrev pub is_replay : Task → Bool
+is_replay (task.Replay path telling rules) = true
+is_replay asked = false
+
+-- why a task stops in the middle of its text: a write failed, or there was no memory for the rest of a record
+abbrev pub MayStop : Bool → Failure → Type 0
+MayStop is_told failure = (failure ≡ Output) ⊎ ((failure ≡ Memory) × (is_told ≡ true))
+
+-- A task that ends with this failure: where it stopped in the middle of its text nothing was refused, and a beginning of what the
+-- task prints was written; else nothing was.
 abbrev pub EndsWith : Task → Option (List ℕ) → Option (List ℕ) → Option (List ℕ) → Failure → Type 0
 EndsWith asked file old new failure =
-    ((failure ≡ Output) × (refusal_of asked file ≡ None)
+    (MayStop (is_replay asked) failure × (refusal_of asked file ≡ None)
     × (text : List ℕ) × (status : ℕ) × IsTextOf asked file text status × Begins old new text)
     ⊎ (Keeps old new × MayEnd asked file failure)
 

@@ -1,6 +1,6 @@
 -- What `leasecheck replay` prints, and why it refuses a schedule.
-use Rattle.std.specs.Prelude.{◌≡◌, ◌⊎◌, ◌++◌, ℕ, Bool, true, false, map, if◌then◌else◌, List, [], ◌∷◌, codes, length, Option, Some, None, Result, Ok}
-use Rattle.std.specs.Prelude.{Err, MatchResult}
+use Rattle.std.specs.Prelude.{◌≡◌, ◌⊎◌, ◌++◌, ℕ, Bool, true, false, map, if◌then◌else◌, List, [], ◌∷◌, codes, length}
+use Rattle.std.specs.Prelude.{Option, Some, None, Result, Ok, Err, MatchResult}
 use Rattle.std.specs.Fmt.{decimal}
 use Rattle.lease_model.specs.records.Facts as model
 use Rattle.lease_model.specs.messages.FromBytes.{reply_of}

@@ -8,7 +8,9 @@ ghost use Rattle.lease_texts.specs.Schedules.{schedule_in};
 ghost use Rattle.reason_texts.specs.Explained.{bad_lines, bad_place, extent_lines};
 ghost use Rattle.reason_texts.specs.Placed.{IsPlaced};
 ghost use Rattle.record_pictures.specs.Svg.{picture_text};
-ghost use Rattle.leasecheck.specs.Drawing.{Draws, IsDrawn, IsRunOf, RefusesDraw, facts_line, too_many_facts, run_facts_refusal};
+ghost use Rattle.leasecheck.specs.Drawing.{ArePassagesOf, Draws, IsDrawn, IsRunOf, RefusesDraw, facts_line, too_many_facts};
+ghost use Rattle.leasecheck.specs.Drawing.{run_facts_refusal};
+ghost use Rattle.lease_world.specs.declared.passage.Passage as code_passage;
 ghost use Rattle.leasecheck.specs.Remarks.{Says, IsDrawRemark, record_remark, run_remark};
 ghost use Rattle.lease_state.specs.Rules.{profile_rules};
 ghost use Rattle.leasecheck.specs.Replayed.{RefusesRun, record_of, verdict_line};
@@ -19,11 +21,11 @@ use crate::judging::push_verdict;
 use crate::refusal::Refusal;
 use crate::replaying::not_run;
 use lease_reasons::{Extent, Reason, explain, extent_of};
-use lease_state::Reply;
+use lease_state::{Reply, Rules};
 use lease_texts::{Schedule, TextFault, read_schedule};
-use lease_world::{Verdict, judge, run_with_messages};
+use lease_world::{Passage, Told, Verdict, judge, run_explained_under};
 use reason_texts::{Placed, bad_places, push_reasoned};
-use record_pictures::{Picture, PictureFault, picture_of, push_picture};
+use record_pictures::{MOST_FACTS, Picture, PictureFault, picture_of, push_picture};
 use std::alloc::{AllocError, Global};
 
 // The verdict on facts, why it is that, and how much was judged.
@@ -51,36 +53,64 @@ fn text_of(alloc: Global, picture: &Picture) -> Result<String, AllocError>
     Ok(text)
 }
 
-// The picture of facts, with the messages that they speak of where these are known.
-fn drawn(alloc: Global, placed: &Placed, messages: &[Reply]) -> Result<String, Refusal>
-    ensures drawn { IfOk result (λ text. IsDrawn placed.now (string_bytes text)) }
+// The picture of facts, with the messages that they speak of and what became of requests where these are known.
+fn drawn(
+    alloc: Global,
+    placed: &Placed,
+    messages: &[Reply],
+    passages: &[Passage],
+) -> Result<String, Refusal>
+    ensures drawn { IfOk result (λ text. IsDrawn placed.now passages.now (string_bytes text)) }
     ensures refused { MatchResult result (λ _. too_many_facts (length placed.now.facts.items) ≡ None)
         (λ told. (told.failure ≡ Failure.Memory) ⊎ (too_many_facts (length placed.now.facts.items) ≡ Some told.failure)) }
     ensures said { IfErr result (λ told. Says told (λ failure line. (failure ≡ Failure.Picture)
         × (line ≡ facts_line (length placed.now.facts.items)))) }
 {
     let facts = placed.facts.as_slice();
+    if facts.len() > MOST_FACTS {
+        return Err(Refusal::of_picture(alloc, PictureFault::TooMany, facts.len()));
+    }
     let verdict = judge(alloc, facts)?;
     let reason = explain(alloc, facts, &verdict)?;
     let extent = extent_of(alloc, facts, &verdict)?;
     let notes = notes_of(alloc, placed, &verdict, &reason, &extent)?;
     let bad = bad_places(alloc, &verdict, &reason)?;
-    match picture_of(alloc, facts, bad.as_slice(), notes, messages) {
+    match picture_of(alloc, facts, bad.as_slice(), notes, messages, passages) {
         Ok(picture) => Ok(text_of(alloc, &picture)?),
         Err(fault) => Err(Refusal::of_picture(alloc, fault, facts.len())),
     }
 }
 
-// The facts of the run of a schedule, and their messages. A run is safe, so no line of it is spoken of.
-fn ran(alloc: Global, schedule: &Schedule) -> Result<(Placed, Vec<Reply>), Refusal>
-    ensures ran { IfOk result (λ run. IsRunOf (draft_of schedule.now) run.0) }
+// A run of a schedule, with what is drawn of it.
+#[derive(Debug, Drop)]
+struct Played {
+    placed: Placed,
+    messages: Vec<Reply>,
+    passages: Vec<Passage>,
+}
+
+// The run of a schedule. It is safe, so no line of it is spoken of.
+fn ran(alloc: Global, schedule: &Schedule) -> Result<Played, Refusal>
+    ensures ran { IfOk result (λ run. IsRunOf (draft_of schedule.now) run.placed) }
+    ensures passages { IfOk result (λ run. ArePassagesOf (draft_of schedule.now) run.passages.items) }
     ensures refused { RefusesRun (draft_of schedule.now) result }
     ensures said { IfErr result (λ told. Says told (λ failure line. run_remark failure (draft_of schedule.now) ≡ Some line)) }
 {
-    match run_with_messages(alloc, &schedule.setup, schedule.events.as_slice()) {
-        Ok((facts, messages)) => {
+    let (rules, events) = (Rules::profile(), schedule.events.as_slice());
+    match run_explained_under(alloc, rules, &schedule.setup, events) {
+        Ok(told) => {
+            let Told {
+                facts,
+                messages,
+                passages,
+                ..
+            } = told;
             let lines = Vec::new(alloc);
-            Ok((Placed { facts, lines }, messages))
+            Ok(Played {
+                placed: Placed { facts, lines },
+                messages,
+                passages,
+            })
         }
         Err(fault) => Err(Refusal::of_run(alloc, not_run(fault), schedule)),
     }
@@ -88,15 +118,17 @@ fn ran(alloc: Global, schedule: &Schedule) -> Result<(Placed, Vec<Reply>), Refus
 
 // The picture of the run of a schedule.
 fn run_drawn(alloc: Global, schedule: &Schedule) -> Result<String, Refusal>
-    ensures drawn { IfOk result (λ text. (placed : Placed) × IsDrawn placed (string_bytes text)
-        × IsRunOf (draft_of schedule.now) placed) }
+    ensures drawn { IfOk result (λ text. (placed : Placed) × (passages : List code_passage.Passage)
+        × IsDrawn placed passages (string_bytes text)
+        × IsRunOf (draft_of schedule.now) placed × ArePassagesOf (draft_of schedule.now) passages) }
     ensures refused { MatchResult result (λ _. run_facts_refusal (Ok (draft_of schedule.now)) ≡ None)
         (λ told. (told.failure ≡ Failure.Memory) ⊎ (run_facts_refusal (Ok (draft_of schedule.now)) ≡ Some told.failure)) }
     ensures said { IfErr result (λ told. Says told (λ failure line. (run_remark failure (draft_of schedule.now) ≡ Some line)
         ⊎ ((failure ≡ Failure.Picture) × (line ≡ facts_line (length (record_of profile_rules (draft_of schedule.now))))))) }
 {
-    let (placed, messages) = ran(alloc, schedule)?;
-    let text = drawn(alloc, &placed, messages.as_slice())?;
+    let played = ran(alloc, schedule)?;
+    let (messages, passages) = (played.messages.as_slice(), played.passages.as_slice());
+    let text = drawn(alloc, &played.placed, messages, passages)?;
     Ok(text)
 }
 
@@ -146,7 +178,7 @@ pub fn draw_text(alloc: Global, text: &[u8]) -> Result<String, Refusal>
 {
     match placed_of(alloc, text) {
         Ok(placed) => {
-            let drawn = drawn(alloc, &placed, &[])?;
+            let drawn = drawn(alloc, &placed, &[], &[])?;
             Ok(drawn)
         }
         Err(refusal) => match refusal.failure {

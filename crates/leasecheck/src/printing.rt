@@ -4,7 +4,7 @@ ghost use Rattle.std.specs.Prelude.{OnOk, length, take};
 ghost use Rattle.std.specs.String.{string_bytes};
 ghost use Rattle.std.specs.Io.KnownBytes.{Appends, Keeps};
 ghost use Rattle.leasecheck.specs.Printed.{IsTextOf, Prints};
-ghost use Rattle.leasecheck.specs.Made.{text_made, status_made};
+ghost use Rattle.leasecheck.specs.Made.{is_record, text_made, status_made};
 ghost use Rattle.leasecheck.specs.Recording.{recorded_text, IsUnwritten};
 ghost use Rattle.lease_world.specs.declared.verdict.Verdict.{Verdict};
 ghost use Rattle.leasecheck.specs.Replayed.{Replays, verdict_line, status_of};
@@ -21,7 +21,7 @@ ghost use Rattle.leasecheck.specs.Remarks.{Says, IsGivenRemark, IsFileRemark, Is
 ghost use Rattle.leasecheck.specs.Remarks.{second_of};
 ghost use Rattle.leasecheck.specs.declared.tasks.Kind.TheVariants as kind;
 ghost use Rattle.leasecheck.specs.Refusals.{AnswersOrRefuses, SaysOf, RefusesGiven, MayEndGiven, shown_fault, EndsWith, Ends};
-ghost use Rattle.leasecheck.specs.Refusals.{Begins, Puts};
+ghost use Rattle.leasecheck.specs.Refusals.{Begins, MayStop, Puts, is_replay};
 ghost use Rattle.leasecheck.specs.Refusals.{MayEndReplay, MayEndDrawing, MayEndJudging, drawing_refusal, known_refusal};
 ghost use Rattle.leasecheck.specs.Refusals.{judge_refusal, refusal_of, failure_line};
 
@@ -196,6 +196,7 @@ fn shown<I: Read>(
 // All that the task prints.
 fn make<I: Read>(alloc: Global, task: &Task, input: &mut I) -> Result<Made, Refusal>
     ensures text { IfOk result (λ made. IsTextOf task.now (I.remaining input.old) (text_made made) (status_made made)) }
+    ensures record { IfOk result (λ made. is_record made ≡ is_replay task.now) }
     ensures refused { AnswersOrRefuses task.now (I.remaining input.old) result }
     ensures said { SaysOf task.now (I.remaining input.old) result }
 {
@@ -261,18 +262,18 @@ pub(crate) fn print_text<O: Write>(text: &str, out: &mut O) -> Result<(), Failur
 fn print_made<O: Write>(alloc: Global, made: &Made, out: &mut O) -> Result<u8, Failure>
     ensures written { IfOk result (λ status. (status ≡ status_made made.now)
         × Appends (O.contents out.old) (O.contents out.new) (text_made made.now)) }
-    ensures failed { IfErr result
-        (λ failure. IsUnwritten failure (O.contents out.old) (O.contents out.new) (text_made made.now)) }
+    ensures failed { IfErr result (λ failure. MayStop (is_record made.now) failure
+        × Begins (O.contents out.old) (O.contents out.new) (text_made made.now)) }
 {
     match made {
         Made::Text(printed) => {
             print_text(printed.text.as_str(), out)?;
             Ok(printed.status)
         }
-        Made::Record(recorded) => {
-            write_record(alloc, recorded, out)?;
-            Ok(status_of(&recorded.verdict))
-        }
+        Made::Record(recorded) => match write_record(alloc, recorded, out) {
+            Ok(()) => Ok(status_of(&recorded.verdict)),
+            Err(failure) => Err(failure),
+        },
     }
 }
 
@@ -336,9 +337,10 @@ pub(crate) fn tell_refusal<F: Write>(refusal: &Refusal, faults: &mut F) -> Resul
 /// where memory ran out or where a write to `out` failed, 3 where the record of a judge is unsafe.
 ///
 /// The whole text is made before anything is written to `out`, but for a record of more than a block, of which all facts are
-/// there and judged, but whose text is made as it is written. On a refusal nothing is written, and
-/// `faults` gets the line of the failure and mostly a second one, which says more of it, or a beginning of this where a write
-/// there fails, which changes no status. `input` has the bytes of the task's file, none for a task without one.
+/// there and judged, but whose text is made as it is written: where memory runs out then, a beginning of it stands. On a refusal
+/// nothing is written, and `faults` gets the line of the failure and mostly a second one, which says more of it, or a beginning
+/// of this where a write there fails, which changes no status. `input` has the bytes of the task's file, none for a task without
+/// one.
 pub fn perform<I: Read, O: Write, F: Write>(
     alloc: Global,
     task: &Task,

@@ -1,10 +1,10 @@
-ghost use Rattle.std.specs.Prelude.{◌≡◌, ◌++◌, ℕ, List, Option, [], false, OnOk, IfOk, IfErr, MatchResult};
+ghost use Rattle.std.specs.Prelude.{◌≡◌, ◌++◌, ℕ, List, Option, [], OnOk, IfOk, IfErr, MatchResult};
 ghost use Rattle.std.specs.Io.KnownBytes.{Appends};
 ghost use Rattle.std.specs.String.{string_bytes};
 ghost use Rattle.std.specs.List.{flat_map};
 ghost use Rattle.leasecheck.specs.Idle.{idle_behind, idle_line, lines_of_fact};
 ghost use Rattle.leasecheck.specs.Messages.{messages_behind};
-ghost use Rattle.leasecheck.specs.Recording.{end_of, facts_told, recorded_text, not_made, IsUnwritten, HasGathered};
+ghost use Rattle.leasecheck.specs.Recording.{end_of, facts_told, recorded_text, IsUnwritten, HasGathered};
 ghost use Rattle.leasecheck.specs.Refusals.{Begins};
 ghost use Rattle.lease_texts.specs.Remarks.{rules_remark};
 
@@ -35,22 +35,10 @@ pub struct Record {
     pub verdict: Verdict,
 }
 
-// What isn't written yet of a text that is told, and whether some of it is.
+// What isn't written yet of a text that is told.
 #[derive(Drop)]
 struct Gathered {
     text: String,
-    begun: bool,
-}
-
-// Why a text isn't made for want of memory.
-fn not_made(begun: bool) -> Failure
-    ensures { result ≡ not_made begun }
-{
-    if begun {
-        Failure::Output
-    } else {
-        Failure::Memory
-    }
 }
 
 // A comment line with the rules of a server, where they aren't the profile's.
@@ -102,12 +90,10 @@ fn push_told<'a>(
 
 impl Gathered {
     fn new(alloc: Global) -> Gathered
-        ensures text { string_bytes result.text ≡ [] }
-        ensures begun { result.begun ≡ false }
+        ensures { string_bytes result.text ≡ [] }
     {
         Gathered {
             text: String::new(alloc),
-            begun: false,
         }
     }
 
@@ -123,14 +109,13 @@ impl Gathered {
     ) -> Result<(&'a [Reply], &'a [Idle]), Failure>
         ensures lines { OnOk result (string_bytes self.new.text ≡ string_bytes self.old.text
             ++ lines_of_fact (idle_line lines.now) count fact.now messages.now idle.now) }
-        ensures begun { self.new.begun ≡ self.old.begun }
         ensures behind { IfOk result (λ behind. (behind.0.now ≡ messages_behind fact.now messages.now)
             × (behind.1.now ≡ idle_behind count idle.now)) }
-        ensures failed { IfErr result (λ failure. failure ≡ not_made self.old.begun) }
+        ensures failed { IfErr result (λ failure. failure ≡ Failure.Memory) }
     {
         match push_told(&mut self.text, lines, count, fact, messages, idle) {
             Ok(behind) => Ok(behind),
-            Err(_) => Err(not_made(self.begun)),
+            Err(_) => Err(Failure::Memory),
         }
     }
 
@@ -138,12 +123,11 @@ impl Gathered {
     fn push_end(&mut self, recorded: &Record, idle: &[Idle]) -> Result<(), Failure>
         ensures line { OnOk result (string_bytes self.new.text ≡ string_bytes self.old.text
             ++ (flat_map (idle_line recorded.now.lines.items) idle.now ++ end_of recorded.now.rules recorded.now.verdict)) }
-        ensures begun { self.new.begun ≡ self.old.begun }
-        ensures failed { IfErr result (λ failure. failure ≡ not_made self.old.begun) }
+        ensures failed { IfErr result (λ failure. failure ≡ Failure.Memory) }
     {
         match push_end(&mut self.text, recorded, idle) {
             Ok(()) => Ok(()),
-            Err(_) => Err(not_made(self.begun)),
+            Err(_) => Err(Failure::Memory),
         }
     }
 
@@ -159,7 +143,6 @@ impl Gathered {
         }
         put(self.text.as_bytes(), out)?;
         self.text.clear();
-        self.begun = true;
         Ok(())
     }
 }
@@ -199,8 +182,7 @@ fn write_facts<'a, O: Write>(
 ///
 /// # Errors
 ///
-/// `Memory` where there is none left before anything is written, and `Output` where a write fails, or there is no memory
-/// left for what follows.
+/// `Memory` where there is none left for what follows the blocks that were written, and `Output` where a write fails.
 pub fn write_record<O: Write>(alloc: Global, recorded: &Record, out: &mut O) -> Result<(), Failure>
     ensures written { OnOk result (Appends (O.contents out.old) (O.contents out.new) (recorded_text recorded.now)) }
     ensures failed { IfErr result (λ failure.

@@ -1,4 +1,5 @@
-ghost use Rattle.std.specs.Prelude.{◌≡◌, ◌⊎◌, ℕ, List, [], true, false, if◌then◌else◌, map, Some, None, Ok, Err, IfOk, IfErr, MatchResult};
+ghost use Rattle.std.specs.Prelude.{◌≡◌, ◌⊎◌, ℕ, List, [], true, false, if◌then◌else◌, map, Some, None, Ok, Err};
+ghost use Rattle.std.specs.Prelude.{IfOk, IfErr, MatchResult};
 ghost use Rattle.lease_model.specs.records.Safe.{Safe};
 ghost use Rattle.lease_facts.specs.Facts.{fact_of};
 ghost use Rattle.lease_world.specs.declared.verdict.Verdict.TheVariants as verdict;

@@ -1,9 +1,9 @@
 use lease_reasons::{Messages, explain, extent_of};
-use lease_state::ClientNo;
+use lease_state::{ClientNo, FileId, Request};
 use lease_world::judge;
 use reason_texts::{bad_places, push_explanation, push_fact_words, push_reasoned, read_placed};
 use record_pictures::{
-    Caption, ClientFact, FactKind, Look, Mark, Picture, PictureFault, Point, Shape, Size,
+    Caption, ClientFact, FactKind, Look, Mark, Passage, Picture, PictureFault, Point, Shape, Size,
     picture_of, push_picture,
 };
 use std::test::Fail;
@@ -35,6 +35,7 @@ fn words_are_escaped(rt: HostRuntime) -> Result<(), Fail> {
         },
         lanes: Vec::new(alloc),
         marks: vec![in alloc; mark]?,
+        requests: Vec::new(alloc),
         notes: String::from_str(alloc, "safe\n")?,
         notes_at: 7,
     };
@@ -68,7 +69,7 @@ fn a_bad_fact_is_marked(rt: HostRuntime) -> Result<(), Fail> {
         once.as_str().starts_with("line 6: client 1 learns that its write 1 is done\nrule 4: ")
     );
     assert_eq!(rt; once.as_str(), again.as_str());
-    let picture = picture_of(alloc, facts, bad.as_slice(), once, &[])?;
+    let picture = picture_of(alloc, facts, bad.as_slice(), once, &[], &[])?;
     assert_eq!(rt; picture.marks.len(), 5);
     assert_eq!(rt; picture.marks[4].caption.kind, FactKind::Settled);
     assert!(rt; picture.marks[4].caption.is_bad);
@@ -99,6 +100,31 @@ fn facts_are_told_in_words(rt: HostRuntime) -> Result<(), Fail> {
 }
 
 #[test]
+fn requests_are_drawn(rt: HostRuntime) -> Result<(), Fail> {
+    let alloc = rt.alloc();
+    let placed = read_placed(alloc, RECORD)?;
+    let (client, sent) = (ClientNo(1), Request::Read { fid: FileId(7) });
+    let passages = vec![in alloc;
+        Passage::Sent { client, request: sent, facts: 2 },
+        Passage::Taken { client, facts: 2 },
+        Passage::Sent { client, request: Request::Close { fid: FileId(7) }, facts: 4 },
+        Passage::Lost { client, facts: 5 }]?;
+    let facts = placed.facts.as_slice();
+    let picture = picture_of(alloc, facts, &[], String::new(alloc), &[], passages.as_slice())?;
+    let [read, close] = picture.requests.as_slice() else {
+        return Err(Fail::new("there are two requests"));
+    };
+    assert_eq!(rt; (read.place, read.words.as_str()), (1, "client 1 sends: read 7"));
+    assert_eq!(rt; (close.place, close.words.as_str()), (2, "client 1 sends: close 7"));
+    // The way of the first one with its arrow, its point and its label; the other has no arrow.
+    assert_eq!(rt; (read.shapes.len(), close.shapes.len()), (4, 3));
+    let mut text = String::new(alloc);
+    push_picture(&mut text, &picture)?;
+    assert!(rt; text.as_str().contains("<g id='request-2' class='request'><title>client 1 sends: close 7</title>\n"));
+    Ok(())
+}
+
+#[test]
 fn more_facts_than_a_picture_has(rt: HostRuntime) -> Result<(), Fail> {
     let alloc = rt.alloc();
     let mut text = String::new(alloc);
@@ -106,7 +132,7 @@ fn more_facts_than_a_picture_has(rt: HostRuntime) -> Result<(), Fail> {
         text.push_str("joined 1\n")?;
     }
     let placed = read_placed(alloc, text.as_bytes())?;
-    let answer = picture_of(alloc, placed.facts.as_slice(), &[], String::new(alloc), &[]);
+    let answer = picture_of(alloc, placed.facts.as_slice(), &[], String::new(alloc), &[], &[]);
     assert!(rt; matches!(answer, Err(PictureFault::TooMany)));
     Ok(())
 }

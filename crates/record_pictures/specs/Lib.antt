@@ -1,2 +1,5 @@
 pub mod Captions
+pub mod Labels
+pub mod Places
+pub mod Requests
 pub mod Svg

@@ -8,6 +8,7 @@ use Rattle.lease_texts.specs.Pieces.{lines_of}
 use Rattle.record_pictures.specs.declared.picture.Caption.{Caption}
 use Rattle.record_pictures.specs.declared.picture.Mark.{Mark}
 use Rattle.record_pictures.specs.declared.picture.Picture.{Picture}
+use Rattle.record_pictures.specs.declared.picture.RequestMark.{RequestMark}
 use Rattle.record_pictures.specs.declared.shape.Look.{Look}
 use Rattle.record_pictures.specs.declared.shape.Look.TheVariants as look
 use Rattle.record_pictures.specs.declared.shape.Point.{Point}
@@ -37,6 +38,7 @@ look_word look.Loss = codes "loss"
 look_word look.Accepted = codes "accepted"
 look_word look.CachedRead = codes "cachedread"
 look_word look.Stray = codes "stray"
+look_word look.Asking = codes "asking"
 
 unfoldable pub line_text : Look → Point → Point → List ℕ
 line_text seen from to =
@@ -80,8 +82,22 @@ caption_text caption =
     ++ (flat_map escaped (string_bytes caption.words)
     ++ (codes "</title>" ++ (10 ∷ [])))
 
+-- what a mark has after its title
+unfoldable pub body_text : List Shape → List ℕ
+body_text shapes = flat_map shape_text shapes ++ (codes "</g>" ++ (10 ∷ []))
+
 unfoldable pub mark_text : Mark → List ℕ
-mark_text mark = caption_text mark.caption ++ (flat_map shape_text mark.shapes.items ++ (codes "</g>" ++ (10 ∷ [])))
+mark_text mark = caption_text mark.caption ++ body_text mark.shapes.items
+
+unfoldable pub request_begin : ℕ → List ℕ
+request_begin place = codes "<g id='request-" ++ (decimal place ++ codes "' class='request'><title>")
+
+-- what stands for a request: its words, and its shapes
+unfoldable pub request_text : RequestMark → List ℕ
+request_text mark =
+    request_begin mark.place
+    ++ (flat_map escaped (string_bytes mark.words)
+    ++ (codes "</title>" ++ ((10 ∷ []) ++ body_text mark.shapes.items)))
 
 unfoldable pub note_begin : List ℕ
 note_begin = codes "<tspan x='8' dy='18'>"
@@ -111,14 +127,15 @@ style_text =
     ++ (codes
     ".way, .message {stroke: #1565c0} .message {marker-end: url(#arrow)} .caching {fill: #a5d6a7} .writecaching {fill: #ffb74d}"
     ++ ((10 ∷ [])
-    ++ (codes ".event {fill: #333} .accepted {fill: #6a1b9a} .cachedread {fill: #2e7d32}" ++ ((10 ∷ [])
+    ++ (codes ".event {fill: #333} .accepted {fill: #6a1b9a} .cachedread {fill: #2e7d32} .asking {fill: #1565c0}" ++ ((10 ∷ [])
     ++ (codes ".loss, .stray {fill: #fff; stroke: #b00020; stroke-width: 2}</style>" ++ ((10 ∷ [])
     ++ (codes "<defs><marker id='arrow' markerWidth='9' markerHeight='8' refX='13' refY='4' orient='auto'>" ++ ((10 ∷ [])
     ++ (codes "<path d='M0,0 L9,4 L0,8 z' fill='#1565c0'/></marker></defs><rect class='paper' width='100%' height='100%'/>"
     ++ ((10 ∷ [])))))))))))))))))))
 
--- a picture: the lanes, then a group for each mark, then the notes
+-- a picture: the lanes, then a group for each fact and for each request, then the notes
 abbrev pub picture_text : Picture → List ℕ
 picture_text picture =
-    size_text picture.size ++ (style_text ++ (flat_map shape_text picture.lanes.items ++ (flat_map mark_text picture.marks.items
-    ++ (notes_text picture ++ (codes "</svg>" ++ (10 ∷ []))))))
+    size_text picture.size ++ (style_text ++ (flat_map shape_text picture.lanes.items
+    ++ (flat_map mark_text picture.marks.items ++ (flat_map request_text picture.requests.items
+    ++ (notes_text picture ++ (codes "</svg>" ++ (10 ∷ [])))))))

@@ -1,3 +1,6 @@
+ghost use Rattle.std.specs.Prelude.{◌≡◌};
+ghost use Rattle.record_pictures.specs.Places.{above, across, beside, down, spot, words_at};
+
 use crate::shape::Point;
 use lease_facts::Fact;
 use lease_state::ClientNo;
@@ -78,22 +81,30 @@ pub fn at(index: usize) -> u16 {
 }
 
 // So far from the left of a lane, in pixels from the left of the picture.
-fn across(lane: u16, offset: u16) -> u32 {
+fn across(lane: u16, offset: u16) -> u32
+    ensures { result ≡ across lane offset }
+{
     LEFT + LANE * u32::from(lane) + u32::from(offset)
 }
 
 /// So far from the top of a row, in pixels from the top of the picture.
-pub fn down(row: u16, offset: u16) -> u32 {
+pub fn down(row: u16, offset: u16) -> u32
+    ensures { result ≡ down row offset }
+{
     TOP + ROW * u32::from(row) + u32::from(offset)
 }
 
 /// Where the line of a lane runs, in pixels from the left.
-pub fn line_of(lane: u16) -> u32 {
+pub fn line_of(lane: u16) -> u32
+    ensures { result ≡ across lane 90 }
+{
     across(lane, LINE)
 }
 
 /// The point in the middle of a row on the line of a lane.
-pub fn spot(lane: u16, row: u16) -> Point {
+pub fn spot(lane: u16, row: u16) -> Point
+    ensures { result ≡ spot lane row }
+{
     Point {
         x: line_of(lane),
         y: down(row, 12),
@@ -101,7 +112,9 @@ pub fn spot(lane: u16, row: u16) -> Point {
 }
 
 /// Next to the line of a lane, on the side of another one and before the words that stand there, in pixels from the left.
-pub fn beside(lane: u16, other: u16) -> u32 {
+pub fn beside(lane: u16, other: u16) -> u32
+    ensures { result ≡ beside lane other }
+{
     if other < lane {
         across(lane, LINE - 5)
     } else {
@@ -110,7 +123,9 @@ pub fn beside(lane: u16, other: u16) -> u32 {
 }
 
 /// The point on the line of a lane above a row, where no words stand.
-pub fn above(lane: u16, row: u16) -> Point {
+pub fn above(lane: u16, row: u16) -> Point
+    ensures { result ≡ above lane row }
+{
     Point {
         x: line_of(lane),
         y: down(row, 0),
@@ -118,7 +133,9 @@ pub fn above(lane: u16, row: u16) -> Point {
 }
 
 /// The point at which a line of text begins that stands to the right of a lane's line.
-pub fn words_at(lane: u16, row: u16) -> Point {
+pub fn words_at(lane: u16, row: u16) -> Point
+    ensures { result ≡ words_at lane row }
+{
     Point {
         x: across(lane, 100),
         y: down(row, 16),

@@ -1,20 +1,27 @@
 ghost use Rattle.std.specs.Prelude.{◌≡◌, ◌≤◌, ◌⊎◌, ◌<◌, ◌+◌, length, map, MatchResult, OnOk, IfOk};
 ghost use Rattle.std.specs.String.{string_bytes};
 ghost use Rattle.record_pictures.specs.Captions.{captions, caption_of, seen_mark};
+ghost use Rattle.record_pictures.specs.Requests.{asked_from, requests_drawn, seen_request};
 ghost use Rattle.record_pictures.specs.declared.fault.PictureFault.TheVariants as fault;
 
 use crate::captions::caption_of;
 use crate::fault::PictureFault;
-use crate::lanes::{Lanes, at, down, line_of, spot};
-use crate::marks::shapes_of;
+use crate::lanes::{Lanes, down, line_of, spot};
+use crate::marks::{Sheet, shapes_of};
 use crate::picture::{Mark, Picture};
+use crate::requests::{count_sent, request_marks};
+use crate::rows::Rows;
 use crate::shape::{Look, Point, Shape, Size};
 use lease_facts::Fact;
 use lease_state::{ClientNo, Memory, Reply};
+use lease_world::Passage;
 use std::alloc::{AllocError, Global};
 
 /// More facts are in no picture.
 pub const MOST_FACTS: usize = 5000;
+
+/// Of more requests none is in a picture.
+pub const MOST_REQUESTS: usize = 5000;
 
 // The name of a lane, above its line.
 fn heading(lane: u16, text: String) -> Shape {
@@ -48,13 +55,14 @@ fn connected_after(fact: &Fact, client: ClientNo, row: u16, since: Option<u16>) 
 // Adds the times of a client's connections.
 fn push_connections(
     shapes: &mut Vec<Shape>,
+    rows: &Rows,
     facts: &[Fact],
     client: ClientNo,
     lane: u16,
 ) -> Result<(), AllocError> {
     let mut since = None;
     for (index, fact) in facts.iter().enumerate() {
-        let row = at(index);
+        let row = rows.of_fact(index);
         let before = since;
         since = connected_after(fact, client, row, before);
         if let (Some(begin), None) = (before, since) {
@@ -62,22 +70,22 @@ fn push_connections(
         }
     }
     if let Some(begin) = since {
-        shapes.push(line(lane, (begin, at(facts.len())), Look::Connection))?;
+        shapes.push(line(lane, (begin, rows.count()), Look::Connection))?;
     }
     Ok(())
 }
 
 // The lanes with their names.
-fn lanes_of(alloc: Global, lanes: &Lanes, facts: &[Fact]) -> Result<Vec<Shape>, AllocError> {
+fn lanes_of(alloc: Global, sheet: Sheet<'_>) -> Result<Vec<Shape>, AllocError> {
     let mut shapes = Vec::new(alloc);
-    let rows = (0, at(facts.len()));
+    let (lanes, whole) = (sheet.lanes, (0, sheet.rows.count()));
     shapes.push(heading(lanes.server(), format!(in alloc; "server")?))?;
-    shapes.push(line(lanes.server(), rows, Look::Connection))?;
+    shapes.push(line(lanes.server(), whole, Look::Connection))?;
     for client in lanes.clients() {
         let (number, lane) = (client.0, lanes.client(*client));
         shapes.push(heading(lane, format!(in alloc; "client {number}")?))?;
-        shapes.push(line(lane, rows, Look::Lane))?;
-        push_connections(&mut shapes, facts, *client, lane)?;
+        shapes.push(line(lane, whole, Look::Lane))?;
+        push_connections(&mut shapes, sheet.rows, sheet.facts, *client, lane)?;
     }
     Ok(shapes)
 }
@@ -98,52 +106,53 @@ fn messages_left<'a>(fact: &Fact, left: &'a [Reply]) -> &'a [Reply] {
     }
 }
 
-// What a picture is made of.
-#[derive(Clone, Copy)]
-struct Sheet<'a> {
-    lanes: &'a Lanes,
-    facts: &'a [Fact],
-    bad: &'a [usize],
-}
-
-impl<'a> Sheet<'a> {
-    // The mark of the fact at this index.
-    fn mark(
-        &self,
-        alloc: Global,
-        index: usize,
-        fact: &Fact,
-        message: Option<&Reply>,
-    ) -> Result<Mark, Memory>
-        requires { index < length self.now.facts.now }
-        ensures { IfOk result (λ mark. seen_mark mark ≡ caption_of self.now.bad.now (index + 1) fact.now) }
-    {
-        let caption = caption_of(alloc, self.bad, index + 1, fact)?;
-        let shapes = shapes_of(
-            alloc,
-            self.lanes,
-            self.facts,
-            at(index),
-            caption.is_bad,
-            message,
-        )?;
-        Ok(Mark { caption, shapes })
-    }
+// The mark of the fact at this index.
+fn mark(
+    alloc: Global,
+    sheet: &Sheet<'_>,
+    bad: &[usize],
+    index: usize,
+    fact: &Fact,
+    message: Option<&Reply>,
+) -> Result<Mark, Memory>
+    requires { index < length sheet.now.facts.now }
+    ensures { IfOk result (λ mark. seen_mark mark ≡ caption_of bad.now (index + 1) fact.now) }
+{
+    let caption = caption_of(alloc, bad, index + 1, fact)?;
+    let shapes = shapes_of(alloc, *sheet, index, caption.is_bad, message)?;
+    Ok(Mark { caption, shapes })
 }
 
 // A mark for each fact.
 #[tactic(auto, unfolding(crate::specs::Captions::captions))]
-fn marks_of(alloc: Global, sheet: &Sheet<'_>, messages: &[Reply]) -> Result<Vec<Mark>, Memory>
-    ensures { IfOk result (λ marks. map seen_mark marks.items ≡ captions sheet.now.bad.now 1 sheet.now.facts.now) }
+fn marks_of(
+    alloc: Global,
+    sheet: &Sheet<'_>,
+    bad: &[usize],
+    messages: &[Reply],
+) -> Result<Vec<Mark>, Memory>
+    ensures { IfOk result (λ marks. map seen_mark marks.items ≡ captions bad.now 1 sheet.now.facts.now) }
 {
     let mut marks = Vec::new(alloc);
     let mut left = messages;
     for (index, fact) in sheet.facts.iter().enumerate() {
         let message = message_of(fact, left);
         left = messages_left(fact, left);
-        marks.push(sheet.mark(alloc, index, fact, message)?)?;
+        marks.push(mark(alloc, sheet, bad, index, fact, message)?)?;
     }
     Ok(marks)
+}
+
+// The passages of requests that are drawn: none where there are too many requests.
+#[tactic(auto, unfolding(crate::specs::Requests::asked_from))]
+fn drawn_among(passages: &[Passage]) -> &[Passage]
+    ensures { asked_from 1 result.now ≡ requests_drawn passages.now }
+{
+    if count_sent(passages) > MOST_REQUESTS {
+        &[]
+    } else {
+        passages
+    }
 }
 
 // How many lines a text has, of those that end with a line feed.
@@ -169,22 +178,27 @@ fn laid_out(
     bad: &[usize],
     notes: String,
     messages: &[Reply],
+    passages: &[Passage],
 ) -> Result<Picture, Memory>
     ensures marks { IfOk result (λ picture. map seen_mark picture.marks.items ≡ captions bad.now 1 facts.now) }
+    ensures requests { IfOk result (λ picture. map seen_request picture.requests.items ≡ asked_from 1 passages.now) }
     ensures notes { IfOk result (λ picture. string_bytes picture.notes ≡ string_bytes notes) }
 {
     let lanes = Lanes::of(alloc, facts)?;
+    let rows = Rows::of(alloc, facts.len(), passages)?;
     let sheet = Sheet {
         lanes: &lanes,
+        rows: &rows,
         facts,
-        bad,
     };
-    let marks = marks_of(alloc, &sheet, messages)?;
-    let notes_at = down(at(facts.len()), 48);
+    let marks = marks_of(alloc, &sheet, bad, messages)?;
+    let requests = request_marks(alloc, &lanes, rows.count(), passages)?;
+    let notes_at = down(rows.count(), 48);
     Ok(Picture {
         size: size_of(&lanes, notes_at, notes.as_str()),
-        lanes: lanes_of(alloc, &lanes, facts)?,
+        lanes: lanes_of(alloc, sheet)?,
         marks,
+        requests,
         notes,
         notes_at,
     })
@@ -192,7 +206,8 @@ fn laid_out(
 
 /// The picture of these facts, with `notes` below it, lines that are each ended by a line feed.
 /// `bad` are the places, from 1, of the facts that make the record bad. `messages` are those that
-/// the facts report as sent and taken, in their order; there may be fewer.
+/// the facts report as sent and taken, in their order; there may be fewer. `passages` are what
+/// became of the requests of clients; of more than [`MOST_REQUESTS`] none is drawn.
 ///
 /// # Errors
 ///
@@ -203,8 +218,10 @@ pub fn picture_of(
     bad: &[usize],
     notes: String,
     messages: &[Reply],
+    passages: &[Passage],
 ) -> Result<Picture, PictureFault>
     ensures marks { IfOk result (λ picture. map seen_mark picture.marks.items ≡ captions bad.now 1 facts.now) }
+    ensures requests { IfOk result (λ picture. map seen_request picture.requests.items ≡ requests_drawn passages.now) }
     ensures notes { IfOk result (λ picture. string_bytes picture.notes ≡ string_bytes notes) }
     ensures refused { MatchResult result (λ _. length facts.now ≤ 5000)
         (λ given. (given ≡ fault.TooMany) × (5000 < length facts.now) ⊎ (given ≡ fault.Memory) × (length facts.now ≤ 5000)) }
@@ -212,7 +229,7 @@ pub fn picture_of(
     if facts.len() > MOST_FACTS {
         return Err(PictureFault::TooMany);
     }
-    match laid_out(alloc, facts, bad, notes, messages) {
+    match laid_out(alloc, facts, bad, notes, messages, drawn_among(passages)) {
         Ok(picture) => Ok(picture),
         Err(Memory) => Err(PictureFault::Memory),
     }

@@ -1,7 +1,7 @@
 //! Pictures of records of SMB 2.1 leases: sequence pictures as SVG, with a mark for each fact.
 //!
-//! [`picture_of`] lays the facts of a record out, and [`push_picture`] writes the picture as text. Time runs down. Each client
-//! has a lane, and so has the server, in the middle.
+//! [`picture_of`] lays the facts of a record out, with the requests of its run where these are known, and [`push_picture`]
+//! writes the picture as text. Time runs down. Each client has a lane, and so has the server, in the middle.
 #![tactic(auto)]
 
 mod captions;
@@ -11,12 +11,15 @@ mod lanes;
 mod layout;
 mod marks;
 mod picture;
+mod requests;
+mod rows;
 mod shape;
 mod svg;
 
 pub use fault::PictureFault;
-pub use layout::{MOST_FACTS, picture_of};
+pub use layout::{MOST_FACTS, MOST_REQUESTS, picture_of};
 pub use lease_facts::{ClientFact, FactKind};
-pub use picture::{Caption, Mark, Picture};
+pub use lease_world::Passage;
+pub use picture::{Caption, Mark, Picture, RequestMark};
 pub use shape::{Look, Point, Shape, Size};
 pub use svg::push_picture;

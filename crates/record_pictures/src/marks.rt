@@ -1,5 +1,11 @@
+ghost use Rattle.std.specs.Prelude.{◌≡◌};
+ghost use Rattle.lease_state.specs.State.{state_of};
+ghost use Rattle.record_pictures.specs.Labels.{look_of};
+ghost use Rattle.record_pictures.specs.Places.{caching};
+
 use crate::labels::label_of;
-use crate::lanes::{Lanes, above, at, beside, down, line_of, spot, words_at};
+use crate::lanes::{Lanes, above, beside, down, line_of, spot, words_at};
+use crate::rows::Rows;
 use crate::shape::{Look, Point, Shape, Size};
 use lease_facts::Fact;
 use lease_reasons::Messages;
@@ -21,7 +27,9 @@ fn lane_of(lanes: &Lanes, fact: &Fact) -> u16 {
     }
 }
 
-fn look_of(fact: &Fact) -> Look {
+fn look_of(fact: &Fact) -> Look
+    ensures { result ≡ look_of fact.now }
+{
     match fact {
         Fact::Dropped(_) | Fact::Expired(_, _) => Look::Loss,
         Fact::Changed(_, _, _, _) => Look::Accepted,
@@ -39,13 +47,14 @@ fn ends_belief(fact: &Fact, client: ClientNo, file: FileNo) -> bool {
     }
 }
 
-// The row in which a belief ends that begins before these facts.
-fn belief_end(later: &[Fact], row: u16, client: ClientNo, file: FileNo) -> u16 {
-    let found = later
-        .iter()
-        .position(|fact| ends_belief(fact, client, file));
-    let rows = at(found.unwrap_or(later.len()));
-    row.saturating_add(1).saturating_add(rows)
+// The index of the fact that ends the time of a belief, of those from this index on, or how many facts there are.
+fn belief_end(facts: &[Fact], from: usize, client: ClientNo, file: FileNo) -> usize {
+    for (index, fact) in facts.iter().enumerate() {
+        if index >= from && ends_belief(fact, client, file) {
+            return index;
+        }
+    }
+    facts.len()
 }
 
 // The bar of a belief, to the left of the client's line. Files beyond the eighth share bars with the first ones.
@@ -66,7 +75,9 @@ fn bar(lane: u16, rows: (u16, u16), file: FileNo, look: Look) -> Shape {
     }
 }
 
-fn caching(state: LeaseState) -> Option<Look> {
+fn caching(state: LeaseState) -> Option<Look>
+    ensures { result ≡ caching (state_of state) }
+{
     if state.caches_writes() {
         Some(Look::WriteCaching)
     } else if state.caches_reads() || state.caches_handles() {
@@ -81,19 +92,21 @@ fn caching(state: LeaseState) -> Option<Look> {
 fn push_message(
     alloc: Global,
     shapes: &mut Vec<Shape>,
-    lanes: &Lanes,
-    facts: &[Fact],
+    sheet: Sheet<'_>,
+    index: usize,
     client: ClientNo,
-    row: u16,
 ) -> Result<(), Memory> {
-    let messages = Messages::of(alloc, facts, client)?;
+    let (before, _) = sheet
+        .facts
+        .split_at(sheet.facts.len().min(index.saturating_add(1)));
+    let messages = Messages::of(alloc, before, client)?;
     let Some(sent) = messages.last_sent() else {
         return Ok(());
     };
-    let (server, lane) = (lanes.server(), lanes.client(client));
+    let (server, lane) = (sheet.lanes.server(), sheet.lanes.client(client));
     let x = beside(server, lane);
-    let from = spot(server, at(sent.saturating_sub(1)));
-    let to = above(lane, row);
+    let from = spot(server, sheet.rows.of_fact(sent.saturating_sub(1)));
+    let to = above(lane, sheet.rows.of_fact(index));
     let turn = Point { x, y: to.y };
     shapes.push(Shape::Line {
         from: Point { x, y: from.y },
@@ -112,18 +125,16 @@ fn push_message(
 fn push_reach(
     alloc: Global,
     shapes: &mut Vec<Shape>,
-    lanes: &Lanes,
-    facts: &[Fact],
-    row: u16,
+    sheet: Sheet<'_>,
+    index: usize,
 ) -> Result<(), Memory> {
-    let index = usize::from(row);
-    let (before, later) = facts.split_at(facts.len().min(index.saturating_add(1)));
-    match facts.get(index) {
-        Some(Fact::Took(client)) => push_message(alloc, shapes, lanes, before, *client, row),
+    match sheet.facts.get(index) {
+        Some(Fact::Took(client)) => push_message(alloc, shapes, sheet, index, *client),
         Some(Fact::Believes(client, file, state)) => {
-            let end = belief_end(later, row, *client, *file);
+            let end = belief_end(sheet.facts, index.saturating_add(1), *client, *file);
+            let rows = (sheet.rows.of_fact(index), sheet.rows.of_fact(end));
             if let Some(look) = caching(*state) {
-                shapes.push(bar(lanes.client(*client), (row, end), *file, look))?;
+                shapes.push(bar(sheet.lanes.client(*client), rows, *file, look))?;
             }
             Ok(())
         }
@@ -132,8 +143,7 @@ fn push_reach(
 }
 
 // The number of a fact, at the left of its row.
-fn number(alloc: Global, row: u16) -> Result<Shape, AllocError> {
-    let place = u32::from(row).saturating_add(1);
+fn number(alloc: Global, row: u16, place: usize) -> Result<Shape, AllocError> {
     Ok(Shape::Words {
         at: Point {
             x: 8,
@@ -159,29 +169,37 @@ fn band(lanes: &Lanes, row: u16) -> Shape {
     }
 }
 
-/// The shapes of the mark of the fact in a row. `message` is the one that the fact speaks of, where that is known.
+/// What a picture of facts is made of.
+#[derive(Clone, Copy)]
+pub struct Sheet<'a> {
+    pub lanes: &'a Lanes,
+    pub rows: &'a Rows,
+    pub facts: &'a [Fact],
+}
+
+/// The shapes of the mark of the fact at an index. `message` is the one that the fact speaks of, where that is known.
 ///
 /// # Errors
 ///
 /// `Memory` where there is none left.
 pub fn shapes_of(
     alloc: Global,
-    lanes: &Lanes,
-    facts: &[Fact],
-    row: u16,
+    sheet: Sheet<'_>,
+    index: usize,
     is_bad: bool,
     message: Option<&Reply>,
 ) -> Result<Vec<Shape>, Memory> {
     let mut shapes = Vec::new(alloc);
-    let Some(fact) = facts.get(usize::from(row)) else {
+    let Some(fact) = sheet.facts.get(index) else {
         return Ok(shapes);
     };
+    let row = sheet.rows.of_fact(index);
     if is_bad {
-        shapes.push(band(lanes, row))?;
+        shapes.push(band(sheet.lanes, row))?;
     }
-    shapes.push(number(alloc, row)?)?;
-    push_reach(alloc, &mut shapes, lanes, facts, row)?;
-    let lane = lane_of(lanes, fact);
+    shapes.push(number(alloc, row, index.saturating_add(1))?)?;
+    push_reach(alloc, &mut shapes, sheet, index)?;
+    let lane = lane_of(sheet.lanes, fact);
     shapes.push(Shape::Circle {
         at: spot(lane, row),
         look: look_of(fact),

@@ -20,6 +20,16 @@ pub struct Mark {
     pub shapes: Vec<Shape>,
 }
 
+/// What stands for a request of a client.
+#[derive(Debug, Drop, PartialEq, Eq)]
+pub struct RequestMark {
+    /// The place of the request among those that were sent, from 1.
+    pub place: usize,
+    /// Who sends it, and the request as a schedule's `raw` line has it.
+    pub words: String,
+    pub shapes: Vec<Shape>,
+}
+
 /// A picture of a record.
 #[derive(Debug, Drop, PartialEq, Eq)]
 pub struct Picture {
@@ -28,6 +38,8 @@ pub struct Picture {
     pub lanes: Vec<Shape>,
     /// A mark for each fact, in their order.
     pub marks: Vec<Mark>,
+    /// A mark for each request, in their order.
+    pub requests: Vec<RequestMark>,
     /// What is said of the record below the marks, in lines.
     pub notes: String,
     /// How far down the notes begin, in pixels.

@@ -27,9 +27,9 @@ pub enum Look {
     Number,
     /// What a fact says, in a few words.
     Label,
-    /// The way of a message down the server's lane, from where it was sent to where it is taken.
+    /// The way of a message down the lane of its sender, from where it was sent to where it is taken.
     Way,
-    /// A message, from the server to the client that takes it.
+    /// A message, from its sender to the one that takes it.
     Message,
     /// The time of a belief that lets a client cache writes.
     WriteCaching,
@@ -45,6 +45,8 @@ pub enum Look {
     CachedRead,
     /// A request that the client's machine didn't make.
     Stray,
+    /// A client sends a request.
+    Asking,
 }
 
 /// A part of a picture.

@@ -3,10 +3,11 @@ ghost use Rattle.std.specs.List.{flat_map};
 ghost use Rattle.std.specs.String.{string_bytes};
 ghost use Rattle.lease_texts.specs.Pieces.{lines_of};
 ghost use Rattle.record_pictures.specs.Svg.{escaped, look_word, line_text, rectangle_text, circle_text, words_begin, shape_text};
-ghost use Rattle.record_pictures.specs.Svg.{badness, caption_begin, caption_text, mark_text, note_begin, note_text, notes_text};
-ghost use Rattle.record_pictures.specs.Svg.{size_text, style_text, picture_text};
+ghost use Rattle.record_pictures.specs.Svg.{badness, body_text, caption_begin, caption_text, mark_text, note_begin};
+ghost use Rattle.record_pictures.specs.Svg.{note_text, notes_text};
+ghost use Rattle.record_pictures.specs.Svg.{size_text, style_text, picture_text, request_begin, request_text};
 
-use crate::picture::{Caption, Mark, Picture};
+use crate::picture::{Caption, Mark, Picture, RequestMark};
 use crate::shape::{Look, Point, Shape, Size};
 use lease_texts::first_line;
 use std::alloc::AllocError;
@@ -56,6 +57,7 @@ fn look_word(look: Look) -> &'static str
         Look::Accepted => "accepted",
         Look::CachedRead => "cachedread",
         Look::Stray => "stray",
+        Look::Asking => "asking",
     }
 }
 
@@ -130,6 +132,15 @@ fn push_shapes(text: &mut String, shapes: &[Shape]) -> Result<(), AllocError>
     Ok(())
 }
 
+// What a mark has after its title.
+#[tactic(auto, unfolding(crate::specs::Svg::body_text))]
+fn push_body(text: &mut String, shapes: &[Shape]) -> Result<(), AllocError>
+    ensures { OnOk result (string_bytes text.new ≡ string_bytes text.old ++ body_text shapes.now) }
+{
+    push_shapes(text, shapes)?;
+    text.push_str("</g>\n")
+}
+
 fn badness(is_bad: bool) -> &'static str
     ensures { result.now ≡ badness is_bad }
 {
@@ -163,8 +174,7 @@ fn push_mark(text: &mut String, mark: &Mark) -> Result<(), AllocError>
     ensures { OnOk result (string_bytes text.new ≡ string_bytes text.old ++ mark_text mark.now) }
 {
     push_caption(text, &mark.caption)?;
-    push_shapes(text, mark.shapes.as_slice())?;
-    text.push_str("</g>\n")
+    push_body(text, mark.shapes.as_slice())
 }
 
 fn push_marks(text: &mut String, marks: &[Mark]) -> Result<(), AllocError>
@@ -172,6 +182,32 @@ fn push_marks(text: &mut String, marks: &[Mark]) -> Result<(), AllocError>
 {
     for mark in marks {
         push_mark(text, mark)?;
+    }
+    Ok(())
+}
+
+#[tactic(auto, unfolding(crate::specs::Svg::request_begin))]
+fn push_request_begin(text: &mut String, place: usize) -> Result<(), AllocError>
+    ensures { OnOk result (string_bytes text.new ≡ string_bytes text.old ++ request_begin place) }
+{
+    write!(text, "<g id='request-{place}' class='request'><title>")
+}
+
+#[tactic(auto, unfolding(crate::specs::Svg::request_text))]
+fn push_request_mark(text: &mut String, mark: &RequestMark) -> Result<(), AllocError>
+    ensures { OnOk result (string_bytes text.new ≡ string_bytes text.old ++ request_text mark.now) }
+{
+    push_request_begin(text, mark.place)?;
+    push_escaped(text, mark.words.as_bytes())?;
+    text.push_str("</title>\n")?;
+    push_body(text, mark.shapes.as_slice())
+}
+
+fn push_request_marks(text: &mut String, marks: &[RequestMark]) -> Result<(), AllocError>
+    ensures { OnOk result (string_bytes text.new ≡ string_bytes text.old ++ flat_map request_text marks.now) }
+{
+    for mark in marks {
+        push_request_mark(text, mark)?;
     }
     Ok(())
 }
@@ -246,7 +282,9 @@ fn push_style(text: &mut String) -> Result<(), AllocError>
     text.push_str(
         ".way, .message {stroke: #1565c0} .message {marker-end: url(#arrow)} .caching {fill: #a5d6a7} .writecaching {fill: #ffb74d}\n",
     )?;
-    text.push_str(".event {fill: #333} .accepted {fill: #6a1b9a} .cachedread {fill: #2e7d32}\n")?;
+    text.push_str(
+        ".event {fill: #333} .accepted {fill: #6a1b9a} .cachedread {fill: #2e7d32} .asking {fill: #1565c0}\n",
+    )?;
     text.push_str(".loss, .stray {fill: #fff; stroke: #b00020; stroke-width: 2}</style>\n")?;
     text.push_str(
         "<defs><marker id='arrow' markerWidth='9' markerHeight='8' refX='13' refY='4' orient='auto'>\n",
@@ -256,7 +294,7 @@ fn push_style(text: &mut String) -> Result<(), AllocError>
     )
 }
 
-/// Adds a picture as an SVG document (profile): a group for each mark, with its fact as title.
+/// Adds a picture as an SVG document (profile): a group for each mark, with its request or its fact as title.
 pub fn push_picture(text: &mut String, picture: &Picture) -> Result<(), AllocError>
     ensures { OnOk result (string_bytes text.new ≡ string_bytes text.old ++ picture_text picture.now) }
 {
@@ -264,6 +302,7 @@ pub fn push_picture(text: &mut String, picture: &Picture) -> Result<(), AllocErr
     push_style(text)?;
     push_shapes(text, picture.lanes.as_slice())?;
     push_marks(text, picture.marks.as_slice())?;
+    push_request_marks(text, picture.requests.as_slice())?;
     push_notes(text, picture)?;
     text.push_str("</svg>\n")
 }

@@ -18,7 +18,8 @@ returns-then-is_empty-clause-answered g c =
     let old = g.I.Read.remaining c.loop-number.input in
     let new = g.I.Read.remaining c.next_bytes.new.input in
     ends (g.I.Read.remaining c.args.input.now) old new (machines_of c.args.machines) _ c.loop-number.number
-    (g.O.Write.contents c.args.out.now) _ (g.F.Write.contents c.args.faults.now) _ c.as_slice-text.result.now _ c.loop-number.invariant
+    (g.O.Write.contents c.args.out.now) _ (g.F.Write.contents c.args.faults.now) _ c.as_slice-text.result.now _
+    c.loop-number.invariant
     (subst (λ bytes. GivesLine old new bytes) (sym c.as_slice-text.ensures.value) c.in-Ok.ensures.given)
     (none_left c.as_slice-text.result.now (sym c.is_empty.ensures ∙ c.if-is_empty.true))
 
@@ -27,7 +28,8 @@ returns-in-Err-answer_line-clause-answered g c =
     let old = g.I.Read.remaining c.loop-number.input in
     let new = g.I.Read.remaining c.next_bytes.new.input in
     breaks_off _ (g.I.Read.remaining c.args.input.now) old new (machines_of c.args.machines) _ c.loop-number.number
-    (g.O.Write.contents c.args.out.now) _ _ (g.F.Write.contents c.args.faults.now) _ _ c.as_slice-text.result.now c.first_line.result.0.now c.first_line.result.1.now
+    (g.O.Write.contents c.args.out.now) _ _ (g.F.Write.contents c.args.faults.now) _ _ c.as_slice-text.result.now
+    c.first_line.result.0.now c.first_line.result.1.now
     c.in-Err-answer_line.failure c.loop-number.invariant
     (subst (λ bytes. GivesLine old new bytes) (sym c.as_slice-text.ensures.value) c.in-Ok.ensures.given)
     (some_left c.as_slice-text.result.now (sym c.is_empty.ensures ∙ c.if-is_empty.false)) c.first_line.ensures.lines
@@ -38,7 +40,8 @@ loop-number-preserved g c =
     let old = g.I.Read.remaining c.loop-number.input in
     let new = g.I.Read.remaining c.next_bytes.new.input in
     goes_on (g.I.Read.remaining c.args.input.now) old new (machines_of c.args.machines) _ _ c.loop-number.number
-    (g.O.Write.contents c.args.out.now) _ _ (g.F.Write.contents c.args.faults.now) _ _ c.as_slice-text.result.now c.first_line.result.0.now c.first_line.result.1.now
+    (g.O.Write.contents c.args.out.now) _ _ (g.F.Write.contents c.args.faults.now) _ _ c.as_slice-text.result.now
+    c.first_line.result.0.now c.first_line.result.1.now
     c.loop-number.invariant (subst (λ bytes. GivesLine old new bytes) (sym c.as_slice-text.ensures.value) c.in-Ok.ensures.given)
     (some_left c.as_slice-text.result.now (sym c.is_empty.ensures ∙ c.if-is_empty.false)) c.first_line.ensures.lines
     c.in-Ok-answer_line.ensures.answered

@@ -22,6 +22,7 @@ returns-in-Ok-clause-drawn c = record {
   marks = c.in-Ok.ensures.marks
       ∙ ap₂ (λ (bad : List ℕ) (facts : List Fact). captions bad 1 facts) (c.as_slice.ensures.value ∙ c.in_ok-bad.ensures)
       c.as_slice-facts.ensures.value;
+  requests = c.in-Ok.ensures.requests;
   notes = c.in-Ok.ensures.notes ∙ c.in_ok-notes.ensures;
   text_is = c.in_ok-text_of-in-Ok.ensures;
 }

@@ -11,6 +11,7 @@ returns c =
     let number = decimal c.number_of-number.result in
     rw (sym c.number_of-number.ensures)
     (subst (λ (t : List ℕ). OnOk c.push_str.result (string_bytes c.push_str.new.self ≡ t))
-    (ap (λ (t : List ℕ). t ++ 10 ∷ []) (c.in_ok-push_obstacle.ensures ∙ ap (λ (t : List ℕ). t ++ words) c.in_ok-write.ensures.bytes)
+    (ap (λ (t : List ℕ). t ++ 10 ∷ [])
+    (c.in_ok-push_obstacle.ensures ∙ ap (λ (t : List ℕ). t ++ words) c.in_ok-write.ensures.bytes)
     ∙ said_in_parts (string_bytes c.args.text.now) (codes "# line ") number (codes " ") words (10 ∷ []))
     (on_ok c.push_str.result (string_bytes c.push_str.new.self) _ _ c.push_str.ensures.bytes))

@@ -23,7 +23,7 @@ loop-count-preserved g c =
     gathered_more first (g.O.Write.contents c.loop-count.out) c.loop-count.gathered c.push.new.self told lines
     c.loop-count.invariant.1 (subst (λ (ls : List ℕ). string_bytes c.push.new.self.text
     ≡ string_bytes c.loop-count.gathered.text ++ lines_of_fact (idle_line ls) n fact left idle) c.as_slice-lines.ensures.value
-    c.in-Ok.ensures.lines) c.push.ensures.begun in
+    c.in-Ok.ensures.lines) in
     let inside : n < length facts = subst (λ (fs : List Fact). n < length fs) c.as_slice-fact-items.ensures.value
     c.loop-count-test.true in
     let this : fact ≡ get_or facts n fact =
@@ -59,7 +59,7 @@ returns-in-Err-write_block g c = λ rest.
     gathered_more first (g.O.Write.contents c.loop-count.out) c.loop-count.gathered c.push.new.self told lines
     c.loop-count.invariant.1 (subst (λ (ls : List ℕ). string_bytes c.push.new.self.text
     ≡ string_bytes c.loop-count.gathered.text ++ lines_of_fact (idle_line ls) n fact left idle) c.as_slice-lines.ensures.value
-    c.in-Ok.ensures.lines) c.push.ensures.begun in
+    c.in-Ok.ensures.lines) in
     let inside : n < length facts = subst (λ (fs : List Fact). n < length fs) c.as_slice-fact-items.ensures.value
     c.loop-count-test.true in
     let this : fact ≡ get_or facts n fact =

@@ -19,7 +19,7 @@ returns-in-Ok-push_end-clause-failed g c =
     sym (append_assoc told last end) ∙ ap (λ (t : List ℕ). t ++ end) c.in-Ok.ensures.2 in
     let has : HasGathered first current c.push_end.new.self (told ++ (last ++ end)) =
     gathered_more first current c.write_facts.new.gathered c.push_end.new.self told (last ++ end) c.in-Ok.ensures.1
-    c.in-Ok-push_end.ensures.line c.push_end.ensures.begun in
+    c.in-Ok-push_end.ensures.line in
     subst (λ (t : List ℕ). IfErr c.print_text.result (λ why. IsUnwritten why first new t)) whole
     (unwritten_whole first current new c.push_end.new.self (told ++ (last ++ end))
     c.print_text.result has (subst (λ (t : List ℕ). IfErr c.print_text.result (λ why. (why ≡ failure.Output)

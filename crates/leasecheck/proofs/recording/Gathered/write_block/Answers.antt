@@ -1,4 +1,4 @@
-use Rattle.lease_laws.proofs.Words.{Appends, List, ℕ, refl, subst}
+use Rattle.lease_laws.proofs.Words.{Appends, List, ℕ, subst}
 use Rattle.leasecheck.proofs.Recorded.{wrote_block}
 use Rattle.leasecheck.proofs.recording.Gathered.write_block.Goals as goal
 
@@ -7,4 +7,4 @@ returns-clause-written g c = λ first told has.
     let old = g.O.Write.contents c.args.out.now in
     let new = g.O.Write.contents c.put.new.out in
     wrote_block first old new c.args.self.now _ told has
-    (subst (λ (t : List ℕ). Appends old new t) c.as_bytes.ensures.value c.in_ok-put.ensures.put) c.clear.ensures.bytes refl
+    (subst (λ (t : List ℕ). Appends old new t) c.as_bytes.ensures.value c.in_ok-put.ensures.put) c.clear.ensures.bytes
