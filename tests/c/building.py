@@ -18,7 +18,7 @@ LEASECHECK = TOP / "out/c/leasecheck"
 STRICT = ("-Wall", "-Wextra", "-pedantic", "-Werror")
 CHECKED = ("-g", "-O1", "-fsanitize=address,undefined", "-fno-sanitize-recover=all")
 # The linker sends the library's allocations to tests/c/refuse_calls.c.
-WRAPPED = ("-Wl,--wrap=malloc", "-Wl,--wrap=realloc")
+WRAPPED = ("-Wl,--wrap=malloc", "-Wl,--wrap=realloc", "-Wl,--wrap=free")
 
 
 @dataclass(frozen=True)

@@ -34,14 +34,18 @@ def test_the_example_without_a_schedule(shared: Path, words: list[str]) -> None:
                                       for it in [EXAMPLE, *SCHEDULES]])
 def test_each_allocation_refused(play_with_refusals: Path, tmp_path: Path, schedule: Path) -> None:
     """Each is refused alone, and with all that follow. The record is whole; or a machine is lost, which the program is told and
-    at which the record ends; or there is no memory at a second try either."""
+    at which the record ends; or there is no memory at a second try either. Whatever happens, all memory is freed, that of a lost
+    machine too."""
     whole, note, ends = replayed(schedule), tmp_path / "calls", Counter[int]()
     assert run(play_with_refusals, schedule, variables={"REFUSED_NOTE": str(note)}) == Ended(0, whole)
-    for number in range(1, int(note.read_text(encoding="ascii")) + 1):
+    calls, held = map(int, note.read_text(encoding="ascii").split())
+    assert calls and not held
+    for number in range(1, calls + 1):
         for last in (number, ALL_THAT_FOLLOW):
             variables = {"REFUSED_FROM": str(number), "REFUSED_TO": str(last), "REFUSED_NOTE": str(note)}
             done = run(play_with_refusals, schedule, variables=variables)
             ends[done.status] += 1
+            assert note.read_text(encoding="ascii").split()[1] == "0", (number, last)
             if done.status == 0:
                 assert done.output == whole, (number, last)
             else:

@@ -1,9 +1,10 @@
 """A picture that `leasecheck draw` printed, read with an XML reader, and what has to hold of it.
 
 Each fact of the record has one mark, in order, with its kind and its words. Those that `judge --explain` names are marked as bad,
-and what it says stands below. Arrows lead from where a message was sent to where it is taken, bars reach from a belief to the
-next one, and a client's line is solid where it is connected. No arrow crosses words: these stand to the right of a lane's line,
-ten pixels from it, and between the edges of their row.
+and what it says stands below. Each request has a mark too, above the facts that came later. Arrows lead from where a message or
+a request was sent to where it is taken, bars reach from a belief to the next one, and a client's line is solid where it is
+connected. No arrow crosses words: these stand to the right of a lane's line, ten pixels from it, and between the edges of their
+row.
 """
 from __future__ import annotations
 
@@ -11,7 +12,9 @@ import re
 import xml.etree.ElementTree as xml
 from typing import Optional, Sequence
 
+from tests.program.asking import Asked
 from tests.program.explaining import Fact
+from tests.program.labels import fact_label, look_of, request_label
 
 SVG = "{http://www.w3.org/2000/svg}"
 ELEMENTS = {
@@ -29,6 +32,7 @@ ELEMENTS = {
         "g",
         "title",
          "circle")}
+TOP = 64
 ROW = 24
 Point = tuple[int, int]
 
@@ -42,6 +46,17 @@ def middle(mark: xml.Element) -> Point:
     return number(circle, "cx"), number(circle, "cy")
 
 
+def look(mark: xml.Element) -> Optional[str]:
+    [circle] = mark.findall(f"{SVG}circle")
+    return circle.get("class")
+
+
+def label(mark: xml.Element) -> tuple[Point, Optional[str]]:
+    """Where it begins, and the words."""
+    [words] = [it for it in mark.findall(f"{SVG}text") if it.get("class") == "label"]
+    return (number(words, "x"), number(words, "y")), words.text
+
+
 def ends(line: xml.Element) -> tuple[Point, Point]:
     return (number(line, "x1"), number(line, "y1")), (number(line, "x2"), number(line, "y2"))
 
@@ -50,11 +65,22 @@ def on_server(kind: str) -> bool:
     return kind in ("start", "expired", "sent", "opened", "changed")
 
 
+def edge(row: int) -> int:
+    """How far down a row begins."""
+    return TOP + ROW * row
+
+
 class Picture:
-    def __init__(self, text: str, facts: Sequence[Fact]) -> None:
+    def __init__(self, text: str, facts: Sequence[Fact], messages: Sequence[str] = (), asked: Sequence[Asked] = ()) -> None:
+        """`messages` are those of the facts `sent` and `took`, in their order, where they are known."""
         self.root = xml.fromstring(text)
         self.facts = facts
-        self.marks = self.root.findall(f"{SVG}g")
+        self.messages = messages
+        self.asked = asked
+        groups = self.root.findall(f"{SVG}g")
+        self.marks = [it for it in groups if it.get("class") != "request"]
+        self.requests = [it for it in groups if it.get("class") == "request"]
+        self.rows = [index + sum(it.facts <= index for it in asked) for index in range(len(facts))] + [len(facts) + len(asked)]
         self.clients = sorted({int(fact.client) for fact in facts if fact.client})
         left = (len(self.clients) + 1) // 2
         order: list[Optional[int]] = [*self.clients[:left], None, *self.clients[left:]]
@@ -76,7 +102,46 @@ class Picture:
             assert mark.findtext(f"{SVG}title") == fact.in_words(), place
             x, y = middle(mark)
             assert x == self.lanes[None if on_server(fact.kind) else fact.client], place
-            assert place == 1 or y == middle(self.marks[place - 2])[1] + ROW, place
+            assert y == edge(self.rows[place - 1]) + ROW // 2, place
+
+    def look_at_labels(self) -> None:
+        """Each label is whole, and so are the numbers of facts on the left."""
+        messages = iter(self.messages)
+        for place, (mark, fact) in enumerate(zip(self.marks, self.facts), 1):
+            message = next(messages, None) if fact.kind in ("sent", "took") else None
+            x, y = middle(mark)
+            assert label(mark) == ((x + 10, y + 4), fact_label(fact, message)), place
+            assert look(mark) == look_of(fact.kind), place
+            [count] = [it for it in mark.findall(f"{SVG}text") if it.get("class") == "number"]
+            assert (count.text, number(count, "x"), number(count, "y")) == (str(place), 8, y + 4), place
+        assert next(messages, None) is None
+
+    def look_at_size(self) -> None:
+        """The picture holds all lanes, rows and notes."""
+        width = max(60 + 300 * (len(self.clients) + 1) + 60, 1020)
+        height = edge(self.rows[-1]) + 48 + 18 * len(self.notes()) + 24
+        assert (number(self.root, "width"), number(self.root, "height")) == (width, height)
+        assert self.root.get("viewBox") == f"0 0 {width} {height}"
+        assert [self.lanes[it] for it in self.lanes] == [150 + 300 * lane for lane in range(len(self.lanes))]
+        for mark, fact in zip(self.marks, self.facts):
+            bands = [it for it in mark.findall(f"{SVG}rect") if it.get("class") == "row"]
+            assert len(bands) == ("bad" in (mark.get("class") or "").split()), fact
+            lanes = 60 + 300 * (len(self.clients) + 1) + 60
+            assert all((number(it, "x"), number(it, "width"), number(it, "height")) == (0, lanes, ROW) for it in bands), fact
+
+    def look_at_requests(self) -> None:
+        assert len(self.requests) == len(self.asked), (len(self.requests), len(self.asked))
+        for place, (mark, asked) in enumerate(zip(self.requests, self.asked), 1):
+            assert mark.get("id") == f"request-{place}", place
+            assert mark.findtext(f"{SVG}title") == f"client {asked.client} sends: {asked.words}", place
+            lane, server = self.lanes[str(asked.client)], self.lanes[None]
+            row = asked.facts + place - 1
+            assert middle(mark) == (lane, edge(row) + ROW // 2), place
+            x, last = lane + 5 if server > lane else lane - 5, edge(self.rows[-1] if asked.end is None else asked.end)
+            way = [((x, edge(row) + ROW // 2), (x, last))]
+            assert list(map(ends, mark.findall(f"{SVG}line"))) == way + [((x, last), (server, last))] * asked.is_taken, place
+            assert look(mark) == "asking", place
+            assert label(mark) == ((lane + 10, edge(row) + 16), request_label(asked.words)), place
 
     def look_at_arrows(self) -> None:
         sent: dict[str, list[int]] = {}
@@ -105,15 +170,15 @@ class Picture:
             later = [at for at, other in enumerate(self.facts[place:], place + 1)
                      if other.kind == "believes" and other.words[1:3] == fact.words[1:3]]
             begin = middle(self.marks[place - 1])[1]
-            end = begin + ROW * ((later[0] if later else len(self.facts) + 1) - place)
+            end = edge(self.rows[later[0] - 1 if later else len(self.facts)]) + ROW // 2
             [bar] = bars
             assert bar.get("class") == ("writecaching" if "W" in fact.words[3] else "caching"), place
             assert (number(bar, "y"), number(bar, "height")) == (begin, end - begin), place
-            assert number(bar, "x") < self.lanes[fact.client], place
+            column = 1 + (int(fact.words[2]) - 1) % 8
+            assert (number(bar, "x"), number(bar, "width")) == (self.lanes[fact.client] - 10 * column, 8), place
 
     def look_at_connections(self) -> None:
-        rows = [middle(it)[1] for it in self.marks]
-        rows.append(rows[-1] + ROW if rows else 0)
+        rows = [edge(it) + ROW // 2 for it in self.rows]
         for client in map(str, self.clients):
             expected, since = [], None
             for place, fact in enumerate(self.facts):
@@ -135,6 +200,9 @@ class Picture:
         lines = {fact.line: place for place, fact in enumerate(self.facts, 1)}
         assert self.notes() == explained.splitlines(), (self.notes(), explained)
         self.look_at_marks([lines[int(it)] for it in re.findall(r"^line ([0-9]+): ", explained, re.M)])
+        self.look_at_labels()
+        self.look_at_size()
+        self.look_at_requests()
         self.look_at_arrows()
         self.look_at_beliefs()
         self.look_at_connections()

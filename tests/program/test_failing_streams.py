@@ -1,4 +1,5 @@
-"""Each call of read and write fails in turn, each later one with it; calls that move one byte; and records of several blocks."""
+"""Each call of read and write fails in turn, each later one with it, or is interrupted once; calls that move one byte; and
+records of several blocks."""
 from __future__ import annotations
 
 import subprocess
@@ -20,21 +21,29 @@ WRITTEN = b"fault output\n"
 
 def on_file(command: str, path: Path) -> tuple[list[str], tuple[bytes, ...]]:
     """A command that reads a file, and how it may fail."""
-    return [command, str(path)], (unread(path).faults, WRITTEN)
+    return [*command.split(), str(path)], (unread(path).faults, WRITTEN)
 
 
 SHORT: dict[str, tuple[list[str], tuple[bytes, ...]]] = {
     "help": (["--help"], (b"",)), "show": (["show", "ask", ""], (WRITTEN,)), "ack": (["ack", BREAK + "aa"], (WRITTEN,)),
     **{f"replay {name}": on_file("replay", TESTS / "schedules" / name) for name in ("break_answered", "raw_requests")},
-    **{f"judge {name}": on_file("judge", TESTS / "records" / name)
+    **{f"{command} {name}": on_file(command, TESTS / "records" / name) for command in ("judge", "judge --explain", "draw")
        for name in ("every_fact_safe", "two_caches_one_writes", "taken_without_a_message")},
+    "draw break_answered": on_file("draw", TESTS / "schedules" / "break_answered"),
+    "replay --explain raw_requests": on_file("replay --explain", TESTS / "schedules" / "raw_requests"),
+}
+# Machines, and lines that they answer, one of them with a reason on standard error.
+MACHINES = {
+    "client": (b"files 2\nclient 1 11111111-1111-1111-1111-111111111111\n"
+               b"connect 1\nopen 1 1 rw rw RWH durable\nopen 1\nnotice 1\n"),
+    "server": b"file 6162\njoin 1\nreceive 1 create 1 rw rw -\nreceive 1\nreceive 1 read 1\n",
 }
 
 
 @pytest.mark.parametrize("name", SHORT)
 def test_each_call_fails(name: str) -> None:
     words, faults = SHORT[name]
-    whole, env = answered(words), {"LD_PRELOAD": shim("streams")}
+    whole, env = run(words), {"LD_PRELOAD": shim("streams")}
     for call in range(1, 100):
         ended = run(words, env={**env, "FAILING_CALL": str(call)})
         if ended == whole:
@@ -43,13 +52,38 @@ def test_each_call_fails(name: str) -> None:
     pytest.fail("it never ends as it does where no call fails")
 
 
-@pytest.mark.long
 @pytest.mark.parametrize("name", SHORT)
+def test_each_call_is_interrupted(name: str) -> None:
+    """It is made again, and nothing is lost."""
+    words, _ = SHORT[name]
+    whole, env = run(words), {"LD_PRELOAD": shim("streams")}
+    assert [call for call in range(1, 20) if run(words, env={**env, "INTERRUPTED_CALL": str(call)}) != whole] == []
+
+
+@pytest.mark.parametrize("name", MACHINES)
+def test_calls_of_machines(name: str) -> None:
+    """What a machine answered before a call failed has gone out, and the fault names which call it was."""
+    given, env = MACHINES[name], {"LD_PRELOAD": shim("streams")}
+    whole, kinds = run([name], given), set()
+    assert whole.status == 0 and whole.out
+    for call in range(1, 100):
+        assert run([name], given, {**env, "INTERRUPTED_CALL": str(call)}) == whole, call
+        ended = run([name], given, {**env, "FAILING_CALL": str(call)})
+        if ended == whole:
+            break
+        fault = [it for it in ended.faults.splitlines(keepends=True) if it.startswith(b"fault ")]
+        assert ended.status == 1 and whole.out.startswith(ended.out) and fault in ([b"fault file\n"], [WRITTEN]), (call, ended)
+        kinds.add(fault[0])
+    assert kinds == {b"fault file\n", WRITTEN}
+
+
+@pytest.mark.long
+@pytest.mark.parametrize("name", [it for it in SHORT if not it.startswith("draw")])
 def test_each_call_of_single_bytes_fails(name: str) -> None:
     """Of what is written byte by byte a part has gone out."""
     words, faults = SHORT[name]
-    whole, env = answered(words), {"LD_PRELOAD": shim("streams"), "ONE_BYTE": "1"}
-    assert answered(words, env=env) == whole
+    whole, env = run(words), {"LD_PRELOAD": shim("streams"), "ONE_BYTE": "1"}
+    assert run(words, env=env) == whole
     for call in range(1, 20_000):
         ended = run(words, env={**env, "FAILING_CALL": str(call)})
         if ended == whole:

@@ -9,18 +9,16 @@ from pathlib import Path
 import pytest
 
 from tests.paths import EXAMPLE, RECORDS, RUNS, SCHEDULES, TOP, files_of, name_of
-from tests.program.drawn import SVG, Picture
+from tests.program.asking import requests_of
+from tests.program.drawn import Picture, label
 from tests.program.explaining import damaged, facts_of
 from tests.program.ran import Ended, run
+from tests.program.straying import StrayingSchedule
 
 MOST = 5000
 PICTURES = {"shared.svg": "examples/shared.txt", "lease_outlives_its_open.svg": "drive/found/lease_outlives_its_open.record"}
 FOUND = TOP / "drive" / "found"
 ALL_RECORDS = [*RECORDS, *RUNS, *files_of(FOUND, "*.record")]
-LABELS = {"created": " opened", "createfailed": "not opened", "readdone": " read", "readfailed": "not read",
-          "writedone": "done",
-          "writefailed": "failed", "closed": "closed", "closefailed": "not closed", "break": "break ", "ackdone": "accepted",
-          "ackfailed": "refused"}
 
 
 def ran(text: bytes, *words: str) -> Ended:
@@ -51,22 +49,67 @@ def test_no_record() -> None:
     check_record(b"")
 
 
-@pytest.mark.parametrize("path", [EXAMPLE, *SCHEDULES, *files_of(FOUND, "*.schedule")], ids=name_of)
-def test_kept_schedule(path: Path) -> None:
-    text = path.read_bytes()
+def check_schedule(text: bytes, program: str) -> Picture | None:
     drawn, replayed = ran(text, "draw"), ran(text, "replay", "--messages")
     if replayed.status:
         assert drawn == Ended(1, b"", replayed.faults)
-        return
+        return None
     assert (drawn.status, drawn.faults) == (0, b"")
     record = replayed.out.decode("latin-1").splitlines()
-    picture = Picture(drawn.out.decode(), facts_of(record))
+    messages = [it.split(" ", 3)[3] for it in record if re.match("# (sent|took) ", it)]
+    picture = Picture(drawn.out.decode(), facts_of(record), messages, requests_of(program, text.decode("ascii")))
     picture.look_at(ran(replayed.out, "judge", "--explain").out.decode())
-    messages = [it.split()[3] for it in record if re.match("# (sent|took) ", it)]
-    marks = [it for it in picture.marks if it.get("class") in ("sent", "took")]
-    labels = [it.text or "" for mark in marks for it in mark.findall(f"{SVG}text") if it.get("class") == "label"]
-    assert len(labels) == len(messages)
-    assert [label for message, label in zip(messages, labels) if LABELS[message] not in label] == []
+    return picture
+
+
+@pytest.mark.parametrize("path", [EXAMPLE, *SCHEDULES, *files_of(FOUND, "*.schedule")], ids=name_of)
+def test_kept_schedule(path: Path, program: str) -> None:
+    check_schedule(path.read_bytes(), program)
+
+
+@pytest.mark.parametrize("number", range(20))
+def test_random_schedule(number: int, chooser: random.Random, program: str) -> None:
+    lines = StrayingSchedule(chooser).text().splitlines()
+    first = next(place for place, line in enumerate(lines) if line.startswith("connect"))
+    lines[first:first] = [f"connect {number % 5 + 1}", f"cut {number % 3 + 1}"]
+    assert check_schedule("".join(f"{it}\n" for it in lines).encode(), program)
+
+
+def test_what_becomes_of_requests(program: str) -> None:
+    """A request is taken, or lost with its connection, or still on its way."""
+    picture = check_schedule(b"""\
+file 61
+client 11111111-1111-1111-1111-111111111111
+connect 1
+open 1 1 rw rw RWH durable
+serve 1
+take 1
+write 1 1 0 62
+flush 1 1
+cut 1
+notice 1
+connect 1
+serve 1
+take 1
+flush 1 1
+""", program)
+    assert picture
+    asked = [(one.end is None, one.is_taken) for one in picture.asked]
+    labels = [label(it)[1] for it in picture.requests]
+    assert list(zip(labels, asked)) == [
+        ("open file 1, lease RWH, durable", (False, True)),
+        ("write 1, 1 byte", (False, False)),
+        ("open file 1 again", (False, True)),
+        ("write 1, 1 byte", (True, False)),
+    ]
+
+
+def test_most_requests() -> None:
+    """Of too many requests none are drawn."""
+    begin = b"file -\nclient 11111111-1111-1111-1111-111111111111\nconnect 1\nopen 1 1 rw rw none\nserve 1\ntake 1\n"
+    for count, drawn in ((MOST - 1, MOST), (MOST, 0)):
+        text = ran(begin + b"read 1 1\n" * count, "draw").out
+        assert text.count(b"<g id='request-") == drawn
 
 
 def test_most_facts() -> None:

@@ -14,6 +14,7 @@ VERDICTS = {
     "cached_read_of_other_bytes": Ended(3, b"unsafe 5 2\n"), "buffered_write_accepted_late": Ended(3, b"unsafe 5 3\n"),
     "done_without_a_change": Ended(3, b"unsafe 4 4\n"), "taken_without_a_message": Ended(1, b"malformed 4\n"),
     "number_of_a_write_twice": Ended(1, b"malformed 4\n"), "line_that_is_none": Ended(1, b"", b"fault line 4\n"),
+    "expired_alone": Ended(1, b"malformed 1\n"),
 }
 
 

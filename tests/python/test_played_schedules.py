@@ -20,7 +20,8 @@ PLAY = TESTS / "python/play.py"
 CC = os.environ.get("CC", "cc")
 LOST, TWICE_NO_MEMORY = 3, 4
 ALL_THAT_FOLLOW = 10 ** 9
-LINKED = ("-Wl,--wrap=malloc", "-Wl,--wrap=realloc", "-Wl,--whole-archive", "out/c/libsmblease.a", "-Wl,--no-whole-archive")
+LINKED = ("-Wl,--wrap=malloc", "-Wl,--wrap=realloc", "-Wl,--wrap=free", "-Wl,--whole-archive", "out/c/libsmblease.a",
+          "-Wl,--no-whole-archive")
 KEPT_OPEN_BROKEN = TESTS / "schedules/kept_open_broken"
 
 
@@ -79,7 +80,7 @@ def test_each_allocation_refused(library: str, tmp_path: Path, schedule: Path, s
     there was no memory at a second try either."""
     note, whole, ends = tmp_path / "calls", replayed(schedule), Counter[int]()
     assert run("-S", PLAY, schedule, SMBLEASE_LIBRARY=library, REFUSED_NOTE=str(note)) == Ended(0, whole)
-    for number in range(1, int(note.read_text(encoding="ascii")) + 1, step):
+    for number in range(1, int(note.read_text(encoding="ascii").split()[0]) + 1, step):
         for last in (number, ALL_THAT_FOLLOW):
             done = run("-S", PLAY, schedule, SMBLEASE_LIBRARY=library, REFUSED_NOTE=str(note), REFUSED_FROM=str(number),
                        REFUSED_TO=str(last))

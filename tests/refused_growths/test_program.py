@@ -2,8 +2,8 @@
 
 A run gives the whole answer, or prints nothing and ends with status 1 and `fault memory`, or
 says what is refused without its second line; while the command line is read it ends with status 1 or 2 and any message. A record
-of several blocks may have been begun: then a beginning of it is printed, and the fault is `fault output`. Machines that speak
-lines write what they answered before.
+of several blocks may have been begun: then a beginning of it is printed before that fault. Machines that speak lines write what
+they answered before.
 """
 from __future__ import annotations
 
@@ -106,7 +106,7 @@ def test_replay_of_several_blocks(tmp_path: Path, task: list[str]) -> None:
     fits_whole = fits_program(growths_of(tmp_path, [*task, MISSING]), (b"fault memory\n",))
 
     def fits(whole: Ended, ended: Ended, number: int) -> bool:
-        is_begun = bool(ended.out) and ended == Ended(1, whole.out[:len(ended.out)], b"fault output\n")
+        is_begun = bool(ended.out) and ended == Ended(1, whole.out[:len(ended.out)], b"fault memory\n")
         return is_begun or fits_whole(whole, ended, number)
     Refusing(tmp_path, [built_program(), *task, str(path)]).check(0, fits)
 
