@@ -105,22 +105,48 @@ fn requests_are_drawn(rt: HostRuntime) -> Result<(), Fail> {
     let placed = read_placed(alloc, RECORD)?;
     let (client, sent) = (ClientNo(1), Request::Read { fid: FileId(7) });
     let passages = vec![in alloc;
-        Passage::Sent { client, request: sent, facts: 2 },
+        Passage::Sent {
+            client,
+            request: sent,
+            facts: 2
+        },
         Passage::Taken { client, facts: 2 },
-        Passage::Sent { client, request: Request::Close { fid: FileId(7) }, facts: 4 },
-        Passage::Lost { client, facts: 5 }]?;
+        Passage::Sent {
+            client,
+            request: Request::Close { fid: FileId(7) },
+            facts: 4
+        },
+        Passage::Lost { client, facts: 5 },
+    ]?;
     let facts = placed.facts.as_slice();
-    let picture = picture_of(alloc, facts, &[], String::new(alloc), &[], passages.as_slice())?;
+    let picture = picture_of(
+        alloc,
+        facts,
+        &[],
+        String::new(alloc),
+        &[],
+        passages.as_slice(),
+    )?;
     let [read, close] = picture.requests.as_slice() else {
         return Err(Fail::new("there are two requests"));
     };
-    assert_eq!(rt; (read.place, read.words.as_str()), (1, "client 1 sends: read 7"));
-    assert_eq!(rt; (close.place, close.words.as_str()), (2, "client 1 sends: close 7"));
+    assert_eq!(rt;
+        (read.place, read.words.as_str()),
+        (1, "client 1 sends: read 7")
+    );
+    assert_eq!(rt;
+        (close.place, close.words.as_str()),
+        (2, "client 1 sends: close 7")
+    );
     // The way of the first one with its arrow, its point and its label; the other has no arrow.
     assert_eq!(rt; (read.shapes.len(), close.shapes.len()), (4, 3));
     let mut text = String::new(alloc);
     push_picture(&mut text, &picture)?;
-    assert!(rt; text.as_str().contains("<g id='request-2' class='request'><title>client 1 sends: close 7</title>\n"));
+    assert!(rt;
+        text.as_str().contains(
+            "<g id='request-2' class='request'><title>client 1 sends: close 7</title>\n"
+        )
+    );
     Ok(())
 }
 
@@ -132,7 +158,14 @@ fn more_facts_than_a_picture_has(rt: HostRuntime) -> Result<(), Fail> {
         text.push_str("joined 1\n")?;
     }
     let placed = read_placed(alloc, text.as_bytes())?;
-    let answer = picture_of(alloc, placed.facts.as_slice(), &[], String::new(alloc), &[], &[]);
+    let answer = picture_of(
+        alloc,
+        placed.facts.as_slice(),
+        &[],
+        String::new(alloc),
+        &[],
+        &[],
+    );
     assert!(rt; matches!(answer, Err(PictureFault::TooMany)));
     Ok(())
 }
