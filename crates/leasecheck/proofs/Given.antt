@@ -9,30 +9,28 @@ use Rattle.leasecheck.specs.Paths.{file_named}
 use Rattle.hex.specs.declared.error.FromHexError.{FromHexError}
 use Rattle.lease_wire.specs.declared.fault.WireFault.{WireFault}
 use Rattle.leasecheck.specs.Arguments.{GivesBy, argument_bytes}
-use Rattle.leasecheck.specs.Refusals.{MayEndBy, argument_refusal, file_refusal, given_refusal}
+use Rattle.leasecheck.specs.Refusals.{MayEndBy, argument_refusal, given_refusal}
 use Rattle.leasecheck.specs.Remarks.{IsRemarkBy}
 use Rattle.leasecheck.specs.declared.failure.Failure.{Failure}
 use Rattle.leasecheck.specs.declared.failure.Failure.TheVariants.{Hex, Memory, Wire}
 
 -- bytes without a fault are accepted
-pub given_accepted : (fault : List ℕ → Option WireFault) (argument : List ℕ) (path file : Option (List ℕ)) (bytes : List ℕ)
+pub given_accepted : (fault : List ℕ → Option WireFault) (argument : List ℕ) (path : Option (List ℕ)) (file bytes : List ℕ)
     → GivesBy path argument file bytes → fault bytes ≡ None → given_refusal fault argument path file ≡ None
 given_accepted fault argument None file bytes gives none =
     ap (argument_refusal fault) gives ∙ ap (option_map Wire) none
-given_accepted fault argument (Some path) None bytes gives none = refl
-given_accepted fault argument (Some path) (Some known) bytes gives none =
-    ap (λ (bs : List ℕ). file_refusal fault (Some bs)) (sym gives) ∙ ap (option_map Wire) none
+given_accepted fault argument (Some path) file bytes gives none =
+    ap (λ (bs : List ℕ). option_map Wire (fault bs)) (sym gives) ∙ ap (option_map Wire) none
 
 -- and others are refused as their fault
-pub given_refused : (fault : List ℕ → Option WireFault) (argument : List ℕ) (path file : Option (List ℕ)) (bytes : List ℕ)
+pub given_refused : (fault : List ℕ → Option WireFault) (argument : List ℕ) (path : Option (List ℕ)) (file bytes : List ℕ)
     (failure : Failure) → GivesBy path argument file bytes
     → ((failure ≡ Memory) × (fault bytes ≡ None)) ⊎ (option_map Wire (fault bytes) ≡ Some failure)
     → MayEndBy fault argument path file failure
 given_refused fault argument None file bytes failure gives (inl memory) = inl memory.0
 given_refused fault argument (Some path) file bytes failure gives (inl memory) = inl memory.0
 given_refused fault argument None file bytes failure gives (inr refused) = inr (ap (argument_refusal fault) gives ∙ refused)
-given_refused fault argument (Some path) None bytes failure gives (inr refused) = inr (inr (bytes, refused))
-given_refused fault argument (Some path) (Some known) bytes failure gives (inr refused) =
+given_refused fault argument (Some path) file bytes failure gives (inr refused) =
     inr (inr (subst (λ (bs : List ℕ). option_map Wire (fault bs) ≡ Some failure) gives refused))
 
 -- ---- where there are no bytes
@@ -42,7 +40,7 @@ no_digits : (fault : List ℕ → Option WireFault) (read : Result (List ℕ) Fr
 no_digits fault (Ok bytes) bad = let no : ⊥ = cc in absurd no
 no_digits fault (Err e) bad = refl
 
-pub digits_refused : (fault : List ℕ → Option WireFault) (argument : List ℕ) (file : Option (List ℕ)) (failure : Failure)
+pub digits_refused : (fault : List ℕ → Option WireFault) (argument file : List ℕ) (failure : Failure)
     → (failure ≡ Memory) ⊎ ((failure ≡ Hex) × IsErr (argument_bytes argument)) → MayEndBy fault argument None file failure
 digits_refused fault argument file failure (inl memory) = inl memory
 digits_refused fault argument file failure (inr bad) =
@@ -50,11 +48,11 @@ digits_refused fault argument file failure (inr bad) =
 
 -- ---- what is said
 
-pub given_said : (remark : List ℕ → WireFault → List ℕ) (argument : List ℕ) (path file : Option (List ℕ)) (bytes : List ℕ)
+pub given_said : (remark : List ℕ → WireFault → List ℕ) (argument : List ℕ) (path : Option (List ℕ)) (file bytes : List ℕ)
     (fault : WireFault) (line : List ℕ) → GivesBy path argument file bytes → line ≡ remark bytes fault
     → IsRemarkBy remark argument path file (Wire fault) line
 given_said remark argument None file bytes fault line gives is = (bytes, gives, is)
-given_said remark argument (Some path) file bytes fault line gives is = (bytes, gives, is)
+given_said remark argument (Some path) file bytes fault line gives is = is ∙ ap (λ bs. remark bs fault) gives
 
 -- ---- the file that an argument names
 

@@ -3,13 +3,18 @@ use Rattle.lease_laws.proofs.Words.{◌++◌, ◌-◌, ◌∙◌, ◌≡◌, ◌
 use Rattle.lease_laws.proofs.Words.{ap, append-nil, append_assoc, arith, drop, inl, inr, length, length-drop, option_map, refl}
 use Rattle.lease_laws.proofs.Words.{string_bytes, subst, sym, take, take_all, unwrap_or}
 use Rattle.std.proofs.lemmas.List.{take-append-drop}
-use Rattle.leasecheck.specs.FileFaults.{IsUnreadRemark}
+use Rattle.lease_wire.specs.WireFaults.{message_fault}
+use Rattle.std.proofs.KnownBytes.{Keeps-refl}
+use Rattle.leasecheck.specs.FileFaults.{FailsReading, IsUnreadRemark}
+use Rattle.leasecheck.specs.Known.{OfBytes}
+use Rattle.leasecheck.specs.Made.{PrintsOrEnds}
 use Rattle.leasecheck.specs.Paths.{path_of}
 use Rattle.leasecheck.specs.Remarks.{IsRemark, Says, second_of}
-use Rattle.leasecheck.specs.Refusals.{Begins, Puts, IsSecond}
+use Rattle.leasecheck.specs.Refusals.{Begins, Ends, EndsOf, IsSecond, MayEnd, MayEndBy, Puts, failure_line, shown_fault}
 use Rattle.leasecheck.specs.declared.failure.Failure.{Failure}
 use Rattle.leasecheck.specs.declared.refusal.Refusal.{Refusal}
 use Rattle.leasecheck.specs.declared.tasks.Task.{Task}
+use Rattle.leasecheck.specs.declared.tasks.Task.TheVariants as task
 
 pub appends_more : (first old new : Option (List ℕ)) (part more : List ℕ) → Appends first old part → Appends old new more
     → Appends first new (part ++ more)
@@ -56,7 +61,7 @@ either_said P Q old (Some line) (inl same) says = inr (subst (λ second. IfSome 
 either_said P Q old (Some line) (inr unread) says = inl unread
 
 -- what is said of a task's file that can't be read, or else of its input
-pub is_second : (asked : Task) (file : Option (List ℕ)) (old new : Refusal)
+pub is_second : (asked : Task) (file : List ℕ) (old new : Refusal)
     → IfSome new.second (λ line. (old.second ≡ Some line) ⊎ IsUnreadRemark (path_of asked) old.failure (string_bytes line))
     → Says old (IsRemark asked file) → IsSecond asked file old.failure (second_of new)
 is_second asked file old new said says = of_second (λ line. string_bytes line)
@@ -73,3 +78,49 @@ pub says_more : (refusal : Refusal) (P Q : Failure → List ℕ → Type 0)
     → ((line : List ℕ) → P refusal.failure line → Q refusal.failure line) → Says refusal P → Says refusal Q
 says_more refusal P Q more says = of_more (λ line. string_bytes line) (P refusal.failure) (Q refusal.failure) refusal.second more
     says
+
+-- ---- tasks that end with status 1
+
+pub ended_of : (asked : Task) (known old new faults told : Option (List ℕ)) (refusal full : Refusal)
+    → OfBytes known (λ file. PrintsOrEnds asked file old new (Err refusal)) → full.failure ≡ refusal.failure
+    → IfSome full.second (λ line. (refusal.second ≡ Some line)
+    ⊎ IsUnreadRemark (path_of asked) refusal.failure (string_bytes line))
+    → Begins faults told (failure_line full.failure ++ second_of full) → Ends asked known old new faults told
+ended_of asked known old new faults told refusal full (file, has, (ended, says)) same said begins = (
+  file,
+  has,
+  inr (
+    refusal.failure,
+    second_of full,
+    ended,
+    is_second asked file refusal full said says,
+    subst (λ (f : Failure). Begins faults told (failure_line f ++ second_of full)) same begins,
+  ),
+)
+
+-- A file that can't be opened ends any task that reads one.
+pub may_end_unread : (asked : Task) (path file : List ℕ) (failed : Failure) → path_of asked ≡ Some path → FailsReading failed
+    → MayEnd asked file failed
+may_end_unread (task.Ack argument) path file failed is fails =
+    subst (λ (p : Option (List ℕ)). MayEndBy (message_fault 44) (string_bytes argument) p file failed) (sym is) (inr (inl fails))
+may_end_unread (task.Show kind argument) path file failed is fails =
+    subst (λ (p : Option (List ℕ)). MayEndBy (shown_fault kind) (string_bytes argument) p file failed) (sym is) (inr (inl fails))
+may_end_unread (task.Replay name telling rules) path file failed is fails = inr (inl fails)
+may_end_unread (task.Judge name) path file failed is fails = inl (inr (inl fails))
+may_end_unread (task.Explain name) path file failed is fails = inr (inl fails)
+may_end_unread (task.Draw name) path file failed is fails = inr (inl fails)
+may_end_unread task.Version path file failed is fails = let no : ⊥ = cc in absurd no
+
+pub unopened : (asked : Task) (path : List ℕ) (old faults told : Option (List ℕ)) (refusal full : Refusal)
+    → path_of asked ≡ Some path → FailsReading refusal.failure → refusal.second ≡ None → full.failure ≡ refusal.failure
+    → IfSome full.second (λ line. (refusal.second ≡ Some line)
+    ⊎ IsUnreadRemark (path_of asked) refusal.failure (string_bytes line))
+    → Begins faults told (failure_line full.failure ++ second_of full) → EndsOf asked [] old old faults told
+unopened asked path old faults told refusal full is fails none same said begins = inr (
+  refusal.failure,
+  second_of full,
+  inr (Keeps-refl old, may_end_unread asked path [] refusal.failure is fails),
+  is_second asked [] refusal full said
+      (subst (λ second. IfSome second (λ line. IsRemark asked [] refusal.failure (string_bytes line))) (sym none) tt),
+  subst (λ (f : Failure). Begins faults told (failure_line f ++ second_of full)) same begins,
+)

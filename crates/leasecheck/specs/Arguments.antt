@@ -1,7 +1,6 @@
 -- The bytes that an argument of `ack` and `show` gives.
 use Rattle.std.specs.Prelude.{◌≡◌, ℕ, ◌==◌, ◌||◌, Bool, if◌then◌else◌, List, ◌∷◌, codes, take, drop, bytes_eq, Result, Ok}
 use Rattle.std.specs.Prelude.{Option, Some, None}
-use Rattle.std.specs.Prelude.{IfSome}
 use Rattle.hex.specs.Hex.{decode_of}
 use Rattle.hex.specs.declared.error.FromHexError.{FromHexError}
 use Rattle.leasecheck.specs.Paths.{file_named}
@@ -26,10 +25,10 @@ without_prefix text = if bytes_eq (take 2 text) (codes "0x") then drop 2 text el
 unfoldable pub argument_bytes : List ℕ → Result (List ℕ) FromHexError
 argument_bytes text = decode_of (digits_in (without_prefix text))
 
--- Those of the file that it names, where they are known, or else those that its digits write.
-abbrev pub GivesBy : Option (List ℕ) → List ℕ → Option (List ℕ) → List ℕ → Type 0
+-- Those of the file that it names, or else those that its digits write.
+abbrev pub GivesBy : Option (List ℕ) → List ℕ → List ℕ → List ℕ → Type 0
 GivesBy None argument file bytes = argument_bytes argument ≡ Ok bytes
-GivesBy (Some path) argument file bytes = IfSome file (λ known. bytes ≡ known)
+GivesBy (Some path) argument file bytes = bytes ≡ file
 
-abbrev pub Gives : List ℕ → Option (List ℕ) → List ℕ → Type 0
+abbrev pub Gives : List ℕ → List ℕ → List ℕ → Type 0
 Gives argument file bytes = GivesBy (file_named argument) argument file bytes

@@ -1,6 +1,6 @@
 -- Records that are judged as they are read, block by block.
 use Rattle.std.specs.Prelude.{◌≡◌, ◌⊎◌, ◌++◌, ◌+◌, ◌^◌, ◌≤◌, ℕ, map, List, [], ◌∷◌, length, Option, Some, None, Result, Ok, Err}
-use Rattle.std.specs.Prelude.{MatchResult, IfErr, IfSome}
+use Rattle.std.specs.Prelude.{MatchResult, IfSome}
 use Rattle.std.specs.String.{string_bytes}
 use Rattle.std.specs.declared.io.ErrorKind.{ErrorKind}
 use Rattle.lease_model.specs.records.Verdict as model
@@ -13,6 +13,7 @@ use Rattle.lease_texts.specs.Pieces.{lines_of}
 use Rattle.lease_texts.specs.Reading.{reads_on}
 use Rattle.lease_texts.specs.Records.{with_line, record_in}
 use Rattle.leasecheck.specs.FileFaults.{reading_failure}
+use Rattle.leasecheck.specs.Known.{OfBytes}
 use Rattle.leasecheck.specs.declared.failure.Failure.{Failure}
 use Rattle.leasecheck.specs.declared.failure.Failure.TheVariants as failure
 use Rattle.leasecheck.specs.declared.judging.Progress.{Progress}
@@ -55,12 +56,9 @@ JudgesText text answer = MatchResult answer (λ verdict. IsVerdictOn text verdic
     (λ told. (told ≡ bare failure.Memory) ⊎ IsUnread told ⊎ RunsOut (length text) told
     ⊎ RefusesLine (lines_of text) told)
 
--- The same of a reader's text, where that is known.
+-- The same of a reader's text.
 abbrev pub Judges : Option (List ℕ) → Result Verdict Refusal → Type 0
-Judges None answer = IfErr answer
-    (λ told. (told ≡ bare failure.Memory) ⊎ IsUnread told ⊎ (told ≡ bare failure.Lines)
-    ⊎ ((text : List ℕ) × RefusesLine (lines_of text) told))
-Judges (Some text) answer = JudgesText text answer
+Judges known answer = OfBytes known (λ text. JudgesText text answer)
 
 -- ---- lines
 

@@ -1,4 +1,5 @@
 pub mod Arguments
+pub mod Known
 pub mod HexRemarks
 pub mod FileFaults
 pub mod Paths

@@ -1,5 +1,5 @@
 -- What a task prints, end to end: from the text of its argument to the text on standard output.
-use Rattle.std.specs.Prelude.{◌≡◌, ℕ, ◌++◌, List, [], ◌∷◌, codes, Option, IfSome}
+use Rattle.std.specs.Prelude.{◌≡◌, ℕ, ◌++◌, List, [], ◌∷◌, codes, Option}
 use Rattle.std.specs.String.{string_bytes}
 use Rattle.std.specs.Io.KnownBytes.{Appends}
 use Rattle.leasecheck.specs.Answer.{AnswersWith}
@@ -9,6 +9,7 @@ use Rattle.leasecheck.specs.Drawing.{Draws}
 use Rattle.leasecheck.specs.Shown.{Shows}
 use Rattle.leasecheck.specs.Explaining.{ExplainsVerdict}
 use Rattle.leasecheck.specs.Judging.{IsVerdictOn}
+use Rattle.leasecheck.specs.Known.{OfBytes}
 use Rattle.leasecheck.specs.Replayed.{Replays, verdict_line, status_of}
 use Rattle.leasecheck.specs.declared.tasks.Task.{Task}
 use Rattle.leasecheck.specs.declared.tasks.Task.TheVariants.{Ack, Show, Replay, Judge, Explain, Draw, Version}
@@ -17,24 +18,32 @@ use Rattle.leasecheck.specs.declared.tasks.Task.TheVariants.{Ack, Show, Replay, 
 abbrev pub version_text : List ℕ
 version_text = codes "leasecheck 0.3.0" ++ 10 ∷ (codes "rattle-kit-13f logic dac8208d650f15bf" ++ 10 ∷ [])
 
--- The text is what the task prints, and the status how it ends, where its file has these bytes. Of what a replay prints for bytes
--- that aren't known nothing is said, of a judge's verdict on them only that it is one, and of an answer or of what is shown only
--- that there are bytes that it is of.
-abbrev pub IsTextOf : Task → Option (List ℕ) → List ℕ → ℕ → Type 0
+-- The text tells the verdict on a record, and the status is that of the verdict.
+abbrev pub TellsVerdict : List ℕ → List ℕ → ℕ → Type 0
+TellsVerdict bytes text status =
+    (verdict : Verdict) × (text ≡ verdict_line verdict) × (status ≡ status_of verdict) × IsVerdictOn bytes verdict
+
+-- and then the facts that make it so
+abbrev pub TellsReason : List ℕ → List ℕ → ℕ → Type 0
+TellsReason bytes text status = (verdict : Verdict) × (explanation : List ℕ) × (text ≡ verdict_line verdict ++ explanation)
+    × (status ≡ status_of verdict) × ExplainsVerdict bytes verdict explanation
+
+-- The text is what the task prints, and the status how it ends, where its file has these bytes.
+abbrev pub IsTextOf : Task → List ℕ → List ℕ → ℕ → Type 0
 IsTextOf (Ack argument) file text status =
     (status ≡ 0) × (bytes : List ℕ) × Gives (string_bytes argument) file bytes × AnswersWith bytes text
 IsTextOf (Show kind argument) file text status =
     (status ≡ 0) × (bytes : List ℕ) × Gives (string_bytes argument) file bytes × Shows kind bytes text
-IsTextOf (Replay path telling rules) file text status = (status ≡ 0) × IfSome file (λ schedule. Replays telling rules schedule text)
-IsTextOf (Judge path) file text status =
-    (verdict : Verdict) × (text ≡ verdict_line verdict) × (status ≡ status_of verdict)
-    × IfSome file (λ bytes. IsVerdictOn bytes verdict)
-IsTextOf (Explain path) file text status =
-    (verdict : Verdict) × (explanation : List ℕ) × (text ≡ verdict_line verdict ++ explanation) × (status ≡ status_of verdict)
-    × IfSome file (λ bytes. ExplainsVerdict bytes verdict explanation)
-IsTextOf (Draw path) file text status = (status ≡ 0) × IfSome file (λ bytes. Draws bytes text)
+IsTextOf (Replay path telling rules) file text status = (status ≡ 0) × Replays telling rules file text
+IsTextOf (Judge path) file text status = TellsVerdict file text status
+IsTextOf (Explain path) file text status = TellsReason file text status
+IsTextOf (Draw path) file text status = (status ≡ 0) × Draws file text
 IsTextOf Version file text status = (status ≡ 0) × (text ≡ version_text)
 
--- a writer whose bytes are known before and after has got what the task prints
+-- a writer whose bytes are known before and after has got what the task prints where its file has these bytes
+abbrev pub PrintsOf : Task → List ℕ → Option (List ℕ) → Option (List ℕ) → ℕ → Type 0
+PrintsOf asked file old new status = (text : List ℕ) × IsTextOf asked file text status × Appends old new text
+
+-- and where it has bytes that its reader may have
 abbrev pub Prints : Task → Option (List ℕ) → Option (List ℕ) → Option (List ℕ) → ℕ → Type 0
-Prints asked file old new status = (text : List ℕ) × IsTextOf asked file text status × Appends old new text
+Prints asked known old new status = OfBytes known (λ file. PrintsOf asked file old new status)

@@ -1,6 +1,6 @@
 -- Why a task is refused, and the line that says so.
 use Rattle.std.specs.Prelude.{◌≡◌, ℕ, ◌+◌, ◌^◌, ◌≤◌, ◌++◌, List, [], ◌∷◌, codes, drop, if◌then◌else◌, Option, Some, None, Result}
-use Rattle.std.specs.Prelude.{Ok, Err, MatchResult, IfErr, ◌⊎◌, length, Bool, true, false}
+use Rattle.std.specs.Prelude.{Ok, Err, MatchResult, ◌⊎◌, length, Bool, true, false, IsSome}
 use Rattle.std.specs.Fmt.{decimal}
 use Rattle.std.specs.Option.{option_map}
 use Rattle.std.specs.Result.{result_err}
@@ -17,14 +17,14 @@ use Rattle.lease_texts.specs.Records.{record_in}
 use Rattle.leasecheck.specs.Arguments.{argument_bytes}
 use Rattle.leasecheck.specs.Drawing.{draw_refusal}
 use Rattle.leasecheck.specs.FileFaults.{FailsReading, IsUnreadRemark}
+use Rattle.leasecheck.specs.Known.{MayHave, OfBytes}
 use Rattle.leasecheck.specs.Paths.{file_named, path_of}
-use Rattle.leasecheck.specs.Printed.{IsTextOf, Prints}
-use Rattle.leasecheck.specs.Remarks.{IsRemark, Says}
+use Rattle.leasecheck.specs.Printed.{IsTextOf, PrintsOf}
+use Rattle.leasecheck.specs.Remarks.{IsRemark}
 use Rattle.leasecheck.specs.Replayed.{replay_refusal}
 use Rattle.leasecheck.specs.declared.failure.Failure.{Failure}
 use Rattle.leasecheck.specs.declared.failure.Failure.TheVariants.{Hex, Wire, File, Lines, Line, Run, Picture, Memory, Output}
 use Rattle.lease_world.specs.declared.setup.RunFault.TheVariants as run
-use Rattle.leasecheck.specs.declared.refusal.Refusal.{Refusal}
 use Rattle.leasecheck.specs.declared.tasks.Kind.{Kind}
 use Rattle.leasecheck.specs.declared.tasks.Kind.TheVariants as kind
 use Rattle.leasecheck.specs.declared.tasks.Task.{Task}
@@ -70,113 +70,59 @@ abbrev pub argument_refusal : {E : Type 0} → (List ℕ → Option WireFault) �
 argument_refusal fault (Ok bytes) = option_map Wire (fault bytes)
 argument_refusal fault (Err e) = Some Hex
 
--- what the bytes of a file are refused as, where they are known
-abbrev pub file_refusal : (List ℕ → Option WireFault) → Option (List ℕ) → Option Failure
-file_refusal fault None = None
-file_refusal fault (Some bytes) = option_map Wire (fault bytes)
-
 -- what an argument is refused as, or the file that it names
-abbrev pub given_refusal : (List ℕ → Option WireFault) → List ℕ → Option (List ℕ) → Option (List ℕ) → Option Failure
+abbrev pub given_refusal : (List ℕ → Option WireFault) → List ℕ → Option (List ℕ) → List ℕ → Option Failure
 given_refusal fault argument None file = argument_refusal fault (argument_bytes argument)
-given_refusal fault argument (Some path) file = file_refusal fault file
-
--- what a schedule is refused as, where its bytes are known
-abbrev pub known_refusal : Option (List ℕ) → Option Failure
-known_refusal None = None
-known_refusal (Some schedule) = replay_refusal schedule
+given_refusal fault argument (Some path) file = option_map Wire (fault file)
 
 -- what a record is refused as: its first line that is none
 abbrev pub line_refusal : {S : Type 0} → Result S ℕ → Option Failure
 line_refusal (Ok state) = None
 line_refusal (Err number) = Some (Line number)
 
-abbrev pub judge_refusal : Option (List ℕ) → Option Failure
-judge_refusal None = None
-judge_refusal (Some text) = line_refusal (record_in text)
-
--- what a file that is to be drawn is refused as, where its bytes are known
-abbrev pub drawing_refusal : Option (List ℕ) → Option Failure
-drawing_refusal None = None
-drawing_refusal (Some file) = draw_refusal file
-
--- what the task's argument, or its file, is refused as
-abbrev pub refusal_of : Task → Option (List ℕ) → Option Failure
+-- what the task's argument is refused as, or its file of these bytes
+abbrev pub refusal_of : Task → List ℕ → Option Failure
 refusal_of (task.Ack argument) file =
     given_refusal (message_fault 44) (string_bytes argument) (file_named (string_bytes argument)) file
 refusal_of (task.Show kind argument) file =
     given_refusal (shown_fault kind) (string_bytes argument) (file_named (string_bytes argument)) file
-refusal_of (task.Replay path telling rules) file = known_refusal file
-refusal_of (task.Judge path) file = judge_refusal file
-refusal_of (task.Explain path) file = judge_refusal file
-refusal_of (task.Draw path) file = drawing_refusal file
+refusal_of (task.Replay path telling rules) file = replay_refusal file
+refusal_of (task.Judge path) file = line_refusal (record_in file)
+refusal_of (task.Explain path) file = line_refusal (record_in file)
+refusal_of (task.Draw path) file = draw_refusal file
 refusal_of task.Version file = None
 
--- A file is refused as this: where its bytes aren't known, as some file would be.
-abbrev pub IsBytesRefusal : (List ℕ → Option WireFault) → Option (List ℕ) → Failure → Type 0
-IsBytesRefusal fault None failure = (bytes : List ℕ) × (option_map Wire (fault bytes) ≡ Some failure)
-IsBytesRefusal fault (Some bytes) failure = option_map Wire (fault bytes) ≡ Some failure
+-- It is refused whatever bytes its reader may have.
+abbrev pub IsRefused : Task → Option (List ℕ) → Type 0
+IsRefused asked known = (file : List ℕ) → MayHave known file → IsSome (refusal_of asked file)
 
-abbrev pub IsScheduleRefusal : Option (List ℕ) → Failure → Type 0
-IsScheduleRefusal None failure = (schedule : List ℕ) × (replay_refusal schedule ≡ Some failure)
-IsScheduleRefusal (Some schedule) failure = replay_refusal schedule ≡ Some failure
+-- What may end a task that reads a file: it is refused as this, or there was no memory, or a read failed.
+abbrev pub MayEndReading : Option Failure → Failure → Type 0
+MayEndReading refusal failure = (failure ≡ Memory) ⊎ FailsReading failure ⊎ (refusal ≡ Some failure)
 
-abbrev pub IsRecordRefusal : Option (List ℕ) → Failure → Type 0
-IsRecordRefusal None failure = (number : ℕ) × (failure ≡ Line number)
-IsRecordRefusal (Some text) failure = line_refusal (record_in text) ≡ Some failure
-
-abbrev pub IsDrawingRefusal : Option (List ℕ) → Failure → Type 0
-IsDrawingRefusal None failure = (file : List ℕ) × (draw_refusal file ≡ Some failure)
-IsDrawingRefusal (Some file) failure = draw_refusal file ≡ Some failure
-
--- a record has more lines than there are numbers
-abbrev pub RunsOutOf : Option (List ℕ) → Failure → Type 0
-RunsOutOf None failure = failure ≡ Lines
-RunsOutOf (Some text) failure = (failure ≡ Lines) × (2 ^ 64 ≤ length text + 2)
-
--- What may end a task with an argument: it is refused, or the file that it names, or there was no memory, or a read failed.
-abbrev pub MayEndBy : (List ℕ → Option WireFault) → List ℕ → Option (List ℕ) → Option (List ℕ) → Failure → Type 0
+-- What may end a task with an argument, by the file that this names.
+abbrev pub MayEndBy : (List ℕ → Option WireFault) → List ℕ → Option (List ℕ) → List ℕ → Failure → Type 0
 MayEndBy fault argument None file failure =
     (failure ≡ Memory) ⊎ (argument_refusal fault (argument_bytes argument) ≡ Some failure)
-MayEndBy fault argument (Some path) file failure =
-    (failure ≡ Memory) ⊎ FailsReading failure ⊎ IsBytesRefusal fault file failure
+MayEndBy fault argument (Some path) file failure = MayEndReading (option_map Wire (fault file)) failure
 
-abbrev pub MayEndGiven : (List ℕ → Option WireFault) → List ℕ → Option (List ℕ) → Failure → Type 0
+abbrev pub MayEndGiven : (List ℕ → Option WireFault) → List ℕ → List ℕ → Failure → Type 0
 MayEndGiven fault argument file failure = MayEndBy fault argument (file_named argument) file failure
 
--- What may end a replay, a drawing or a judging: its file is refused, or there was no memory, or a read failed.
-abbrev pub MayEndReplay : Option (List ℕ) → Failure → Type 0
-MayEndReplay file failure = (failure ≡ Memory) ⊎ FailsReading failure ⊎ IsScheduleRefusal file failure
+-- What may end a judging: a record may have more lines, too, than there are numbers.
+abbrev pub MayEndJudging : List ℕ → Failure → Type 0
+MayEndJudging file failure = MayEndReading (line_refusal (record_in file)) failure
+    ⊎ ((failure ≡ Lines) × (2 ^ 64 ≤ length file + 2))
 
-abbrev pub MayEndDrawing : Option (List ℕ) → Failure → Type 0
-MayEndDrawing file failure = (failure ≡ Memory) ⊎ FailsReading failure ⊎ IsDrawingRefusal file failure
-
-abbrev pub MayEndJudging : Option (List ℕ) → Failure → Type 0
-MayEndJudging file failure = (failure ≡ Memory) ⊎ FailsReading failure ⊎ RunsOutOf file failure ⊎ IsRecordRefusal file failure
-
--- What may end a task: its argument or its file is refused, or there was no memory, or a read of its file failed.
-abbrev pub MayEnd : Task → Option (List ℕ) → Failure → Type 0
+-- What may end a task whose file has these bytes.
+abbrev pub MayEnd : Task → List ℕ → Failure → Type 0
 MayEnd (task.Ack argument) file failure = MayEndGiven (message_fault 44) (string_bytes argument) file failure
 MayEnd (task.Show kind argument) file failure = MayEndGiven (shown_fault kind) (string_bytes argument) file failure
-MayEnd (task.Replay path telling rules) file failure = MayEndReplay file failure
+MayEnd (task.Replay path telling rules) file failure = MayEndReading (replay_refusal file) failure
 MayEnd (task.Judge path) file failure = MayEndJudging file failure
-MayEnd (task.Explain path) file failure = MayEndJudging file failure
-MayEnd (task.Draw path) file failure = MayEndDrawing file failure
-MayEnd asked file failure = (failure ≡ Memory) ⊎ (refusal_of asked file ≡ Some failure)
-
--- An answer to a task is given only where nothing of it is refused.
-abbrev pub AnswersOrRefuses : {X : Type 0} → Task → Option (List ℕ) → Result X Refusal → Type 0
-AnswersOrRefuses asked file answer = MatchResult answer (λ _. refusal_of asked file ≡ None)
-    (λ refusal. MayEnd asked file refusal.failure)
-
--- What is said after a refusal is about it.
-abbrev pub SaysOf : {X : Type 0} → Task → Option (List ℕ) → Result X Refusal → Type 0
-SaysOf asked file answer = IfErr answer (λ refusal. Says refusal (IsRemark asked file))
-
--- What has to give bytes without a fault is refused as that, and else answered.
-abbrev pub RefusesGiven : {X : Type 0} → (List ℕ → Option WireFault) → List ℕ → Option (List ℕ) → Result X Refusal → Type 0
-RefusesGiven fault argument file answer =
-    MatchResult answer (λ _. given_refusal fault argument (file_named argument) file ≡ None)
-    (λ refusal. MayEndGiven fault argument file refusal.failure)
+MayEnd (task.Explain path) file failure = MayEndReading (line_refusal (record_in file)) failure
+MayEnd (task.Draw path) file failure = MayEndReading (draw_refusal file) failure
+MayEnd task.Version file failure = failure ≡ Memory
 
 -- a writer whose bytes are known has got a beginning of a text
 abbrev pub Begins : Option (List ℕ) → Option (List ℕ) → List ℕ → Type 0
@@ -196,7 +142,7 @@ MayStop is_told failure = (failure ≡ Output) ⊎ ((failure ≡ Memory) × (is_
 
 -- A task that ends with this failure: where it stopped in the middle of its text nothing was refused, and a beginning of what the
 -- task prints was written; else nothing was.
-abbrev pub EndsWith : Task → Option (List ℕ) → Option (List ℕ) → Option (List ℕ) → Failure → Type 0
+abbrev pub EndsWith : Task → List ℕ → Option (List ℕ) → Option (List ℕ) → Failure → Type 0
 EndsWith asked file old new failure =
     (MayStop (is_replay asked) failure × (refusal_of asked file ≡ None)
     × (text : List ℕ) × (status : ℕ) × IsTextOf asked file text status × Begins old new text)
@@ -220,14 +166,18 @@ abbrev pub failure_line : Failure → List ℕ
 failure_line failure = failure_text failure ++ 10 ∷ []
 
 -- nothing, or what is said after this failure of the task: why its file can't be read, or else what is said of its input
-abbrev pub IsSecond : Task → Option (List ℕ) → Failure → List ℕ → Type 0
+abbrev pub IsSecond : Task → List ℕ → Failure → List ℕ → Type 0
 IsSecond asked file failure second =
     (second ≡ []) ⊎ (IsUnreadRemark (path_of asked) failure second ⊎ IsRemark asked file failure second)
 
 -- How a task ends with status 1: it prints what tells so, as that a record is malformed; or it has a failure, whose line is told
 -- on the other stream, and after it nothing or the second line about that failure; or a beginning of this.
-abbrev pub Ends : Task → Option (List ℕ) → Option (List ℕ) → Option (List ℕ) → Option (List ℕ) → Option (List ℕ) → Type 0
-Ends asked file old new faults told =
-    (Prints asked file old new 1 × Keeps faults told)
+abbrev pub EndsOf : Task → List ℕ → Option (List ℕ) → Option (List ℕ) → Option (List ℕ) → Option (List ℕ) → Type 0
+EndsOf asked file old new faults told =
+    (PrintsOf asked file old new 1 × Keeps faults told)
     ⊎ ((failure : Failure) × (second : List ℕ) × EndsWith asked file old new failure × IsSecond asked file failure second
     × Begins faults told (failure_line failure ++ second))
+
+-- and so where its file has bytes that its reader may have
+abbrev pub Ends : Task → Option (List ℕ) → Option (List ℕ) → Option (List ℕ) → Option (List ℕ) → Option (List ℕ) → Type 0
+Ends asked known old new faults told = OfBytes known (λ file. EndsOf asked file old new faults told)

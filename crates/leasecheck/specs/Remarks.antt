@@ -35,9 +35,8 @@ IsArgumentRemark remark argument Memory line = ⊥
 IsArgumentRemark remark argument Output line = ⊥
 
 -- what is said of the bytes of a file
-abbrev pub IsBytesRemark : (List ℕ → WireFault → List ℕ) → Option (List ℕ) → Failure → List ℕ → Type 0
-IsBytesRemark remark file (Wire fault) line =
-    (bytes : List ℕ) × IfSome file (λ known. bytes ≡ known) × (line ≡ remark bytes fault)
+abbrev pub IsBytesRemark : (List ℕ → WireFault → List ℕ) → List ℕ → Failure → List ℕ → Type 0
+IsBytesRemark remark file (Wire fault) line = line ≡ remark file fault
 IsBytesRemark remark file Hex line = ⊥
 IsBytesRemark remark file (File fault) line = ⊥
 IsBytesRemark remark file Lines line = ⊥
@@ -48,11 +47,11 @@ IsBytesRemark remark file Memory line = ⊥
 IsBytesRemark remark file Output line = ⊥
 
 -- what is said of an argument, or of the file that it names
-abbrev pub IsRemarkBy : (List ℕ → WireFault → List ℕ) → List ℕ → Option (List ℕ) → Option (List ℕ) → Failure → List ℕ → Type 0
+abbrev pub IsRemarkBy : (List ℕ → WireFault → List ℕ) → List ℕ → Option (List ℕ) → List ℕ → Failure → List ℕ → Type 0
 IsRemarkBy remark argument None file failure line = IsArgumentRemark remark argument failure line
 IsRemarkBy remark argument (Some path) file failure line = IsBytesRemark remark file failure line
 
-abbrev pub IsGivenRemark : (List ℕ → WireFault → List ℕ) → List ℕ → Option (List ℕ) → Failure → List ℕ → Type 0
+abbrev pub IsGivenRemark : (List ℕ → WireFault → List ℕ) → List ℕ → List ℕ → Failure → List ℕ → Type 0
 IsGivenRemark remark argument file failure line = IsRemarkBy remark argument (file_named argument) file failure line
 
 -- what is said of a schedule that no run accepts
@@ -106,23 +105,14 @@ abbrev pub IsDrawRemark : List ℕ → Failure → List ℕ → Type 0
 IsDrawRemark text failure line = DrawRemark (is_schedule (record_in text) (schedule_in text)) text failure line
     ⊎ ((failure ≡ Picture) × (line ≡ facts_line (count_of (record_in text) (schedule_in text))))
 
-abbrev pub IsDrawingRemark : Option (List ℕ) → Failure → List ℕ → Type 0
-IsDrawingRemark None failure line = (text : List ℕ) × IsDrawRemark text failure line
-IsDrawingRemark (Some text) failure line = IsDrawRemark text failure line
-
--- what is said of a file; of one that isn't known, what is said of some one
-abbrev pub IsFileRemark : (List ℕ → Failure → Option (List ℕ)) → Option (List ℕ) → Failure → List ℕ → Type 0
-IsFileRemark remark None failure line = (text : List ℕ) × (remark text failure ≡ Some line)
-IsFileRemark remark (Some text) failure line = remark text failure ≡ Some line
-
--- The line is what is said after this failure of a task.
-abbrev pub IsRemark : Task → Option (List ℕ) → Failure → List ℕ → Type 0
+-- The line is what is said after this failure of a task whose file has these bytes.
+abbrev pub IsRemark : Task → List ℕ → Failure → List ℕ → Type 0
 IsRemark (task.Ack argument) file failure line = IsGivenRemark (bare_remark kind.Break) (string_bytes argument) file failure line
 IsRemark (task.Show kind argument) file failure line = IsGivenRemark (shown_remark kind) (string_bytes argument) file failure line
-IsRemark (task.Replay path telling rules) file failure line = IsFileRemark schedule_remark file failure line
-IsRemark (task.Judge path) file failure line = IsFileRemark record_remark file failure line
-IsRemark (task.Explain path) file failure line = IsFileRemark record_remark file failure line
-IsRemark (task.Draw path) file failure line = IsDrawingRemark file failure line
+IsRemark (task.Replay path telling rules) file failure line = schedule_remark file failure ≡ Some line
+IsRemark (task.Judge path) file failure line = record_remark file failure ≡ Some line
+IsRemark (task.Explain path) file failure line = record_remark file failure ≡ Some line
+IsRemark (task.Draw path) file failure line = IsDrawRemark file failure line
 IsRemark task.Version file failure line = ⊥
 
 -- A refusal has no second line, or this one.

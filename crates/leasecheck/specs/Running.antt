@@ -6,15 +6,16 @@ use Rattle.lease_lines.specs.ClientTables.{no_clients}
 use Rattle.lease_lines.specs.Machines.{Machines, reasons, transcript}
 use Rattle.lease_lines.specs.ServerTables.{Stage}
 use Rattle.leasecheck.specs.CommandLine.{AsksFor, IsUsageOf, Request, TellsUsage, request_of}
-use Rattle.leasecheck.specs.Printed.{Prints}
+use Rattle.leasecheck.specs.Printed.{PrintsOf}
 use Rattle.leasecheck.specs.declared.tasks.Asked.TheVariants as asked
 use Rattle.leasecheck.specs.declared.tasks.Task.{Task}
 use Rattle.leasecheck.specs.declared.tasks.Usage.{Usage}
 
--- The words ask for a task, which printed what it prints for some bytes of its file. What file that is no contract says.
+-- The words ask for a task, which printed what it prints where its file has some bytes. What file that is, and that it has
+-- these bytes, no contract says.
 abbrev pub DoesTask : List Text → Option (List ℕ) → Option (List ℕ) → ℕ → Type 0
-DoesTask words old new status = (task : Task) × (file : Option (List ℕ))
-    × AsksFor words (request_of (asked.Task task)) × Prints task file old new status
+DoesTask words old new status = (task : Task) × (file : List ℕ)
+    × AsksFor words (request_of (asked.Task task)) × PrintsOf task file old new status
 
 -- the machines that words ask for, of which nothing is told yet
 abbrev pub AsksForMachines : List Text → Machines → Type 0

@@ -1,29 +1,24 @@
-ghost use Rattle.std.specs.Prelude.{◌≡◌, ◌≢◌, ◌≤◌, ◌⊎◌, ◌++◌, ℕ, List, Option, Ok, Some, None, MatchResult, IfSome, IfOk};
-ghost use Rattle.std.specs.Prelude.{IfErr, IsSome};
+ghost use Rattle.std.specs.Prelude.{◌≡◌, ◌≢◌, ◌≤◌, ◌⊎◌, ◌++◌, ℕ, List, Option, Some, MatchResult, IfSome, IfOk, IfErr, true, false};
 ghost use Rattle.std.specs.Prelude.{OnOk, length, take};
 ghost use Rattle.std.specs.String.{string_bytes};
 ghost use Rattle.std.specs.Io.KnownBytes.{Appends, Keeps};
-ghost use Rattle.leasecheck.specs.Printed.{IsTextOf, Prints};
-ghost use Rattle.leasecheck.specs.Made.{is_record, text_made, status_made};
-ghost use Rattle.leasecheck.specs.Recording.{recorded_text, IsUnwritten};
-ghost use Rattle.lease_world.specs.declared.verdict.Verdict.{Verdict};
-ghost use Rattle.leasecheck.specs.Replayed.{Replays, verdict_line, status_of};
-ghost use Rattle.leasecheck.specs.Drawing.{Draws};
-ghost use Rattle.leasecheck.specs.Explaining.{ExplainsVerdict};
-ghost use Rattle.leasecheck.specs.Judging.{IsVerdictOn};
+ghost use Rattle.lease_texts.specs.Records.{record_in};
 ghost use Rattle.lease_wire.specs.WireFaults.{message_fault};
 ghost use Rattle.lease_wire.specs.declared.fault.WireFault.{WireFault};
 ghost use Rattle.leasecheck.specs.Answer.{AnswersWith};
 ghost use Rattle.leasecheck.specs.Arguments.{Gives};
+ghost use Rattle.leasecheck.specs.Drawing.{Draws, draw_refusal};
+ghost use Rattle.leasecheck.specs.Known.{OfBytes};
+ghost use Rattle.leasecheck.specs.Made.{Answers, AnswersTo, IsGiven, PrintsOrEnds, is_record, text_made, status_made};
+ghost use Rattle.leasecheck.specs.Paths.{file_named};
+ghost use Rattle.leasecheck.specs.Printed.{Prints, TellsReason, TellsVerdict};
+ghost use Rattle.leasecheck.specs.Refusals.{Begins, Ends, IsRefused, MayEnd, MayEndGiven, MayEndJudging, MayEndReading, MayStop};
+ghost use Rattle.leasecheck.specs.Refusals.{Puts, failure_line, given_refusal, is_replay, line_refusal, shown_fault};
+ghost use Rattle.leasecheck.specs.Remarks.{IsDrawRemark, IsGivenRemark, IsRemark, Says, record_remark, schedule_remark, second_of};
+ghost use Rattle.leasecheck.specs.Replayed.{Replays, replay_refusal};
 ghost use Rattle.leasecheck.specs.Shown.{Shows};
 ghost use Rattle.leasecheck.specs.WireRemarks.{bare_remark, shown_remark};
-ghost use Rattle.leasecheck.specs.Remarks.{Says, IsGivenRemark, IsFileRemark, IsDrawingRemark, record_remark, schedule_remark};
-ghost use Rattle.leasecheck.specs.Remarks.{second_of};
 ghost use Rattle.leasecheck.specs.declared.tasks.Kind.TheVariants as kind;
-ghost use Rattle.leasecheck.specs.Refusals.{AnswersOrRefuses, SaysOf, RefusesGiven, MayEndGiven, shown_fault, EndsWith, Ends};
-ghost use Rattle.leasecheck.specs.Refusals.{Begins, MayStop, Puts, is_replay};
-ghost use Rattle.leasecheck.specs.Refusals.{MayEndReplay, MayEndDrawing, MayEndJudging, drawing_refusal, known_refusal};
-ghost use Rattle.leasecheck.specs.Refusals.{judge_refusal, refusal_of, failure_line};
 
 use crate::drawing::draw_text;
 use crate::explaining::explain_text;
@@ -66,86 +61,26 @@ fn done(text: String) -> Printed
     Printed { text, status: 0 }
 }
 
-fn judged<I: Read>(alloc: Global, input: &mut I) -> Result<Printed, Refusal>
-    ensures printed { IfOk result (λ printed. (verdict : Verdict) × (string_bytes printed.text ≡ verdict_line verdict)
-        × (printed.status ≡ status_of verdict) × IfSome (I.remaining input.old) (λ bytes. IsVerdictOn bytes verdict)) }
-    ensures accepted { OnOk result (judge_refusal (I.remaining input.old) ≡ None) }
-    ensures refused { IfErr result (λ refusal. MayEndJudging (I.remaining input.old) refusal.failure) }
-    ensures said { IfErr result (λ refusal. Says refusal (IsFileRemark record_remark (I.remaining input.old))) }
+// The verdict on the record that a reader gives, which is judged as it is read.
+fn judged<I: Read>(alloc: Global, input: &mut I) -> Result<Made, Refusal>
+    ensures answers { OfBytes (I.remaining input.old) (λ bytes. Answers (TellsVerdict bytes) (line_refusal (record_in bytes))
+        (MayEndJudging bytes) (λ failure line. record_remark bytes failure ≡ Some line) result) }
+    ensures record { IfOk result (λ made. is_record made ≡ false) }
 {
-    match judge_text(alloc, input) {
-        Ok(verdict) => {
-            let mut text = String::new(alloc);
-            push_verdict(&mut text, &verdict)?;
-            Ok(Printed {
-                text,
-                status: status_of(&verdict),
-            })
-        }
-        Err(refusal) => Err(refusal),
-    }
-}
-
-fn replayed<I: Read>(
-    alloc: Global,
-    telling: Telling,
-    rules: Rules,
-    input: &mut I,
-) -> Result<Record, Refusal>
-    ensures printed { IfOk result (λ ran. (status_of ran.verdict ≡ 0)
-        × IfSome (I.remaining input.old) (λ schedule. Replays telling rules schedule (recorded_text ran))) }
-    ensures refused { MatchResult result (λ _. known_refusal (I.remaining input.old) ≡ None)
-        (λ refusal. MayEndReplay (I.remaining input.old) refusal.failure) }
-    ensures said { IfErr result (λ refusal. Says refusal (IsFileRemark schedule_remark (I.remaining input.old))) }
-{
-    let bytes = read_all(alloc, input)?;
-    match replay(alloc, telling, rules, bytes.as_slice()) {
-        Ok(ran) => Ok(ran),
-        Err(refusal) => Err(refusal),
-    }
-}
-
-// The verdict on a record that is read as a whole, and why it is that.
-fn explained<I: Read>(alloc: Global, input: &mut I) -> Result<Printed, Refusal>
-    ensures printed { IfOk result (λ printed. (verdict : Verdict) × (explanation : List ℕ)
-        × (string_bytes printed.text ≡ verdict_line verdict ++ explanation) × (printed.status ≡ status_of verdict)
-        × IfSome (I.remaining input.old) (λ bytes. ExplainsVerdict bytes verdict explanation)) }
-    ensures accepted { OnOk result (judge_refusal (I.remaining input.old) ≡ None) }
-    ensures refused { IfErr result (λ refusal. MayEndJudging (I.remaining input.old) refusal.failure) }
-    ensures said { IfErr result (λ refusal. Says refusal (IsFileRemark record_remark (I.remaining input.old))) }
-{
-    let bytes = read_all(alloc, input)?;
-    match explain_text(alloc, bytes.as_slice()) {
-        Ok((text, verdict)) => Ok(Printed {
-            text,
-            status: status_of(&verdict),
-        }),
-        Err(refusal) => Err(refusal),
-    }
-}
-
-// The picture of a record, or of the run of a schedule.
-fn drawn<I: Read>(alloc: Global, input: &mut I) -> Result<Printed, Refusal>
-    ensures printed { IfOk result (λ printed. (printed.status ≡ 0)
-        × IfSome (I.remaining input.old) (λ bytes. Draws bytes (string_bytes printed.text))) }
-    ensures refused { MatchResult result (λ _. drawing_refusal (I.remaining input.old) ≡ None)
-        (λ refusal. MayEndDrawing (I.remaining input.old) refusal.failure) }
-    ensures said { IfErr result (λ refusal. Says refusal (IsDrawingRemark (I.remaining input.old))) }
-{
-    let bytes = read_all(alloc, input)?;
-    match draw_text(alloc, bytes.as_slice()) {
-        Ok(text) => Ok(Printed { text, status: 0 }),
-        Err(refusal) => Err(refusal),
-    }
+    let verdict = judge_text(alloc, input)?;
+    let mut text = String::new(alloc);
+    push_verdict(&mut text, &verdict)?;
+    let status = status_of(&verdict);
+    Ok(Made::Text(Printed { text, status }))
 }
 
 // The bytes of the file that an argument names, or those that its digits write.
 fn bytes_given<I: Read>(alloc: Global, argument: &str, input: &mut I) -> Result<Vec<u8>, Refusal>
-    ensures given { IfOk result (λ bytes. Gives argument.now (I.remaining input.old) bytes.items) }
-    ensures refused { IfErr result (λ refusal. (fault : List ℕ → Option WireFault)
-        → MayEndGiven fault argument.now (I.remaining input.old) refusal.failure) }
-    ensures said { IfErr result (λ refusal. (remark : List ℕ → WireFault → List ℕ)
-        → Says refusal (IsGivenRemark remark argument.now (I.remaining input.old))) }
+    ensures given { IfOk result (λ bytes. OfBytes (I.remaining input.old) (λ file. Gives argument.now file bytes.items)) }
+    ensures refused { IfErr result (λ refusal. (fault : List ℕ → Option WireFault) (file : List ℕ)
+        → MayEndGiven fault argument.now file refusal.failure) }
+    ensures said { IfErr result (λ refusal. (remark : List ℕ → WireFault → List ℕ) (file : List ℕ)
+        → Says refusal (IsGivenRemark remark argument.now file)) }
 {
     match file_named(argument) {
         Some(_) => Ok(read_all(alloc, input)?),
@@ -156,63 +91,108 @@ fn bytes_given<I: Read>(alloc: Global, argument: &str, input: &mut I) -> Result<
     }
 }
 
-fn acknowledged<I: Read>(alloc: Global, argument: &str, input: &mut I) -> Result<Printed, Refusal>
-    ensures printed { IfOk result (λ printed. (printed.status ≡ 0)
-        × (bytes : List ℕ) × Gives argument.now (I.remaining input.old) bytes × AnswersWith bytes (string_bytes printed.text)) }
-    ensures refused { RefusesGiven (message_fault 44) argument.now (I.remaining input.old) result }
-    ensures said { IfErr result
-        (λ refusal. Says refusal (IsGivenRemark (bare_remark kind.Break) argument.now (I.remaining input.old))) }
+// The bytes that a task goes by.
+fn given_to<I: Read>(alloc: Global, task: &Task, input: &mut I) -> Result<Vec<u8>, Refusal>
+    ensures given { IfOk result (λ given. OfBytes (I.remaining input.old) (λ file. IsGiven task.now file given.items)) }
+    ensures refused { IfErr result (λ refusal. (file : List ℕ) → MayEnd task.now file refusal.failure) }
+    ensures said { IfErr result (λ refusal. (file : List ℕ) → Says refusal (IsRemark task.now file)) }
 {
-    match bytes_given(alloc, argument, input) {
-        Err(refusal) => Err(refusal),
-        Ok(bytes) => match ack_lines(alloc, bytes.as_slice()) {
-            Ok(text) => Ok(done(text)),
-            Err(failure) => Err(Refusal::of_notification(alloc, failure, bytes.as_slice())),
-        },
+    match task {
+        Task::Ack(argument) => bytes_given(alloc, argument.as_str(), input),
+        Task::Show(_, argument) => bytes_given(alloc, argument.as_str(), input),
+        Task::Version => Ok(Vec::new(alloc)),
+        Task::Replay(_, _, _) | Task::Judge(_) | Task::Explain(_) | Task::Draw(_) => {
+            let bytes = read_all(alloc, input)?;
+            Ok(bytes)
+        }
     }
 }
 
-fn shown<I: Read>(
-    alloc: Global,
-    kind: Kind,
-    argument: &str,
-    input: &mut I,
-) -> Result<Printed, Refusal>
-    ensures printed { IfOk result (λ printed. (printed.status ≡ 0)
-        × (bytes : List ℕ) × Gives argument.now (I.remaining input.old) bytes × Shows kind bytes (string_bytes printed.text)) }
-    ensures refused { RefusesGiven (shown_fault kind) argument.now (I.remaining input.old) result }
-    ensures said { IfErr result
-        (λ refusal. Says refusal (IsGivenRemark (shown_remark kind) argument.now (I.remaining input.old))) }
+fn acknowledged(alloc: Global, given: &[u8]) -> Result<Made, Refusal>
+    ensures answers { (argument : List ℕ) (file : List ℕ) → Gives argument file given.now
+        → Answers (λ text status. (status ≡ 0) × AnswersWith given.now text)
+        (given_refusal (message_fault 44) argument (file_named argument) file) (MayEndGiven (message_fault 44) argument file)
+        (IsGivenRemark (bare_remark kind.Break) argument file) result }
+    ensures record { IfOk result (λ made. is_record made ≡ false) }
 {
-    match bytes_given(alloc, argument, input) {
-        Err(refusal) => Err(refusal),
-        Ok(bytes) => match render(alloc, kind, bytes.as_slice()) {
-            Ok(text) => Ok(done(text)),
-            Err(failure) => Err(Refusal::of_shown(alloc, failure, kind, bytes.as_slice())),
-        },
+    match ack_lines(alloc, given) {
+        Ok(text) => Ok(Made::Text(done(text))),
+        Err(failure) => Err(Refusal::of_notification(alloc, failure, given)),
+    }
+}
+
+fn shown(alloc: Global, kind: Kind, given: &[u8]) -> Result<Made, Refusal>
+    ensures answers { (argument : List ℕ) (file : List ℕ) → Gives argument file given.now
+        → Answers (λ text status. (status ≡ 0) × Shows kind given.now text)
+        (given_refusal (shown_fault kind) argument (file_named argument) file) (MayEndGiven (shown_fault kind) argument file)
+        (IsGivenRemark (shown_remark kind) argument file) result }
+    ensures record { IfOk result (λ made. is_record made ≡ false) }
+{
+    match render(alloc, kind, given) {
+        Ok(text) => Ok(Made::Text(done(text))),
+        Err(failure) => Err(Refusal::of_shown(alloc, failure, kind, given)),
+    }
+}
+
+fn replayed(alloc: Global, telling: Telling, rules: Rules, schedule: &[u8]) -> Result<Made, Refusal>
+    ensures answers { Answers (λ text status. (status ≡ 0) × Replays telling rules schedule.now text) (replay_refusal schedule.now)
+        (MayEndReading (replay_refusal schedule.now)) (λ failure line. schedule_remark schedule.now failure ≡ Some line) result }
+    ensures record { IfOk result (λ made. is_record made ≡ true) }
+{
+    let ran = replay(alloc, telling, rules, schedule)?;
+    Ok(Made::Record(ran))
+}
+
+// The verdict on a record, and why it is that.
+fn explained(alloc: Global, bytes: &[u8]) -> Result<Made, Refusal>
+    ensures answers { Answers (TellsReason bytes.now) (line_refusal (record_in bytes.now))
+        (MayEndReading (line_refusal (record_in bytes.now))) (λ failure line. record_remark bytes.now failure ≡ Some line) result }
+    ensures record { IfOk result (λ made. is_record made ≡ false) }
+{
+    let (text, verdict) = explain_text(alloc, bytes)?;
+    let status = status_of(&verdict);
+    Ok(Made::Text(Printed { text, status }))
+}
+
+// The picture of a record, or of the run of a schedule.
+fn drawn(alloc: Global, file: &[u8]) -> Result<Made, Refusal>
+    ensures answers { Answers (λ text status. (status ≡ 0) × Draws file.now text) (draw_refusal file.now)
+        (MayEndReading (draw_refusal file.now)) (IsDrawRemark file.now) result }
+    ensures record { IfOk result (λ made. is_record made ≡ false) }
+{
+    let text = draw_text(alloc, file)?;
+    Ok(Made::Text(done(text)))
+}
+
+// All that a task prints which goes by these bytes.
+fn made_of(alloc: Global, task: &Task, given: &[u8]) -> Result<Made, Refusal>
+    ensures answers { (file : List ℕ) → IsGiven task.now file given.now → AnswersTo task.now file result }
+    ensures record { IfOk result (λ made. is_record made ≡ is_replay task.now) }
+{
+    match task {
+        Task::Ack(_) => acknowledged(alloc, given),
+        Task::Show(kind, _) => shown(alloc, *kind, given),
+        Task::Replay(_, telling, rules) => replayed(alloc, *telling, *rules, given),
+        Task::Judge(_) => {
+            let mut left = given;
+            judged(alloc, &mut left)
+        }
+        Task::Explain(_) => explained(alloc, given),
+        Task::Draw(_) => drawn(alloc, given),
+        Task::Version => Ok(Made::Text(done(String::from_str(alloc, VERSION)?))),
     }
 }
 
 // All that the task prints.
 fn make<I: Read>(alloc: Global, task: &Task, input: &mut I) -> Result<Made, Refusal>
-    ensures text { IfOk result (λ made. IsTextOf task.now (I.remaining input.old) (text_made made) (status_made made)) }
+    ensures answers { OfBytes (I.remaining input.old) (λ file. AnswersTo task.now file result) }
     ensures record { IfOk result (λ made. is_record made ≡ is_replay task.now) }
-    ensures refused { AnswersOrRefuses task.now (I.remaining input.old) result }
-    ensures said { SaysOf task.now (I.remaining input.old) result }
 {
-    match task {
-        Task::Ack(argument) => Ok(Made::Text(acknowledged(alloc, argument.as_str(), input)?)),
-        Task::Show(kind, argument) => {
-            Ok(Made::Text(shown(alloc, *kind, argument.as_str(), input)?))
-        }
-        Task::Replay(_, telling, rules) => {
-            Ok(Made::Record(replayed(alloc, *telling, *rules, input)?))
-        }
-        Task::Judge(_) => Ok(Made::Text(judged(alloc, input)?)),
-        Task::Explain(_) => Ok(Made::Text(explained(alloc, input)?)),
-        Task::Draw(_) => Ok(Made::Text(drawn(alloc, input)?)),
-        Task::Version => Ok(Made::Text(done(String::from_str(alloc, VERSION)?))),
+    if let Task::Judge(_) = task {
+        return judged(alloc, input);
     }
+    let given = given_to(alloc, task, input)?;
+    made_of(alloc, task, given.as_slice())
 }
 
 // Writes a beginning of a text that isn't empty, and gives how long it is; 0 where the write was interrupted.
@@ -284,12 +264,8 @@ fn print_task<I: Read, O: Write>(
     input: &mut I,
     out: &mut O,
 ) -> Result<u8, Refusal>
-    ensures printed { IfOk result
-        (λ status. Prints task.now (I.remaining input.old) (O.contents out.old) (O.contents out.new) status) }
-    ensures accepted { OnOk result (refusal_of task.now (I.remaining input.old) ≡ None) }
-    ensures refused { IfErr result
-        (λ refusal. EndsWith task.now (I.remaining input.old) (O.contents out.old) (O.contents out.new) refusal.failure) }
-    ensures said { SaysOf task.now (I.remaining input.old) result }
+    ensures { OfBytes (I.remaining input.old)
+        (λ file. PrintsOrEnds task.now file (O.contents out.old) (O.contents out.new) result) }
 {
     let made = make(alloc, task, input)?;
     let status = print_made(alloc, &made, out)?;
@@ -358,8 +334,8 @@ pub fn perform<I: Read, O: Write, F: Write>(
         (F.contents faults.old) (F.contents faults.new) }
 
     // What is refused prints nothing.
-    ensures refused { IsSome (refusal_of task.now (I.remaining input.old)) → result ≡ 1 }
-    ensures kept { IsSome (refusal_of task.now (I.remaining input.old)) → Keeps (O.contents out.old) (O.contents out.new) }
+    ensures refused { IsRefused task.now (I.remaining input.old) → result ≡ 1 }
+    ensures kept { IsRefused task.now (I.remaining input.old) → Keeps (O.contents out.old) (O.contents out.new) }
 {
     match print_task(alloc, task, input, out) {
         Ok(status) => status,

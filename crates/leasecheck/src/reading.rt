@@ -1,5 +1,6 @@
-ghost use Rattle.std.specs.Prelude.{◌≡◌, IfErr, IfOk, IfSome};
+ghost use Rattle.std.specs.Prelude.{IfErr, IfOk};
 ghost use Rattle.leasecheck.specs.FileFaults.{FailsReading};
+ghost use Rattle.leasecheck.specs.Known.{MayHave};
 
 use crate::failure::Failure;
 use std::alloc::Global;
@@ -11,7 +12,7 @@ use std::io::Read;
 ///
 /// `File` where a read fails, and `Memory` where there is none left.
 pub(crate) fn read_all<I: Read>(alloc: Global, input: &mut I) -> Result<Vec<u8>, Failure>
-    ensures read { IfOk result (λ bytes. IfSome (I.remaining input.old) (λ known. bytes.items ≡ known)) }
+    ensures read { IfOk result (λ bytes. MayHave (I.remaining input.old) bytes.items) }
     ensures failed { IfErr result FailsReading }
 {
     let mut bytes = Vec::new(alloc);

@@ -40,7 +40,7 @@ fn some_of(text: Result<Option<String>, AllocError>) -> Option<String>
 }
 
 impl Refusal {
-    ghost use Rattle.std.specs.Prelude.{◌⊎◌, List, ℕ, Option, IfSome};
+    ghost use Rattle.std.specs.Prelude.{◌⊎◌, List, ℕ, IfSome};
     ghost use Rattle.std.specs.String.{string_bytes};
     ghost use Rattle.lease_texts.specs.Drafts.{draft_of};
     ghost use Rattle.lease_wire.specs.declared.fault.WireFault.{WireFault};
@@ -98,7 +98,7 @@ impl Refusal {
     /// The failure of the bytes that an argument gives, those of a notification without a header.
     pub fn of_notification(alloc: Global, failure: Failure, bytes: &[u8]) -> Refusal
         ensures failure { result.failure ≡ failure }
-        ensures said { (argument : List ℕ) (file : Option (List ℕ)) → Gives argument file bytes.now
+        ensures said { (argument : List ℕ) (file : List ℕ) → Gives argument file bytes.now
             → Says result (IsGivenRemark (bare_remark kind.Break) argument file) }
     {
         match failure {
@@ -113,7 +113,7 @@ impl Refusal {
     /// The same of bytes that are shown.
     pub fn of_shown(alloc: Global, failure: Failure, kind: Kind, bytes: &[u8]) -> Refusal
         ensures failure { result.failure ≡ failure }
-        ensures said { (argument : List ℕ) (file : Option (List ℕ)) → Gives argument file bytes.now
+        ensures said { (argument : List ℕ) (file : List ℕ) → Gives argument file bytes.now
             → Says result (IsGivenRemark (shown_remark kind) argument file) }
     {
         match failure {

@@ -1,10 +1,11 @@
-ghost use Rattle.std.specs.Prelude.{◌≡◌, ◌≢◌, ◌≤◌, ◌⊎◌, ℕ, List, Option, IfOk, IsErr, map};
+ghost use Rattle.std.specs.Prelude.{◌≡◌, ◌≢◌, ◌≤◌, ◌⊎◌, ℕ, List, IfOk, IsErr, map};
 ghost use Rattle.std.specs.String.{string_bytes};
 ghost use Rattle.std.specs.Io.KnownBytes.{Appends, Keeps};
 ghost use Rattle.lease_lines.specs.Machines.{reasons, transcript};
 ghost use Rattle.lease_lines.specs.Tables.{machines_of};
 ghost use Rattle.leasecheck.specs.CommandLine.{TellsUsage, all_words};
-ghost use Rattle.leasecheck.specs.Printed.{Prints};
+ghost use Rattle.leasecheck.specs.Printed.{PrintsOf};
+ghost use Rattle.leasecheck.specs.Refusals.{EndsOf};
 ghost use Rattle.leasecheck.specs.Running.{Does};
 
 use crate::command_line::asked;
@@ -60,8 +61,10 @@ fn perform_on_file<R: Files + Input + AllocGlobal, O: Write, F: Write>(
 ) -> u8
     ensures silent { result ≢ 1 → Keeps (F.contents faults.old) (F.contents faults.new) }
     ensures status { (result ≤ 1) ⊎ (result ≡ 3) }
-    ensures printed { result ≢ 1 → (file : Option (List ℕ))
-        × Prints asked.now file (O.contents out.old) (O.contents out.new) result }
+    ensures printed { result ≢ 1 → (file : List ℕ)
+        × PrintsOf asked.now file (O.contents out.old) (O.contents out.new) result }
+    ensures ended { result ≡ 1 → (file : List ℕ)
+        × EndsOf asked.now file (O.contents out.old) (O.contents out.new) (F.contents faults.old) (F.contents faults.new) }
 {
     let alloc = rt.alloc();
     match asked.path() {

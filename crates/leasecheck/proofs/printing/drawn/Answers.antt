@@ -1,12 +1,12 @@
-use Rattle.lease_laws.proofs.Words.{List, ℕ, refl}
-use Rattle.std.specs.String.{string_bytes}
-use Rattle.leasecheck.proofs.Known.{of_known}
+use Rattle.lease_laws.proofs.Words.{List, subst, sym, ℕ}
 use Rattle.leasecheck.specs.Drawing.{Draws}
 use Rattle.leasecheck.proofs.printing.drawn.Goals as goal
 
-pub returns-in-Ok-clause-printed : goal.returns-in-Ok-clause-printed
-returns-in-Ok-clause-printed g c = (
-  refl,
-  of_known (λ (bytes : List ℕ). Draws bytes (string_bytes c.in-Ok.text)) (g.I.Read.remaining c.args.input.now)
-      c.as_slice.result.now _ c.as_slice.ensures.value c.in_ok-bytes.ensures.read c.in-Ok.ensures.drawn,
+pub returns-clause-answers : goal.returns-clause-answers
+returns-clause-answers c = (
+  (
+    c.done.ensures.1,
+    subst (λ (text : List ℕ). Draws c.args.file.now text) (sym c.done.ensures.0) c.in_ok-text.ensures.drawn,
+  ),
+  c.in_ok-text.ensures.refused,
 )
