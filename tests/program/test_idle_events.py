@@ -110,7 +110,8 @@ def check(text: str, program: str) -> int:
     messages = run(["replay", "--messages", "-"], text.encode()).out.decode()
     assert REMARK.sub("", explained(text, "--messages")) == messages
     assert REMARK.findall(explained(text, "--messages")) == REMARK.findall(told)
-    assert run(["judge", "-"], told.encode()) == Ended(0, SAFE)
+    for record in (told, messages, explained(text, "--messages")):
+        assert run(["judge", "-"], record.encode()) == Ended(0, SAFE), text
     dead = set(map(int, REMARK.findall(told)))
     assert dead <= set(event_lines(text))
     without = "".join(f"{it}\n" for number, it in enumerate(text.split("\n")[:-1], 1) if number not in dead)
