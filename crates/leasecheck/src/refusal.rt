@@ -132,7 +132,7 @@ impl Refusal {
     {
         Refusal {
             failure: Failure::Line(number),
-            second: fact_remark(alloc, number, line),
+            second: some_of(fact_remark(alloc, number, line)),
         }
     }
 
@@ -143,7 +143,7 @@ impl Refusal {
     {
         Refusal {
             failure: Failure::Line(number),
-            second: part_remark(alloc, number, line_at(text, number)),
+            second: some(part_remark(alloc, number, line_at(text, number))),
         }
     }
 

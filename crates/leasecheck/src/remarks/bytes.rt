@@ -1,4 +1,4 @@
-ghost use Rattle.std.specs.Prelude.{◌≡◌, ◌++◌, ◌≤◌, ◌+◌, length, IfOk, OnOk, IfSome};
+ghost use Rattle.std.specs.Prelude.{◌≡◌, ◌++◌, ◌≤◌, ◌+◌, ◌^◌, length, None, IfOk, OnOk, IfSome};
 ghost use Rattle.std.specs.Option.{option_map};
 ghost use Rattle.std.specs.String.{string_bytes};
 ghost use Rattle.lease_wire.specs.Contexts.{items_left};
@@ -42,8 +42,9 @@ struct Refused<'a> {
 
 #[tactic(auto, unfolding(crate::specs::WireRemarks::refused_among))]
 fn refused_among<'a>(direction: Direction, items: Contexts<'a>) -> Option<Refused<'a>>
-    ensures { IfSome result (λ refused. record { number = refused.number; name = option_map (λ name. name.now) refused.name }
+    ensures some { IfSome result (λ refused. record { number = refused.number; name = option_map (λ name. name.now) refused.name }
         ≡ remarks.refused_among direction no_values 1 (items_left items.entry)) }
+    ensures none { result ≡ None → 2 ^ 64 ≤ length (items_left items.entry) + 1 }
 {
     let mut values = ContextValues::nothing();
     let mut number = 1u64;

@@ -1,4 +1,5 @@
-ghost use Rattle.std.specs.Prelude.{◌≡◌, ◌++◌, Some, IfOk, IfSome, OnOk};
+ghost use Rattle.std.specs.Prelude.{◌≡◌, IfOk};
+ghost use Rattle.std.specs.Option.{option_map};
 ghost use Rattle.std.specs.String.{string_bytes};
 ghost use Rattle.lease_texts.specs.Complaints.{complaint_line, complaint_of};
 ghost use Rattle.leasecheck.specs.LineRemarks as remarks;
@@ -20,13 +21,18 @@ fn complaint_line(
     Ok(text)
 }
 
-/// What is said of a line of a record that is refused; nothing where there is no memory for it.
-pub(crate) fn fact_remark(alloc: Global, number: u64, line: &[u8]) -> Option<String>
-    ensures { IfSome result (λ text. remarks.fact_remark number line.now ≡ Some (string_bytes text)) }
+/// What is said of a line of a record that is refused; nothing of one that isn't.
+pub(crate) fn fact_remark(
+    alloc: Global,
+    number: u64,
+    line: &[u8],
+) -> Result<Option<String>, AllocError>
+    ensures { IfOk result (λ said. option_map (λ text. string_bytes text) said ≡ remarks.fact_remark number line.now) }
 {
     match complaint_about(alloc, fact_table(), line) {
-        Ok(Some(complaint)) => complaint_line(alloc, number, &complaint).ok(),
-        _ => None,
+        Ok(Some(complaint)) => Ok(Some(complaint_line(alloc, number, &complaint)?)),
+        Ok(None) => Ok(None),
+        Err(_) => Err(AllocError),
     }
 }
 
@@ -41,14 +47,14 @@ fn place_line(alloc: Global, number: u64) -> Result<String, AllocError>
     Ok(text)
 }
 
-/// What is said of a line of a schedule that is refused; nothing where there is no memory for it.
-pub(crate) fn part_remark(alloc: Global, number: u64, line: &[u8]) -> Option<String>
-    ensures { IfSome result (λ text. string_bytes text ≡ remarks.part_remark number line.now) }
+/// What is said of a line of a schedule that is refused.
+pub(crate) fn part_remark(alloc: Global, number: u64, line: &[u8]) -> Result<String, AllocError>
+    ensures { IfOk result (λ text. string_bytes text ≡ remarks.part_remark number line.now) }
 {
     match complaint_about(alloc, part_table(), line) {
-        Ok(Some(complaint)) => complaint_line(alloc, number, &complaint).ok(),
-        Ok(None) => place_line(alloc, number).ok(),
-        Err(_) => None,
+        Ok(Some(complaint)) => complaint_line(alloc, number, &complaint),
+        Ok(None) => place_line(alloc, number),
+        Err(_) => Err(AllocError),
     }
 }
 

@@ -11,7 +11,7 @@ pub returns-in_ok-add-in-Ok : goal.returns-in_ok-add-in-Ok
 returns-in_ok-add-in-Ok c = λ facts judged. (
   facts ++ c.in-Ok.fact ∷ [],
   line_told facts c.args.line.now c.in-Ok.fact (sym c.is_passed_over.ensures ∙ c.if-is_passed_over.false) c.in-Ok.ensures,
-  judged_more _ facts c.in-Ok.fact (c.in_ok-add-in-Ok.ensures (map fact_of facts) judged),
+  judged_more _ facts c.in-Ok.fact (c.in_ok-add-in-Ok.ensures.judged (map fact_of facts) judged),
 )
 
 pub returns-in-Err-Refused : goal.returns-in-Err-Refused
