@@ -1,12 +1,10 @@
 -- What a call leaves behind keeps the laws of clients.
-use Rattle.lease_laws.proofs.Words.{◌∙◌, ◌≡◌, [], Client, ClientCall, IsSoundClient, Step, ap, arith, client_called, refl, subst}
+use Rattle.lease_laws.proofs.Words.{◌∙◌, ◌≡◌, Client, ClientCall, IsSoundClient, Step, ap, arith, client_called, subst}
 use Rattle.lease_laws.proofs.Words.{sym}
 use Rattle.lease_laws.specs.client.Laws.{ClientsStaySound}
-use Rattle.lease_client.specs.Known.{Known, client_of}
 use Rattle.lease_client.specs.Links.{linked}
 use Rattle.lease_client.specs.declared.machine.links.Link.{Link}
 use Rattle.lease_client.specs.declared.machine.links.Link.TheVariants.{Lost, Made}
-use Rattle.lease_client.proofs.NewClient.{closed_number}
 
 pub sound_after : ClientsStaySound → (client : Client) (call : ClientCall) (after : Client) → IsSoundClient client
     → after ≡ (client_called client call).client → IsSoundClient after
@@ -23,14 +21,3 @@ pub sound_linked : ClientsStaySound → (client : Client) (link : Link) (after :
     → after ≡ (linked client link).client → IsSoundClient after
 sound_linked kept client link after sound is =
     sound_after kept client (call_of link) after sound (is ∙ ap (λ (s : Step). s.client) (called_is client link))
-
--- a client that forgot its files
-pub forgotten_sound : (known : Known) → known.entries ≡ [] → IsSoundClient (client_of known)
-forgotten_sound known none = rw none (record {
-  entries = λ file. rw (closed_number 0 file) (λ offline. refl);
-  in_files = λ file unknown. rw (closed_number 0 file) refl;
-  numbers = record {
-    rising = λ file. rw (closed_number 0 file) refl;
-    apart = λ file other number ne has. rw (closed_number 0 other) refl;
-  };
-})

@@ -104,21 +104,22 @@ impl Client {
     ///
     /// # Errors
     ///
-    /// `Memory` where there is none left, and never where the command is refused. The client has forgotten its files then, and
-    /// `given` has nothing of worth.
+    /// `Memory` where there is none left, and never where the command is refused. The client has forgotten all but its
+    /// ClientGuid then, as a new one without files, and `given` has nothing of worth.
     #[inline(always)]
     pub fn app_in_place(&mut self, command: Command, given: &mut Given) -> Result<(), Memory>
         ensures step { OnOk result (IsAfter self.new given.new (commanded (client_of self.old) (command_of command))) }
         ensures refused { is_refused (commanded (client_of self.old) (command_of command)).answer ≡ true → IsOk result }
         ensures quiet { OnOk result (RefusesInPlace (client_of self.old) self.new given.new) }
         ensures beliefs { OnOk result (NoneRose (client_of self.old) (client_of self.new)) }
-        ensures forgotten { OnErr result ((client_of self.new).files ≡ 0) }
+        ensures forgotten { OnErr result (client_of self.new ≡ model.new_client (client_of self.old).guid 0) }
     {
         clients_are_sound();
+        let guid = self.machine.guid();
         match self.machine.app(command, given) {
             Ok(()) => Ok(()),
             Err(fault) => {
-                self.machine.forget();
+                self.machine.forget(guid);
                 Err(fault)
             }
         }
@@ -148,20 +149,21 @@ impl Client {
     ///
     /// # Errors
     ///
-    /// `Memory` where there is none left, and never where a Close or an acknowledgment is answered. The client has forgotten its
-    /// files then, and `given` has nothing of worth.
+    /// `Memory` where there is none left, and never where a Close or an acknowledgment is answered. The client has forgotten
+    /// all but its ClientGuid then, as a new one without files, and `given` has nothing of worth.
     #[inline(always)]
     pub fn take_in_place(&mut self, reply: Reply, given: &mut Given) -> Result<(), Memory>
         ensures step { OnOk result (IsAfter self.new given.new (taken (client_of self.old) (reply_of reply))) }
         ensures idle { is_idle reply ≡ true → IsOk result }
         ensures beliefs { OnOk result (RoseBy (reply_of reply) (client_of self.old) (client_of self.new)) }
-        ensures forgotten { OnErr result ((client_of self.new).files ≡ 0) }
+        ensures forgotten { OnErr result (client_of self.new ≡ model.new_client (client_of self.old).guid 0) }
     {
         clients_are_sound();
+        let guid = self.machine.guid();
         match self.machine.take(reply, given) {
             Ok(()) => Ok(()),
             Err(fault) => {
-                self.machine.forget();
+                self.machine.forget(guid);
                 Err(fault)
             }
         }
@@ -188,11 +190,12 @@ impl Client {
     ///
     /// # Errors
     ///
-    /// `Memory` where there is none left. The client has forgotten its files then, and `given` has nothing of worth.
+    /// `Memory` where there is none left. The client has forgotten all but its ClientGuid then, as a new one without files, and
+    /// `given` has nothing of worth.
     pub fn notice_in_place(&mut self, given: &mut Given) -> Result<(), Memory>
         ensures step { OnOk result (IsAfter self.new given.new (noticed (client_of self.old))) }
         ensures beliefs { OnOk result (NoneRose (client_of self.old) (client_of self.new)) }
-        ensures forgotten { OnErr result ((client_of self.new).files ≡ 0) }
+        ensures forgotten { OnErr result (client_of self.new ≡ model.new_client (client_of self.old).guid 0) }
     {
         self.link(Link::Lost, given)
     }
@@ -217,11 +220,12 @@ impl Client {
     ///
     /// # Errors
     ///
-    /// `Memory` where there is none left. The client has forgotten its files then, and `given` has nothing of worth.
+    /// `Memory` where there is none left. The client has forgotten all but its ClientGuid then, as a new one without files, and
+    /// `given` has nothing of worth.
     pub fn connect_in_place(&mut self, given: &mut Given) -> Result<(), Memory>
         ensures step { OnOk result (IsAfter self.new given.new (connection_made (client_of self.old))) }
         ensures beliefs { OnOk result (NoneRose (client_of self.old) (client_of self.new)) }
-        ensures forgotten { OnErr result ((client_of self.new).files ≡ 0) }
+        ensures forgotten { OnErr result (client_of self.new ≡ model.new_client (client_of self.old).guid 0) }
     {
         self.link(Link::Made, given)
     }
@@ -229,13 +233,14 @@ impl Client {
     fn link(&mut self, link: Link, given: &mut Given) -> Result<(), Memory>
         ensures step { OnOk result (IsAfter self.new given.new (linked (client_of self.old) link)) }
         ensures beliefs { OnOk result (NoneRose (client_of self.old) (client_of self.new)) }
-        ensures forgotten { OnErr result ((client_of self.new).files ≡ 0) }
+        ensures forgotten { OnErr result (client_of self.new ≡ model.new_client (client_of self.old).guid 0) }
     {
         clients_are_sound();
+        let guid = self.machine.guid();
         match self.machine.link(link, given) {
             Ok(()) => Ok(()),
             Err(fault) => {
-                self.machine.forget();
+                self.machine.forget(guid);
                 Err(fault)
             }
         }

@@ -82,11 +82,22 @@ impl Machine {
         })
     }
 
-    /// The files are forgotten: there is none any more.
-    pub fn forget(&mut self)
-        ensures { self.new ≡ record self.old { entries = [] } }
+    /// All is forgotten but the ClientGuid, which is this one: there are no files, and the client was never connected. Allocates
+    /// nothing.
+    pub fn forget(&mut self, guid: [u8; 16])
+        ensures { client_of self.new ≡ model.new_client guid 0 }
     {
+        self.guid = guid;
+        self.is_online = false;
+        self.last_number = 0;
         self.entries.clear();
+    }
+
+    /// The ClientGuid.
+    pub fn guid(&self) -> [u8; 16]
+        ensures { result ≡ self.now.guid }
+    {
+        self.guid
     }
 
     /// The allocator of the machine.

@@ -1,4 +1,4 @@
-ghost use Rattle.std.specs.Prelude.{◌≡◌, ◌↔◌, List, [], IfOk, OnOk};
+ghost use Rattle.std.specs.Prelude.{◌≡◌, ◌↔◌, List, [], IfOk, OnErr, OnOk};
 ghost use Rattle.lease_model.specs.records.Facts as model;
 ghost use Rattle.lease_model.specs.records.Safe.{Safe};
 ghost use Rattle.lease_model.specs.records.Verdict.{verdict};
@@ -83,9 +83,24 @@ impl Judge {
     ///
     /// # Errors
     ///
-    /// Those of `take`; what the judge knows then is no longer said.
+    /// Those of `take`. The judge has forgotten all facts then, as a new one.
     // docs/DECISIONS.md: "A judge takes a fact in two ways".
     pub fn add(&mut self, fact: &Fact) -> Result<(), Memory>
+        ensures judged { OnOk result (JudgesOneMore self.old (fact_of fact.now) self.new) }
+        ensures forgotten { OnErr result (HasJudged self.new []) }
+    {
+        match self.add_next(fact) {
+            Ok(()) => Ok(()),
+            Err(fault) => {
+                let alloc = self.known.alloc();
+                *self = Judge::new(alloc);
+                Err(fault)
+            }
+        }
+    }
+
+    #[inline(always)]
+    fn add_next(&mut self, fact: &Fact) -> Result<(), Memory>
         ensures { OnOk result (JudgesOneMore self.old (fact_of fact.now) self.new) }
     {
         let Judge {

@@ -1,5 +1,5 @@
 -- What a call leaves behind stands for what the rules come to, and keeps the laws of servers.
-use Rattle.lease_laws.proofs.Words.{◌≡◌, [], Call, IsSound, List, Progress, Server, arith, called, map, refl}
+use Rattle.lease_laws.proofs.Words.{◌≡◌, Call, IsSound, List, Progress, Server, arith, called, map}
 use Rattle.lease_model.specs.messages.Replies as model
 use Rattle.share_server.specs.Outs.{IsAfter, progress_of}
 use Rattle.share_server.specs.Table.{Table, server_of}
@@ -16,17 +16,3 @@ CallsKeepTheLaws = (server : Server) (call : Call) → IsSound server → IsSoun
 pub sound_after : CallsKeepTheLaws → (old : Table) (call : Call) (table : Table) (outs : List model.Out)
     → IsSound (server_of old) → progress_of table outs ≡ called (server_of old) call → IsSound (server_of table)
 sound_after kept old call table outs sound is = grind arith
-
--- a server that forgot its opens
-pub forgotten_sound : (table : Table) → IsSound (server_of (record table { opens = []; leases = [] }))
-forgotten_sound table = record {
-  one_writer = λ key one other writes among. absurd among;
-  no_conflict = λ one other among. absurd among;
-  disconnected = λ one among. absurd among;
-  lawful = λ key. record { is_granted_form = refl; is_broken_so = λ lowered is. let c : ⊥ = cc in absurd c };
-  one_file = λ key one other among. absurd among;
-  no_open = λ key none. refl;
-  numbered = λ one among. absurd among;
-  in_order = tt;
-  timed_out = λ key out. refl;
-}

@@ -98,19 +98,20 @@ impl Server {
     ///
     /// # Errors
     ///
-    /// `Memory` where there is none left, and never where the client is connected. The server has forgotten its opens then, and
-    /// the list has nothing of worth.
+    /// `Memory` where there is none left, and never where the client is connected. The server has forgotten all but its
+    /// rules then, as a new one without files, and the list has nothing of worth.
     pub fn join_in_place(&mut self, client: ClientNo, outs: &mut Vec<Out>) -> Result<(), Memory>
         ensures after { OnOk result (IsAfter self.new outs.new.items (rules.join (server_of self.old) client.0)) }
         ensures idle { (server_of self.old).present client.0 ≡ true → IsOk result }
-        ensures forgotten { OnErr result ((server_of self.new).opens ≡ []) }
+        ensures forgotten { OnErr result (server_of self.new ≡ new_server_under (server_of self.old).rules []) }
     {
         laws_of_servers();
+        let kept = self.tables.rules();
         outs.clear();
         match calls::join(&mut self.tables, client) {
             Ok(()) => Ok(()),
             Err(fault) => {
-                self.tables.forget_opens();
+                self.tables.forget_all(kept);
                 Err(fault)
             }
         }
@@ -143,8 +144,8 @@ impl Server {
     ///
     /// # Errors
     ///
-    /// `Memory` where there is none left, and never where the client isn't connected. The server has forgotten its opens then,
-    /// and the list has nothing of worth.
+    /// `Memory` where there is none left, and never where the client isn't connected. The server has forgotten all but its
+    /// rules then, as a new one without files, and the list has nothing of worth.
     pub fn receive_in_place(
         &mut self,
         client: ClientNo,
@@ -154,9 +155,10 @@ impl Server {
         ensures after { OnOk result
             (IsAfter self.new outs.new.items (rules.receive (server_of self.old) client.0 (request_of request))) }
         ensures idle { (server_of self.old).present client.0 ≡ false → IsOk result }
-        ensures forgotten { OnErr result ((server_of self.new).opens ≡ []) }
+        ensures forgotten { OnErr result (server_of self.new ≡ new_server_under (server_of self.old).rules []) }
     {
         laws_of_servers();
+        let kept = self.tables.rules();
         let mut given = Outs::over(taken_out(outs));
         match calls::receive(&mut self.tables, &mut given, client, request) {
             Ok(()) => {
@@ -164,7 +166,7 @@ impl Server {
                 Ok(())
             }
             Err(fault) => {
-                self.tables.forget_opens();
+                self.tables.forget_all(kept);
                 Err(fault)
             }
         }
@@ -193,14 +195,15 @@ impl Server {
     ///
     /// # Errors
     ///
-    /// `Memory` where there is none left, and never where the client isn't connected. The server has forgotten its opens then,
-    /// and the list has nothing of worth.
+    /// `Memory` where there is none left, and never where the client isn't connected. The server has forgotten all but its
+    /// rules then, as a new one without files, and the list has nothing of worth.
     pub fn cut_in_place(&mut self, client: ClientNo, outs: &mut Vec<Out>) -> Result<(), Memory>
         ensures after { OnOk result (IsAfter self.new outs.new.items (rules.cut (server_of self.old) client.0)) }
         ensures idle { (server_of self.old).present client.0 ≡ false → IsOk result }
-        ensures forgotten { OnErr result ((server_of self.new).opens ≡ []) }
+        ensures forgotten { OnErr result (server_of self.new ≡ new_server_under (server_of self.old).rules []) }
     {
         laws_of_servers();
+        let kept = self.tables.rules();
         let mut given = Outs::over(taken_out(outs));
         match calls::cut(&mut self.tables, &mut given, client) {
             Ok(()) => {
@@ -208,7 +211,7 @@ impl Server {
                 Ok(())
             }
             Err(fault) => {
-                self.tables.forget_opens();
+                self.tables.forget_all(kept);
                 Err(fault)
             }
         }
@@ -238,8 +241,8 @@ impl Server {
     ///
     /// # Errors
     ///
-    /// `Memory` where there is none left, and never where the lease isn't breaking. The server has forgotten its opens then, and
-    /// the list has nothing of worth.
+    /// `Memory` where there is none left, and never where the lease isn't breaking. The server has forgotten all but its
+    /// rules then, as a new one without files, and the list has nothing of worth.
     pub fn expire_in_place(
         &mut self,
         client: ClientNo,
@@ -249,9 +252,10 @@ impl Server {
         ensures after { OnOk result
             (IsAfter self.new outs.new.items (rules.expire (server_of self.old) (key_of client.0 key.0))) }
         ensures idle { queries.breaking (server_of self.old) (key_of client.0 key.0) ≡ false → IsOk result }
-        ensures forgotten { OnErr result ((server_of self.new).opens ≡ []) }
+        ensures forgotten { OnErr result (server_of self.new ≡ new_server_under (server_of self.old).rules []) }
     {
         laws_of_servers();
+        let kept = self.tables.rules();
         let mut given = Outs::over(taken_out(outs));
         match calls::expire(&mut self.tables, &mut given, Key { client, bytes: key }) {
             Ok(()) => {
@@ -259,7 +263,7 @@ impl Server {
                 Ok(())
             }
             Err(fault) => {
-                self.tables.forget_opens();
+                self.tables.forget_all(kept);
                 Err(fault)
             }
         }
@@ -287,14 +291,15 @@ impl Server {
     ///
     /// # Errors
     ///
-    /// `Memory` where there is none left, and never where no such open waits. The server has forgotten its opens then, and
-    /// the list has nothing of worth.
+    /// `Memory` where there is none left, and never where no such open waits. The server has forgotten all but its
+    /// rules then, as a new one without files, and the list has nothing of worth.
     pub fn scavenge_in_place(&mut self, fid: FileId, outs: &mut Vec<Out>) -> Result<(), Memory>
         ensures after { OnOk result (IsAfter self.new outs.new.items (rules.scavenge (server_of self.old) fid.0)) }
         ensures idle { list_any (rules.is_left_behind fid.0) (server_of self.old).opens ≡ false → IsOk result }
-        ensures forgotten { OnErr result ((server_of self.new).opens ≡ []) }
+        ensures forgotten { OnErr result (server_of self.new ≡ new_server_under (server_of self.old).rules []) }
     {
         laws_of_servers();
+        let kept = self.tables.rules();
         let mut given = Outs::over(taken_out(outs));
         match calls::scavenge(&mut self.tables, &mut given, fid) {
             Ok(()) => {
@@ -302,7 +307,7 @@ impl Server {
                 Ok(())
             }
             Err(fault) => {
-                self.tables.forget_opens();
+                self.tables.forget_all(kept);
                 Err(fault)
             }
         }

@@ -200,13 +200,19 @@ impl Tables {
         })
     }
 
-    /// The opens are forgotten, and the leases with them.
-    pub fn forget_opens(&mut self)
-        ensures { self.new ≡ record self.old { opens = []; leases = [] } }
+    /// All is forgotten but the rules, which are these: there is no file, and no client has joined. Allocates nothing.
+    pub fn forget_all(&mut self, rules: Rules)
+        ensures { server_of self.new ≡ new_server_under rules [] }
     {
         let alloc = self.alloc();
+        self.rules = rules;
+        empty_places(alloc, &mut self.files);
+        self.count = 0;
         self.opens = Opens::new(alloc);
         self.summaries = Summaries::new(alloc);
+        self.present = Vec::new(alloc);
+        self.expired = Vec::new(alloc);
+        self.last_id = 0;
         self.waiting = Waiting::new(alloc);
     }
 
@@ -333,6 +339,16 @@ fn places_of(alloc: Global, contents: Vec<Content>) -> Result<Vec<File>, Memory>
     let mut files = first_places(alloc, contents)?;
     fill_up(alloc, &mut files)?;
     Ok(files)
+}
+
+// Each place is empty from now on.
+fn empty_places(alloc: Global, files: &mut Vec<File>)
+    ensures places { files.new.items ≡ map (λ file. no_file) files.old.items }
+    ensures len { vec_len files.new ≡ vec_len files.old }
+{
+    for file in files.iter_mut() {
+        *file = File::empty(alloc);
+    }
 }
 
 // An empty place, and then the contents.

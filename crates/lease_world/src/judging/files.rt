@@ -35,6 +35,11 @@ impl Files {
         }
     }
 
+    /// The allocator of what is kept.
+    pub fn alloc(&self) -> Global {
+        *self.seen.allocator()
+    }
+
     /// What is kept of a file, where something is.
     pub fn get(&self, file: FileNo) -> Option<&FileSeen>
         ensures { option_map (λ seen. seen.now) result ≡ slice_get self.now file.0 }

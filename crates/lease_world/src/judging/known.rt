@@ -50,6 +50,11 @@ impl Known {
         }
     }
 
+    /// The allocator of what is kept.
+    pub fn alloc(&self) -> Global {
+        self.files.alloc()
+    }
+
     /// Takes the fact at this place, and gives what it is in the light of those before it.
     ///
     /// # Errors

@@ -8,7 +8,7 @@ use Rattle.lease_world.proofs.whole.judge_each.Goals as goal
 pub loop-fact-preserved : goal.loop-fact-preserved
 loop-fact-preserved g c = subst (λ facts. HasJudged c.add.new.self facts)
     (sym (map-append (λ fact. fact_of fact.now) c.loop-fact.yielded (c.in-Some.fact ∷ [])))
-    (c.in_ok-add.ensures _ c.loop-fact.invariant)
+    (c.in_ok-add.ensures.judged _ c.loop-fact.invariant)
 
 pub returns : goal.returns
 returns g c = (

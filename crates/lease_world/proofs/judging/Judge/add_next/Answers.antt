@@ -1,6 +1,6 @@
 use Rattle.lease_laws.proofs.Words.{rules}
 use Rattle.lease_world.proofs.records.Judges.{stepped}
-use Rattle.lease_world.proofs.judging.Judge.add.Goals as goal
+use Rattle.lease_world.proofs.judging.Judge.add_next.Goals as goal
 
 pub returns-then-ne : goal.returns-then-ne
 returns-then-ne c = stepped _ _ _ (search rules)
