@@ -122,6 +122,7 @@ fn judge(lease: &mut LeaseEntry, state: u32) -> u32
         ≡ lease_acknowledged (state_of_bits state) (lease_held lease.old) (lease_held lease.old).broken_to }
     ensures key { key_held lease.new ≡ key_held lease.old }
     ensures expired { lease.new.expired ≡ lease.old.expired }
+    ensures accepted { result ≡ 0 → lease.new.broken_to ≡ 0 }
     ensures refused { result ≢ 0 → lease.new ≡ lease.old }
 {
     let given = LeaseState::from_wire(state);
@@ -142,7 +143,8 @@ fn judge(lease: &mut LeaseEntry, state: u32) -> u32
 
 /// Judges an acknowledgment of this state for a lease (MS-SMB2 3.3.5.22.2), and returns the status
 /// that answers it. Where that is 0, the lease has the granted form of the state and isn't
-/// breaking; else it is as it was. The caller finds out whether there is such a lease.
+/// breaking, and `broken_to` is 0; else it is as it was. The caller finds out whether there is such
+/// a lease.
 #[unsafe(no_mangle)]
 pub extern "C" fn smblease_acknowledge(lease: &mut LeaseEntry, state: u32) -> u32
     ensures status { result ≡ acknowledged_status (state_of_bits state) (lease_held lease.old).broken_to }
@@ -150,6 +152,7 @@ pub extern "C" fn smblease_acknowledge(lease: &mut LeaseEntry, state: u32) -> u3
         ≡ lease_acknowledged (state_of_bits state) (lease_held lease.old) (lease_held lease.old).broken_to }
     ensures key { key_held lease.new ≡ key_held lease.old }
     ensures expired { lease.new.expired ≡ lease.old.expired }
+    ensures accepted { result ≡ 0 → lease.new.broken_to ≡ 0 }
     ensures refused { result ≢ 0 → lease.new ≡ lease.old }
     ensures servers { IsAnsweredByAll (key_held lease.old) (state_of_bits state) (lease_held lease.old) result
         (lease_held lease.new) }
