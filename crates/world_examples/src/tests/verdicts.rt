@@ -278,6 +278,49 @@ fn a_write_is_done_that_was_not_accepted(rt: HostRuntime) -> Result<(), Fail> {
     Ok(())
 }
 
+// The write is client 1's own: the other client wasn't given it, whoever changed the file.
+#[test]
+fn a_client_is_told_of_a_write_of_another(rt: HostRuntime) -> Result<(), Fail> {
+    let alloc = rt.alloc();
+    for changer in [1, 2] {
+        let facts = record(
+            alloc,
+            [
+                start(alloc, 1, b""),
+                through(alloc, 1, 1, 1, 0, b'X'),
+                changed(alloc, 1, changer, 1, 0, b'X'),
+                settled(2, 1, Settlement::Done),
+            ],
+        )?;
+        assert_eq!(rt; judge(alloc, &facts)?, breaks(4, Rule::NoFalseDone));
+    }
+    Ok(())
+}
+
+#[test]
+fn a_settlement_answers_no_write_of_another_client(rt: HostRuntime) -> Result<(), Fail> {
+    let alloc = rt.alloc();
+    for (seen, verdict) in [
+        (b"X", Verdict::Safe),
+        (b"a", breaks(7, Rule::FreshCachedReads)),
+    ] {
+        let facts = record(
+            alloc,
+            [
+                start(alloc, 1, b"a"),
+                joined(1),
+                sent(1),
+                took(1),
+                buffered(alloc, 1, 1, 1, 0, b'X'),
+                settled(2, 1, Settlement::Lost),
+                read(alloc, 1, 1, seen),
+            ],
+        )?;
+        assert_eq!(rt; judge(alloc, &facts)?, verdict);
+    }
+    Ok(())
+}
+
 #[test]
 fn nothing_is_promised_of_strayed_clients(rt: HostRuntime) -> Result<(), Fail> {
     let alloc = rt.alloc();
