@@ -1,5 +1,6 @@
 pub mod Captions
 pub mod Labels
+pub mod Lanes
 pub mod Places
 pub mod Requests
 pub mod Svg

@@ -1,9 +1,11 @@
 -- Where things stand in a picture, in pixels, and how beliefs look.
-use Rattle.std.specs.Prelude.{ℕ, ◌+◌, ◌*◌, nat_lt, ◌||◌, if◌then◌else◌, Option, Some, None}
+use Rattle.std.specs.Prelude.{ℕ, ◌+◌, ◌-◌, ◌*◌, ◌%◌, nat_lt, ◌||◌, if◌then◌else◌, Option, Some, None}
 use Rattle.lease_state.specs.State.{State}
 use Rattle.record_pictures.specs.declared.shape.Look.{Look}
 use Rattle.record_pictures.specs.declared.shape.Look.TheVariants as look
 use Rattle.record_pictures.specs.declared.shape.Point.{Point}
+use Rattle.record_pictures.specs.declared.shape.Shape.{Shape}
+use Rattle.record_pictures.specs.declared.shape.Shape.TheVariants as shape
 
 -- lanes are 300 wide and begin after 60; their lines run 90 from there
 abbrev pub across : ℕ → ℕ → ℕ
@@ -34,3 +36,11 @@ abbrev pub caching : State → Option Look
 caching state =
     if state.write then Some look.WriteCaching
     else (if state.read || state.handle then Some look.Caching else None)
+
+-- The bar of a belief of a file, from one row to another: those of eight files stand next to one another to the left of the
+-- lane's line, and further files share the bars.
+abbrev pub bar : ℕ → ℕ → ℕ → ℕ → Look → Shape
+bar lane row last file seen = shape.Rectangle
+    (record { x = across lane 90 - 10 * (1 + (file - 1) % 8); y = down row 12 })
+    (record { width = 8; height = down last 12 - down row 12 })
+    seen

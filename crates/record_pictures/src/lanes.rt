@@ -1,4 +1,7 @@
-ghost use Rattle.std.specs.Prelude.{◌≡◌};
+ghost use Rattle.std.specs.Prelude.{◌≡◌, ◌≤◌, length, min, IfOk};
+ghost use Rattle.std.specs.List.{position};
+ghost use Rattle.lease_facts.specs.Facts.{client_of};
+ghost use Rattle.record_pictures.specs.Lanes.{clients_of, is_client, is_named, is_numbered, lane_of, left_of_server, some_index, width_of};
 ghost use Rattle.record_pictures.specs.Places.{above, across, beside, down, spot, words_at};
 
 use crate::shape::Point;
@@ -28,40 +31,91 @@ pub struct Lanes {
     clients: Vec<ClientNo>,
 }
 
-fn is_named(facts: &[Fact], client: ClientNo) -> bool {
-    facts.iter().any(|fact| fact.client() == Some(client))
+// Whether a fact names a client.
+fn names(fact: &Fact, client: ClientNo) -> bool
+    ensures { result ≡ is_client client.0 (client_of fact.now) }
+{
+    match fact.client() {
+        Some(named) => named.0 == client.0,
+        None => false,
+    }
+}
+
+fn is_named(facts: &[Fact], client: ClientNo) -> bool
+    ensures { result ≡ is_named facts.now client.0 }
+{
+    facts.iter().any(|fact| names(fact, client))
+}
+
+// The clients that these facts name, by their numbers.
+#[tactic(auto, using(crate::proofs::Named::named_below_none, crate::proofs::Named::named_below_more))]
+fn clients_of(alloc: Global, facts: &[Fact]) -> Result<Vec<ClientNo>, AllocError>
+    ensures { IfOk result (λ clients. clients.items ≡ clients_of facts.now) }
+{
+    let mut clients = Vec::new(alloc);
+    for number in 0..256u16 {
+        let client = ClientNo(number as u8);
+        if is_named(facts, client) {
+            clients.push(client)?;
+        }
+    }
+    Ok(clients)
+}
+
+// Where a client stands among these.
+fn place_of(clients: &[ClientNo], client: ClientNo) -> Option<usize>
+    ensures { result ≡ position (is_numbered client.0) clients.now }
+{
+    clients.iter().position(|one| one.0 == client.0)
+}
+
+// A client that has no lane is told on the first one.
+fn first_of(place: Option<usize>) -> usize
+    ensures { result ≡ some_index place }
+{
+    match place {
+        Some(index) => index,
+        None => 0,
+    }
 }
 
 impl Lanes {
     /// The lanes for these facts.
-    pub fn of(alloc: Global, facts: &[Fact]) -> Result<Lanes, AllocError> {
-        let mut clients = Vec::new(alloc);
-        for number in 0..=255u8 {
-            if is_named(facts, ClientNo(number)) {
-                clients.push(ClientNo(number))?;
-            }
-        }
+    #[tactic(auto, using(crate::proofs::Named::clients_fit))]
+    pub fn of(alloc: Global, facts: &[Fact]) -> Result<Lanes, AllocError>
+        ensures named { IfOk result (λ lanes. lanes.clients.items ≡ clients_of facts.now) }
+        ensures few { IfOk result (λ lanes. length lanes.clients.items ≤ 256) }
+    {
+        let clients = clients_of(alloc, facts)?;
         Ok(Lanes { clients })
     }
 
-    pub fn clients(&self) -> &[ClientNo] {
+    pub fn clients(&self) -> &[ClientNo]
+        ensures { result.now ≡ self.now.clients.items }
+    {
         self.clients.as_slice()
     }
 
     // How many clients stand to the left of the server.
-    fn left(&self) -> usize {
+    fn left(&self) -> usize
+        ensures { result ≡ left_of_server (length self.now.clients.items) }
+    {
         self.clients.len().div_ceil(2)
     }
 
     /// The number of the server's lane, from 0.
-    pub fn server(&self) -> u16 {
+    pub fn server(&self) -> u16
+        ensures { length self.now.clients.items ≤ 256 → result ≡ left_of_server (length self.now.clients.items) }
+    {
         at(self.left())
     }
 
     /// The number of a client's lane.
-    pub fn client(&self, client: ClientNo) -> u16 {
-        let found = self.clients.iter().position(|one| *one == client);
-        let index = found.unwrap_or(0);
+    #[tactic(auto, using(crate::proofs::Fitting::lane_fits))]
+    pub fn client(&self, client: ClientNo) -> u16
+        ensures { length self.now.clients.items ≤ 256 → result ≡ lane_of self.now.clients.items client.0 }
+    {
+        let index = first_of(place_of(self.clients.as_slice(), client));
         if index < self.left() {
             at(index)
         } else {
@@ -70,13 +124,17 @@ impl Lanes {
     }
 
     /// How wide the lanes are with what stands to their left, in pixels.
-    pub fn width(&self) -> u32 {
+    pub fn width(&self) -> u32
+        ensures { length self.now.clients.items ≤ 256 → result ≡ width_of (length self.now.clients.items) }
+    {
         LEFT + LANE * u32::from(at(self.clients.len()).saturating_add(1)) + RIGHT
     }
 }
 
 /// The number of a row or a lane that comes at this index; there are fewer than fit.
-pub fn at(index: usize) -> u16 {
+pub fn at(index: usize) -> u16
+    ensures { result ≡ min index 65535 }
+{
     u16::try_from(index).unwrap_or(u16::MAX)
 }
 

@@ -1,6 +1,10 @@
-ghost use Rattle.std.specs.Prelude.{◌≡◌, ◌≤◌, ◌⊎◌, ◌<◌, ◌+◌, length, map, MatchResult, OnOk, IfOk};
+ghost use Rattle.std.specs.Prelude.{◌≡◌, ◌≤◌, ◌⊎◌, ◌<◌, ◌+◌, ◌++◌, ◌∷◌, [], codes, length, map, MatchResult, OnOk, IfOk};
+ghost use Rattle.std.specs.Fmt.{decimal};
+ghost use Rattle.std.specs.List.{flat_map};
 ghost use Rattle.std.specs.String.{string_bytes};
 ghost use Rattle.record_pictures.specs.Captions.{captions, caption_of, seen_mark};
+ghost use Rattle.record_pictures.specs.Lanes.{client_name, clients_of, left_of_server, line_count, name_at, name_in, names_over};
+ghost use Rattle.record_pictures.specs.Lanes.{page_height, page_size, size_for};
 ghost use Rattle.record_pictures.specs.Requests.{asked_from, requests_drawn, seen_request};
 ghost use Rattle.record_pictures.specs.declared.fault.PictureFault.TheVariants as fault;
 
@@ -24,7 +28,9 @@ pub const MOST_FACTS: usize = 5000;
 pub const MOST_REQUESTS: usize = 5000;
 
 // The name of a lane, above its line.
-fn heading(lane: u16, text: String) -> Shape {
+fn heading(lane: u16, text: String) -> Shape
+    ensures { name_in result ≡ name_at lane (string_bytes text) ∷ [] }
+{
     Shape::Words {
         at: Point {
             x: line_of(lane).saturating_sub(30),
@@ -35,7 +41,9 @@ fn heading(lane: u16, text: String) -> Shape {
     }
 }
 
-fn line(lane: u16, rows: (u16, u16), look: Look) -> Shape {
+fn line(lane: u16, rows: (u16, u16), look: Look) -> Shape
+    ensures { name_in result ≡ [] }
+{
     Shape::Line {
         from: spot(lane, rows.0),
         to: spot(lane, rows.1),
@@ -59,7 +67,9 @@ fn push_connections(
     facts: &[Fact],
     client: ClientNo,
     lane: u16,
-) -> Result<(), AllocError> {
+) -> Result<(), AllocError>
+    ensures { OnOk result (flat_map name_in shapes.new.items ≡ flat_map name_in shapes.old.items) }
+{
     let mut since = None;
     for (index, fact) in facts.iter().enumerate() {
         let row = rows.of_fact(index);
@@ -75,17 +85,53 @@ fn push_connections(
     Ok(())
 }
 
+// Adds the lane of the server.
+fn push_server(alloc: Global, shapes: &mut Vec<Shape>, sheet: &Sheet<'_>) -> Result<(), AllocError>
+    requires { length sheet.now.lanes.now.clients.items ≤ 256 }
+    ensures { OnOk result (flat_map name_in shapes.new.items ≡ flat_map name_in shapes.old.items
+        ++ name_at (left_of_server (length sheet.now.lanes.now.clients.items)) (codes "server") ∷ []) }
+{
+    let lane = sheet.lanes.server();
+    shapes.push(heading(lane, String::from_str(alloc, "server")?))?;
+    shapes.push(line(lane, (0, sheet.rows.count()), Look::Connection))?;
+    Ok(())
+}
+
+// The words of a client's name.
+fn client_words(alloc: Global, client: ClientNo) -> Result<String, AllocError>
+    ensures { IfOk result (λ text. string_bytes text ≡ codes "client " ++ decimal client.0) }
+{
+    let number = client.0;
+    let text = format!(in alloc; "client {number}")?;
+    Ok(text)
+}
+
+// Adds the lane of a client.
+fn push_client(
+    alloc: Global,
+    shapes: &mut Vec<Shape>,
+    sheet: &Sheet<'_>,
+    client: ClientNo,
+) -> Result<(), AllocError>
+    requires { length sheet.now.lanes.now.clients.items ≤ 256 }
+    ensures { OnOk result (flat_map name_in shapes.new.items
+        ≡ flat_map name_in shapes.old.items ++ client_name sheet.now.lanes.now.clients.items client ∷ []) }
+{
+    let lane = sheet.lanes.client(client);
+    shapes.push(heading(lane, client_words(alloc, client)?))?;
+    shapes.push(line(lane, (0, sheet.rows.count()), Look::Lane))?;
+    push_connections(shapes, sheet.rows, sheet.facts, client, lane)
+}
+
 // The lanes with their names.
-fn lanes_of(alloc: Global, sheet: Sheet<'_>) -> Result<Vec<Shape>, AllocError> {
+fn lanes_of(alloc: Global, sheet: &Sheet<'_>) -> Result<Vec<Shape>, AllocError>
+    requires { length sheet.now.lanes.now.clients.items ≤ 256 }
+    ensures { IfOk result (λ shapes. flat_map name_in shapes.items ≡ names_over sheet.now.lanes.now.clients.items) }
+{
     let mut shapes = Vec::new(alloc);
-    let (lanes, whole) = (sheet.lanes, (0, sheet.rows.count()));
-    shapes.push(heading(lanes.server(), format!(in alloc; "server")?))?;
-    shapes.push(line(lanes.server(), whole, Look::Connection))?;
-    for client in lanes.clients() {
-        let (number, lane) = (client.0, lanes.client(*client));
-        shapes.push(heading(lane, format!(in alloc; "client {number}")?))?;
-        shapes.push(line(lane, whole, Look::Lane))?;
-        push_connections(&mut shapes, sheet.rows, sheet.facts, *client, lane)?;
+    push_server(alloc, &mut shapes, sheet)?;
+    for client in sheet.lanes.clients() {
+        push_client(alloc, &mut shapes, sheet, *client)?;
     }
     Ok(shapes)
 }
@@ -146,7 +192,8 @@ fn marks_of(
 // The passages of requests that are drawn: none where there are too many requests.
 #[tactic(auto, unfolding(crate::specs::Requests::asked_from))]
 fn drawn_among(passages: &[Passage]) -> &[Passage]
-    ensures { asked_from 1 result.now ≡ requests_drawn passages.now }
+    ensures drawn { asked_from 1 result.now ≡ requests_drawn passages.now }
+    ensures few { length (asked_from 1 result.now) ≤ 5000 }
 {
     if count_sent(passages) > MOST_REQUESTS {
         &[]
@@ -156,19 +203,32 @@ fn drawn_among(passages: &[Passage]) -> &[Passage]
 }
 
 // How many lines a text has, of those that end with a line feed.
-fn count_lines(text: &[u8]) -> usize {
+fn count_lines(text: &[u8]) -> usize
+    ensures { result ≡ line_count text.now }
+{
     text.iter().filter(|byte| **byte == b'\n').count()
 }
 
-// How wide and how high a picture is that has this many rows, with notes from so far down.
-fn size_of(lanes: &Lanes, notes_at: u32, notes: &str) -> Size {
-    let lines = u32::try_from(count_lines(notes.as_bytes())).unwrap_or(u32::MAX);
+// How high a page is whose notes begin so far down and have so many lines.
+fn height_of(notes_at: u32, lines: usize) -> u32
+    ensures { result ≡ page_height notes_at lines }
+{
+    u32::try_from(lines)
+        .unwrap_or(u32::MAX)
+        .saturating_mul(18)
+        .saturating_add(notes_at)
+        .saturating_add(24)
+}
+
+// How wide and how high a picture is that has these lanes, with notes from so far down.
+fn size_of(lanes: &Lanes, notes_at: u32, notes: &str) -> Size
+    ensures { length lanes.now.clients.items ≤ 256
+        → result ≡ page_size (length lanes.now.clients.items) notes_at notes.now }
+{
+    let lines = count_lines(notes.as_bytes());
     Size {
         width: lanes.width().max(1020),
-        height: lines
-            .saturating_mul(18)
-            .saturating_add(notes_at)
-            .saturating_add(24),
+        height: height_of(notes_at, lines),
     }
 }
 
@@ -180,6 +240,11 @@ fn laid_out(
     messages: &[Reply],
     passages: &[Passage],
 ) -> Result<Picture, Memory>
+    requires facts { length facts.now ≤ 5000 }
+    requires requests { length (asked_from 1 passages.now) ≤ 5000 }
+    ensures lanes { IfOk result (λ picture. flat_map name_in picture.lanes.items ≡ names_over (clients_of facts.now)) }
+    ensures size { IfOk result (λ picture. picture.size
+        ≡ size_for facts.now (length (asked_from 1 passages.now)) (string_bytes notes)) }
     ensures marks { IfOk result (λ picture. map seen_mark picture.marks.items ≡ captions bad.now 1 facts.now) }
     ensures requests { IfOk result (λ picture. map seen_request picture.requests.items ≡ asked_from 1 passages.now) }
     ensures notes { IfOk result (λ picture. string_bytes picture.notes ≡ string_bytes notes) }
@@ -196,7 +261,7 @@ fn laid_out(
     let notes_at = down(rows.count(), 48);
     Ok(Picture {
         size: size_of(&lanes, notes_at, notes.as_str()),
-        lanes: lanes_of(alloc, sheet)?,
+        lanes: lanes_of(alloc, &sheet)?,
         marks,
         requests,
         notes,
@@ -207,7 +272,10 @@ fn laid_out(
 /// The picture of these facts, with `notes` below it, lines that are each ended by a line feed.
 /// `bad` are the places, from 1, of the facts that make the record bad. `messages` are those that
 /// the facts report as sent and taken, in their order; there may be fewer. `passages` are what
-/// became of the requests of clients; of more than [`MOST_REQUESTS`] none is drawn.
+/// became of the requests of clients; of more than [`MOST_REQUESTS`] none is drawn. There is a lane
+/// for the server and for each client that a fact names, by their numbers, with the server in the
+/// middle. The picture is as wide as its lanes, at least 1,020 pixels, and as high as its rows and
+/// the lines of its notes.
 ///
 /// # Errors
 ///
@@ -220,6 +288,9 @@ pub fn picture_of(
     messages: &[Reply],
     passages: &[Passage],
 ) -> Result<Picture, PictureFault>
+    ensures lanes { IfOk result (λ picture. flat_map name_in picture.lanes.items ≡ names_over (clients_of facts.now)) }
+    ensures size { IfOk result (λ picture. picture.size
+        ≡ size_for facts.now (length (requests_drawn passages.now)) (string_bytes notes)) }
     ensures marks { IfOk result (λ picture. map seen_mark picture.marks.items ≡ captions bad.now 1 facts.now) }
     ensures requests { IfOk result (λ picture. map seen_request picture.requests.items ≡ requests_drawn passages.now) }
     ensures notes { IfOk result (λ picture. string_bytes picture.notes ≡ string_bytes notes) }

@@ -1,7 +1,8 @@
-ghost use Rattle.std.specs.Prelude.{◌≡◌};
+ghost use Rattle.std.specs.Prelude.{◌≡◌, ◌≤◌, length};
 ghost use Rattle.lease_state.specs.State.{state_of};
 ghost use Rattle.record_pictures.specs.Labels.{look_of};
-ghost use Rattle.record_pictures.specs.Places.{caching};
+ghost use Rattle.record_pictures.specs.Lanes.{fact_lane};
+ghost use Rattle.record_pictures.specs.Places.{bar, caching};
 
 use crate::labels::label_of;
 use crate::lanes::{Lanes, above, beside, down, line_of, spot, words_at};
@@ -13,7 +14,9 @@ use lease_state::{ClientNo, FileNo, LeaseState, Memory, Reply};
 use std::alloc::{AllocError, Global};
 
 // The lane on which a fact has its mark: what a client does is on its own, what the server does on the server's.
-fn lane_of(lanes: &Lanes, fact: &Fact) -> u16 {
+fn lane_of(lanes: &Lanes, fact: &Fact) -> u16
+    ensures { length lanes.now.clients.items ≤ 256 → result ≡ fact_lane lanes.now.clients.items fact.now }
+{
     match fact {
         Fact::Start(_, _)
         | Fact::Expired(_, _)
@@ -58,7 +61,9 @@ fn belief_end(facts: &[Fact], from: usize, client: ClientNo, file: FileNo) -> us
 }
 
 // The bar of a belief, to the left of the client's line. Files beyond the eighth share bars with the first ones.
-fn bar(lane: u16, rows: (u16, u16), file: FileNo, look: Look) -> Shape {
+fn bar(lane: u16, rows: (u16, u16), file: FileNo, look: Look) -> Shape
+    ensures { result ≡ bar lane rows.0 rows.1 file.0 look }
+{
     let (row, end) = rows;
     let column = 1 + u32::from(file.0.saturating_sub(1) % 8);
     let (top, bottom) = (down(row, 12), down(end, 12));

@@ -1,4 +1,8 @@
+ghost use Rattle.std.specs.Prelude.{◌≡◌, ◌+◌, length, min, IfOk};
+ghost use Rattle.record_pictures.specs.Requests.{asked_from};
+
 use crate::lanes::at;
+use crate::requests::count_sent;
 use lease_state::Memory;
 use lease_world::Passage;
 use std::alloc::{AllocError, Global};
@@ -20,7 +24,9 @@ fn fill(facts: &mut Vec<u16>, until: usize, sent: usize) -> Result<(), AllocErro
 
 impl Rows {
     /// The rows of so many facts, and of the requests among these passages.
-    pub fn of(alloc: Global, facts: usize, passages: &[Passage]) -> Result<Rows, Memory> {
+    pub fn of(alloc: Global, facts: usize, passages: &[Passage]) -> Result<Rows, Memory>
+        ensures { IfOk result (λ rows. rows.count ≡ min (facts + length (asked_from 1 passages.now)) 65535) }
+    {
         let mut rows = Vec::new(alloc);
         let mut sent = 0usize;
         for passage in passages {
@@ -32,12 +38,14 @@ impl Rows {
         fill(&mut rows, facts, sent)?;
         Ok(Rows {
             facts: rows,
-            count: at(facts.saturating_add(sent)),
+            count: at(facts.saturating_add(count_sent(passages))),
         })
     }
 
     /// How many there are.
-    pub fn count(&self) -> u16 {
+    pub fn count(&self) -> u16
+        ensures { result ≡ self.now.count }
+    {
         self.count
     }
 
