@@ -169,3 +169,20 @@ fn more_facts_than_a_picture_has(rt: HostRuntime) -> Result<(), Fail> {
     assert!(rt; matches!(answer, Err(PictureFault::TooMany)));
     Ok(())
 }
+
+#[test]
+fn lanes_stand_by_their_numbers_around_the_server(rt: HostRuntime) -> Result<(), Fail> {
+    let alloc = rt.alloc();
+    let placed = read_placed(alloc, b"joined 255\njoined 2\njoined 1\n")?;
+    let notes = String::from_str(alloc, "one\ntwo\n")?;
+    let picture = picture_of(alloc, placed.facts.as_slice(), &[], notes, &[], &[])?;
+    assert_eq!(rt; picture.size, Size { width: 1320, height: 244 });
+    let mut text = String::new(alloc);
+    push_picture(&mut text, &picture)?;
+    let drawn = text.as_str();
+    assert!(rt; drawn.contains("<text class='heading' x='120' y='40'>client 1</text>"));
+    assert!(rt; drawn.contains("<text class='heading' x='420' y='40'>client 2</text>"));
+    assert!(rt; drawn.contains("<text class='heading' x='720' y='40'>server</text>"));
+    assert!(rt; drawn.contains("<text class='heading' x='1020' y='40'>client 255</text>"));
+    Ok(())
+}
