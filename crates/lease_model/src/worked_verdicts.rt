@@ -1,5 +1,6 @@
 ghost use Rattle.lease_model.specs.worked.Verdicts.{OneFlaw, StrayedVerdicts, StrangeOrder, LimitVerdicts, LargeWrites};
-ghost use Rattle.lease_model.specs.worked.Verdicts.{BeliefsAndReads, UnfitFacts, SettledAsDone, NothingWrong};
+ghost use Rattle.lease_model.specs.worked.Verdicts.{BeliefsAndReads, UnfitFacts, SettledAsDone, SettledForAnother};
+ghost use Rattle.lease_model.specs.worked.Verdicts.{NothingWrong};
 
 /// Verdicts on short records: one flaw each, strayed clients, facts in an order that no run gives,
 /// and writes at the limit.
@@ -11,10 +12,12 @@ pub fn verdicts()
     ensures large_writes { LargeWrites }
 {}
 
-/// Verdicts on records that just keep a rule or just break it.
+/// Verdicts on records that just keep a rule or just break it, and on ones in which a client is told of
+/// a write that another one was given.
 pub fn verdicts_of_each_rule()
     ensures beliefs_and_reads { BeliefsAndReads }
     ensures unfit { UnfitFacts }
     ensures done { SettledAsDone }
+    ensures of_its_own { SettledForAnother }
     ensures nothing_wrong { NothingWrong }
 {}

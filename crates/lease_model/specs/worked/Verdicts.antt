@@ -87,6 +87,23 @@ SettledAsDone =
     ∷ Fact.Changed 1 1 1 (at 0 (0x58 ∷ [])) ∷ Fact.Settled 1 1 Settlement.Done ∷ []) ∷ [])
     ≡ Verdict.Unsafe 5 4 ∷ Verdict.Unsafe 5 4 ∷ Verdict.Safe ∷ []
 
+-- What a client is told of a write is told of its own write of that number, whoever else used the number:
+-- client 2 is told what became of write 1, which client 1 alone was given, or whose change is client 1's, or
+-- which was changed without being given to client 2. Nor does it answer a write of client 1.
+abbrev pub SettledForAnother : Type 0
+SettledForAnother =
+    (verdict (Fact.Start 1 [] ∷ Fact.Wrote 1 1 1 x_at_0 false ∷ Fact.Changed 1 1 1 x_at_0
+    ∷ Fact.Settled 2 1 Settlement.Done ∷ [])
+    ∷ verdict (Fact.Start 1 [] ∷ Fact.Wrote 1 1 1 x_at_0 false ∷ Fact.Wrote 2 1 1 x_at_0 false
+    ∷ Fact.Changed 1 1 1 x_at_0 ∷ Fact.Settled 2 1 Settlement.Done ∷ [])
+    ∷ verdict (Fact.Start 1 [] ∷ Fact.Wrote 1 1 1 x_at_0 false ∷ Fact.Changed 1 2 1 x_at_0
+    ∷ Fact.Settled 2 1 Settlement.Done ∷ [])
+    ∷ verdict (Fact.Start 1 (0x61 ∷ []) ∷ Fact.Joined 1 ∷ Fact.Sent 1 ∷ Fact.Took 1
+    ∷ Fact.Wrote 1 1 1 x_at_0 true ∷ Fact.Settled 2 1 Settlement.Lost ∷ Fact.CachedRead 1 1 (0x58 ∷ []) ∷ [])
+    ∷ verdict (Fact.Start 1 (0x61 ∷ []) ∷ Fact.Joined 1 ∷ Fact.Sent 1 ∷ Fact.Took 1
+    ∷ Fact.Wrote 1 1 1 x_at_0 true ∷ Fact.Settled 2 1 Settlement.Lost ∷ Fact.CachedRead 1 1 (0x61 ∷ []) ∷ []) ∷ [])
+    ≡ Verdict.Unsafe 4 4 ∷ Verdict.Unsafe 5 4 ∷ Verdict.Unsafe 4 4 ∷ Verdict.Safe ∷ Verdict.Unsafe 7 2 ∷ []
+
 -- A client may open a file that it has buffered writes of; of no fact nothing is wrong.
 abbrev pub NothingWrong : Type 0
 NothingWrong =

@@ -14,6 +14,10 @@ pub returns-clause-done : goal.returns-clause-done
 unfolding the_records
 returns-clause-done c = refl
 
+pub returns-clause-of_its_own : goal.returns-clause-of_its_own
+unfolding the_records
+returns-clause-of_its_own c = refl
+
 pub returns-clause-nothing_wrong : goal.returns-clause-nothing_wrong
 unfolding the_records
 returns-clause-nothing_wrong c = refl
