@@ -12,7 +12,7 @@ pub fn verdicts()
     ensures large_writes { LargeWrites }
 {}
 
-/// Verdicts on records that just keep a rule or just break it, and on ones in which a client is told of
+/// Verdicts on records that just keep a rule or just break it, and on ones in which a client learns of
 /// a write that another one was given.
 pub fn verdicts_of_each_rule()
     ensures beliefs_and_reads { BeliefsAndReads }
