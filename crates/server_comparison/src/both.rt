@@ -53,11 +53,16 @@ fn opens_in(outs: &[Out]) -> u64 {
 }
 
 impl Both {
-    /// With these rules and files.
-    pub fn new(alloc: Global, rules: Rules, contents: &[Content]) -> Result<Both, Memory> {
+    /// With these rules and files. The plain server lets no write end past `file_limit` bytes.
+    pub fn new(
+        alloc: Global,
+        rules: Rules,
+        contents: &[Content],
+        file_limit: usize,
+    ) -> Result<Both, Memory> {
         Ok(Both {
             server: share_server::Server::with_rules(alloc, rules, copies(alloc, contents)?)?,
-            plain: plain::Server::new(alloc, rules, copies(alloc, contents)?),
+            plain: plain::Server::new(alloc, rules, copies(alloc, contents)?, file_limit),
             calls: 0,
             opened: 0,
         })

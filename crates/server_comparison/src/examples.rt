@@ -5,7 +5,7 @@ use crate::calls::Call;
 use crate::numbers::Numbers;
 use crate::trouble::Trouble;
 use crate::worked::{EXAMPLES, THREE_JOINED};
-use lease_state::{ClientNo, Content, FileNo, LeaseKey, Rules};
+use lease_state::{ClientNo, Content, FILE_LIMIT, FileNo, LeaseKey, Rules};
 use std::alloc::Global;
 
 // How many clients take part at most, and how many files and keys there are.
@@ -19,7 +19,7 @@ fn with_files(alloc: Global, rules: Rules, count: u8) -> Result<Both, Trouble> {
     for _file in 0..count {
         files.push(Content::new(Vec::from_slice(alloc, b"abc")?)?)?;
     }
-    Ok(Both::new(alloc, rules, files.as_slice())?)
+    Ok(Both::new(alloc, rules, files.as_slice(), FILE_LIMIT)?)
 }
 
 // What both answer to queries, for this client.

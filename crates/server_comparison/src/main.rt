@@ -4,7 +4,7 @@
 //! Without words: the worked examples, and calls by numbers. Each word is the path of a schedule,
 //! which is played with client machines over both. A line for each rules reports how many calls gave
 //! out the same; at the first difference it reports the call and what both gave out, and the status
-//! is 1.
+//! is 1. After the word `--small-files` the plain server lets no write end past 65,536 bytes.
 #![tactic(auto)]
 
 mod both;
@@ -20,7 +20,7 @@ mod worked;
 use crate::examples::{calls_by_numbers, worked_examples};
 use crate::playing::play_schedule;
 use crate::trouble::Trouble;
-use lease_state::{Order, Rise, Rules};
+use lease_state::{FILE_LIMIT, Order, Rise, Rules};
 use std::process::ExitCode;
 use std::rt::{Env, Files};
 use std::{env, fs, io};
@@ -45,9 +45,17 @@ const ALL_RULES: [Rules; 4] = [
     },
 ];
 
-fn play_file<R: Files + AllocGlobal>(rt: &R, rules: Rules, path: &str) -> Result<u64, Trouble> {
+// How large files were at most, once.
+const SMALL_FILE: usize = 65_536;
+
+fn play_file<R: Files + AllocGlobal>(
+    rt: &R,
+    rules: Rules,
+    path: &str,
+    file_limit: usize,
+) -> Result<u64, Trouble> {
     match fs::read(rt, path) {
-        Ok(text) => play_schedule(rt.alloc(), rules, text.as_slice()),
+        Ok(text) => play_schedule(rt.alloc(), rules, text.as_slice(), file_limit),
         Err(_) => Err(Trouble::File),
     }
 }
@@ -76,9 +84,10 @@ fn compare_files<R: Files + Print + AllocGlobal>(
     rt: &R,
     rules: Rules,
     paths: &[String],
+    file_limit: usize,
 ) -> io::Result<bool> {
     for path in paths {
-        let played = play_file(rt, rules, path.as_str());
+        let played = play_file(rt, rules, path.as_str(), file_limit);
         if !tell(rt, path.as_str(), rules, &played)? {
             return Ok(false);
         }
@@ -97,11 +106,19 @@ fn compare_examples<R: Print + AllocGlobal>(rt: &R, rules: Rules) -> io::Result<
 
 fn compare<R: Env + Files + Print + AllocGlobal>(rt: &R) -> io::Result<bool> {
     let words: Vec<String> = env::args(rt)?.skip(1).collect(rt.alloc())?;
+    let are_small = words
+        .first()
+        .is_some_and(|word| word.as_str() == "--small-files");
+    let (paths, file_limit) = if are_small {
+        (&words.as_slice()[1..], SMALL_FILE)
+    } else {
+        (words.as_slice(), FILE_LIMIT)
+    };
     for rules in ALL_RULES {
         let are_same = if words.is_empty() {
             compare_examples(rt, rules)?
         } else {
-            compare_files(rt, rules, words.as_slice())?
+            compare_files(rt, rules, paths, file_limit)?
         };
         if !are_same {
             return Ok(false);

@@ -19,6 +19,7 @@ use std::alloc::Global;
 #[derive(Drop)]
 pub struct Server {
     rules: Rules,
+    file_limit: usize,
     contents: Vec<Content>,
     opens: Vec<Open>,
     leases: Vec<Lease>,
@@ -30,10 +31,11 @@ pub struct Server {
 }
 
 impl Server {
-    /// With these rules, and these files, numbered from 1.
-    pub fn new(alloc: Global, rules: Rules, contents: Vec<Content>) -> Server {
+    /// With these rules, and these files, numbered from 1, in which no write ends past `file_limit` bytes.
+    pub fn new(alloc: Global, rules: Rules, contents: Vec<Content>, file_limit: usize) -> Server {
         Server {
             rules,
+            file_limit,
             contents,
             opens: Vec::new(alloc),
             leases: Vec::new(alloc),

@@ -97,14 +97,19 @@ struct Play {
 }
 
 impl Play {
-    fn new(alloc: Global, rules: Rules, setup: &Setup) -> Result<Play, Memory> {
+    fn new(
+        alloc: Global,
+        rules: Rules,
+        setup: &Setup,
+        file_limit: usize,
+    ) -> Result<Play, Memory> {
         let files = setup.files.len().min(255) as u8;
         let mut seats = Vec::new(alloc);
         for guid in setup.clients.iter() {
             seats.push(Seat::new(alloc, *guid, files)?)?;
         }
         Ok(Play {
-            both: Both::new(alloc, rules, setup.files.as_slice())?,
+            both: Both::new(alloc, rules, setup.files.as_slice(), file_limit)?,
             seats,
             files,
         })
@@ -249,10 +254,16 @@ fn deliver(seats: &mut Vec<Seat>, outs: Vec<Out>) -> Result<(), Memory> {
     Ok(())
 }
 
-/// Plays the schedule that a text is under these rules, and reports how many calls gave out the same.
-pub fn play_schedule(alloc: Global, rules: Rules, text: &[u8]) -> Result<u64, Trouble> {
+/// Plays the schedule that a text is under these rules, and reports how many calls gave out the same. The plain server lets no
+/// write end past `file_limit` bytes.
+pub fn play_schedule(
+    alloc: Global,
+    rules: Rules,
+    text: &[u8],
+    file_limit: usize,
+) -> Result<u64, Trouble> {
     let schedule = read_schedule(alloc, text)?;
-    let mut play = Play::new(alloc, rules, &schedule.setup)?;
+    let mut play = Play::new(alloc, rules, &schedule.setup, file_limit)?;
     for event in schedule.events {
         play = play.happen(alloc, event)?;
     }

@@ -1,7 +1,7 @@
 use crate::plain::Server;
 use crate::plain::lists::meet;
 use crate::plain::open::{Held, Key, Open, Opening};
-use lease_state::{FILE_LIMIT, FileNo, LeaseState, Memory, Request, Status};
+use lease_state::{FileNo, LeaseState, Memory, Request, Status};
 
 /// What a look at a request finds.
 #[derive(Drop)]
@@ -42,7 +42,7 @@ impl Server {
                 if !open.access.writes() {
                     return Ok(Finding::Refused(Status::AccessDenied));
                 }
-                if end > FILE_LIMIT {
+                if end > self.file_limit {
                     return Ok(Finding::Refused(Status::InvalidParameter));
                 }
                 self.wants(open.key, open.file, LeaseState::from_wire(7), None)
