@@ -1,0 +1,1 @@
+"""Which edit stands for which exported function."""
