@@ -35,7 +35,7 @@ def compared(schedule: Path, *words: str) -> dict[str, int]:
 
 def written_end(event: Event) -> int:
     """Where the write of an event ends, a raw one too; 0 of another event."""
-    words = event.text().split(" ")
+    words = event.text.split(" ")
     if words[0] != "write" and words[2:3] != ["write"]:
         return 0
     offset, digits = words[-2:]

@@ -97,12 +97,7 @@ struct Play {
 }
 
 impl Play {
-    fn new(
-        alloc: Global,
-        rules: Rules,
-        setup: &Setup,
-        file_limit: usize,
-    ) -> Result<Play, Memory> {
+    fn new(alloc: Global, rules: Rules, setup: &Setup, file_limit: usize) -> Result<Play, Memory> {
         let files = setup.files.len().min(255) as u8;
         let mut seats = Vec::new(alloc);
         for guid in setup.clients.iter() {
