@@ -4,3 +4,4 @@ pub mod Contexts
 pub mod Header
 pub mod Connecting
 pub mod Files
+pub mod Creates
