@@ -1,6 +1,6 @@
 -- What the create contexts of a CREATE request or response say, in either version of them: of a lease, and whether an open is
 -- durable or connected again.
-use Rattle.std.specs.Prelude.{◌≡◌, ℕ, ◌==◌, Bool, true, false, ◌&&◌, ◌||◌, if◌then◌else◌, ⊤, List, [], ◌∷◌, length, codes}
+use Rattle.std.specs.Prelude.{◌≡◌, ℕ, ◌==◌, Bool, ◌&&◌, ◌||◌, if◌then◌else◌, ⊤, List, [], ◌∷◌, length, codes}
 use Rattle.std.specs.Prelude.{Option, Some, None, Ok, Err, bytes_eq}
 use Rattle.std.specs.Option.{is_some}
 use Rattle.lease_state.specs.State.{state_of, state_of_bits}

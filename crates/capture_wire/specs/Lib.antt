@@ -5,3 +5,4 @@ pub mod Header
 pub mod Connecting
 pub mod Files
 pub mod Creates
+pub mod Messages

@@ -20,6 +20,7 @@
 //! ```
 #![tactic(auto)]
 
+mod command;
 mod connecting;
 mod contexts;
 mod create;
@@ -29,9 +30,11 @@ mod field;
 mod files;
 mod header;
 mod lease;
+mod message;
 mod part;
 mod set_info;
 
+pub use command::Command;
 pub use connecting::{
     NegotiateRequest, NegotiateResponse, SessionSetupRequest, TreeConnectRequest,
     read_negotiate_request, read_negotiate_response, read_session_setup_request,
@@ -51,4 +54,5 @@ pub use files::{
 };
 pub use header::{Header, TreeOrAsync, read_header};
 pub use lease::{LeaseV2, read_lease_v2, read_new_epoch};
+pub use message::{Content, Message, Request, Response, UNASKED, Unreadable, read_message};
 pub use set_info::{Rename, SetInfoRequest, read_disposition, read_rename, read_set_info_request};

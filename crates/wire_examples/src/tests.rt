@@ -1,4 +1,5 @@
 mod captures;
+mod contents;
 mod messages;
 mod requests;
 
