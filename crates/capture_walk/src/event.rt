@@ -1,0 +1,94 @@
+ghost use Rattle.std.specs.Prelude.{◌≡◌};
+ghost use Rattle.capture_walk.specs.Chains.{is_same};
+
+use capture_judge::Level;
+use lease_state::LeaseKey;
+
+/// A lease: that of a client under a key on a file. Clients and files have the positions at which they begin as their numbers.
+#[derive(Clone, Copy, Debug, PartialEq, Eq)]
+pub struct Lease {
+    pub client: u64,
+    pub key: LeaseKey,
+    pub file: u64,
+}
+
+impl Lease {
+    /// Whether it is the same lease.
+    pub fn is(self, other: Lease) -> bool
+        ensures { result ≡ is_same self other }
+    {
+        self.client == other.client && self.file == other.file && self.key.0.as_slice() == other.key.0.as_slice()
+    }
+}
+
+/// A message of the server, as far as it can be shown to have been taken.
+#[derive(Clone, Copy, Debug, PartialEq, Eq)]
+pub struct Sent {
+    /// Its connection.
+    pub connection: u64,
+    /// Where the capture has it.
+    pub position: u64,
+}
+
+/// A grant of a lease, or a further one under its key.
+#[derive(Clone, Copy, Debug, PartialEq, Eq)]
+pub struct Grant {
+    pub lease: Lease,
+    pub level: Level,
+    pub sent: Sent,
+}
+
+/// A break of a lease.
+#[derive(Clone, Copy, Debug, PartialEq, Eq)]
+pub struct Break {
+    pub lease: Lease,
+    /// What it leaves.
+    pub level: Level,
+    pub sent: Sent,
+    /// Whether it has to be acknowledged.
+    pub acknowledged: bool,
+}
+
+/// An acknowledgment of a break.
+#[derive(Clone, Copy, Debug, PartialEq, Eq)]
+pub struct Acknowledged {
+    pub lease: Lease,
+    /// What the client says that it keeps.
+    pub level: Level,
+    /// The last position at which the client sent it.
+    pub last: u64,
+}
+
+/// The end of the last open under a lease.
+#[derive(Clone, Copy, Debug, PartialEq, Eq)]
+pub struct End {
+    pub lease: Lease,
+    /// The first position at which the client can have given it up.
+    pub first: u64,
+    /// The last one.
+    pub last: u64,
+}
+
+/// A request that shows what its client had taken on a connection.
+#[derive(Clone, Copy, Debug, PartialEq, Eq)]
+pub struct Proof {
+    pub connection: u64,
+    /// The position of the server's last message that it shows to have been taken, and with it all before.
+    pub position: u64,
+    /// The last position at which the client sent the request.
+    pub last: u64,
+}
+
+/// What a message of a capture shows of leases.
+#[derive(Clone, Copy, Debug, PartialEq, Eq)]
+pub enum Event {
+    Granted(Grant),
+    Broken(Break),
+    Acknowledged(Acknowledged),
+    /// The server accepted the acknowledgment of a break of the lease.
+    Accepted(Lease),
+    Ended(End),
+    Taken(Proof),
+    /// From the client with this number, something may be missing, so that it isn't judged.
+    Lost(u64),
+}
