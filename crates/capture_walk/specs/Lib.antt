@@ -1,1 +1,4 @@
 pub mod Chains
+pub mod Clients
+pub mod Notes
+pub mod Trees

@@ -2,7 +2,14 @@
 #![tactic(auto)]
 
 mod chains;
+mod clients;
 mod event;
+mod note;
+mod trees;
 
 pub use chains::chains_on;
 pub use event::{Acknowledged, Break, End, Event, Grant, Lease, Proof, Sent};
+pub use note::{
+    BreakNote, CreateAsked, CreateGiven, KeyLevel, LeaseGiven, Note, OpenName, Seen, TreeAsked,
+    TreeGiven, TreeName,
+};

@@ -1,0 +1,43 @@
+-- Whose a connection is: that of the client with the ClientGuid of its NEGOTIATE. Several connections may be one client's. Messages
+-- that are called past have the newest one first.
+use Rattle.std.specs.Prelude.{◌≡◌, ℕ, ◌==◌, if◌then◌else◌, List, [], ◌∷◌, Option, Some, None, unwrap_or, bytes_eq}
+use Rattle.capture_wire.specs.declared.field.Guid.{Guid}
+use Rattle.capture_walk.specs.Notes.{negotiated}
+use Rattle.capture_walk.specs.declared.note.Seen.{Seen}
+use Rattle.capture_walk.specs.declared.clients.Known.{Known}
+use Rattle.capture_walk.specs.declared.clients.Clients.{Clients}
+
+-- ---- by looking back
+
+-- where the first NEGOTIATE with a ClientGuid stands, after one more message, by the ClientGuid that it has
+abbrev pub first_by : List ℕ → ℕ → Option Guid → Option ℕ → Option ℕ
+first_by guid position (Some other) before = if bytes_eq other.0 guid then Some (unwrap_or before position) else before
+first_by guid position None before = before
+
+abbrev pub first_negotiate : List ℕ → List Seen → Option ℕ
+first_negotiate guid [] = None
+first_negotiate guid (seen ∷ past) = first_by guid seen.latest (negotiated seen.note) (first_negotiate guid past)
+
+-- the client of a connection: the position of the first NEGOTIATE with the ClientGuid of the connection's last one
+abbrev pub client_by : ℕ → Seen → Option Guid → List Seen → Option ℕ → Option ℕ
+client_by connection seen (Some guid) past before =
+    if seen.connection == connection then Some (unwrap_or (first_negotiate guid.0 past) seen.latest) else before
+client_by connection seen None past before = before
+
+abbrev pub client_of : ℕ → List Seen → Option ℕ
+client_of connection [] = None
+client_of connection (seen ∷ past) = client_by connection seen (negotiated seen.note) past (client_of connection past)
+
+-- ---- the table, which has the newest entry first
+
+abbrev pub number_in : List ℕ → List Known → Option ℕ
+number_in guid [] = None
+number_in guid (known ∷ table) = if bytes_eq known.guid.0 guid then Some known.client else number_in guid table
+
+abbrev pub client_in : ℕ → List Known → Option ℕ
+client_in connection [] = None
+client_in connection (known ∷ table) = if known.connection == connection then Some known.client else client_in connection table
+
+pub record KnowsClients (past : List Seen) (clients : Clients) : Type 0 where
+  pub numbers : (guid : List ℕ) → number_in guid clients.known.items ≡ first_negotiate guid past
+  pub connections : (connection : ℕ) → client_in connection clients.known.items ≡ client_of connection past

@@ -1,0 +1,35 @@
+-- What a note is of, of each kind that is looked for.
+use Rattle.std.specs.Prelude.{ℕ, Option, Some, None}
+use Rattle.capture_wire.specs.declared.field.Guid.{Guid}
+use Rattle.capture_walk.specs.declared.note.Note.{Note}
+use Rattle.capture_walk.specs.declared.note.Note.TheVariants as note
+use Rattle.capture_walk.specs.declared.note.TreeAsked.{TreeAsked}
+use Rattle.capture_walk.specs.declared.note.TreeGiven.{TreeGiven}
+use Rattle.capture_walk.specs.declared.note.CreateAsked.{CreateAsked}
+use Rattle.capture_walk.specs.declared.note.CreateGiven.{CreateGiven}
+
+abbrev pub negotiated : Note → Option Guid
+negotiated (note.Negotiate guid) = Some guid
+negotiated _ = None
+
+abbrev pub tree_asked : Note → Option TreeAsked
+tree_asked (note.TreeAsked asked) = Some asked
+tree_asked _ = None
+
+abbrev pub tree_given : Note → Option TreeGiven
+tree_given (note.TreeGiven given) = Some given
+tree_given _ = None
+
+abbrev pub create_asked : Note → Option CreateAsked
+create_asked (note.CreateAsked asked) = Some asked
+create_asked _ = None
+
+abbrev pub create_given : Note → Option CreateGiven
+create_given (note.CreateGiven given) = Some given
+create_given _ = None
+
+-- the MessageId of the request that it answers for good, if that may be a CREATE
+abbrev pub answered : Note → Option ℕ
+answered (note.CreateGiven given) = Some given.id
+answered (note.Answered id) = Some id
+answered _ = None

@@ -1,0 +1,78 @@
+ghost use Rattle.std.specs.Prelude.{◌≡◌, ◌∷◌, [], List, OnOk};
+ghost use Rattle.capture_walk.specs.Clients.{number_in, client_in, KnowsClients};
+ghost use Rattle.capture_walk.specs.declared.note.Seen.{Seen};
+
+use crate::note::Seen;
+use capture_wire::Guid;
+use lease_state::Memory;
+use std::alloc::Global;
+
+// The client of a connection.
+#[derive(Clone, Copy, Debug)]
+pub(crate) struct Known {
+    connection: u64,
+    guid: Guid,
+    client: u64,
+}
+
+/// Whose connections are.
+#[derive(Debug, Drop)]
+pub(crate) struct Clients {
+    // The newest first.
+    known: Vec<Known>,
+}
+
+impl Clients {
+    /// Of no connection. Allocates nothing.
+    pub(crate) fn new(alloc: Global) -> Clients
+        ensures { KnowsClients [] result }
+    {
+        Clients {
+            known: Vec::new(alloc),
+        }
+    }
+
+    // The number of the client with a ClientGuid.
+    fn number(&self, guid: Guid) -> Option<u64>
+        ensures { result ≡ number_in guid.0 self.now.known.items }
+    {
+        for known in &self.known {
+            if known.guid.0.as_slice() == guid.0.as_slice() {
+                return Some(known.client);
+            }
+        }
+        None
+    }
+
+    /// The number of a connection's client, where it is known.
+    pub(crate) fn of(&self, connection: u64) -> Option<u64>
+        ensures { result ≡ client_in connection self.now.known.items }
+    {
+        for known in &self.known {
+            if known.connection == connection {
+                return Some(known.client);
+            }
+        }
+        None
+    }
+
+    /// Takes note of the next message.
+    pub(crate) fn note(&mut self, seen: &Seen<'_>) -> Result<(), Memory>
+        ensures { OnOk result ((past : List Seen) → KnowsClients past self.old → KnowsClients (seen.now ∷ past) self.new) }
+    {
+        let Some(guid) = seen.note.negotiated() else {
+            return Ok(());
+        };
+        let client = self.number(guid).unwrap_or(seen.latest);
+        let connection = seen.connection;
+        self.known.insert(
+            0,
+            Known {
+                connection,
+                guid,
+                client,
+            },
+        )?;
+        Ok(())
+    }
+}

@@ -1,0 +1,196 @@
+ghost use Rattle.std.specs.Prelude.{◌≡◌};
+ghost use Rattle.capture_walk.specs.Notes as notes;
+
+use capture_judge::Level;
+use capture_wire::{Guid, Smb2FileId};
+use lease_state::LeaseKey;
+
+/// A TREE_CONNECT request.
+#[derive(Clone, Copy, Debug, PartialEq, Eq)]
+pub struct TreeAsked<'a> {
+    /// Its MessageId.
+    pub id: u64,
+    /// The share's path, as it stands in the request.
+    pub path: &'a [u8],
+}
+
+/// A TREE_CONNECT response of STATUS_SUCCESS.
+#[derive(Clone, Copy, Debug, PartialEq, Eq)]
+pub struct TreeGiven {
+    /// Its MessageId.
+    pub id: u64,
+    pub session: u64,
+    pub tree: u32,
+}
+
+/// A CREATE request.
+#[derive(Clone, Copy, Debug, PartialEq, Eq)]
+pub struct CreateAsked<'a> {
+    /// Its MessageId.
+    pub id: u64,
+    pub tree: u32,
+    /// The file's name below the share, as it stands in the request.
+    pub name: &'a [u8],
+    /// A durable open is to be connected again.
+    pub reconnect: bool,
+    /// A CLOSE in the same compound closes what it opens.
+    pub closes: bool,
+}
+
+/// A lease in a CREATE response.
+#[derive(Clone, Copy, Debug, PartialEq, Eq)]
+pub struct LeaseGiven {
+    pub key: LeaseKey,
+    pub level: Level,
+    /// A break of it is in progress, so that nothing is granted.
+    pub breaking: bool,
+}
+
+/// A CREATE response of STATUS_SUCCESS.
+#[derive(Clone, Copy, Debug, PartialEq, Eq)]
+pub struct CreateGiven {
+    /// Its MessageId.
+    pub id: u64,
+    pub session: u64,
+    pub file_id: Smb2FileId,
+    /// Whether it made the file, or another one in its place.
+    pub is_new: bool,
+    /// Where a file is opened, and not a folder.
+    pub lease: Option<LeaseGiven>,
+}
+
+/// An open, as requests name it.
+#[derive(Clone, Copy, Debug, PartialEq, Eq)]
+pub struct OpenName {
+    pub session: u64,
+    pub file_id: Smb2FileId,
+}
+
+/// A tree connect, as requests name it.
+#[derive(Clone, Copy, Debug, PartialEq, Eq)]
+pub struct TreeName {
+    pub session: u64,
+    pub tree: u32,
+}
+
+/// What is said of a lease under a key.
+#[derive(Clone, Copy, Debug, PartialEq, Eq)]
+pub struct KeyLevel {
+    pub key: LeaseKey,
+    pub level: Level,
+}
+
+/// A notification of a lease break.
+#[derive(Clone, Copy, Debug, PartialEq, Eq)]
+pub struct BreakNote {
+    pub key: LeaseKey,
+    /// What it leaves.
+    pub level: Level,
+    /// Whether it has to be acknowledged.
+    pub acknowledged: bool,
+}
+
+/// What a message says, as far as the walk goes by it.
+#[derive(Clone, Copy, Debug, PartialEq, Eq)]
+pub enum Note<'a> {
+    /// A NEGOTIATE request, with its ClientGuid.
+    Negotiate(Guid),
+    TreeAsked(TreeAsked<'a>),
+    TreeGiven(TreeGiven),
+    CreateAsked(CreateAsked<'a>),
+    CreateGiven(CreateGiven),
+    /// Any other response but an interim one, by its MessageId.
+    Answered(u64),
+    /// A request that is about an open, and doesn't close it.
+    OnOpen(OpenName),
+    /// A CLOSE request.
+    Close(OpenName),
+    /// A LOGOFF of the session, or a SESSION_SETUP that stands for it.
+    Leave(u64),
+    /// A TREE_DISCONNECT request.
+    LeaveTree(TreeName),
+    /// An acknowledgment of a lease break, with what the client keeps.
+    Acknowledge(KeyLevel),
+    /// A response that accepts an acknowledgment of a lease under the key.
+    Accepted(LeaseKey),
+    Break(BreakNote),
+    /// Names of the server's files may lead to other files from here on.
+    Renames,
+    /// Something is missing, or can't be read.
+    Gap,
+    /// The connection ends.
+    End,
+    Other,
+}
+
+impl<'a> Note<'a> {
+    pub(crate) fn negotiated(self) -> Option<Guid>
+        ensures { result ≡ notes.negotiated self.entry }
+    {
+        match self {
+            Note::Negotiate(guid) => Some(guid),
+            _ => None,
+        }
+    }
+
+    pub(crate) fn tree_asked(self) -> Option<TreeAsked<'a>>
+        ensures { result ≡ notes.tree_asked self.entry }
+    {
+        match self {
+            Note::TreeAsked(asked) => Some(asked),
+            _ => None,
+        }
+    }
+
+    pub(crate) fn tree_given(self) -> Option<TreeGiven>
+        ensures { result ≡ notes.tree_given self.entry }
+    {
+        match self {
+            Note::TreeGiven(given) => Some(given),
+            _ => None,
+        }
+    }
+
+    pub(crate) fn create_asked(self) -> Option<CreateAsked<'a>>
+        ensures { result ≡ notes.create_asked self.entry }
+    {
+        match self {
+            Note::CreateAsked(asked) => Some(asked),
+            _ => None,
+        }
+    }
+
+    pub(crate) fn create_given(self) -> Option<CreateGiven>
+        ensures { result ≡ notes.create_given self.entry }
+    {
+        match self {
+            Note::CreateGiven(given) => Some(given),
+            _ => None,
+        }
+    }
+
+    // The MessageId of the request that it answers for good, if that may be a CREATE.
+    pub(crate) fn answered(self) -> Option<u64>
+        ensures { result ≡ notes.answered self.entry }
+    {
+        match self {
+            Note::CreateGiven(given) => Some(given.id),
+            Note::Answered(id) => Some(id),
+            _ => None,
+        }
+    }
+}
+
+/// A message where a capture has it, or that something is missing. Positions grow from one to the next.
+#[derive(Clone, Copy, Debug, PartialEq, Eq)]
+pub struct Seen<'a> {
+    /// The number of its connection.
+    pub connection: u64,
+    /// The number of the server's address and port.
+    pub server: u64,
+    /// The first position at which it can have been sent.
+    pub earliest: u64,
+    /// The last one.
+    pub latest: u64,
+    pub note: Note<'a>,
+}

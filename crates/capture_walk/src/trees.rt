@@ -1,0 +1,126 @@
+ghost use Rattle.std.specs.Prelude.{◌≡◌, ◌∷◌, [], List, None, OnOk, IfOk};
+ghost use Rattle.std.specs.Option.{option_map};
+ghost use Rattle.capture_walk.specs.Trees.{asked_in, tree_in, KnowsTrees};
+ghost use Rattle.capture_walk.specs.Notes.{tree_given};
+ghost use Rattle.capture_walk.specs.declared.note.Seen.{Seen};
+
+use crate::note::Seen;
+use lease_state::{Bytes, Memory};
+use std::alloc::Global;
+
+// A TREE_CONNECT request.
+#[derive(Debug, Drop)]
+pub(crate) struct Asked {
+    connection: u64,
+    id: u64,
+    path: Bytes,
+}
+
+// A tree connect, with its path where the request was seen.
+#[derive(Debug, Drop)]
+pub(crate) struct Tree {
+    server: u64,
+    session: u64,
+    tree: u32,
+    path: Option<Bytes>,
+}
+
+/// The paths of tree connects.
+#[derive(Debug, Drop)]
+pub(crate) struct Trees {
+    // The newest first, as in the other table.
+    asked: Vec<Asked>,
+    trees: Vec<Tree>,
+}
+
+// Equal bytes in memory of their own.
+fn copy_of(alloc: Global, bytes: Option<&[u8]>) -> Result<Option<Bytes>, Memory>
+    ensures { IfOk result (λ copy. copy ≡ option_map (λ path. path.now) bytes.entry) }
+{
+    match bytes {
+        Some(bytes) => Ok(Some(Bytes::new(Vec::from_slice(alloc, bytes)?))),
+        None => Ok(None),
+    }
+}
+
+impl Trees {
+    /// Of no tree connect. Allocates nothing.
+    pub(crate) fn new(alloc: Global) -> Trees
+        ensures { KnowsTrees [] result }
+    {
+        Trees {
+            asked: Vec::new(alloc),
+            trees: Vec::new(alloc),
+        }
+    }
+
+    // The path that a request asks for.
+    fn asked(&self, connection: u64, id: u64) -> Option<&[u8]>
+        ensures { option_map (λ path. path.now) result ≡ asked_in connection id self.now.asked.items }
+    {
+        for one in &self.asked {
+            if one.connection == connection && one.id == id {
+                return Some(one.path.as_slice());
+            }
+        }
+        None
+    }
+
+    /// The path of a session's tree connect, where it is known.
+    pub(crate) fn path_of(&self, server: u64, session: u64, tree: u32) -> Option<&[u8]>
+        ensures { option_map (λ path. path.now) result ≡ tree_in server session tree self.now.trees.items }
+    {
+        for one in &self.trees {
+            if one.server == server && one.session == session && one.tree == tree {
+                return match &one.path {
+                    Some(path) => Some(path.as_slice()),
+                    None => None,
+                };
+            }
+        }
+        None
+    }
+
+    fn note_asked(&mut self, seen: &Seen<'_>) -> Result<(), Memory>
+        ensures { OnOk result ((past : List Seen) → KnowsTrees past self.old → tree_given seen.now.note ≡ None
+            → KnowsTrees (seen.now ∷ past) self.new) }
+    {
+        let Some(asked) = seen.note.tree_asked() else {
+            return Ok(());
+        };
+        let path = Bytes::new(Vec::from_slice(*self.asked.allocator(), asked.path)?);
+        let (connection, id) = (seen.connection, asked.id);
+        self.asked.insert(
+            0,
+            Asked {
+                connection,
+                id,
+                path,
+            },
+        )?;
+        Ok(())
+    }
+
+    /// Takes note of the next message.
+    pub(crate) fn note(&mut self, seen: &Seen<'_>) -> Result<(), Memory>
+        ensures { OnOk result ((past : List Seen) → KnowsTrees past self.old → KnowsTrees (seen.now ∷ past) self.new) }
+    {
+        let Some(given) = seen.note.tree_given() else {
+            return self.note_asked(seen);
+        };
+        let path = copy_of(
+            *self.trees.allocator(),
+            self.asked(seen.connection, given.id),
+        )?;
+        self.trees.insert(
+            0,
+            Tree {
+                server: seen.server,
+                session: given.session,
+                tree: given.tree,
+                path,
+            },
+        )?;
+        Ok(())
+    }
+}
