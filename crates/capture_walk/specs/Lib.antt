@@ -2,3 +2,4 @@ pub mod Chains
 pub mod Clients
 pub mod Notes
 pub mod Trees
+pub mod Creates

@@ -3,6 +3,7 @@
 
 mod chains;
 mod clients;
+mod creates;
 mod event;
 mod note;
 mod trees;

@@ -1,0 +1,51 @@
+-- CREATE requests that aren't answered for good. Messages that are called past have the newest one first, and so has the table.
+use Rattle.std.specs.Prelude.{◌≡◌, ℕ, ◌==◌, ◌&&◌, Bool, not, if◌then◌else◌, List, [], ◌∷◌, Option, Some, None}
+use Rattle.capture_walk.specs.Notes.{create_asked, answered}
+use Rattle.capture_walk.specs.declared.note.CreateAsked.{CreateAsked}
+use Rattle.capture_walk.specs.declared.note.Seen.{Seen}
+use Rattle.capture_walk.specs.declared.creates.Create.{Create}
+use Rattle.capture_walk.specs.declared.creates.Creates.{Creates}
+
+-- ---- by looking back
+
+-- what counts of a CREATE request
+abbrev pub create_of : ℕ → CreateAsked → Create
+create_of connection asked = record {
+  connection = connection;
+  id = asked.id;
+  tree = asked.tree;
+  name = asked.name.now;
+  reconnect = asked.reconnect;
+  closes = asked.closes;
+}
+
+abbrev pub asked_after : ℕ → ℕ → ℕ → Option CreateAsked → Option Create → Option Create
+asked_after connection id other (Some asked) before =
+    if other == connection && asked.id == id then Some (create_of other asked) else before
+asked_after connection id other None before = before
+
+abbrev pub answered_after : ℕ → ℕ → ℕ → Option ℕ → Option Create → Option Create
+answered_after connection id other (Some answer) before = if other == connection && answer == id then None else before
+answered_after connection id other None before = before
+
+-- the last CREATE request with a MessageId on a connection, unless it was answered for good since
+abbrev pub pending : ℕ → ℕ → List Seen → Option Create
+pending connection id [] = None
+pending connection id (seen ∷ past) =
+    asked_after connection id seen.connection (create_asked seen.note)
+    (answered_after connection id seen.connection (answered seen.note) (pending connection id past))
+
+-- ---- the table
+
+abbrev pub is_named : ℕ → ℕ → Create → Bool
+is_named connection id one = one.connection == connection && one.id == id
+
+abbrev pub create_in : ℕ → ℕ → List Create → Option Create
+create_in connection id [] = None
+create_in connection id (one ∷ table) = if is_named connection id one then Some one else create_in connection id table
+
+abbrev pub is_kept : ℕ → ℕ → Create → Bool
+is_kept connection id one = not (is_named connection id one)
+
+pub record KnowsCreates (past : List Seen) (creates : Creates) : Type 0 where
+  pub requests : (connection id : ℕ) → create_in connection id creates.pending.items ≡ pending connection id past

@@ -1,0 +1,89 @@
+ghost use Rattle.std.specs.Prelude.{◌≡◌, ◌∷◌, [], ℕ, List, filter, OnOk};
+ghost use Rattle.std.specs.Option.{option_map};
+ghost use Rattle.capture_walk.specs.Creates.{create_in, is_kept, pending, answered_after, KnowsCreates};
+ghost use Rattle.capture_walk.specs.Notes.{answered};
+ghost use Rattle.capture_walk.specs.declared.note.Seen.{Seen};
+
+use crate::note::Seen;
+use lease_state::{Bytes, Memory};
+use std::alloc::Global;
+
+/// A CREATE request, as far as its answer depends on it.
+#[derive(Debug, Drop)]
+pub(crate) struct Create {
+    pub(crate) connection: u64,
+    pub(crate) id: u64,
+    pub(crate) tree: u32,
+    pub(crate) name: Bytes,
+    pub(crate) reconnect: bool,
+    pub(crate) closes: bool,
+}
+
+/// The CREATE requests that aren't answered for good.
+#[derive(Debug, Drop)]
+pub(crate) struct Creates {
+    // The newest first.
+    pending: Vec<Create>,
+}
+
+impl Creates {
+    /// None. Allocates nothing.
+    pub(crate) fn new(alloc: Global) -> Creates
+        ensures { KnowsCreates [] result }
+    {
+        Creates {
+            pending: Vec::new(alloc),
+        }
+    }
+
+    /// The request that a response on a connection answers, by its MessageId.
+    pub(crate) fn pending(&self, connection: u64, id: u64) -> Option<&Create>
+        ensures { option_map (λ create. create.now) result ≡ create_in connection id self.now.pending.items }
+    {
+        for one in &self.pending {
+            if one.connection == connection && one.id == id {
+                return Some(one);
+            }
+        }
+        None
+    }
+
+    fn remove(&mut self, connection: u64, id: u64)
+        ensures { self.new.pending.items ≡ filter (is_kept connection id) self.old.pending.items }
+    {
+        self.pending
+            .retain(|one| !(one.connection == connection && one.id == id));
+    }
+
+    #[tactic(auto, using(crate::proofs::Removal::create_in_kept))]
+    fn note_answer(&mut self, seen: &Seen<'_>)
+        ensures { (past : List Seen) → KnowsCreates past self.old → (connection id : ℕ)
+            → create_in connection id self.new.pending.items
+            ≡ answered_after connection id seen.now.connection (answered seen.now.note) (pending connection id past) }
+    {
+        if let Some(id) = seen.note.answered() {
+            self.remove(seen.connection, id);
+        }
+    }
+
+    /// Takes note of the next message.
+    pub(crate) fn note(&mut self, seen: &Seen<'_>) -> Result<(), Memory>
+        ensures { OnOk result ((past : List Seen) → KnowsCreates past self.old → KnowsCreates (seen.now ∷ past) self.new) }
+    {
+        self.note_answer(seen);
+        let Some(asked) = seen.note.create_asked() else {
+            return Ok(());
+        };
+        let name = Bytes::new(Vec::from_slice(*self.pending.allocator(), asked.name)?);
+        let create = Create {
+            connection: seen.connection,
+            id: asked.id,
+            tree: asked.tree,
+            name,
+            reconnect: asked.reconnect,
+            closes: asked.closes,
+        };
+        self.pending.insert(0, create)?;
+        Ok(())
+    }
+}
