@@ -3,3 +3,4 @@ pub mod Clients
 pub mod Notes
 pub mod Trees
 pub mod Creates
+pub mod Files

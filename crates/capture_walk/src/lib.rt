@@ -5,6 +5,7 @@ mod chains;
 mod clients;
 mod creates;
 mod event;
+mod files;
 mod note;
 mod trees;
 

@@ -179,6 +179,12 @@ impl<'a> Note<'a> {
             _ => None,
         }
     }
+
+    pub(crate) fn renames(self) -> bool
+        ensures { result ≡ notes.renames self.entry }
+    {
+        matches!(self, Note::Renames)
+    }
 }
 
 /// A message where a capture has it, or that something is missing. Positions grow from one to the next.

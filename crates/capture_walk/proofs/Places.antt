@@ -1,0 +1,47 @@
+-- Places that are the same by their bytes.
+use Rattle.std.proofs.Common.{◌≡◌, ℕ, ◌==◌, ◌&&◌, Bool, true, false, if◌then◌else◌, List, [], ◌∷◌, None, refl, ap, arith, filter}
+use Rattle.std.proofs.lemmas.Slice.Eq.{bytes_eq-Decides}
+use Rattle.std.specs.Str.{bytes_eq}
+use Rattle.capture_walk.specs.Files.{Place, is_same_place, file_in, is_elsewhere}
+use Rattle.capture_walk.specs.declared.files.Named.{Named}
+
+and_left : (a b : Bool) → (a && b) ≡ true → a ≡ true
+and_left true b is = refl
+and_left false b is = is
+
+and_right : (a b : Bool) → (a && b) ≡ true → b ≡ true
+and_right true b is = is
+and_right false true is = refl
+and_right false false is = is
+
+eq_of : (m n : ℕ) → (m == n) ≡ true → m ≡ n
+eq_of m n is = grind (arith, is)
+
+place_with : ℕ → List ℕ → List ℕ → Place
+place_with server path name = record { server = server; path = path; name = name }
+
+alike : (m n : ℕ) (p q a b : List ℕ) → m ≡ n → p ≡ q → a ≡ b → place_with m p a ≡ place_with n q b
+alike m n p q a b one two three = cc
+
+same_place : (one other : Place) → is_same_place one other ≡ true → one ≡ other
+unfolding place_with
+same_place one other is =
+    let both = and_left (one.server == other.server && bytes_eq one.path other.path) (bytes_eq one.name other.name) is in
+    alike one.server other.server one.path other.path one.name other.name
+    (eq_of one.server other.server (and_left (one.server == other.server) (bytes_eq one.path other.path) both))
+    ((bytes_eq-Decides one.path other.path).0 (and_right (one.server == other.server) (bytes_eq one.path other.path) both))
+    ((bytes_eq-Decides one.name other.name).0
+    (and_right (one.server == other.server && bytes_eq one.path other.path) (bytes_eq one.name other.name) is))
+
+-- the same place has the same file
+pub found_same : (one other : Place) (table : List Named) → is_same_place one other ≡ true
+    → file_in one table ≡ file_in other table
+found_same one other table is = ap (λ place. file_in place table) (same_place one other is)
+
+-- of a server whose files were forgotten nothing is found
+pub file_in_elsewhere : (place : Place) (server : ℕ) (table : List Named)
+    → file_in place (filter (is_elsewhere server) table)
+    ≡ (if server == place.server then None else file_in place table)
+file_in_elsewhere place server [] = grind arith
+file_in_elsewhere place server (one ∷ table) =
+    let e = file_in_elsewhere place server table in grind (arith, and_left)

@@ -1,0 +1,85 @@
+-- Files: each of a server, a share's path, a name and one life. Messages that are called past have the newest one first, and so has
+-- the table.
+use Rattle.std.specs.Prelude.{◌≡◌, ℕ, ◌==◌, ◌&&◌, Bool, false, not, if◌then◌else◌, List, [], ◌∷◌, Option, Some, None}
+use Rattle.std.specs.Prelude.{unwrap_or, bytes_eq}
+use Rattle.capture_walk.specs.Notes.{create_given, renames}
+use Rattle.capture_walk.specs.Trees.{path_of}
+use Rattle.capture_walk.specs.Creates.{pending}
+use Rattle.capture_walk.specs.declared.note.CreateGiven.{CreateGiven}
+use Rattle.capture_walk.specs.declared.note.Seen.{Seen}
+use Rattle.capture_walk.specs.declared.creates.Create.{Create}
+use Rattle.capture_walk.specs.declared.files.Named.{Named}
+use Rattle.capture_walk.specs.declared.files.Files.{Files}
+use Rattle.capture_walk.specs.declared.files.Place as declared
+
+-- where a file is: names that differ in a byte are those of different files
+pub record Place : Type 0 where
+  pub server : ℕ
+  pub path : List ℕ
+  pub name : List ℕ
+
+abbrev pub is_same_place : Place → Place → Bool
+is_same_place one other = (one.server == other.server && bytes_eq one.path other.path) && bytes_eq one.name other.name
+
+-- ---- by looking back
+
+-- The place that a CREATE names, where its request and its tree connect were seen. By which name a durable open is connected again
+-- is left open (3.2.4.4), so such a CREATE names none.
+abbrev pub place_by : ℕ → Option Create → Option (List ℕ) → Option Place
+place_by server None path = None
+place_by server (Some create) None = None
+place_by server (Some create) (Some path) =
+    if create.reconnect then None else Some (record { server = server; path = path; name = create.name })
+
+abbrev pub create_path : ℕ → ℕ → Option Create → List Seen → Option (List ℕ)
+create_path server session None past = None
+create_path server session (Some create) past = path_of server session create.tree past
+
+-- the place of the file that a CREATE response is of
+abbrev pub place_given : Seen → CreateGiven → List Seen → Option Place
+place_given seen given past =
+    place_by seen.server (pending seen.connection given.id past)
+    (create_path seen.server given.session (pending seen.connection given.id past) past)
+
+abbrev pub place_after : Seen → Option CreateGiven → List Seen → Option Place
+place_after seen None past = None
+place_after seen (Some given) past = place_given seen given past
+
+abbrev pub is_new_in : Option CreateGiven → Bool
+is_new_in None = false
+is_new_in (Some given) = given.is_new
+
+-- the file that a CREATE opens at a position: the one that has its name, or one whose life begins there
+abbrev pub file_opened : Bool → ℕ → Option ℕ → ℕ
+file_opened is_new position before = if is_new then position else unwrap_or before position
+
+abbrev pub file_by : Place → Option Place → Bool → ℕ → Option ℕ → Option ℕ
+file_by place None is_new position before = before
+file_by place (Some other) is_new position before =
+    if is_same_place other place then Some (file_opened is_new position before) else before
+
+-- the file at a place, by the position at which its life began
+abbrev pub file_of : Place → List Seen → Option ℕ
+file_of place [] = None
+file_of place (seen ∷ past) =
+    if renames seen.note && seen.server == place.server then None
+    else file_by place (place_after seen (create_given seen.note) past) (is_new_in (create_given seen.note)) seen.latest
+        (file_of place past)
+
+-- ---- the table
+
+abbrev pub place_of_named : Named → Place
+place_of_named one = record { server = one.server; path = one.path; name = one.name }
+
+abbrev pub place_view : declared.Place → Place
+place_view place = record { server = place.server; path = place.path.now; name = place.name.now }
+
+abbrev pub file_in : Place → List Named → Option ℕ
+file_in place [] = None
+file_in place (one ∷ table) = if is_same_place (place_of_named one) place then Some one.file else file_in place table
+
+abbrev pub is_elsewhere : ℕ → Named → Bool
+is_elsewhere server one = not (one.server == server)
+
+pub record KnowsFiles (past : List Seen) (files : Files) : Type 0 where
+  pub files_at : (place : Place) → file_in place files.named.items ≡ file_of place past

@@ -1,0 +1,105 @@
+ghost use Rattle.std.specs.Prelude.{◌≡◌, ◌∷◌, [], if◌then◌else◌, Some, filter, OnOk, IfOk, unwrap_or};
+ghost use Rattle.capture_walk.specs.Files.{file_in, file_by, file_opened, is_elsewhere, is_same_place, place_view, KnowsFiles};
+ghost use Rattle.capture_walk.specs.Files as places;
+
+use lease_state::{Bytes, Memory};
+use std::alloc::Global;
+
+/// Where a file is.
+#[derive(Clone, Copy, Debug)]
+pub(crate) struct Place<'a> {
+    pub(crate) server: u64,
+    /// The share's path.
+    pub(crate) path: &'a [u8],
+    /// The name below the share.
+    pub(crate) name: &'a [u8],
+}
+
+// The file at a place.
+#[derive(Debug, Drop)]
+pub(crate) struct Named {
+    server: u64,
+    path: Bytes,
+    name: Bytes,
+    file: u64,
+}
+
+/// The files at places, with the positions at which their lives began as their numbers.
+#[derive(Debug, Drop)]
+pub(crate) struct Files {
+    // The newest first.
+    named: Vec<Named>,
+}
+
+impl Files {
+    /// None. Allocates nothing.
+    pub(crate) fn new(alloc: Global) -> Files
+        ensures { KnowsFiles [] result }
+    {
+        Files {
+            named: Vec::new(alloc),
+        }
+    }
+
+    // The file at a place.
+    fn find(&self, place: Place<'_>) -> Option<u64>
+        ensures { result ≡ file_in (place_view place.entry) self.now.named.items }
+    {
+        for one in &self.named {
+            if one.server == place.server
+                && one.path.as_slice() == place.path
+                && one.name.as_slice() == place.name
+            {
+                return Some(one.file);
+            }
+        }
+        None
+    }
+
+    fn insert(&mut self, place: Place<'_>, file: u64) -> Result<(), Memory>
+        ensures { OnOk result ((other : places.Place) → file_in other self.new.named.items
+            ≡ (if is_same_place (place_view place.entry) other then Some file else file_in other self.old.named.items)) }
+    {
+        let alloc = *self.named.allocator();
+        let path = Bytes::new(Vec::from_slice(alloc, place.path)?);
+        let name = Bytes::new(Vec::from_slice(alloc, place.name)?);
+        let server = place.server;
+        self.named.insert(
+            0,
+            Named {
+                server,
+                path,
+                name,
+                file,
+            },
+        )?;
+        Ok(())
+    }
+
+    /// The file that a CREATE opens at a place; its life begins at the position where it is new or wasn't known.
+    #[tactic(auto, using(crate::proofs::Places::found_same))]
+    pub(crate) fn open(
+        &mut self,
+        place: Place<'_>,
+        is_new: bool,
+        position: u64,
+    ) -> Result<u64, Memory>
+        ensures file { IfOk result (λ file. file
+            ≡ file_opened is_new position (file_in (place_view place.entry) self.old.named.items)) }
+        ensures table { OnOk result ((other : places.Place) → file_in other self.new.named.items
+            ≡ file_by other (Some (place_view place.entry)) is_new position (file_in other self.old.named.items)) }
+    {
+        if !is_new && let Some(file) = self.find(place) {
+            return Ok(file);
+        }
+        self.insert(place, position)?;
+        Ok(position)
+    }
+
+    /// What was at places of the server isn't known any more.
+    pub(crate) fn forget(&mut self, server: u64)
+        ensures { self.new.named.items ≡ filter (is_elsewhere server) self.old.named.items }
+    {
+        self.named.retain(|one| one.server != server);
+    }
+}
