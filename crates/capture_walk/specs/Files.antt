@@ -1,6 +1,6 @@
 -- Files: each of a server, a share's path, a name and one life. Messages that are called past have the newest one first, and so has
 -- the table.
-use Rattle.std.specs.Prelude.{◌≡◌, ℕ, ◌==◌, ◌&&◌, Bool, false, not, if◌then◌else◌, List, [], ◌∷◌, Option, Some, None}
+use Rattle.std.specs.Prelude.{◌≡◌, ℕ, ◌==◌, ◌&&◌, Bool, not, if◌then◌else◌, List, [], ◌∷◌, Option, Some, None}
 use Rattle.std.specs.Prelude.{unwrap_or, bytes_eq}
 use Rattle.capture_walk.specs.Notes.{create_given, renames}
 use Rattle.capture_walk.specs.Trees.{path_of}
@@ -41,14 +41,6 @@ place_given seen given past =
     place_by seen.server (pending seen.connection given.id past)
     (create_path seen.server given.session (pending seen.connection given.id past) past)
 
-abbrev pub place_after : Seen → Option CreateGiven → List Seen → Option Place
-place_after seen None past = None
-place_after seen (Some given) past = place_given seen given past
-
-abbrev pub is_new_in : Option CreateGiven → Bool
-is_new_in None = false
-is_new_in (Some given) = given.is_new
-
 -- the file that a CREATE opens at a position: the one that has its name, or one whose life begins there
 abbrev pub file_opened : Bool → ℕ → Option ℕ → ℕ
 file_opened is_new position before = if is_new then position else unwrap_or before position
@@ -58,13 +50,17 @@ file_by place None is_new position before = before
 file_by place (Some other) is_new position before =
     if is_same_place other place then Some (file_opened is_new position before) else before
 
+-- the file at a place after one more message, by the CREATE response that it may be, and whether it may change names
+abbrev pub file_after : Place → Seen → List Seen → Option CreateGiven → Bool → Option ℕ → Option ℕ
+file_after place seen past (Some given) is_change before =
+    file_by place (place_given seen given past) given.is_new seen.latest before
+file_after place seen past None is_change before = if is_change && seen.server == place.server then None else before
+
 -- the file at a place, by the position at which its life began
 abbrev pub file_of : Place → List Seen → Option ℕ
 file_of place [] = None
 file_of place (seen ∷ past) =
-    if renames seen.note && seen.server == place.server then None
-    else file_by place (place_after seen (create_given seen.note) past) (is_new_in (create_given seen.note)) seen.latest
-        (file_of place past)
+    file_after place seen past (create_given seen.note) (renames seen.note) (file_of place past)
 
 -- ---- the table
 

@@ -4,3 +4,5 @@ pub mod Notes
 pub mod Trees
 pub mod Creates
 pub mod Files
+pub mod Opens
+pub mod Events

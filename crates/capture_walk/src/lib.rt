@@ -7,10 +7,13 @@ mod creates;
 mod event;
 mod files;
 mod note;
+mod opens;
 mod trees;
+mod walk;
 
 pub use chains::chains_on;
 pub use event::{Acknowledged, Break, End, Event, Grant, Lease, Proof, Sent};
+pub use walk::Walk;
 pub use note::{
     BreakNote, CreateAsked, CreateGiven, KeyLevel, LeaseGiven, Note, OpenName, Seen, TreeAsked,
     TreeGiven, TreeName,

@@ -1,0 +1,163 @@
+-- What messages show of leases, by the opens that there are.
+use Rattle.std.specs.Prelude.{◌≡◌, ℕ, ◌==◌, ◌&&◌, Bool, false, not, if◌then◌else◌, List, [], ◌∷◌, ◌++◌, Option, Some, None}
+use Rattle.std.specs.Prelude.{bytes_eq}
+use Rattle.std.specs.List.{list_any, flat_map}
+use Rattle.capture_wire.specs.declared.field.Smb2FileId.{Smb2FileId}
+use Rattle.capture_walk.specs.Clients.{KnowsClients, client_of}
+use Rattle.capture_walk.specs.Trees.{KnowsTrees}
+use Rattle.capture_walk.specs.Creates.{KnowsCreates}
+use Rattle.capture_walk.specs.Files.{KnowsFiles}
+use Rattle.capture_walk.specs.Opens.{opens, made, ends, is_named}
+use Rattle.capture_walk.specs.Chains.{is_same}
+use Rattle.capture_walk.specs.declared.note.Note.{Note}
+use Rattle.capture_walk.specs.declared.note.Note.TheVariants as note
+use Rattle.capture_walk.specs.declared.note.BreakNote.{BreakNote}
+use Rattle.capture_walk.specs.declared.note.LeaseGiven.{LeaseGiven}
+use Rattle.capture_walk.specs.declared.note.CreateGiven.{CreateGiven}
+use Rattle.capture_walk.specs.declared.note.Seen.{Seen}
+use Rattle.capture_walk.specs.declared.event.Lease.{Lease}
+use Rattle.capture_walk.specs.declared.event.Sent.{Sent}
+use Rattle.capture_walk.specs.declared.event.Event.{Event}
+use Rattle.capture_walk.specs.declared.event.Event.TheVariants as event
+use Rattle.capture_walk.specs.declared.opens.Open.{Open}
+use Rattle.capture_walk.specs.declared.walk.Walk.{Walk}
+use Rattle.capture_judge.specs.declared.values.Level.{Level}
+
+-- ---- what is looked up in the opens
+
+abbrev pub is_under : ℕ → List ℕ → Option Lease → Bool
+is_under client key None = false
+is_under client key (Some lease) = lease.client == client && bytes_eq lease.key.0 key
+
+-- the lease that a client holds under a key
+abbrev pub lease_under : Option ℕ → List ℕ → List Open → Option Lease
+lease_under None key held = None
+lease_under (Some client) key [] = None
+lease_under (Some client) key (one ∷ held) =
+    if is_under client key one.lease then one.lease else lease_under (Some client) key held
+
+-- the open that a session names by a FileId
+abbrev pub open_named : ℕ → ℕ → Smb2FileId → List Open → Option Open
+open_named server session file_id [] = None
+open_named server session file_id (one ∷ held) =
+    if is_named server session file_id one then Some one else open_named server session file_id held
+
+-- ---- leases that end
+
+abbrev pub is_of : Lease → Option Lease → Bool
+is_of lease None = false
+is_of lease (Some other) = is_same other lease
+
+-- an open under the lease that is left
+abbrev pub keeps : Seen → Lease → Open → Bool
+keeps seen lease one = not (ends seen one) && is_of lease one.lease
+
+-- the lease ends where no open under it is left
+abbrev pub ended_lease : Seen → List Open → Option Lease → List Event
+ended_lease seen held None = []
+ended_lease seen held (Some lease) =
+    if list_any (keeps seen lease) held then []
+    else event.Ended (record { lease = lease; first = seen.earliest; last = seen.latest }) ∷ []
+
+abbrev pub ended_by : Seen → List Open → Open → List Event
+ended_by seen held one = if ends seen one then ended_lease seen held one.lease else []
+
+abbrev pub ended : Seen → List Open → List Event
+ended seen held = flat_map (ended_by seen held) held
+
+-- ---- what a message tells besides
+
+abbrev pub sent_at : Seen → Sent
+sent_at seen = record { connection = seen.connection; position = seen.latest }
+
+-- A request by a FileId shows that the response with it was taken.
+abbrev pub proof_of : Seen → Option Open → List Event
+proof_of seen None = []
+proof_of seen (Some one) =
+    event.Taken (record { connection = one.connection; position = one.position; last = seen.latest }) ∷ []
+
+-- One key for two files is more than the rules of leases allow (3.3.5.9.8), so that a break of it can't be told to be of either.
+abbrev pub shared : Lease → Option Lease → List Event
+shared lease None = []
+shared lease (Some other) = if is_same other lease then [] else event.Lost lease.client ∷ []
+
+abbrev pub granted_lease : Seen → LeaseGiven → Lease → List Event
+granted_lease seen given lease =
+    if given.breaking then []
+    else event.Granted (record { lease = lease; level = given.level; sent = sent_at seen }) ∷ []
+
+abbrev pub granted_of : Seen → Option LeaseGiven → Option Lease → List Open → List Event
+granted_of seen None lease held = []
+granted_of seen (Some given) None held = []
+granted_of seen (Some given) (Some lease) held =
+    shared lease (lease_under (Some lease.client) lease.key.0 held) ++ granted_lease seen given lease
+
+abbrev pub granted : Seen → CreateGiven → Option Open → List Open → List Event
+granted seen given None held = []
+granted seen given (Some one) held = granted_of seen given.lease one.lease held
+
+-- where it isn't known whose a connection is, a break on it may be of any lease under its key
+abbrev pub lost_under : List ℕ → Option Lease → List Event
+lost_under key None = []
+lost_under key (Some lease) = if bytes_eq lease.key.0 key then event.Lost lease.client ∷ [] else []
+
+abbrev pub broken_of : Seen → BreakNote → Option Lease → List Event
+broken_of seen one None = []
+broken_of seen one (Some lease) = event.Broken (record {
+  lease = lease;
+  level = one.level;
+  sent = sent_at seen;
+  acknowledged = one.acknowledged;
+}) ∷ []
+
+abbrev pub broken : Seen → BreakNote → Option ℕ → List Open → List Event
+broken seen one None held = flat_map (λ other. lost_under one.key.0 other.lease) held
+broken seen one (Some client) held = broken_of seen one (lease_under (Some client) one.key.0 held)
+
+abbrev pub lost_of : Option ℕ → List Event
+lost_of None = []
+lost_of (Some client) = event.Lost client ∷ []
+
+abbrev pub acknowledged : Seen → Level → Option Lease → List Event
+acknowledged seen level None = []
+acknowledged seen level (Some lease) =
+    event.Acknowledged (record { lease = lease; level = level; last = seen.latest }) ∷ []
+
+abbrev pub accepted : Option Lease → List Event
+accepted None = []
+accepted (Some lease) = event.Accepted lease ∷ []
+
+-- by what it is, its connection's client, the open that it makes, and the opens before it
+abbrev pub told_by : Note → Seen → Option ℕ → Option Open → List Open → List Event
+told_by (note.CreateGiven given) seen client one held = granted seen given one held
+told_by (note.OnOpen name) seen client one held =
+    proof_of seen (open_named seen.server name.session name.file_id held)
+told_by (note.Close name) seen client one held =
+    proof_of seen (open_named seen.server name.session name.file_id held)
+told_by (note.Acknowledge given) seen client one held =
+    acknowledged seen given.level (lease_under client given.key.0 held)
+told_by (note.Accepted key) seen client one held = accepted (lease_under client key.0 held)
+told_by (note.Break break) seen client one held = broken seen break client held
+told_by note.Gap seen client one held = lost_of client
+told_by _ seen client one held = []
+
+-- ---- all events
+
+-- what a message shows after those before it
+abbrev pub events_of : Seen → List Seen → List Event
+events_of seen past =
+    ended seen (opens past) ++ told_by seen.note seen (client_of seen.connection past) (made seen past) (opens past)
+
+-- in the order of the capture
+abbrev pub events : List Seen → List Event
+events [] = []
+events (seen ∷ past) = events past ++ events_of seen past
+
+-- The walk knows what these messages show.
+pub record Knows (past : List Seen) (walk : Walk) : Type 0 where
+  pub clients : KnowsClients past walk.clients
+  pub trees : KnowsTrees past walk.trees
+  pub creates : KnowsCreates past walk.creates
+  pub files : KnowsFiles past walk.files
+  pub held : walk.opens.items ≡ opens past
+  pub shown : walk.events.items ≡ events past
