@@ -13,7 +13,6 @@ use Rattle.capture_walk.specs.declared.note.Note.{Note}
 use Rattle.capture_walk.specs.declared.note.Note.TheVariants as note
 use Rattle.capture_walk.specs.declared.note.BreakNote.{BreakNote}
 use Rattle.capture_walk.specs.declared.note.LeaseGiven.{LeaseGiven}
-use Rattle.capture_walk.specs.declared.note.CreateGiven.{CreateGiven}
 use Rattle.capture_walk.specs.declared.note.Seen.{Seen}
 use Rattle.capture_walk.specs.declared.event.Lease.{Lease}
 use Rattle.capture_walk.specs.declared.event.Sent.{Sent}
@@ -92,9 +91,10 @@ granted_of seen (Some given) None held = []
 granted_of seen (Some given) (Some lease) held =
     shared lease (lease_under (Some lease.client) lease.key.0 held) ++ granted_lease seen given lease
 
-abbrev pub granted : Seen → CreateGiven → Option Open → List Open → List Event
-granted seen given None held = []
-granted seen given (Some one) held = granted_of seen given.lease one.lease held
+-- the lease of the open that a CREATE response makes
+abbrev pub lease_made : Option Open → Option Lease
+lease_made None = None
+lease_made (Some one) = one.lease
 
 -- where it isn't known whose a connection is, a break on it may be of any lease under its key
 abbrev pub lost_under : List ℕ → Option Lease → List Event
@@ -129,7 +129,7 @@ accepted (Some lease) = event.Accepted lease ∷ []
 
 -- by what it is, its connection's client, the open that it makes, and the opens before it
 abbrev pub told_by : Note → Seen → Option ℕ → Option Open → List Open → List Event
-told_by (note.CreateGiven given) seen client one held = granted seen given one held
+told_by (note.CreateGiven given) seen client one held = granted_of seen given.lease (lease_made one) held
 told_by (note.OnOpen name) seen client one held =
     proof_of seen (open_named seen.server name.session name.file_id held)
 told_by (note.Close name) seen client one held =

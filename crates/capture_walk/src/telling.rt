@@ -1,0 +1,267 @@
+ghost use Rattle.std.specs.Prelude.{◌≡◌, ◌++◌, OnOk};
+ghost use Rattle.std.specs.List.{list_any, flat_map};
+ghost use Rattle.capture_walk.specs.Events.{lease_under, open_named, keeps, ended_by, ended, proof_of, shared, sent_at};
+ghost use Rattle.capture_walk.specs.Events.{granted_lease, granted_of, lease_made, lost_under, broken_of, broken, lost_of};
+ghost use Rattle.capture_walk.specs.Events.{acknowledged, accepted, told_by, is_under, is_of};
+
+use crate::event::{Acknowledged, Break, End, Event, Grant, Lease, Proof, Sent};
+use crate::note::{BreakNote, KeyLevel, LeaseGiven, Note, OpenName, Seen};
+use crate::opens::Open;
+use lease_state::{LeaseKey, Memory};
+
+fn is_under(lease: Option<Lease>, client: u64, key: LeaseKey) -> bool
+    ensures { result ≡ is_under client key.0 lease }
+{
+    match lease {
+        Some(lease) => lease.client == client && lease.key.0.as_slice() == key.0.as_slice(),
+        None => false,
+    }
+}
+
+// The lease that a client holds under a key.
+fn lease_under(opens: &[Open], client: Option<u64>, key: LeaseKey) -> Option<Lease>
+    ensures { result ≡ lease_under client key.0 opens.now }
+{
+    let client = client?;
+    for one in opens {
+        if is_under(one.lease, client, key) {
+            return one.lease;
+        }
+    }
+    None
+}
+
+// The open that a session names by a FileId.
+fn open_named(opens: &[Open], server: u64, name: OpenName) -> Option<Open>
+    ensures { result ≡ open_named server name.session name.file_id opens.now }
+{
+    for one in opens {
+        if one.is_named(server, name.session, name.file_id) {
+            return Some(*one);
+        }
+    }
+    None
+}
+
+fn is_of(lease: Lease, other: Option<Lease>) -> bool
+    ensures { result ≡ is_of lease other }
+{
+    match other {
+        Some(other) => other.is(lease),
+        None => false,
+    }
+}
+
+// Whether an open under the lease is left after a message.
+fn is_kept(seen: &Seen<'_>, opens: &[Open], lease: Lease) -> bool
+    ensures { result ≡ list_any (keeps seen.now lease) opens.now }
+{
+    opens.iter().any(|one| !one.ends(seen) && is_of(lease, one.lease))
+}
+
+// The end of the lease of an open that ends.
+fn push_ended_lease(events: &mut Vec<Event>, seen: &Seen<'_>, opens: &[Open], one: &Open) -> Result<(), Memory>
+    ensures { OnOk result (events.new.items ≡ events.old.items ++ ended_by seen.now opens.now one.now) }
+{
+    if !one.ends(seen) {
+        return Ok(());
+    }
+    let Some(lease) = one.lease else {
+        return Ok(());
+    };
+    if !is_kept(seen, opens, lease) {
+        events.push(Event::Ended(End {
+            lease,
+            first: seen.earliest,
+            last: seen.latest,
+        }))?;
+    }
+    Ok(())
+}
+
+/// The leases that end with the opens that a message ends.
+pub(crate) fn push_ended(events: &mut Vec<Event>, seen: &Seen<'_>, opens: &[Open]) -> Result<(), Memory>
+    ensures { OnOk result (events.new.items ≡ events.old.items ++ ended seen.now opens.now) }
+{
+    for one in opens {
+        push_ended_lease(events, seen, opens, one)?;
+    }
+    Ok(())
+}
+
+fn sent_at(seen: &Seen<'_>) -> Sent
+    ensures { result ≡ sent_at seen.now }
+{
+    Sent {
+        connection: seen.connection,
+        position: seen.latest,
+    }
+}
+
+// That the response with an open was taken.
+fn push_proof(events: &mut Vec<Event>, seen: &Seen<'_>, one: Option<Open>) -> Result<(), Memory>
+    ensures { OnOk result (events.new.items ≡ events.old.items ++ proof_of seen.now one) }
+{
+    if let Some(one) = one {
+        events.push(Event::Taken(Proof {
+            connection: one.connection,
+            position: one.position,
+            last: seen.latest,
+        }))?;
+    }
+    Ok(())
+}
+
+// Another lease is held under the key.
+fn push_shared(events: &mut Vec<Event>, lease: Lease, other: Option<Lease>) -> Result<(), Memory>
+    ensures { OnOk result (events.new.items ≡ events.old.items ++ shared lease other) }
+{
+    if let Some(other) = other {
+        if !other.is(lease) {
+            events.push(Event::Lost(lease.client))?;
+        }
+    }
+    Ok(())
+}
+
+fn push_granted_lease(events: &mut Vec<Event>, seen: &Seen<'_>, given: LeaseGiven, lease: Lease) -> Result<(), Memory>
+    ensures { OnOk result (events.new.items ≡ events.old.items ++ granted_lease seen.now given lease) }
+{
+    if !given.breaking {
+        events.push(Event::Granted(Grant {
+            lease,
+            level: given.level,
+            sent: sent_at(seen),
+        }))?;
+    }
+    Ok(())
+}
+
+// The lease that a CREATE response grants to the open that it makes.
+fn push_granted(
+    events: &mut Vec<Event>,
+    seen: &Seen<'_>,
+    given: Option<LeaseGiven>,
+    lease: Option<Lease>,
+    opens: &[Open],
+) -> Result<(), Memory>
+    ensures { OnOk result (events.new.items ≡ events.old.items ++ granted_of seen.now given lease opens.now) }
+{
+    let (Some(given), Some(lease)) = (given, lease) else {
+        return Ok(());
+    };
+    push_shared(events, lease, lease_under(opens, Some(lease.client), lease.key))?;
+    push_granted_lease(events, seen, given, lease)
+}
+
+fn push_lost_under(events: &mut Vec<Event>, key: LeaseKey, lease: Option<Lease>) -> Result<(), Memory>
+    ensures { OnOk result (events.new.items ≡ events.old.items ++ lost_under key.0 lease) }
+{
+    if let Some(lease) = lease {
+        if lease.key.0.as_slice() == key.0.as_slice() {
+            events.push(Event::Lost(lease.client))?;
+        }
+    }
+    Ok(())
+}
+
+// A break where it isn't known whose its connection is.
+fn push_strange_break(events: &mut Vec<Event>, key: LeaseKey, opens: &[Open]) -> Result<(), Memory>
+    ensures { OnOk result (events.new.items ≡ events.old.items ++ flat_map (λ other. lost_under key.0 other.lease) opens.now) }
+{
+    for one in opens {
+        push_lost_under(events, key, one.lease)?;
+    }
+    Ok(())
+}
+
+fn push_broken_lease(events: &mut Vec<Event>, seen: &Seen<'_>, one: BreakNote, lease: Option<Lease>) -> Result<(), Memory>
+    ensures { OnOk result (events.new.items ≡ events.old.items ++ broken_of seen.now one lease) }
+{
+    if let Some(lease) = lease {
+        events.push(Event::Broken(Break {
+            lease,
+            level: one.level,
+            sent: sent_at(seen),
+            acknowledged: one.acknowledged,
+        }))?;
+    }
+    Ok(())
+}
+
+fn push_broken(
+    events: &mut Vec<Event>,
+    seen: &Seen<'_>,
+    one: BreakNote,
+    client: Option<u64>,
+    opens: &[Open],
+) -> Result<(), Memory>
+    ensures { OnOk result (events.new.items ≡ events.old.items ++ broken seen.now one client opens.now) }
+{
+    match client {
+        Some(client) => push_broken_lease(events, seen, one, lease_under(opens, Some(client), one.key)),
+        None => push_strange_break(events, one.key, opens),
+    }
+}
+
+fn push_acknowledged(events: &mut Vec<Event>, seen: &Seen<'_>, given: KeyLevel, lease: Option<Lease>) -> Result<(), Memory>
+    ensures { OnOk result (events.new.items ≡ events.old.items ++ acknowledged seen.now given.level lease) }
+{
+    if let Some(lease) = lease {
+        events.push(Event::Acknowledged(Acknowledged {
+            lease,
+            level: given.level,
+            last: seen.latest,
+        }))?;
+    }
+    Ok(())
+}
+
+fn push_accepted(events: &mut Vec<Event>, lease: Option<Lease>) -> Result<(), Memory>
+    ensures { OnOk result (events.new.items ≡ events.old.items ++ accepted lease) }
+{
+    if let Some(lease) = lease {
+        events.push(Event::Accepted(lease))?;
+    }
+    Ok(())
+}
+
+fn push_lost(events: &mut Vec<Event>, client: Option<u64>) -> Result<(), Memory>
+    ensures { OnOk result (events.new.items ≡ events.old.items ++ lost_of client) }
+{
+    if let Some(client) = client {
+        events.push(Event::Lost(client))?;
+    }
+    Ok(())
+}
+
+fn lease_made(made: Option<Open>) -> Option<Lease>
+    ensures { result ≡ lease_made made }
+{
+    made?.lease
+}
+
+/// What a message tells besides, by the client of its connection, the open that it makes, and the opens before it.
+pub(crate) fn push_told(
+    events: &mut Vec<Event>,
+    seen: &Seen<'_>,
+    client: Option<u64>,
+    made: Option<Open>,
+    opens: &[Open],
+) -> Result<(), Memory>
+    ensures { OnOk result (events.new.items ≡ events.old.items ++ told_by seen.now.note seen.now client made opens.now) }
+{
+    match seen.note {
+        Note::CreateGiven(given) => push_granted(events, seen, given.lease, lease_made(made), opens),
+        Note::OnOpen(name) | Note::Close(name) => {
+            push_proof(events, seen, open_named(opens, seen.server, name))
+        }
+        Note::Acknowledge(given) => {
+            push_acknowledged(events, seen, given, lease_under(opens, client, given.key))
+        }
+        Note::Accepted(key) => push_accepted(events, lease_under(opens, client, key)),
+        Note::Break(one) => push_broken(events, seen, one, client, opens),
+        Note::Gap => push_lost(events, client),
+        _ => Ok(()),
+    }
+}
