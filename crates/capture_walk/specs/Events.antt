@@ -161,3 +161,20 @@ pub record Knows (past : List Seen) (walk : Walk) : Type 0 where
   pub files : KnowsFiles past walk.files
   pub held : walk.opens.items ≡ opens past
   pub shown : walk.events.items ≡ events past
+
+-- All but what is known of files is the same.
+pub record HasSameButFiles (before now : Walk) : Type 0 where
+  pub clients : now.clients ≡ before.clients
+  pub trees : now.trees ≡ before.trees
+  pub creates : now.creates ≡ before.creates
+  pub held : now.opens ≡ before.opens
+  pub shown : now.events ≡ before.events
+
+-- The opens are these, and all else is the same.
+pub record HasOpens (held : List Open) (before now : Walk) : Type 0 where
+  pub clients : now.clients ≡ before.clients
+  pub trees : now.trees ≡ before.trees
+  pub creates : now.creates ≡ before.creates
+  pub files : now.files ≡ before.files
+  pub items : now.opens.items ≡ held
+  pub shown : now.events ≡ before.events

@@ -1,7 +1,10 @@
-ghost use Rattle.std.specs.Prelude.{◌≡◌, ◌∷◌, [], if◌then◌else◌, Some, filter, OnOk, IfOk, unwrap_or};
+ghost use Rattle.std.specs.Prelude.{◌≡◌, ◌∷◌, [], if◌then◌else◌, Some, None, List, ◌∷◌, filter, OnOk, IfOk, unwrap_or};
 ghost use Rattle.capture_walk.specs.Files.{file_in, file_by, file_opened, is_elsewhere, is_same_place, place_view, KnowsFiles};
 ghost use Rattle.capture_walk.specs.Files as places;
+ghost use Rattle.capture_walk.specs.Notes.{create_given};
+ghost use Rattle.capture_walk.specs.declared.note.Seen.{Seen};
 
+use crate::note::Seen;
 use lease_state::{Bytes, Memory};
 use std::alloc::Global;
 
@@ -96,8 +99,19 @@ impl Files {
         Ok(position)
     }
 
-    /// What was at places of the server isn't known any more.
-    pub(crate) fn forget(&mut self, server: u64)
+    /// Takes note of a message that is no CREATE response.
+    #[tactic(auto, using(crate::proofs::Places::file_in_elsewhere))]
+    pub(crate) fn note_change(&mut self, seen: &Seen<'_>)
+        ensures { (past : List Seen) → KnowsFiles past self.old → create_given seen.now.note ≡ None
+            → KnowsFiles (seen.now ∷ past) self.new }
+    {
+        if seen.note.renames() {
+            self.forget(seen.server);
+        }
+    }
+
+    // What was at places of the server isn't known any more.
+    fn forget(&mut self, server: u64)
         ensures { self.new.named.items ≡ filter (is_elsewhere server) self.old.named.items }
     {
         self.named.retain(|one| one.server != server);

@@ -1,9 +1,19 @@
+ghost use Rattle.std.specs.Prelude.{◌≡◌, ◌∷◌, [], List, Some, None, OnOk, IfOk, filter, option_to_list, ◌++◌};
+ghost use Rattle.capture_walk.specs.Files.{KnowsFiles};
+ghost use Rattle.capture_walk.specs.Opens.{is_left, made};
+ghost use Rattle.capture_walk.specs.Events.{Knows, HasSameButFiles, HasOpens, events};
+ghost use Rattle.capture_walk.specs.declared.note.Seen.{Seen};
+
 use crate::clients::Clients;
 use crate::creates::Creates;
 use crate::event::Event;
 use crate::files::Files;
-use crate::opens::Open;
+use crate::note::Seen;
+use crate::opens::{Open, open_given};
+use crate::telling::{push_ended, push_told};
 use crate::trees::Trees;
+use lease_state::Memory;
+use std::alloc::Global;
 
 /// What the messages of a capture show, taken one by one.
 #[derive(Debug, Drop)]
@@ -15,4 +25,82 @@ pub struct Walk {
     // The newest first.
     opens: Vec<Open>,
     events: Vec<Event>,
+}
+
+impl Walk {
+    /// Before any message. Allocates nothing.
+    pub fn new(alloc: Global) -> Walk
+        ensures { Knows [] result }
+    {
+        Walk {
+            clients: Clients::new(alloc),
+            trees: Trees::new(alloc),
+            creates: Creates::new(alloc),
+            files: Files::new(alloc),
+            opens: Vec::new(alloc),
+            events: Vec::new(alloc),
+        }
+    }
+
+    // What the message opens, if it is a CREATE response; and which files have which names after it.
+    fn name_files(&mut self, seen: &Seen<'_>) -> Result<Option<Open>, Memory>
+        ensures made { IfOk result (λ one. (past : List Seen) → Knows past self.old → one ≡ made seen.now past) }
+        ensures files { OnOk result ((past : List Seen) → Knows past self.old → KnowsFiles (seen.now ∷ past) self.new.files) }
+        ensures same { OnOk result (HasSameButFiles self.old self.new) }
+    {
+        let Some(given) = seen.note.create_given() else {
+            self.files.note_change(seen);
+            return Ok(None);
+        };
+        open_given(
+            &self.clients,
+            &self.trees,
+            &self.creates,
+            &mut self.files,
+            seen,
+            given,
+        )
+    }
+
+    fn drop_opens(&mut self, seen: &Seen<'_>)
+        ensures { HasOpens (filter (is_left seen.now) self.old.opens.items) self.old self.new }
+    {
+        self.opens.retain(|one| !one.ends(seen));
+    }
+
+    // The opens after the message.
+    fn change_opens(&mut self, seen: &Seen<'_>, made: Option<Open>) -> Result<(), Memory>
+        ensures { OnOk result (HasOpens (option_to_list made ++ filter (is_left seen.now) self.old.opens.items) self.old self.new) }
+    {
+        self.drop_opens(seen);
+        if let Some(one) = made {
+            self.opens.insert(0, one)?;
+        }
+        Ok(())
+    }
+
+    /// Takes the next message.
+    ///
+    /// # Errors
+    ///
+    /// `Memory` where there is none left; the walk then can't go on.
+    pub fn take(&mut self, seen: &Seen<'_>) -> Result<(), Memory>
+        ensures { OnOk result ((past : List Seen) → Knows past self.old → Knows (seen.now ∷ past) self.new) }
+    {
+        let made = self.name_files(seen)?;
+        push_ended(&mut self.events, seen, &self.opens)?;
+        let client = self.clients.of(seen.connection);
+        push_told(&mut self.events, seen, client, made, &self.opens)?;
+        self.change_opens(seen, made)?;
+        self.clients.note(seen)?;
+        self.trees.note(seen)?;
+        self.creates.note(seen)
+    }
+
+    /// What the messages so far show of leases, in the order of the capture.
+    pub fn events(&self) -> &[Event]
+        ensures { (past : List Seen) → Knows past self.now → result.now ≡ events past }
+    {
+        &self.events
+    }
 }

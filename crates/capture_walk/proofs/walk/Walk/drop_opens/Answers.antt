@@ -1,0 +1,13 @@
+use Rattle.std.proofs.Common.{rules, refl}
+use Rattle.std.proofs.lemmas.Fn.{filter_same}
+use Rattle.capture_walk.proofs.walk.Walk.drop_opens.Goals as goal
+
+pub returns : goal.returns
+returns c = record {
+  clients = refl;
+  trees = refl;
+  creates = refl;
+  files = refl;
+  items = filter_same _ _ _ (λ x b f' k. search rules) _ _ c.retain.ensures.filtered;
+  shown = refl;
+}
