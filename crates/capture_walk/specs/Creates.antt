@@ -15,7 +15,8 @@ create_of connection asked = record {
   id = asked.id;
   tree = asked.tree;
   name = asked.name.now;
-  reconnect = asked.reconnect;
+  key = asked.key;
+  unnamed = asked.unnamed;
   closes = asked.closes;
 }
 

@@ -6,6 +6,7 @@ use Rattle.capture_wire.specs.declared.field.Smb2FileId.{Smb2FileId}
 use Rattle.capture_walk.specs.Clients.{KnowsClients, client_of}
 use Rattle.capture_walk.specs.Trees.{KnowsTrees}
 use Rattle.capture_walk.specs.Creates.{KnowsCreates}
+use Rattle.capture_walk.specs.Renames.{KnowsRenames}
 use Rattle.capture_walk.specs.Files.{KnowsFiles}
 use Rattle.capture_walk.specs.Opens.{opens, made, ends, is_named}
 use Rattle.capture_walk.specs.Chains.{is_same}
@@ -76,9 +77,13 @@ proof_of seen (Some one) =
     event.Taken (record { connection = one.connection; position = one.position; last = seen.latest }) ∷ []
 
 -- One key for two files is more than the rules of leases allow (3.3.5.9.8), so that a break of it can't be told to be of either.
-abbrev pub shared : Lease → Option Lease → List Event
-shared lease None = []
-shared lease (Some other) = if is_same other lease then [] else event.Lost lease.client ∷ []
+-- And what comes over different connections has no order, so that it isn't known what a client has in the end.
+abbrev pub is_disputed : Seen → Lease → Open → Bool
+is_disputed seen lease one =
+    is_under lease.client lease.key.0 one.lease && not (is_of lease one.lease && one.connection == seen.connection)
+
+abbrev pub disputed : Seen → Lease → List Open → List Event
+disputed seen lease held = if list_any (is_disputed seen lease) held then event.Lost lease.client ∷ [] else []
 
 abbrev pub granted_lease : Seen → LeaseGiven → Lease → List Event
 granted_lease seen given lease =
@@ -89,7 +94,7 @@ abbrev pub granted_of : Seen → Option LeaseGiven → Option Lease → List Ope
 granted_of seen None lease held = []
 granted_of seen (Some given) None held = []
 granted_of seen (Some given) (Some lease) held =
-    shared lease (lease_under (Some lease.client) lease.key.0 held) ++ granted_lease seen given lease
+    disputed seen lease held ++ granted_lease seen given lease
 
 -- the lease of the open that a CREATE response makes
 abbrev pub lease_made : Option Open → Option Lease
@@ -101,18 +106,21 @@ abbrev pub lost_under : List ℕ → Option Lease → List Event
 lost_under key None = []
 lost_under key (Some lease) = if bytes_eq lease.key.0 key then event.Lost lease.client ∷ [] else []
 
-abbrev pub broken_of : Seen → BreakNote → Option Lease → List Event
-broken_of seen one None = []
-broken_of seen one (Some lease) = event.Broken (record {
+abbrev pub broken_lease : Seen → BreakNote → Lease → Event
+broken_lease seen one lease = event.Broken (record {
   lease = lease;
   level = one.level;
   sent = sent_at seen;
   acknowledged = one.acknowledged;
-}) ∷ []
+})
+
+abbrev pub broken_of : Seen → BreakNote → Option Lease → List Open → List Event
+broken_of seen one None held = []
+broken_of seen one (Some lease) held = disputed seen lease held ++ broken_lease seen one lease ∷ []
 
 abbrev pub broken : Seen → BreakNote → Option ℕ → List Open → List Event
 broken seen one None held = flat_map (λ other. lost_under one.key.0 other.lease) held
-broken seen one (Some client) held = broken_of seen one (lease_under (Some client) one.key.0 held)
+broken seen one (Some client) held = broken_of seen one (lease_under (Some client) one.key.0 held) held
 
 abbrev pub lost_of : Option ℕ → List Event
 lost_of None = []
@@ -158,6 +166,7 @@ pub record Knows (past : List Seen) (walk : Walk) : Type 0 where
   pub clients : KnowsClients past walk.clients
   pub trees : KnowsTrees past walk.trees
   pub creates : KnowsCreates past walk.creates
+  pub renames : KnowsRenames past walk.renames
   pub files : KnowsFiles past walk.files
   pub held : walk.opens.items ≡ opens past
   pub shown : walk.events.items ≡ events past
@@ -167,6 +176,7 @@ pub record HasSameButFiles (before now : Walk) : Type 0 where
   pub clients : now.clients ≡ before.clients
   pub trees : now.trees ≡ before.trees
   pub creates : now.creates ≡ before.creates
+  pub renames : now.renames ≡ before.renames
   pub held : now.opens ≡ before.opens
   pub shown : now.events ≡ before.events
 
@@ -175,6 +185,7 @@ pub record HasOpens (held : List Open) (before now : Walk) : Type 0 where
   pub clients : now.clients ≡ before.clients
   pub trees : now.trees ≡ before.trees
   pub creates : now.creates ≡ before.creates
+  pub renames : now.renames ≡ before.renames
   pub files : now.files ≡ before.files
   pub items : now.opens.items ≡ held
   pub shown : now.events ≡ before.events

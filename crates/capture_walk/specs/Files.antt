@@ -2,7 +2,8 @@
 -- the table.
 use Rattle.std.specs.Prelude.{◌≡◌, ℕ, ◌==◌, ◌&&◌, Bool, not, if◌then◌else◌, List, [], ◌∷◌, Option, Some, None}
 use Rattle.std.specs.Prelude.{unwrap_or, bytes_eq}
-use Rattle.capture_walk.specs.Notes.{create_given, renames}
+use Rattle.capture_walk.specs.Notes.{create_given}
+use Rattle.capture_walk.specs.Renames.{is_change}
 use Rattle.capture_walk.specs.Trees.{path_of}
 use Rattle.capture_walk.specs.Creates.{pending}
 use Rattle.capture_walk.specs.declared.note.CreateGiven.{CreateGiven}
@@ -23,13 +24,12 @@ is_same_place one other = (one.server == other.server && bytes_eq one.path other
 
 -- ---- by looking back
 
--- The place that a CREATE names, where its request and its tree connect were seen. By which name a durable open is connected again
--- is left open (3.2.4.4), so such a CREATE names none.
+-- the place that a CREATE names, where its request and its tree connect were seen
 abbrev pub place_by : ℕ → Option Create → Option (List ℕ) → Option Place
 place_by server None path = None
 place_by server (Some create) None = None
 place_by server (Some create) (Some path) =
-    if create.reconnect then None else Some (record { server = server; path = path; name = create.name })
+    if create.unnamed then None else Some (record { server = server; path = path; name = create.name })
 
 abbrev pub create_path : ℕ → ℕ → Option Create → List Seen → Option (List ℕ)
 create_path server session None past = None
@@ -50,17 +50,16 @@ file_by place None is_new position before = before
 file_by place (Some other) is_new position before =
     if is_same_place other place then Some (file_opened is_new position before) else before
 
--- the file at a place after one more message, by the CREATE response that it may be, and whether it may change names
-abbrev pub file_after : Place → Seen → List Seen → Option CreateGiven → Bool → Option ℕ → Option ℕ
-file_after place seen past (Some given) is_change before =
+-- the file at a place after one more message, by the CREATE response that it may be
+abbrev pub file_after : Place → Seen → List Seen → Option CreateGiven → Option ℕ → Option ℕ
+file_after place seen past (Some given) before =
     file_by place (place_given seen given past) given.is_new seen.latest before
-file_after place seen past None is_change before = if is_change && seen.server == place.server then None else before
+file_after place seen past None before = if is_change seen past && seen.server == place.server then None else before
 
 -- the file at a place, by the position at which its life began
 abbrev pub file_of : Place → List Seen → Option ℕ
 file_of place [] = None
-file_of place (seen ∷ past) =
-    file_after place seen past (create_given seen.note) (renames seen.note) (file_of place past)
+file_of place (seen ∷ past) = file_after place seen past (create_given seen.note) (file_of place past)
 
 -- ---- the table
 

@@ -6,3 +6,4 @@ pub mod Creates
 pub mod Files
 pub mod Opens
 pub mod Events
+pub mod Renames

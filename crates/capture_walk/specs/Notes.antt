@@ -1,5 +1,5 @@
 -- What a note is of, of each kind that is looked for.
-use Rattle.std.specs.Prelude.{ℕ, Bool, true, false, Option, Some, None}
+use Rattle.std.specs.Prelude.{ℕ, Option, Some, None}
 use Rattle.capture_wire.specs.declared.field.Guid.{Guid}
 use Rattle.capture_walk.specs.declared.note.Note.{Note}
 use Rattle.capture_walk.specs.declared.note.Note.TheVariants as note
@@ -34,6 +34,6 @@ answered (note.CreateGiven given) = Some given.id
 answered (note.Answered id) = Some id
 answered _ = None
 
-abbrev pub renames : Note → Bool
-renames note.Renames = true
-renames _ = false
+abbrev pub rename_asked : Note → Option ℕ
+rename_asked (note.RenameAsked id) = Some id
+rename_asked _ = None

@@ -1,6 +1,7 @@
 -- The opens that there are, with their leases. Messages that are called past have the newest one first.
 use Rattle.std.specs.Prelude.{ℕ, ◌==◌, ◌&&◌, Bool, false, not, if◌then◌else◌, List, [], ◌∷◌, ◌++◌, Option, Some, None}
-use Rattle.std.specs.Prelude.{filter, option_to_list}
+use Rattle.std.specs.Prelude.{filter, option_to_list, bytes_eq}
+use Rattle.lease_state.specs.declared.key.LeaseKey.{LeaseKey}
 use Rattle.capture_wire.specs.declared.field.Smb2FileId.{Smb2FileId}
 use Rattle.capture_walk.specs.Notes.{create_given}
 use Rattle.capture_walk.specs.Clients.{client_of}
@@ -17,11 +18,13 @@ use Rattle.capture_walk.specs.declared.opens.Open.{Open}
 
 -- ---- what a CREATE opens
 
--- the lease of an open: that of its connection's client under the key on the file
-abbrev pub lease_by : Option LeaseGiven → Option ℕ → ℕ → Option Lease
-lease_by None client file = None
-lease_by (Some given) None file = None
-lease_by (Some given) (Some client) file = Some (record { client = client; key = given.key; file = file })
+-- the lease of an open: that of its connection's client under the key on the file, where the key is the one that was asked for
+abbrev pub lease_by : Option LeaseGiven → Option LeaseKey → Option ℕ → ℕ → Option Lease
+lease_by None asked client file = None
+lease_by (Some given) None client file = None
+lease_by (Some given) (Some asked) None file = None
+lease_by (Some given) (Some asked) (Some client) file =
+    if bytes_eq given.key.0 asked.0 then Some (record { client = client; key = given.key; file = file }) else None
 
 abbrev pub open_at : Seen → CreateGiven → ℕ → Option Lease → Open
 open_at seen given tree lease = record {
@@ -41,7 +44,7 @@ open_by seen given (Some create) None past = None
 open_by seen given (Some create) (Some place) past =
     if create.closes then None
     else Some (open_at seen given create.tree
-        (lease_by given.lease (client_of seen.connection past)
+        (lease_by given.lease create.key (client_of seen.connection past)
         (file_opened given.is_new seen.latest (file_of place past))))
 
 abbrev pub made_by : Seen → Option CreateGiven → List Seen → Option Open

@@ -5,7 +5,7 @@ ghost use Rattle.capture_walk.specs.Notes.{answered};
 ghost use Rattle.capture_walk.specs.declared.note.Seen.{Seen};
 
 use crate::note::Seen;
-use lease_state::{Bytes, Memory};
+use lease_state::{Bytes, LeaseKey, Memory};
 use std::alloc::Global;
 
 /// A CREATE request, as far as its answer depends on it.
@@ -15,7 +15,8 @@ pub(crate) struct Create {
     pub(crate) id: u64,
     pub(crate) tree: u32,
     pub(crate) name: Bytes,
-    pub(crate) reconnect: bool,
+    pub(crate) key: Option<LeaseKey>,
+    pub(crate) unnamed: bool,
     pub(crate) closes: bool,
 }
 
@@ -80,7 +81,8 @@ impl Creates {
             id: asked.id,
             tree: asked.tree,
             name,
-            reconnect: asked.reconnect,
+            key: asked.key,
+            unnamed: asked.unnamed,
             closes: asked.closes,
         };
         self.pending.insert(0, create)?;

@@ -1,6 +1,7 @@
 ghost use Rattle.std.specs.Prelude.{◌≡◌, ◌∷◌, [], if◌then◌else◌, Some, None, List, ◌∷◌, filter, OnOk, IfOk, unwrap_or};
 ghost use Rattle.capture_walk.specs.Files.{file_in, file_by, file_opened, is_elsewhere, is_same_place, place_view, KnowsFiles};
 ghost use Rattle.capture_walk.specs.Files as places;
+ghost use Rattle.capture_walk.specs.Renames as renames;
 ghost use Rattle.capture_walk.specs.Notes.{create_given};
 ghost use Rattle.capture_walk.specs.declared.note.Seen.{Seen};
 
@@ -99,13 +100,13 @@ impl Files {
         Ok(position)
     }
 
-    /// Takes note of a message that is no CREATE response.
+    /// Takes note of a message that is no CREATE response, and after which names may lead to other files or not.
     #[tactic(auto, using(crate::proofs::Places::file_in_elsewhere))]
-    pub(crate) fn note_change(&mut self, seen: &Seen<'_>)
+    pub(crate) fn note_change(&mut self, seen: &Seen<'_>, is_change: bool)
         ensures { (past : List Seen) → KnowsFiles past self.old → create_given seen.now.note ≡ None
-            → KnowsFiles (seen.now ∷ past) self.new }
+            → is_change ≡ renames.is_change seen.now past → KnowsFiles (seen.now ∷ past) self.new }
     {
-        if seen.note.renames() {
+        if is_change {
             self.forget(seen.server);
         }
     }

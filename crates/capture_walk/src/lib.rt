@@ -8,6 +8,7 @@ mod event;
 mod files;
 mod note;
 mod opens;
+mod renames;
 mod telling;
 mod trees;
 mod walk;

@@ -31,8 +31,10 @@ pub struct CreateAsked<'a> {
     pub tree: u32,
     /// The file's name below the share, as it stands in the request.
     pub name: &'a [u8],
-    /// A durable open is to be connected again.
-    pub reconnect: bool,
+    /// The key of the lease that it asks for.
+    pub key: Option<LeaseKey>,
+    /// The file isn't the one that has the name: a durable open is connected again, or an earlier version is opened.
+    pub unnamed: bool,
     /// A CLOSE in the same compound closes what it opens.
     pub closes: bool,
 }
@@ -55,7 +57,7 @@ pub struct CreateGiven {
     pub file_id: Smb2FileId,
     /// Whether it made the file, or another one in its place.
     pub is_new: bool,
-    /// Where a file is opened, and not a folder.
+    /// A lease of version 1 on a file; those on folders don't count.
     pub lease: Option<LeaseGiven>,
 }
 
@@ -114,8 +116,8 @@ pub enum Note<'a> {
     /// A response that accepts an acknowledgment of a lease under the key.
     Accepted(LeaseKey),
     Break(BreakNote),
-    /// Names of the server's files may lead to other files from here on.
-    Renames,
+    /// A request, by its MessageId, by which names of the server's files may come to lead to other files.
+    RenameAsked(u64),
     /// Something is missing, or can't be read.
     Gap,
     /// The connection ends.
@@ -180,10 +182,13 @@ impl<'a> Note<'a> {
         }
     }
 
-    pub(crate) fn renames(self) -> bool
-        ensures { result ≡ notes.renames self.entry }
+    pub(crate) fn rename_asked(self) -> Option<u64>
+        ensures { result ≡ notes.rename_asked self.entry }
     {
-        matches!(self, Note::Renames)
+        match self {
+            Note::RenameAsked(id) => Some(id),
+            _ => None,
+        }
     }
 }
 

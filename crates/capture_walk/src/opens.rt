@@ -15,7 +15,7 @@ use crate::files::{Files, Place};
 use crate::note::{CreateGiven, LeaseGiven, Note, Seen};
 use crate::trees::Trees;
 use capture_wire::Smb2FileId;
-use lease_state::Memory;
+use lease_state::{LeaseKey, Memory};
 
 /// An open of a file.
 #[derive(Clone, Copy, Debug)]
@@ -59,10 +59,18 @@ impl Open {
     }
 }
 
-fn lease_of(given: Option<LeaseGiven>, client: Option<u64>, file: u64) -> Option<Lease>
-    ensures { result ≡ lease_by given client file }
+fn lease_of(
+    given: Option<LeaseGiven>,
+    asked: Option<LeaseKey>,
+    client: Option<u64>,
+    file: u64,
+) -> Option<Lease>
+    ensures { result ≡ lease_by given asked client file }
 {
-    let (given, client) = (given?, client?);
+    let (given, asked, client) = (given?, asked?, client?);
+    if given.key.0.as_slice() != asked.0.as_slice() {
+        return None;
+    }
     Some(Lease {
         client,
         key: given.key,
@@ -90,7 +98,7 @@ fn place_of<'a>(seen: &Seen<'_>, session: u64, create: &'a Create, trees: &'a Tr
         ≡ place_by seen.now.server (Some create.now) (path_of seen.now.server session create.now.tree past) }
 {
     let path = trees.path_of(seen.server, session, create.tree)?;
-    if create.reconnect {
+    if create.unnamed {
         return None;
     }
     Some(Place {
@@ -126,6 +134,6 @@ pub(crate) fn open_given(
     if create.closes {
         return Ok(None);
     }
-    let lease = lease_of(given.lease, clients.of(seen.connection), file);
+    let lease = lease_of(given.lease, create.key, clients.of(seen.connection), file);
     Ok(Some(open_of(seen, given, create.tree, lease)))
 }

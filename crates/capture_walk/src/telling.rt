@@ -1,6 +1,6 @@
 ghost use Rattle.std.specs.Prelude.{◌≡◌, ◌++◌, OnOk};
 ghost use Rattle.std.specs.List.{list_any, flat_map};
-ghost use Rattle.capture_walk.specs.Events.{lease_under, open_named, keeps, ended_by, ended, proof_of, shared, sent_at};
+ghost use Rattle.capture_walk.specs.Events.{lease_under, open_named, keeps, ended_by, ended, proof_of, is_disputed, disputed, sent_at};
 ghost use Rattle.capture_walk.specs.Events.{granted_lease, granted_of, lease_made, lost_under, broken_of, broken, lost_of};
 ghost use Rattle.capture_walk.specs.Events.{acknowledged, accepted, told_by, is_under, is_of};
 
@@ -112,14 +112,26 @@ fn push_proof(events: &mut Vec<Event>, seen: &Seen<'_>, one: Option<Open>) -> Re
     Ok(())
 }
 
-// Another lease is held under the key.
-fn push_shared(events: &mut Vec<Event>, lease: Lease, other: Option<Lease>) -> Result<(), Memory>
-    ensures { OnOk result (events.new.items ≡ events.old.items ++ shared lease other) }
+// Whether an open is under the lease's key, and of another lease or connection.
+fn is_disputed(seen: &Seen<'_>, lease: Lease, one: &Open) -> bool
+    ensures { result ≡ is_disputed seen.now lease one.now }
 {
-    if let Some(other) = other {
-        if !other.is(lease) {
-            events.push(Event::Lost(lease.client))?;
-        }
+    is_under(one.lease, lease.client, lease.key)
+        && !(is_of(lease, one.lease) && one.connection == seen.connection)
+}
+
+fn has_dispute(seen: &Seen<'_>, lease: Lease, opens: &[Open]) -> bool
+    ensures { result ≡ list_any (is_disputed seen.now lease) opens.now }
+{
+    opens.iter().any(|one| is_disputed(seen, lease, one))
+}
+
+// What a client has of the lease in the end isn't known.
+fn push_disputed(events: &mut Vec<Event>, seen: &Seen<'_>, lease: Lease, opens: &[Open]) -> Result<(), Memory>
+    ensures { OnOk result (events.new.items ≡ events.old.items ++ disputed seen.now lease opens.now) }
+{
+    if has_dispute(seen, lease, opens) {
+        events.push(Event::Lost(lease.client))?;
     }
     Ok(())
 }
@@ -150,7 +162,7 @@ fn push_granted(
     let (Some(given), Some(lease)) = (given, lease) else {
         return Ok(());
     };
-    push_shared(events, lease, lease_under(opens, Some(lease.client), lease.key))?;
+    push_disputed(events, seen, lease, opens)?;
     push_granted_lease(events, seen, given, lease)
 }
 
@@ -175,17 +187,25 @@ fn push_strange_break(events: &mut Vec<Event>, key: LeaseKey, opens: &[Open]) ->
     Ok(())
 }
 
-fn push_broken_lease(events: &mut Vec<Event>, seen: &Seen<'_>, one: BreakNote, lease: Option<Lease>) -> Result<(), Memory>
-    ensures { OnOk result (events.new.items ≡ events.old.items ++ broken_of seen.now one lease) }
+fn push_broken_lease(
+    events: &mut Vec<Event>,
+    seen: &Seen<'_>,
+    one: BreakNote,
+    lease: Option<Lease>,
+    opens: &[Open],
+) -> Result<(), Memory>
+    ensures { OnOk result (events.new.items ≡ events.old.items ++ broken_of seen.now one lease opens.now) }
 {
-    if let Some(lease) = lease {
-        events.push(Event::Broken(Break {
-            lease,
-            level: one.level,
-            sent: sent_at(seen),
-            acknowledged: one.acknowledged,
-        }))?;
-    }
+    let Some(lease) = lease else {
+        return Ok(());
+    };
+    push_disputed(events, seen, lease, opens)?;
+    events.push(Event::Broken(Break {
+        lease,
+        level: one.level,
+        sent: sent_at(seen),
+        acknowledged: one.acknowledged,
+    }))?;
     Ok(())
 }
 
@@ -199,7 +219,9 @@ fn push_broken(
     ensures { OnOk result (events.new.items ≡ events.old.items ++ broken seen.now one client opens.now) }
 {
     match client {
-        Some(client) => push_broken_lease(events, seen, one, lease_under(opens, Some(client), one.key)),
+        Some(client) => {
+            push_broken_lease(events, seen, one, lease_under(opens, Some(client), one.key), opens)
+        }
         None => push_strange_break(events, one.key, opens),
     }
 }

@@ -10,6 +10,7 @@ use crate::event::Event;
 use crate::files::Files;
 use crate::note::Seen;
 use crate::opens::{Open, open_given};
+use crate::renames::Renames;
 use crate::telling::{push_ended, push_told};
 use crate::trees::Trees;
 use lease_state::Memory;
@@ -21,6 +22,7 @@ pub struct Walk {
     clients: Clients,
     trees: Trees,
     creates: Creates,
+    renames: Renames,
     files: Files,
     // The newest first.
     opens: Vec<Open>,
@@ -36,6 +38,7 @@ impl Walk {
             clients: Clients::new(alloc),
             trees: Trees::new(alloc),
             creates: Creates::new(alloc),
+            renames: Renames::new(alloc),
             files: Files::new(alloc),
             opens: Vec::new(alloc),
             events: Vec::new(alloc),
@@ -49,7 +52,8 @@ impl Walk {
         ensures same { OnOk result (HasSameButFiles self.old self.new) }
     {
         let Some(given) = seen.note.create_given() else {
-            self.files.note_change(seen);
+            let is_change = self.renames.is_change(seen);
+            self.files.note_change(seen, is_change);
             return Ok(None);
         };
         open_given(
@@ -94,6 +98,7 @@ impl Walk {
         self.change_opens(seen, made)?;
         self.clients.note(seen)?;
         self.trees.note(seen)?;
+        self.renames.note(seen)?;
         self.creates.note(seen)
     }
 

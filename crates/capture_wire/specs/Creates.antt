@@ -12,7 +12,7 @@ use Rattle.lease_wire.specs.declared.create.Direction.{Direction}
 use Rattle.lease_wire.specs.declared.fault.WireFault.{WireFault}
 use Rattle.capture_wire.specs.Contexts.{is_break_in_progress}
 use Rattle.capture_wire.specs.declared.contexts.Kind.{Kind}
-use Rattle.capture_wire.specs.declared.contexts.Kind.TheVariants.{Lease, Durable, Reconnect}
+use Rattle.capture_wire.specs.declared.contexts.Kind.TheVariants.{Lease, Durable, Reconnect, Snapshot}
 use Rattle.capture_wire.specs.declared.contexts.LeaseContext.{LeaseContext}
 use Rattle.capture_wire.specs.declared.contexts.CreateContexts.{CreateContexts}
 
@@ -28,10 +28,15 @@ names_durable name = bytes_eq name (codes "DHnQ") || bytes_eq name (codes "DH2Q"
 abbrev pub names_reconnect : List ℕ → Bool
 names_reconnect name = bytes_eq name (codes "DHnC") || bytes_eq name (codes "DH2C")
 
+-- "TWrp" (2.2.13.2.7): the file is opened as it was at an earlier time
+abbrev pub names_snapshot : List ℕ → Bool
+names_snapshot name = bytes_eq name (codes "TWrp")
+
 abbrev pub is_of_kind : Kind → ContextView → Bool
 is_of_kind Lease context = names_lease context.name context.body
 is_of_kind Durable context = names_durable context.name
 is_of_kind Reconnect context = names_reconnect context.name
+is_of_kind Snapshot context = names_snapshot context.name
 
 -- the first context of a kind, of those before a fault
 abbrev pub first_of_kind : Kind → List Item → Option ContextView
@@ -68,6 +73,7 @@ pub record AreContexts (direction : Direction) (items : List Item) (contexts : C
   pub lease : IsLeaseOf direction (first_of_kind Lease items) contexts.lease
   pub durable : contexts.durable ≡ is_some (first_of_kind Durable items)
   pub reconnect : contexts.reconnect ≡ is_some (first_of_kind Reconnect items)
+  pub snapshot : contexts.snapshot ≡ is_some (first_of_kind Snapshot items)
 
 -- where the contexts aren't in the message, or the first fault in their layout
 abbrev pub contexts_fault_after : Option WireFault → List Item → Option WireFault

@@ -37,6 +37,8 @@ pub struct CreateContexts {
     pub durable: bool,
     /// `DHnC` or `DH2C`: a durable open is to be connected again.
     pub reconnect: bool,
+    /// `TWrp`: the file is opened as it was at an earlier time.
+    pub snapshot: bool,
 }
 
 // The contexts that are looked for.
@@ -45,6 +47,7 @@ pub(crate) enum Kind {
     Lease,
     Durable,
     Reconnect,
+    Snapshot,
 }
 
 fn is_of_kind(kind: Kind, context: &Context<'_>) -> bool
@@ -55,6 +58,7 @@ fn is_of_kind(kind: Kind, context: &Context<'_>) -> bool
         Kind::Lease => name == b"RqLs".as_slice() && (size == 32 || size == 52),
         Kind::Durable => name == b"DHnQ".as_slice() || name == b"DH2Q".as_slice(),
         Kind::Reconnect => name == b"DHnC".as_slice() || name == b"DH2C".as_slice(),
+        Kind::Snapshot => name == b"TWrp".as_slice(),
     }
 }
 
@@ -144,9 +148,11 @@ pub fn read_create_contexts(
     let lease = lease_of(direction, contexts_of_create(direction, message)?);
     let durable = find_context(Kind::Durable, contexts_of_create(direction, message)?).is_some();
     let reconnect = find_context(Kind::Reconnect, contexts_of_create(direction, message)?).is_some();
+    let snapshot = find_context(Kind::Snapshot, contexts_of_create(direction, message)?).is_some();
     Ok(CreateContexts {
         lease,
         durable,
         reconnect,
+        snapshot,
     })
 }

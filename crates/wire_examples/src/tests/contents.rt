@@ -107,6 +107,7 @@ pppppppppppppppp\x02\x01\0\0\0\0\0\0",
         lease: Some(lease),
         durable: false,
         reconnect: false,
+        snapshot: false,
     };
     assert_eq!(&rt; read_create_contexts(Direction::Request, &bytes), Ok(wanted));
     assert_eq!(&rt;

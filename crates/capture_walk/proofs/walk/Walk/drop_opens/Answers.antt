@@ -7,6 +7,7 @@ returns c = record {
   clients = refl;
   trees = refl;
   creates = refl;
+  renames = refl;
   files = refl;
   items = filter_same _ _ _ (λ x b f' k. search rules) _ _ c.retain.ensures.filtered;
   shown = refl;
