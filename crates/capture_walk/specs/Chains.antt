@@ -22,7 +22,7 @@ is_same one other = (one.client == other.client && one.file == other.file) && by
 abbrev pub taken : Sent → List Event → Option ℕ
 taken sent [] = None
 taken sent (event.Taken proof ∷ later) =
-    if proof.connection == sent.connection && not (nat_lt proof.position sent.position) then Some proof.last else taken sent later
+    if proof.connection == sent.connection && not (nat_lt proof.number sent.number) then Some proof.last else taken sent later
 taken sent (_ ∷ later) = taken sent later
 
 -- the acknowledgment of a break: the next one of its lease, unless another break of the lease comes before it

@@ -9,19 +9,19 @@ use Rattle.capture_walk.specs.declared.clients.Clients.{Clients}
 
 -- ---- by looking back
 
--- where the first NEGOTIATE with a ClientGuid stands, after one more message, by the ClientGuid that it has
+-- the number of the first NEGOTIATE with a ClientGuid, after one more message, by the ClientGuid that it has
 abbrev pub first_by : List ℕ → ℕ → Option Guid → Option ℕ → Option ℕ
-first_by guid position (Some other) before = if bytes_eq other.0 guid then Some (unwrap_or before position) else before
-first_by guid position None before = before
+first_by guid number (Some other) before = if bytes_eq other.0 guid then Some (unwrap_or before number) else before
+first_by guid number None before = before
 
 abbrev pub first_negotiate : List ℕ → List Seen → Option ℕ
 first_negotiate guid [] = None
-first_negotiate guid (seen ∷ past) = first_by guid seen.latest (negotiated seen.note) (first_negotiate guid past)
+first_negotiate guid (seen ∷ past) = first_by guid seen.number (negotiated seen.note) (first_negotiate guid past)
 
--- the client of a connection: the position of the first NEGOTIATE with the ClientGuid of the connection's last one
+-- the client of a connection: the number of the first NEGOTIATE with the ClientGuid of the connection's last one
 abbrev pub client_by : ℕ → Seen → Option Guid → List Seen → Option ℕ → Option ℕ
 client_by connection seen (Some guid) past before =
-    if seen.connection == connection then Some (unwrap_or (first_negotiate guid.0 past) seen.latest) else before
+    if seen.connection == connection then Some (unwrap_or (first_negotiate guid.0 past) seen.number) else before
 client_by connection seen None past before = before
 
 abbrev pub client_of : ℕ → List Seen → Option ℕ

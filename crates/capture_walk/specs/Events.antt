@@ -68,13 +68,13 @@ ended seen held = flat_map (ended_by seen held) held
 -- ---- what a message tells besides
 
 abbrev pub sent_at : Seen → Sent
-sent_at seen = record { connection = seen.connection; position = seen.latest }
+sent_at seen = record { connection = seen.connection; number = seen.number; position = seen.latest }
 
 -- A request by a FileId shows that the response with it was taken.
 abbrev pub proof_of : Seen → Option Open → List Event
 proof_of seen None = []
 proof_of seen (Some one) =
-    event.Taken (record { connection = one.connection; position = one.position; last = seen.latest }) ∷ []
+    event.Taken (record { connection = one.connection; number = one.number; last = seen.latest }) ∷ []
 
 -- One key for two files is more than the rules of leases allow (3.3.5.9.8), so that a break of it can't be told to be of either.
 -- And what comes over different connections has no order, so that it isn't known what a client has in the end.

@@ -41,22 +41,22 @@ place_given seen given past =
     place_by seen.server (pending seen.connection given.id past)
     (create_path seen.server given.session (pending seen.connection given.id past) past)
 
--- the file that a CREATE opens at a position: the one that has its name, or one whose life begins there
+-- the file that a CREATE opens, by the message's number: the one that has its name, or one whose life begins with it
 abbrev pub file_opened : Bool → ℕ → Option ℕ → ℕ
-file_opened is_new position before = if is_new then position else unwrap_or before position
+file_opened is_new number before = if is_new then number else unwrap_or before number
 
 abbrev pub file_by : Place → Option Place → Bool → ℕ → Option ℕ → Option ℕ
-file_by place None is_new position before = before
-file_by place (Some other) is_new position before =
-    if is_same_place other place then Some (file_opened is_new position before) else before
+file_by place None is_new number before = before
+file_by place (Some other) is_new number before =
+    if is_same_place other place then Some (file_opened is_new number before) else before
 
 -- the file at a place after one more message, by the CREATE response that it may be
 abbrev pub file_after : Place → Seen → List Seen → Option CreateGiven → Option ℕ → Option ℕ
 file_after place seen past (Some given) before =
-    file_by place (place_given seen given past) given.is_new seen.latest before
+    file_by place (place_given seen given past) given.is_new seen.number before
 file_after place seen past None before = if is_change seen past && seen.server == place.server then None else before
 
--- the file at a place, by the position at which its life began
+-- the file at a place, by the number of the message with which its life began
 abbrev pub file_of : Place → List Seen → Option ℕ
 file_of place [] = None
 file_of place (seen ∷ past) = file_after place seen past (create_given seen.note) (file_of place past)

@@ -33,7 +33,7 @@ open_at seen given tree lease = record {
   session = given.session;
   tree = tree;
   file_id = given.file_id;
-  position = seen.latest;
+  number = seen.number;
   lease = lease;
 }
 
@@ -45,7 +45,7 @@ open_by seen given (Some create) (Some place) past =
     if create.closes then None
     else Some (open_at seen given create.tree
         (lease_by given.lease create.key (client_of seen.connection past)
-        (file_opened given.is_new seen.latest (file_of place past))))
+        (file_opened given.is_new seen.number (file_of place past))))
 
 abbrev pub made_by : Seen → Option CreateGiven → List Seen → Option Open
 made_by seen None past = None

@@ -15,7 +15,7 @@ fn taken(sent: Sent, later: &[Event]) -> Option<u64>
 {
     for event in later {
         if let Event::Taken(proof) = event {
-            if proof.connection == sent.connection && sent.position <= proof.position {
+            if proof.connection == sent.connection && sent.number <= proof.number {
                 return Some(proof.last);
             }
         }

@@ -63,7 +63,7 @@ impl Clients {
         let Some(guid) = seen.note.negotiated() else {
             return Ok(());
         };
-        let client = self.number(guid).unwrap_or(seen.latest);
+        let client = self.number(guid).unwrap_or(seen.number);
         let connection = seen.connection;
         self.known.insert(
             0,

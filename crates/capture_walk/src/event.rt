@@ -4,7 +4,8 @@ ghost use Rattle.capture_walk.specs.Chains.{is_same};
 use capture_judge::Level;
 use lease_state::LeaseKey;
 
-/// A lease: that of a client under a key on a file. Clients and files have the positions at which they begin as their numbers.
+/// A lease: that of a client under a key on a file. The numbers of clients and files are those of the
+/// messages with which the capture begins to show them.
 #[derive(Clone, Copy, Debug, PartialEq, Eq)]
 pub struct Lease {
     pub client: u64,
@@ -26,6 +27,8 @@ impl Lease {
 pub struct Sent {
     /// Its connection.
     pub connection: u64,
+    /// The message's number.
+    pub number: u64,
     /// Where the capture has it.
     pub position: u64,
 }
@@ -73,8 +76,8 @@ pub struct End {
 #[derive(Clone, Copy, Debug, PartialEq, Eq)]
 pub struct Proof {
     pub connection: u64,
-    /// The position of the server's last message that it shows to have been taken, and with it all before.
-    pub position: u64,
+    /// The number of the server's last message that it shows to have been taken, and with it all before.
+    pub number: u64,
     /// The last position at which the client sent the request.
     pub last: u64,
 }

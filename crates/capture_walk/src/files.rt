@@ -28,7 +28,7 @@ pub(crate) struct Named {
     file: u64,
 }
 
-/// The files at places, with the positions at which their lives began as their numbers.
+/// The files at places, with the numbers of the messages with which their lives began.
 #[derive(Debug, Drop)]
 pub(crate) struct Files {
     // The newest first.
@@ -80,24 +80,24 @@ impl Files {
         Ok(())
     }
 
-    /// The file that a CREATE opens at a place; its life begins at the position where it is new or wasn't known.
+    /// The file that a CREATE opens at a place; its life begins with that message where it is new or wasn't known.
     #[tactic(auto, using(crate::proofs::Places::found_same))]
     pub(crate) fn open(
         &mut self,
         place: Place<'_>,
         is_new: bool,
-        position: u64,
+        number: u64,
     ) -> Result<u64, Memory>
         ensures file { IfOk result (λ file. file
-            ≡ file_opened is_new position (file_in (place_view place.entry) self.old.named.items)) }
+            ≡ file_opened is_new number (file_in (place_view place.entry) self.old.named.items)) }
         ensures table { OnOk result ((other : places.Place) → file_in other self.new.named.items
-            ≡ file_by other (Some (place_view place.entry)) is_new position (file_in other self.old.named.items)) }
+            ≡ file_by other (Some (place_view place.entry)) is_new number (file_in other self.old.named.items)) }
     {
         if !is_new && let Some(file) = self.find(place) {
             return Ok(file);
         }
-        self.insert(place, position)?;
-        Ok(position)
+        self.insert(place, number)?;
+        Ok(number)
     }
 
     /// Takes note of a message that is no CREATE response, and after which names may lead to other files or not.

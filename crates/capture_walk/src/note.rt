@@ -192,9 +192,11 @@ impl<'a> Note<'a> {
     }
 }
 
-/// A message where a capture has it, or that something is missing. Positions grow from one to the next.
+/// A message where a capture has it, or that something is missing.
 #[derive(Clone, Copy, Debug, PartialEq, Eq)]
 pub struct Seen<'a> {
+    /// Its number among all messages of the capture, in their order.
+    pub number: u64,
     /// The number of its connection.
     pub connection: u64,
     /// The number of the server's address and port.

@@ -26,8 +26,8 @@ pub(crate) struct Open {
     pub(crate) session: u64,
     pub(crate) tree: u32,
     pub(crate) file_id: Smb2FileId,
-    // Where the capture has that response.
-    pub(crate) position: u64,
+    // The number of that message.
+    pub(crate) number: u64,
     pub(crate) lease: Option<Lease>,
 }
 
@@ -87,7 +87,7 @@ fn open_of(seen: &Seen<'_>, given: CreateGiven, tree: u32, lease: Option<Lease>)
         session: given.session,
         tree,
         file_id: given.file_id,
-        position: seen.latest,
+        number: seen.number,
         lease,
     }
 }
@@ -122,7 +122,7 @@ pub(crate) fn open_given(
     ensures files { OnOk result ((past : List Seen) → KnowsTrees past trees.now
         → KnowsCreates past creates.now → KnowsFiles past files.old → (place : places.Place)
         → file_in place files.new.named.items
-        ≡ file_by place (place_given seen.now given past) given.is_new seen.now.latest (file_of place past)) }
+        ≡ file_by place (place_given seen.now given past) given.is_new seen.now.number (file_of place past)) }
 {
     let Some(create) = creates.pending(seen.connection, given.id) else {
         return Ok(None);
@@ -130,7 +130,7 @@ pub(crate) fn open_given(
     let Some(place) = place_of(seen, given.session, create, trees) else {
         return Ok(None);
     };
-    let file = files.open(place, given.is_new, seen.latest)?;
+    let file = files.open(place, given.is_new, seen.number)?;
     if create.closes {
         return Ok(None);
     }

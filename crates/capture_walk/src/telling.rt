@@ -94,6 +94,7 @@ fn sent_at(seen: &Seen<'_>) -> Sent
 {
     Sent {
         connection: seen.connection,
+        number: seen.number,
         position: seen.latest,
     }
 }
@@ -105,7 +106,7 @@ fn push_proof(events: &mut Vec<Event>, seen: &Seen<'_>, one: Option<Open>) -> Re
     if let Some(one) = one {
         events.push(Event::Taken(Proof {
             connection: one.connection,
-            position: one.position,
+            number: one.number,
             last: seen.latest,
         }))?;
     }
