@@ -7,3 +7,4 @@ pub mod Files
 pub mod Opens
 pub mod Events
 pub mod Renames
+pub mod Reading

@@ -8,6 +8,7 @@ mod event;
 mod files;
 mod note;
 mod opens;
+mod reading;
 mod renames;
 mod telling;
 mod trees;
@@ -15,6 +16,7 @@ mod walk;
 
 pub use chains::chains_on;
 pub use event::{Acknowledged, Break, End, Event, Grant, Lease, Proof, Sent};
+pub use reading::{Ids, Named, closed_behind, ids_of, level_of, note_of};
 pub use walk::Walk;
 pub use note::{
     BreakNote, CreateAsked, CreateGiven, KeyLevel, LeaseGiven, Note, OpenName, Seen, TreeAsked,
