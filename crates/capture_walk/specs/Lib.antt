@@ -8,3 +8,4 @@ pub mod Opens
 pub mod Events
 pub mod Renames
 pub mod Reading
+pub mod Frames

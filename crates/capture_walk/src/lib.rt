@@ -6,6 +6,7 @@ mod clients;
 mod creates;
 mod event;
 mod files;
+mod frame;
 mod note;
 mod opens;
 mod reading;
@@ -18,6 +19,7 @@ pub use chains::chains_on;
 pub use event::{Acknowledged, Break, End, Event, Grant, Lease, Proof, Sent};
 pub use reading::{Ids, Named, closed_behind, ids_of, level_of, note_of};
 pub use walk::Walk;
+pub use frame::Frame;
 pub use note::{
     BreakNote, CreateAsked, CreateGiven, KeyLevel, LeaseGiven, Note, OpenName, Seen, TreeAsked,
     TreeGiven, TreeName,
