@@ -105,3 +105,18 @@ chain_of events lease =
 -- the chains of a file
 abbrev pub chains_on : ℕ → List Event → List (ℕ × List Change)
 chains_on file events = flat_map (chain_of events) (leases_on file events)
+
+abbrev pub is_file : ℕ → ℕ → Bool
+is_file wanted file = file == wanted
+
+-- the files on which leases are granted, in the order in which they come
+abbrev pub files_behind : List ℕ → List Event → List ℕ
+files_behind found [] = found
+files_behind found (event.Granted grant ∷ later) =
+    if not (list_any (is_file grant.lease.file) found)
+    then files_behind (found ++ grant.lease.file ∷ []) later
+    else files_behind found later
+files_behind found (_ ∷ later) = files_behind found later
+
+abbrev pub files_in : List Event → List ℕ
+files_in events = files_behind [] events

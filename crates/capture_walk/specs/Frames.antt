@@ -1,5 +1,5 @@
 -- Compounds: messages that are sent as one (MS-SMB2 2.2.1, NextCommand). Messages that are called past have the newest one first.
-use Rattle.std.specs.Prelude.{◌≡◌, ℕ, ◌+◌, List, [], ◌∷◌, Option, Some, None}
+use Rattle.std.specs.Prelude.{ℕ, ◌+◌, List, [], ◌∷◌, Option, Some, None}
 use Rattle.capture_wire.specs.declared.message.Message.{Message}
 use Rattle.capture_walk.specs.Reading.{ids_of, closed_behind, note_of}
 use Rattle.capture_walk.specs.declared.note.Note.{Note}

@@ -2,7 +2,7 @@ ghost use Rattle.std.specs.Prelude.{◌≡◌, false, ◌≤◌, ◌+◌, ◌++�
 ghost use Rattle.std.specs.List.{list_any};
 ghost use Rattle.capture_judge.specs.Worked.{shown};
 ghost use Rattle.capture_walk.specs.Chains.{taken, acknowledgment, is_accepted, changes_by_break, changes, changes_by, is_lost, is_loss_of, doubt};
-ghost use Rattle.capture_walk.specs.Chains.{leases_on, chains_on, is_same, chain_of};
+ghost use Rattle.capture_walk.specs.Chains.{leases_on, chains_on, files_in, is_file, is_same, chain_of};
 
 use crate::event::{Acknowledged, Break, Event, Lease, Sent};
 use capture_judge::{Chain, Change, Level};
@@ -186,4 +186,27 @@ pub fn chains_on(alloc: Global, file: u64, events: &[Event]) -> Result<Vec<Chain
         }
     }
     Ok(chains)
+}
+
+fn has_file(files: &[u64], wanted: u64) -> bool
+    ensures { result ≡ list_any (is_file wanted) files.now }
+{
+    files.iter().any(|file| *file == wanted)
+}
+
+/// The numbers of the files on which leases are granted, in the order in which they come.
+///
+/// Fails where there is no memory.
+pub fn files_in(alloc: Global, events: &[Event]) -> Result<Vec<u64>, Memory>
+    ensures { IfOk result (λ files. files.items ≡ files_in events.now) }
+{
+    let mut files: Vec<u64> = Vec::new(alloc);
+    for event in events {
+        if let Event::Granted(grant) = event {
+            if !has_file(&files, grant.lease.file) {
+                files.push(grant.lease.file)?;
+            }
+        }
+    }
+    Ok(files)
 }

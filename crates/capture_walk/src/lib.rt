@@ -15,7 +15,7 @@ mod telling;
 mod trees;
 mod walk;
 
-pub use chains::chains_on;
+pub use chains::{chains_on, files_in};
 pub use event::{Acknowledged, Break, End, Event, Grant, Lease, Proof, Sent};
 pub use reading::{Ids, Named, closed_behind, ids_of, level_of, note_of};
 pub use walk::Walk;

@@ -2,6 +2,7 @@ mod captures;
 mod contents;
 mod messages;
 mod requests;
+mod walks;
 
 use lease_state::{FileId, LeaseKey, LeaseState};
 use lease_wire::{

@@ -1,0 +1,234 @@
+// Captures of two clients, as the notes of their messages, and what they show of leases.
+use crate::tests::KEY;
+use capture_judge::{Change, Level, Placing, judge_placing};
+use capture_walk::{
+    BreakNote, CreateAsked, CreateGiven, Event, KeyLevel, LeaseGiven, Note, OpenName, Seen, TreeAsked,
+    TreeGiven, Walk, chains_on, files_in,
+};
+use capture_wire::{Guid, Smb2FileId};
+use lease_state::{LeaseKey, Memory};
+use std::alloc::Global;
+use std::test::Fail;
+
+// The client at each end of a connection has a key and a session of its own, both by the connection's number.
+fn key(connection: u8) -> LeaseKey {
+    let mut key = KEY;
+    key.0[0] = connection;
+    key
+}
+
+fn open_name(connection: u8) -> OpenName {
+    OpenName {
+        session: u64::from(connection),
+        file_id: Smb2FileId {
+            persistent: 5,
+            volatile: u64::from(connection),
+        },
+    }
+}
+
+// A message with a number: its client sent it just before the position that is twice that, and the server at it.
+fn seen<'a>(number: u64, connection: u8, note: Note<'a>) -> Seen<'a> {
+    let position = number.saturating_mul(2);
+    let at = match note {
+        Note::TreeGiven(_) | Note::CreateGiven(_) | Note::Break(_) | Note::Accepted(_) => position,
+        _ => position.saturating_sub(1),
+    };
+    Seen {
+        number,
+        connection: u64::from(connection),
+        server: 1,
+        earliest: at,
+        latest: at,
+        note,
+    }
+}
+
+// A client connects, and asks for a lease on a file: four messages from a number on.
+fn ask(walk: &mut Walk, number: u64, connection: u8, name: &[u8]) -> Result<(), Memory> {
+    let mut guid = Guid(*b"guid of a client");
+    guid.0[0] = connection;
+    walk.take(&seen(number, connection, Note::Negotiate(guid)))?;
+    let asked = TreeAsked {
+        id: 1,
+        path: b"\\\0s\0",
+    };
+    walk.take(&seen(number.saturating_add(1), connection, Note::TreeAsked(asked)))?;
+    let given = TreeGiven {
+        id: 1,
+        session: u64::from(connection),
+        tree: 7,
+    };
+    walk.take(&seen(number.saturating_add(2), connection, Note::TreeGiven(given)))?;
+    let asked = CreateAsked {
+        id: 2,
+        tree: 7,
+        name,
+        key: Some(key(connection)),
+        unnamed: false,
+        closes: false,
+    };
+    walk.take(&seen(number.saturating_add(3), connection, Note::CreateAsked(asked)))
+}
+
+// The server grants it.
+fn grant(walk: &mut Walk, number: u64, connection: u8, level: Level) -> Result<(), Memory> {
+    let name = open_name(connection);
+    let lease = LeaseGiven {
+        key: key(connection),
+        level,
+        breaking: false,
+    };
+    let given = CreateGiven {
+        id: 2,
+        session: name.session,
+        file_id: name.file_id,
+        is_new: false,
+        lease: Some(lease),
+    };
+    walk.take(&seen(number, connection, Note::CreateGiven(given)))
+}
+
+// The client uses what it opened, so that it has the lease.
+fn use_open(walk: &mut Walk, number: u64, connection: u8) -> Result<(), Memory> {
+    walk.take(&seen(number, connection, Note::OnOpen(open_name(connection))))
+}
+
+// The changes of the only lease on a file.
+fn only_chain(alloc: Global, walk: &Walk, file: u64) -> Result<Option<Vec<Change>>, Memory> {
+    let mut chains = chains_on(alloc, file, walk.events())?;
+    if chains.len() != 1 {
+        return Ok(None);
+    }
+    Ok(chains.pop().map(|chain| chain.changes))
+}
+
+// A file that one client writes and another reads, without a break between: both have their leases by 23.
+#[test]
+fn a_lease_beside_a_writers_is_unsafe(rt: HostRuntime) -> Result<(), Fail> {
+    let alloc = rt.alloc();
+    let mut walk = Walk::new(alloc);
+    ask(&mut walk, 1, 1, b"f\0")?;
+    grant(&mut walk, 5, 1, Level::Writes)?;
+    use_open(&mut walk, 6, 1)?;
+    ask(&mut walk, 7, 2, b"f\0")?;
+    grant(&mut walk, 11, 2, Level::Something)?;
+    use_open(&mut walk, 12, 2)?;
+    assert_eq!(&rt; files_in(alloc, walk.events())?.as_slice(), [5].as_slice());
+    let chains = chains_on(alloc, 5, walk.events())?;
+    let placing = judge_placing(alloc, &chains)?;
+    assert!(&rt; matches!(placing, Placing::Unsafe(23)));
+    Ok(())
+}
+
+// The same of two files: neither client has a lease on the other's.
+#[test]
+fn names_tell_files_apart(rt: HostRuntime) -> Result<(), Fail> {
+    let alloc = rt.alloc();
+    let mut walk = Walk::new(alloc);
+    ask(&mut walk, 1, 1, b"f\0")?;
+    grant(&mut walk, 5, 1, Level::Writes)?;
+    ask(&mut walk, 7, 2, b"F\0")?;
+    grant(&mut walk, 11, 2, Level::Something)?;
+    assert_eq!(&rt; files_in(alloc, walk.events())?.as_slice(), [5, 11].as_slice());
+    Ok(())
+}
+
+// The writer's lease is broken to R, and the break is acknowledged, before the reader gets its lease.
+#[test]
+fn a_break_makes_room(rt: HostRuntime) -> Result<(), Fail> {
+    let alloc = rt.alloc();
+    let mut walk = Walk::new(alloc);
+    ask(&mut walk, 1, 1, b"f\0")?;
+    grant(&mut walk, 5, 1, Level::Writes)?;
+    use_open(&mut walk, 6, 1)?;
+    ask(&mut walk, 7, 2, b"f\0")?;
+    let breaks = BreakNote {
+        key: key(1),
+        level: Level::Something,
+        acknowledged: true,
+    };
+    walk.take(&seen(11, 1, Note::Break(breaks)))?;
+    let keeps = KeyLevel {
+        key: key(1),
+        level: Level::Something,
+    };
+    walk.take(&seen(12, 1, Note::Acknowledge(keeps)))?;
+    walk.take(&seen(13, 1, Note::Accepted(key(1))))?;
+    grant(&mut walk, 14, 2, Level::Something)?;
+    use_open(&mut walk, 15, 2)?;
+    let chains = chains_on(alloc, 5, walk.events())?;
+    assert!(&rt; matches!(judge_placing(alloc, &chains)?, Placing::Clean(_)));
+    Ok(())
+}
+
+// The grant counts from 10 on, and up to the use at 11; the CLOSE at 13 ends it.
+#[test]
+fn the_last_close_ends_a_lease(rt: HostRuntime) -> Result<(), Fail> {
+    let alloc = rt.alloc();
+    let mut walk = Walk::new(alloc);
+    ask(&mut walk, 1, 1, b"f\0")?;
+    grant(&mut walk, 5, 1, Level::Writes)?;
+    use_open(&mut walk, 6, 1)?;
+    walk.take(&seen(7, 1, Note::Close(open_name(1))))?;
+    let wanted = [
+        Change {
+            level: Level::Writes,
+            first: 10,
+            last: Some(11),
+        },
+        Change {
+            level: Level::Nothing,
+            first: 13,
+            last: Some(13),
+        },
+    ];
+    let changes = only_chain(alloc, &walk, 5)?;
+    assert!(&rt; changes.is_some_and(|changes| changes.as_slice() == wanted.as_slice()));
+    Ok(())
+}
+
+// A break that nobody acknowledges: the client may have lost its lease since.
+#[test]
+fn a_break_that_is_not_acknowledged_is_a_doubt(rt: HostRuntime) -> Result<(), Fail> {
+    let alloc = rt.alloc();
+    let mut walk = Walk::new(alloc);
+    ask(&mut walk, 1, 1, b"f\0")?;
+    grant(&mut walk, 5, 1, Level::Writes)?;
+    let breaks = BreakNote {
+        key: key(1),
+        level: Level::Something,
+        acknowledged: true,
+    };
+    walk.take(&seen(6, 1, Note::Break(breaks)))?;
+    let last = |level, first| Change {
+        level,
+        first,
+        last: None,
+    };
+    let wanted = [
+        last(Level::Writes, 10),
+        last(Level::Something, 12),
+        last(Level::Nothing, 12),
+    ];
+    let changes = only_chain(alloc, &walk, 5)?;
+    assert!(&rt; changes.is_some_and(|changes| changes.as_slice() == wanted.as_slice()));
+    Ok(())
+}
+
+// What a gap may hide isn't held against anybody, and what a name leads to after a rename isn't known.
+#[test]
+fn gaps_and_renames_are_not_judged(rt: HostRuntime) -> Result<(), Fail> {
+    let alloc = rt.alloc();
+    let mut walk = Walk::new(alloc);
+    ask(&mut walk, 1, 1, b"f\0")?;
+    grant(&mut walk, 5, 1, Level::Writes)?;
+    walk.take(&seen(6, 1, Note::RenameAsked(9)))?;
+    ask(&mut walk, 7, 2, b"f\0")?;
+    grant(&mut walk, 11, 2, Level::Something)?;
+    assert_eq!(&rt; files_in(alloc, walk.events())?.as_slice(), [5, 11].as_slice());
+    walk.take(&seen(12, 1, Note::Gap))?;
+    assert_eq!(&rt; walk.events().last(), Some(&Event::Lost(1)));
+    assert_eq!(&rt; chains_on(alloc, 5, walk.events())?.len(), 0);
+    Ok(())
+}
