@@ -1,2 +1,3 @@
 pub mod Removal
 pub mod Places
+pub mod Compounds

@@ -9,3 +9,4 @@ pub mod Events
 pub mod Renames
 pub mod Reading
 pub mod Frames
+pub mod Compounds

@@ -3,6 +3,7 @@
 
 mod chains;
 mod clients;
+mod compound;
 mod creates;
 mod event;
 mod files;
@@ -16,6 +17,7 @@ mod trees;
 mod walk;
 
 pub use chains::{chains_on, files_in};
+pub use compound::{FrameFault, read_frame};
 pub use event::{Acknowledged, Break, End, Event, Grant, Lease, Proof, Sent};
 pub use reading::{Ids, Named, closed_behind, ids_of, level_of, note_of};
 pub use walk::Walk;
