@@ -1,6 +1,6 @@
 -- Files: each of a server, a share's path, a name and one life. Messages that are called past have the newest one first, and so has
 -- the table.
-use Rattle.std.specs.Prelude.{◌≡◌, ℕ, ◌==◌, ◌&&◌, Bool, not, if◌then◌else◌, List, [], ◌∷◌, Option, Some, None}
+use Rattle.std.specs.Prelude.{◌≡◌, ℕ, ◌==◌, ◌&&◌, Bool, true, false, not, if◌then◌else◌, List, [], ◌∷◌, ◌++◌, Option, Some, None}
 use Rattle.std.specs.Prelude.{unwrap_or, bytes_eq}
 use Rattle.capture_walk.specs.Notes.{create_given}
 use Rattle.capture_walk.specs.Renames.{is_change}
@@ -21,6 +21,13 @@ pub record Place : Type 0 where
 
 abbrev pub is_same_place : Place → Place → Bool
 is_same_place one other = (one.server == other.server && bytes_eq one.path other.path) && bytes_eq one.name other.name
+
+-- a file, by its place and its number
+abbrev pub named_at : Place → ℕ → Named
+named_at place file = record { server = place.server; path = place.path; name = place.name; file = file }
+
+abbrev pub place_of_named : Named → Place
+place_of_named one = record { server = one.server; path = one.path; name = one.name }
 
 -- ---- by looking back
 
@@ -61,10 +68,31 @@ abbrev pub file_of : Place → List Seen → Option ℕ
 file_of place [] = None
 file_of place (seen ∷ past) = file_after place seen past (create_given seen.note) (file_of place past)
 
--- ---- the table
+-- the life that begins where a CREATE opens a file at a place, if one does
+abbrev pub life_at : Place → Bool → ℕ → Option ℕ → List Named
+life_at place true number before = named_at place number ∷ []
+life_at place false number None = named_at place number ∷ []
+life_at place false number (Some file) = []
 
-abbrev pub place_of_named : Named → Place
-place_of_named one = record { server = one.server; path = one.path; name = one.name }
+abbrev pub life_by : Option Place → Bool → ℕ → List Seen → List Named
+life_by None is_new number past = []
+life_by (Some place) is_new number past = life_at place is_new number (file_of place past)
+
+abbrev pub life_after : Seen → Option CreateGiven → List Seen → List Named
+life_after seen None past = []
+life_after seen (Some given) past = life_by (place_given seen given past) given.is_new seen.number past
+
+-- the lives of files that began
+abbrev pub lives : List Seen → List Named
+lives [] = []
+lives (seen ∷ past) = life_after seen (create_given seen.note) past ++ lives past
+
+-- the place of a file
+abbrev pub place_of_life : ℕ → List Named → Option Place
+place_of_life file [] = None
+place_of_life file (one ∷ others) = if one.file == file then Some (place_of_named one) else place_of_life file others
+
+-- ---- the table
 
 abbrev pub place_view : declared.Place → Place
 place_view place = record { server = place.server; path = place.path.now; name = place.name.now }
@@ -78,3 +106,4 @@ is_elsewhere server one = not (one.server == server)
 
 pub record KnowsFiles (past : List Seen) (files : Files) : Type 0 where
   pub files_at : (place : Place) → file_in place files.named.items ≡ file_of place past
+  pub begun : files.begun.items ≡ lives past

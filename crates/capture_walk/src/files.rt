@@ -1,6 +1,7 @@
-ghost use Rattle.std.specs.Prelude.{◌≡◌, ◌∷◌, [], if◌then◌else◌, Some, None, List, ◌∷◌, filter, OnOk, IfOk, unwrap_or};
-ghost use Rattle.capture_walk.specs.Files.{file_in, file_by, file_opened, is_elsewhere, is_same_place, place_view, KnowsFiles};
+ghost use Rattle.std.specs.Prelude.{◌++◌, ◌≡◌, ◌∷◌, [], if◌then◌else◌, Some, None, List, ◌∷◌, filter, OnOk, IfOk, unwrap_or};
+ghost use Rattle.capture_walk.specs.Files.{file_in, life_at, place_of_life, named_at, file_by, file_opened, is_elsewhere, is_same_place, place_view, KnowsFiles};
 ghost use Rattle.capture_walk.specs.Files as places;
+ghost use Rattle.std.specs.Option.{option_map};
 ghost use Rattle.capture_walk.specs.Renames as renames;
 ghost use Rattle.capture_walk.specs.Notes.{create_given};
 ghost use Rattle.capture_walk.specs.declared.note.Seen.{Seen};
@@ -11,12 +12,13 @@ use std::alloc::Global;
 
 /// Where a file is.
 #[derive(Clone, Copy, Debug)]
-pub(crate) struct Place<'a> {
-    pub(crate) server: u64,
-    /// The share's path.
-    pub(crate) path: &'a [u8],
-    /// The name below the share.
-    pub(crate) name: &'a [u8],
+pub struct Place<'a> {
+    /// The number of the server's address and port.
+    pub server: u64,
+    /// The share's path, as it stands in the TREE_CONNECT request.
+    pub path: &'a [u8],
+    /// The name below the share, as it stands in the CREATE request.
+    pub name: &'a [u8],
 }
 
 // The file at a place.
@@ -31,8 +33,21 @@ pub(crate) struct Named {
 /// The files at places, with the numbers of the messages with which their lives began.
 #[derive(Debug, Drop)]
 pub(crate) struct Files {
-    // The newest first.
+    // Those that are known by their names. The newest first, as in the other list.
     named: Vec<Named>,
+    // All.
+    begun: Vec<Named>,
+}
+
+fn named_at(alloc: Global, place: Place<'_>, file: u64) -> Result<Named, Memory>
+    ensures { IfOk result (λ named. named ≡ named_at (place_view place.entry) file) }
+{
+    Ok(Named {
+        server: place.server,
+        path: Bytes::new(Vec::from_slice(alloc, place.path)?),
+        name: Bytes::new(Vec::from_slice(alloc, place.name)?),
+        file,
+    })
 }
 
 impl Files {
@@ -42,6 +57,7 @@ impl Files {
     {
         Files {
             named: Vec::new(alloc),
+            begun: Vec::new(alloc),
         }
     }
 
@@ -60,23 +76,22 @@ impl Files {
         None
     }
 
-    fn insert(&mut self, place: Place<'_>, file: u64) -> Result<(), Memory>
-        ensures { OnOk result ((other : places.Place) → file_in other self.new.named.items
-            ≡ (if is_same_place (place_view place.entry) other then Some file else file_in other self.old.named.items)) }
+    fn begin(&mut self, place: Place<'_>, file: u64) -> Result<(), Memory>
+        ensures begun { OnOk result (self.new.begun.items ≡ named_at (place_view place.entry) file ∷ self.old.begun.items) }
+        ensures named { OnOk result (self.new.named ≡ self.old.named) }
     {
-        let alloc = *self.named.allocator();
-        let path = Bytes::new(Vec::from_slice(alloc, place.path)?);
-        let name = Bytes::new(Vec::from_slice(alloc, place.name)?);
-        let server = place.server;
-        self.named.insert(
-            0,
-            Named {
-                server,
-                path,
-                name,
-                file,
-            },
-        )?;
+        let named = named_at(*self.begun.allocator(), place, file)?;
+        self.begun.insert(0, named)?;
+        Ok(())
+    }
+
+    fn insert(&mut self, place: Place<'_>, file: u64) -> Result<(), Memory>
+        ensures named { OnOk result ((other : places.Place) → file_in other self.new.named.items
+            ≡ (if is_same_place (place_view place.entry) other then Some file else file_in other self.old.named.items)) }
+        ensures begun { OnOk result (self.new.begun ≡ self.old.begun) }
+    {
+        let named = named_at(*self.named.allocator(), place, file)?;
+        self.named.insert(0, named)?;
         Ok(())
     }
 
@@ -92,10 +107,14 @@ impl Files {
             ≡ file_opened is_new number (file_in (place_view place.entry) self.old.named.items)) }
         ensures table { OnOk result ((other : places.Place) → file_in other self.new.named.items
             ≡ file_by other (Some (place_view place.entry)) is_new number (file_in other self.old.named.items)) }
+        ensures lives { OnOk result (self.new.begun.items
+            ≡ life_at (place_view place.entry) is_new number (file_in (place_view place.entry) self.old.named.items)
+            ++ self.old.begun.items) }
     {
         if !is_new && let Some(file) = self.find(place) {
             return Ok(file);
         }
+        self.begin(place, number)?;
         self.insert(place, number)?;
         Ok(number)
     }
@@ -113,8 +132,25 @@ impl Files {
 
     // What was at places of the server isn't known any more.
     fn forget(&mut self, server: u64)
-        ensures { self.new.named.items ≡ filter (is_elsewhere server) self.old.named.items }
+        ensures named { self.new.named.items ≡ filter (is_elsewhere server) self.old.named.items }
+        ensures begun { self.new.begun ≡ self.old.begun }
     {
         self.named.retain(|one| one.server != server);
+    }
+
+    /// Where a file is that began, by its number.
+    pub(crate) fn place_of(&self, file: u64) -> Option<Place<'_>>
+        ensures { option_map place_view result ≡ place_of_life file self.now.begun.items }
+    {
+        for one in &self.begun {
+            if one.file == file {
+                return Some(Place {
+                    server: one.server,
+                    path: one.path.as_slice(),
+                    name: one.name.as_slice(),
+                });
+            }
+        }
+        None
     }
 }

@@ -21,6 +21,7 @@ pub use compound::{FrameFault, read_frame};
 pub use event::{Acknowledged, Break, End, Event, Grant, Lease, Proof, Sent};
 pub use reading::{Ids, Named, closed_behind, ids_of, level_of, note_of};
 pub use walk::Walk;
+pub use files::Place;
 pub use frame::Frame;
 pub use note::{
     BreakNote, CreateAsked, CreateGiven, KeyLevel, LeaseGiven, Note, OpenName, Seen, TreeAsked,

@@ -1,9 +1,9 @@
-ghost use Rattle.std.specs.Prelude.{◌≡◌, Some, OnOk, IfOk, List};
+ghost use Rattle.std.specs.Prelude.{◌++◌, ◌≡◌, Some, OnOk, IfOk, List};
 ghost use Rattle.std.specs.Option.{option_map};
 ghost use Rattle.capture_walk.specs.Clients.{KnowsClients};
 ghost use Rattle.capture_walk.specs.Trees.{KnowsTrees, path_of};
 ghost use Rattle.capture_walk.specs.Creates.{KnowsCreates};
-ghost use Rattle.capture_walk.specs.Files.{KnowsFiles, place_given, place_by, place_view, file_in, file_by, file_of};
+ghost use Rattle.capture_walk.specs.Files.{KnowsFiles, place_given, place_by, place_view, file_in, file_by, file_of, life_by};
 ghost use Rattle.capture_walk.specs.Files as places;
 ghost use Rattle.capture_walk.specs.Opens.{open_at, lease_by, ends, is_named, made_by};
 ghost use Rattle.capture_walk.specs.declared.note.Seen.{Seen};
@@ -123,6 +123,9 @@ pub(crate) fn open_given(
         → KnowsCreates past creates.now → KnowsFiles past files.old → (place : places.Place)
         → file_in place files.new.named.items
         ≡ file_by place (place_given seen.now given past) given.is_new seen.now.number (file_of place past)) }
+    ensures lives { OnOk result ((past : List Seen) → KnowsTrees past trees.now
+        → KnowsCreates past creates.now → KnowsFiles past files.old → files.new.begun.items
+        ≡ life_by (place_given seen.now given past) given.is_new seen.now.number past ++ files.old.begun.items) }
 {
     let Some(create) = creates.pending(seen.connection, given.id) else {
         return Ok(None);

@@ -1,5 +1,6 @@
 ghost use Rattle.std.specs.Prelude.{◌≡◌, ◌∷◌, [], List, Some, None, OnOk, IfOk, filter, option_to_list, ◌++◌};
-ghost use Rattle.capture_walk.specs.Files.{KnowsFiles};
+ghost use Rattle.capture_walk.specs.Files.{KnowsFiles, lives, place_of_life, place_view};
+ghost use Rattle.std.specs.Option.{option_map};
 ghost use Rattle.capture_walk.specs.Opens.{is_left, made};
 ghost use Rattle.capture_walk.specs.Events.{Knows, HasSameButFiles, HasOpens, events};
 ghost use Rattle.capture_walk.specs.declared.note.Seen.{Seen};
@@ -7,7 +8,7 @@ ghost use Rattle.capture_walk.specs.declared.note.Seen.{Seen};
 use crate::clients::Clients;
 use crate::creates::Creates;
 use crate::event::Event;
-use crate::files::Files;
+use crate::files::{Files, Place};
 use crate::note::Seen;
 use crate::opens::{Open, open_given};
 use crate::renames::Renames;
@@ -100,6 +101,13 @@ impl Walk {
         self.trees.note(seen)?;
         self.renames.note(seen)?;
         self.creates.note(seen)
+    }
+
+    /// Where a file is, by its number.
+    pub fn place_of(&self, file: u64) -> Option<Place<'_>>
+        ensures { (past : List Seen) → Knows past self.now → option_map place_view result ≡ place_of_life file (lives past) }
+    {
+        self.files.place_of(file)
     }
 
     /// What the messages so far show of leases, in the order of the capture.
