@@ -1,5 +1,6 @@
 -- Messages of compounds, one by one.
-use Rattle.std.proofs.Common.{◌≡◌, ◌≤◌, ◌==◌, ℕ, Bool, true, false, if◌then◌else◌, List, [], ◌∷◌, ◌++◌, length, take, arith, subst, sym, append_assoc}
+use Rattle.std.proofs.Common.{◌≡◌, ◌≤◌, ◌==◌, ℕ, Bool, true, false, if◌then◌else◌, List, [], ◌∷◌, ◌++◌, length, take, arith}
+use Rattle.std.proofs.Common.{subst, sym, append_assoc}
 use Rattle.std.proofs.lemmas.Grind.{common_steps}
 use Rattle.lease_wire.specs.Message.{first_message, next_command_of}
 use Rattle.capture_wire.specs.Messages.{IsMessage}

@@ -1,3 +1,4 @@
 pub mod Removal
 pub mod Places
 pub mod Compounds
+pub mod Opening

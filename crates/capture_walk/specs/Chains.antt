@@ -38,7 +38,8 @@ abbrev pub is_accepted : Lease → Bool → List Event → Bool
 is_accepted lease given [] = false
 is_accepted lease given (event.Acknowledged one ∷ later) = is_accepted lease (given || is_same one.lease lease) later
 is_accepted lease given (event.Accepted one ∷ later) = if given && is_same one lease then true else is_accepted lease given later
-is_accepted lease given (event.Broken broken ∷ later) = if is_same broken.lease lease then false else is_accepted lease given later
+is_accepted lease given (event.Broken broken ∷ later) =
+    if is_same broken.lease lease then false else is_accepted lease given later
 is_accepted lease given (_ ∷ later) = is_accepted lease given later
 
 -- ---- changes

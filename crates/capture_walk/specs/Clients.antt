@@ -1,5 +1,5 @@
--- Whose a connection is: that of the client with the ClientGuid of its NEGOTIATE. Several connections may be one client's. Messages
--- that are called past have the newest one first.
+-- Whose a connection is: that of the client with the ClientGuid of its NEGOTIATE. Several connections may be one client's.
+-- Messages that are called past have the newest one first.
 use Rattle.std.specs.Prelude.{◌≡◌, ℕ, ◌==◌, if◌then◌else◌, List, [], ◌∷◌, Option, Some, None, unwrap_or, bytes_eq}
 use Rattle.capture_wire.specs.declared.field.Guid.{Guid}
 use Rattle.capture_walk.specs.Notes.{negotiated}

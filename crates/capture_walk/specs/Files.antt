@@ -1,5 +1,5 @@
--- Files: each of a server, a share's path, a name and one life. Messages that are called past have the newest one first, and so has
--- the table.
+-- Files: each of a server, a share's path, a name and one life. Messages that are called past have the newest one first, and so
+-- has the table.
 use Rattle.std.specs.Prelude.{◌≡◌, ℕ, ◌==◌, ◌&&◌, Bool, true, false, not, if◌then◌else◌, List, [], ◌∷◌, ◌++◌, Option, Some, None}
 use Rattle.std.specs.Prelude.{unwrap_or, bytes_eq}
 use Rattle.capture_walk.specs.Notes.{create_given}

@@ -10,3 +10,4 @@ pub mod Renames
 pub mod Reading
 pub mod Frames
 pub mod Compounds
+pub mod Laws

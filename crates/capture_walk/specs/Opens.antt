@@ -37,15 +37,16 @@ open_at seen given tree lease = record {
   lease = lease;
 }
 
--- What a CREATE response opens, where its request and its tree connect were seen; nothing where it is closed in the same compound.
+-- What a CREATE response opens, where its request and its tree connect were seen; nothing where it is closed in the same
+-- compound.
 abbrev pub open_by : Seen → CreateGiven → Option Create → Option Place → List Seen → Option Open
 open_by seen given None place past = None
 open_by seen given (Some create) None past = None
 open_by seen given (Some create) (Some place) past =
     if create.closes then None
     else Some (open_at seen given create.tree
-        (lease_by given.lease create.key (client_of seen.connection past)
-        (file_opened given.is_new seen.number (file_of place past))))
+    (lease_by given.lease create.key (client_of seen.connection past)
+    (file_opened given.is_new seen.number (file_of place past))))
 
 abbrev pub made_by : Seen → Option CreateGiven → List Seen → Option Open
 made_by seen None past = None

@@ -172,8 +172,8 @@ tree_note header (TreeId tree) =
     note.TreeGiven (record { id = header.message_id; session = header.session_id; tree = tree })
 tree_note header (AsyncId async) = note.Gap
 
--- a response that nothing was read of: that of TREE_CONNECT counts where it is of STATUS_SUCCESS, and one of STATUS_PENDING is not
--- for good
+-- a response that nothing was read of: that of TREE_CONNECT counts where it is of STATUS_SUCCESS, and one of STATUS_PENDING is
+-- not for good
 abbrev pub other_note : Header → Note
 other_note header =
     if header.status == 259 then note.Other

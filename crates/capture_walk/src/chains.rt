@@ -1,7 +1,8 @@
 ghost use Rattle.std.specs.Prelude.{◌≡◌, false, ◌≤◌, ◌+◌, ◌++◌, [], length, drop, map, OnOk, IfOk};
 ghost use Rattle.std.specs.List.{list_any};
 ghost use Rattle.capture_judge.specs.Worked.{shown};
-ghost use Rattle.capture_walk.specs.Chains.{taken, acknowledgment, is_accepted, changes_by_break, changes, changes_by, is_lost, is_loss_of, doubt};
+ghost use Rattle.capture_walk.specs.Chains.{taken, acknowledgment, is_accepted, changes_by_break, changes, changes_by};
+ghost use Rattle.capture_walk.specs.Chains.{is_lost, is_loss_of, doubt};
 ghost use Rattle.capture_walk.specs.Chains.{leases_on, chains_on, files_in, is_file, is_same, chain_of};
 
 use crate::event::{Acknowledged, Break, Event, Lease, Sent};
@@ -143,9 +144,7 @@ fn changes_of(alloc: Global, lease: Lease, events: &[Event]) -> Result<Vec<Chang
 fn is_lost(client: u64, events: &[Event]) -> bool
     ensures { result ≡ is_lost client events.now }
 {
-    events
-        .iter()
-        .any(|event| matches!(event, Event::Lost(other) if *other == client))
+    events.iter().any(|event| matches!(event, Event::Lost(other) if *other == client))
 }
 
 fn is_among(leases: &[Lease], lease: Lease) -> bool

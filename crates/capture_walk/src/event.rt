@@ -18,7 +18,9 @@ impl Lease {
     pub fn is(self, other: Lease) -> bool
         ensures { result ≡ is_same self other }
     {
-        self.client == other.client && self.file == other.file && self.key.0.as_slice() == other.key.0.as_slice()
+        self.client == other.client
+            && self.file == other.file
+            && self.key.0.as_slice() == other.key.0.as_slice()
     }
 }
 

@@ -1,5 +1,6 @@
 ghost use Rattle.std.specs.Prelude.{◌++◌, ◌≡◌, ◌∷◌, [], if◌then◌else◌, Some, None, List, ◌∷◌, filter, OnOk, IfOk, unwrap_or};
-ghost use Rattle.capture_walk.specs.Files.{file_in, life_at, place_of_life, named_at, file_by, file_opened, is_elsewhere, is_same_place, place_view, KnowsFiles};
+ghost use Rattle.capture_walk.specs.Files.{file_in, life_at, place_of_life, named_at, file_by, file_opened};
+ghost use Rattle.capture_walk.specs.Files.{is_elsewhere, is_same_place, place_view, KnowsFiles};
 ghost use Rattle.capture_walk.specs.Files as places;
 ghost use Rattle.std.specs.Option.{option_map};
 ghost use Rattle.capture_walk.specs.Renames as renames;

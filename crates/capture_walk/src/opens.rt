@@ -93,7 +93,12 @@ fn open_of(seen: &Seen<'_>, given: CreateGiven, tree: u32, lease: Option<Lease>)
 }
 
 // The place that a CREATE names.
-fn place_of<'a>(seen: &Seen<'_>, session: u64, create: &'a Create, trees: &'a Trees) -> Option<Place<'a>>
+fn place_of<'a>(
+    seen: &Seen<'_>,
+    session: u64,
+    create: &'a Create,
+    trees: &'a Trees,
+) -> Option<Place<'a>>
     ensures { (past : List Seen) → KnowsTrees past trees.now → option_map place_view result
         ≡ place_by seen.now.server (Some create.now) (path_of seen.now.server session create.now.tree past) }
 {

@@ -4,8 +4,8 @@ ghost use Rattle.capture_wire.specs.Fields.{has_flag};
 ghost use Rattle.capture_walk.specs.Reading as reading;
 
 use crate::note::{
-    BreakNote, CreateAsked, CreateGiven, KeyLevel, LeaseGiven, Note, OpenName, TreeAsked, TreeGiven,
-    TreeName,
+    BreakNote, CreateAsked, CreateGiven, KeyLevel, LeaseGiven, Note, OpenName, TreeAsked,
+    TreeGiven, TreeName,
 };
 use capture_judge::Level;
 use capture_wire::{
@@ -85,8 +85,7 @@ fn agreed(file_id: Smb2FileId, before: Named) -> Named
     match before {
         Named::Nothing => Named::Open(file_id),
         Named::Open(other)
-            if file_id.persistent == other.persistent && file_id.volatile == other.volatile =>
-        {
+            if file_id.persistent == other.persistent && file_id.volatile == other.volatile => {
             Named::Open(file_id)
         }
         _ => Named::Unclear,

@@ -1,6 +1,7 @@
 ghost use Rattle.std.specs.Prelude.{◌≡◌, ◌++◌, OnOk};
 ghost use Rattle.std.specs.List.{list_any, flat_map};
-ghost use Rattle.capture_walk.specs.Events.{lease_under, open_named, keeps, ended_by, ended, proof_of, is_disputed, disputed, sent_at};
+ghost use Rattle.capture_walk.specs.Events.{lease_under, open_named, keeps, ended_by, ended, proof_of, sent_at};
+ghost use Rattle.capture_walk.specs.Events.{is_disputed, disputed};
 ghost use Rattle.capture_walk.specs.Events.{granted_lease, granted_of, lease_made, lost_under, broken_of, broken, lost_of};
 ghost use Rattle.capture_walk.specs.Events.{acknowledged, accepted, told_by, is_under, is_of};
 
@@ -56,11 +57,18 @@ fn is_of(lease: Lease, other: Option<Lease>) -> bool
 fn is_kept(seen: &Seen<'_>, opens: &[Open], lease: Lease) -> bool
     ensures { result ≡ list_any (keeps seen.now lease) opens.now }
 {
-    opens.iter().any(|one| !one.ends(seen) && is_of(lease, one.lease))
+    opens
+        .iter()
+        .any(|one| !one.ends(seen) && is_of(lease, one.lease))
 }
 
 // The end of the lease of an open that ends.
-fn push_ended_lease(events: &mut Vec<Event>, seen: &Seen<'_>, opens: &[Open], one: &Open) -> Result<(), Memory>
+fn push_ended_lease(
+    events: &mut Vec<Event>,
+    seen: &Seen<'_>,
+    opens: &[Open],
+    one: &Open,
+) -> Result<(), Memory>
     ensures { OnOk result (events.new.items ≡ events.old.items ++ ended_by seen.now opens.now one.now) }
 {
     if !one.ends(seen) {
@@ -80,7 +88,11 @@ fn push_ended_lease(events: &mut Vec<Event>, seen: &Seen<'_>, opens: &[Open], on
 }
 
 /// The leases that end with the opens that a message ends.
-pub(crate) fn push_ended(events: &mut Vec<Event>, seen: &Seen<'_>, opens: &[Open]) -> Result<(), Memory>
+pub(crate) fn push_ended(
+    events: &mut Vec<Event>,
+    seen: &Seen<'_>,
+    opens: &[Open],
+) -> Result<(), Memory>
     ensures { OnOk result (events.new.items ≡ events.old.items ++ ended seen.now opens.now) }
 {
     for one in opens {
@@ -128,7 +140,12 @@ fn has_dispute(seen: &Seen<'_>, lease: Lease, opens: &[Open]) -> bool
 }
 
 // What a client has of the lease in the end isn't known.
-fn push_disputed(events: &mut Vec<Event>, seen: &Seen<'_>, lease: Lease, opens: &[Open]) -> Result<(), Memory>
+fn push_disputed(
+    events: &mut Vec<Event>,
+    seen: &Seen<'_>,
+    lease: Lease,
+    opens: &[Open],
+) -> Result<(), Memory>
     ensures { OnOk result (events.new.items ≡ events.old.items ++ disputed seen.now lease opens.now) }
 {
     if has_dispute(seen, lease, opens) {
@@ -137,7 +154,12 @@ fn push_disputed(events: &mut Vec<Event>, seen: &Seen<'_>, lease: Lease, opens: 
     Ok(())
 }
 
-fn push_granted_lease(events: &mut Vec<Event>, seen: &Seen<'_>, given: LeaseGiven, lease: Lease) -> Result<(), Memory>
+fn push_granted_lease(
+    events: &mut Vec<Event>,
+    seen: &Seen<'_>,
+    given: LeaseGiven,
+    lease: Lease,
+) -> Result<(), Memory>
     ensures { OnOk result (events.new.items ≡ events.old.items ++ granted_lease seen.now given lease) }
 {
     if !given.breaking {
@@ -167,7 +189,11 @@ fn push_granted(
     push_granted_lease(events, seen, given, lease)
 }
 
-fn push_lost_under(events: &mut Vec<Event>, key: LeaseKey, lease: Option<Lease>) -> Result<(), Memory>
+fn push_lost_under(
+    events: &mut Vec<Event>,
+    key: LeaseKey,
+    lease: Option<Lease>,
+) -> Result<(), Memory>
     ensures { OnOk result (events.new.items ≡ events.old.items ++ lost_under key.0 lease) }
 {
     if let Some(lease) = lease {
@@ -221,13 +247,24 @@ fn push_broken(
 {
     match client {
         Some(client) => {
-            push_broken_lease(events, seen, one, lease_under(opens, Some(client), one.key), opens)
+            push_broken_lease(
+                events,
+                seen,
+                one,
+                lease_under(opens, Some(client), one.key),
+                opens,
+            )
         }
         None => push_strange_break(events, one.key, opens),
     }
 }
 
-fn push_acknowledged(events: &mut Vec<Event>, seen: &Seen<'_>, given: KeyLevel, lease: Option<Lease>) -> Result<(), Memory>
+fn push_acknowledged(
+    events: &mut Vec<Event>,
+    seen: &Seen<'_>,
+    given: KeyLevel,
+    lease: Option<Lease>,
+) -> Result<(), Memory>
     ensures { OnOk result (events.new.items ≡ events.old.items ++ acknowledged seen.now given.level lease) }
 {
     if let Some(lease) = lease {
@@ -275,7 +312,13 @@ pub(crate) fn push_told(
     ensures { OnOk result (events.new.items ≡ events.old.items ++ told_by seen.now.note seen.now client made opens.now) }
 {
     match seen.note {
-        Note::CreateGiven(given) => push_granted(events, seen, given.lease, lease_made(made), opens),
+        Note::CreateGiven(given) => push_granted(
+            events,
+            seen,
+            given.lease,
+            lease_made(made),
+            opens,
+        ),
         Note::OnOpen(name) | Note::Close(name) => {
             push_proof(events, seen, open_named(opens, seen.server, name))
         }

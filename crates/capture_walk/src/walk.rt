@@ -75,7 +75,8 @@ impl Walk {
 
     // The opens after the message.
     fn change_opens(&mut self, seen: &Seen<'_>, made: Option<Open>) -> Result<(), Memory>
-        ensures { OnOk result (HasOpens (option_to_list made ++ filter (is_left seen.now) self.old.opens.items) self.old self.new) }
+        ensures { OnOk result
+            (HasOpens (option_to_list made ++ filter (is_left seen.now) self.old.opens.items) self.old self.new) }
     {
         self.drop_opens(seen);
         if let Some(one) = made {

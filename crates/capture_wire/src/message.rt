@@ -3,7 +3,8 @@ ghost use Rattle.std.specs.Result.{result_err};
 ghost use Rattle.capture_wire.specs.Fields.{file_id_at};
 ghost use Rattle.capture_wire.specs.Header.{IsHeader};
 ghost use Rattle.capture_wire.specs.Messages.{command_of, file_id_fault, request_fault, response_fault, unreadable_of};
-ghost use Rattle.capture_wire.specs.Messages.{IsRequest, IsResponse, IsContent, IsMessage, IsNoticeOf, IsAcceptedOf, IsBreak, is_granted, content_fault_of};
+ghost use Rattle.capture_wire.specs.Messages.{IsRequest, IsResponse, IsContent, IsMessage, IsNoticeOf, IsAcceptedOf};
+ghost use Rattle.capture_wire.specs.Messages.{IsBreak, is_granted, content_fault_of};
 ghost use Rattle.capture_wire.specs.declared.command.Command.TheVariants as command;
 
 use crate::command::Command;

@@ -2,11 +2,12 @@
 use crate::tests::KEY;
 use capture_judge::{Change, Level, Placing, judge_placing};
 use capture_walk::{
-    BreakNote, CreateAsked, CreateGiven, Event, KeyLevel, LeaseGiven, Note, OpenName, Seen, TreeAsked,
-    TreeGiven, Walk, chains_on, files_in,
+    BreakNote, CreateAsked, CreateGiven, Event, Frame, FrameFault, KeyLevel, LeaseGiven, Note, OpenName,
+    Seen, TreeAsked, TreeGiven, Walk, chains_on, closed_behind, files_in, ids_of, level_of, note_of,
+    read_frame,
 };
-use capture_wire::{Guid, Smb2FileId};
-use lease_state::{LeaseKey, Memory};
+use capture_wire::{Guid, MessageFault, Smb2FileId, Unreadable};
+use lease_state::{LeaseKey, LeaseState, Memory};
 use std::alloc::Global;
 use std::test::Fail;
 
@@ -115,6 +116,8 @@ fn a_lease_beside_a_writers_is_unsafe(rt: HostRuntime) -> Result<(), Fail> {
     grant(&mut walk, 11, 2, Level::Something)?;
     use_open(&mut walk, 12, 2)?;
     assert_eq!(&rt; files_in(alloc, walk.events())?.as_slice(), [5].as_slice());
+    let name = walk.place_of(5).map(|place| place.name);
+    assert_eq!(&rt; name, Some(b"f\0".as_slice()));
     let chains = chains_on(alloc, 5, walk.events())?;
     let placing = judge_placing(alloc, &chains)?;
     assert!(&rt; matches!(placing, Placing::Unsafe(23)));
@@ -230,5 +233,50 @@ fn gaps_and_renames_are_not_judged(rt: HostRuntime) -> Result<(), Fail> {
     walk.take(&seen(12, 1, Note::Gap))?;
     assert_eq!(&rt; walk.events().last(), Some(&Event::Lost(1)));
     assert_eq!(&rt; chains_on(alloc, 5, walk.events())?.len(), 0);
+    Ok(())
+}
+
+// A frame of a CREATE and a related CLOSE, by the FileId that means the one before it: what they open is closed.
+#[test]
+fn compounds_go_by_the_ids_of_the_first(rt: HostRuntime) -> Result<(), Fail> {
+    let alloc = rt.alloc();
+    let mut bytes = Vec::from_slice(alloc, b"\xfeSMB\x40\0")?;
+    bytes.extend_from_slice(&[0; 114])?;
+    bytes[12] = 5;
+    bytes[20] = 120;
+    bytes[36] = 7;
+    bytes[40] = 3;
+    bytes[64] = 57;
+    bytes.extend_from_slice(b"\xfeSMB\x40\0")?;
+    bytes.extend_from_slice(&[0; 58])?;
+    bytes[132] = 6;
+    bytes[136] = 4;
+    bytes.extend_from_slice(b"\x18\0\0\0\0\0\0\0")?;
+    bytes.extend_from_slice(&[0xff; 16])?;
+    let messages = read_frame(alloc, &bytes)?;
+    assert_eq!(&rt; messages.len(), 2);
+    let ids = ids_of(&messages[0], None);
+    assert_eq!(&rt; ids.session, 3);
+    assert!(&rt; closed_behind(&messages[1..]));
+    let related = ids_of(&messages[1], Some(ids));
+    assert_eq!(&rt; related, ids);
+    assert_eq!(&rt; note_of(&messages[1], related, false), Note::Other);
+    assert_eq!(&rt;
+        read_frame(alloc, &bytes[..200]).err(),
+        Some(FrameFault::Message(Unreadable::Message(MessageFault::Short)))
+    );
+    assert_eq!(&rt; level_of(LeaseState::from_wire(3)), Level::Something);
+
+    let mut walk = Walk::new(alloc);
+    let frame = Frame {
+        number: 1,
+        connection: 1,
+        server: 1,
+        earliest: 1,
+        latest: 1,
+    };
+    walk.take_frame(&frame, &messages)?;
+    assert_eq!(&rt; walk.events().len(), 0);
+    assert!(&rt; walk.place_of(1).is_none());
     Ok(())
 }

@@ -22,8 +22,8 @@ loop-first-preserved c =
     let more = sym c.is_last.ensures ∙ c.if-is_last.false in
     let at = c.split_at.ensures.back ∙ ap (λ (n : ℕ). drop n rest) c.in-Ok.ensures.size in
     record {
-  holds = holds_next whole rest behind c.loop-first.messages.items c.push.new.messages.items c.in-Ok.first.0
-      c.loop-first.invariant.holds more c.in-Ok.ensures.read at c.in_ok-push.ensures;
-  fails = fails_next whole rest behind c.loop-first.messages.items c.push.new.messages.items c.in-Ok.first.0
-      c.loop-first.invariant.fails more c.in-Ok.ensures.read at c.in_ok-push.ensures;
-}
+      holds = holds_next whole rest behind c.loop-first.messages.items c.push.new.messages.items c.in-Ok.first.0
+          c.loop-first.invariant.holds more c.in-Ok.ensures.read at c.in_ok-push.ensures;
+      fails = fails_next whole rest behind c.loop-first.messages.items c.push.new.messages.items c.in-Ok.first.0
+          c.loop-first.invariant.fails more c.in-Ok.ensures.read at c.in_ok-push.ensures;
+    }

@@ -9,7 +9,7 @@ abbrev pub invariant-loop-first : goal.invariant-loop-first
 invariant-loop-first l = record {
   holds : (later : List Message) → HoldsMessages l.rest later → HoldsMessages l.bytes (l.messages.items ++ later);
   fails : (later : List Message) (found : FrameFault) → FailsAfter l.rest later found
-    → FailsAfter l.bytes (l.messages.items ++ later) found;
+      → FailsAfter l.bytes (l.messages.items ++ later) found;
 }
 
 abbrev pub decreases-loop-first : goal.decreases-loop-first

@@ -9,6 +9,6 @@ abbrev pub invariant-loop-index : goal.invariant-loop-index
 invariant-loop-index l = record {
   counted : l.number ≡ l.frame.number + l.index;
   known : (past : List Seen) → Knows past l.fn.self
-    → (now : List Seen) × Knows now l.self
-    × (seen_behind l.frame l.number l.before (drop l.index l.messages) now ≡ seen_after l.frame l.messages past);
+      → (now : List Seen) × Knows now l.self
+      × (seen_behind l.frame l.number l.before (drop l.index l.messages) now ≡ seen_after l.frame l.messages past);
 }
