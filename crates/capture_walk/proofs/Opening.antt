@@ -65,13 +65,13 @@ was_made_by one seen past earlier (inr among) =
     let left = left_of seen (opens past) one among in
     let before = earlier left.1 in
     record {
-  later = seen ∷ before.later;
-  seen = before.seen;
-  earlier = before.earlier;
-  is = ap (λ (others : List Seen). seen ∷ others) before.is;
-  makes = before.makes;
-  kept = (left.0, before.kept);
-}
+      later = seen ∷ before.later;
+      seen = before.seen;
+      earlier = before.earlier;
+      is = ap (λ (others : List Seen). seen ∷ others) before.is;
+      makes = before.makes;
+      kept = (left.0, before.kept);
+    }
 
 was_made : (one : Open) (past : List Seen) → IsAmong one (opens past) → IsOpen one past
 was_made one [] is = elim is [ ]
@@ -88,7 +88,8 @@ still_open one (other ∷ later) seen earlier makes kept =
     (kept_of other (opens (later ++ seen ∷ earlier)) one kept.0 (still_open one later seen earlier makes kept.1))
 
 pub opens_are_made : OpensAreMade
-opens_are_made one past =
-    (was_made one past,
-    λ is. subst (λ (messages : List Seen). IsAmong one (opens messages)) (sym is.is)
-    (still_open one is.later is.seen is.earlier is.makes is.kept))
+opens_are_made one past = (
+  was_made one past,
+  λ is. subst (λ (messages : List Seen). IsAmong one (opens messages)) (sym is.is)
+      (still_open one is.later is.seen is.earlier is.makes is.kept),
+)

@@ -79,10 +79,10 @@ changes lease (one ∷ later) = changes_by lease one later ++ changes lease late
 -- ---- chains
 
 abbrev pub is_loss_of : ℕ → Event → Bool
-is_loss_of client (event.Lost other) = other == client
+is_loss_of client (event.Lost loss) = loss.client == client
 is_loss_of client _ = false
 
--- something of the client may be missing
+-- the client isn't judged, for whatever reason
 abbrev pub is_lost : ℕ → List Event → Bool
 is_lost client events = list_any (is_loss_of client) events
 
@@ -98,7 +98,7 @@ leases_behind file found (_ ∷ later) = leases_behind file found later
 abbrev pub leases_on : ℕ → List Event → List Lease
 leases_on file events = leases_behind file [] events
 
--- the chain of a lease, by its client and its changes, where nothing of the client may be missing
+-- the chain of a lease, by its client and its changes, where the client is judged
 abbrev pub chain_of : List Event → Lease → List (ℕ × List Change)
 chain_of events lease =
     if is_lost lease.client events then [] else (lease.client, changes lease events) ∷ []

@@ -19,6 +19,7 @@ use Rattle.capture_walk.specs.declared.event.Lease.{Lease}
 use Rattle.capture_walk.specs.declared.event.Sent.{Sent}
 use Rattle.capture_walk.specs.declared.event.Event.{Event}
 use Rattle.capture_walk.specs.declared.event.Event.TheVariants as event
+use Rattle.capture_walk.specs.declared.event.NotJudged.TheVariants as reason
 use Rattle.capture_walk.specs.declared.opens.Open.{Open}
 use Rattle.capture_walk.specs.declared.walk.Walk.{Walk}
 use Rattle.capture_judge.specs.declared.values.Level.{Level}
@@ -83,7 +84,7 @@ is_disputed seen lease one =
     is_under lease.client lease.key.0 one.lease && not (is_of lease one.lease && one.connection == seen.connection)
 
 abbrev pub disputed : Seen → Lease → List Open → List Event
-disputed seen lease held = if list_any (is_disputed seen lease) held then event.Lost lease.client ∷ [] else []
+disputed seen lease held = if list_any (is_disputed seen lease) held then event.Lost (record { client = lease.client; reason = reason.Disputed }) ∷ [] else []
 
 abbrev pub granted_lease : Seen → LeaseGiven → Lease → List Event
 granted_lease seen given lease =
@@ -104,7 +105,8 @@ lease_made (Some one) = one.lease
 -- where it isn't known whose a connection is, a break on it may be of any lease under its key
 abbrev pub lost_under : List ℕ → Option Lease → List Event
 lost_under key None = []
-lost_under key (Some lease) = if bytes_eq lease.key.0 key then event.Lost lease.client ∷ [] else []
+lost_under key (Some lease) =
+    if bytes_eq lease.key.0 key then event.Lost (record { client = lease.client; reason = reason.Stranger }) ∷ [] else []
 
 abbrev pub broken_lease : Seen → BreakNote → Lease → Event
 broken_lease seen one lease = event.Broken (record {
@@ -124,7 +126,7 @@ broken seen one (Some client) held = broken_of seen one (lease_under (Some clien
 
 abbrev pub lost_of : Option ℕ → List Event
 lost_of None = []
-lost_of (Some client) = event.Lost client ∷ []
+lost_of (Some client) = event.Lost (record { client = client; reason = reason.Missing }) ∷ []
 
 abbrev pub acknowledged : Seen → Level → Option Lease → List Event
 acknowledged seen level None = []

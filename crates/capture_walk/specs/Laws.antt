@@ -1,5 +1,5 @@
 -- What is true of the definitions.
-use Rattle.std.specs.Prelude.{◌≡◌, ◌⊎◌, ◌↔◌, ⊤, false, List, [], ◌∷◌, ◌++◌, Some}
+use Rattle.std.specs.Prelude.{◌≡◌, ◌⊎◌, ◌↔◌, false, List, [], ◌∷◌, ◌++◌, Some}
 use Rattle.std.specs.List.{AllByRecursion}
 use Rattle.capture_walk.specs.Opens.{opens, made, ends}
 use Rattle.capture_walk.specs.declared.note.Seen.{Seen}

@@ -140,11 +140,11 @@ fn changes_of(alloc: Global, lease: Lease, events: &[Event]) -> Result<Vec<Chang
     Ok(changes)
 }
 
-// Whether something of the client may be missing.
+// Whether the client isn't judged.
 fn is_lost(client: u64, events: &[Event]) -> bool
     ensures { result ≡ is_lost client events.now }
 {
-    events.iter().any(|event| matches!(event, Event::Lost(other) if *other == client))
+    events.iter().any(|event| matches!(event, Event::Lost(loss) if loss.client == client))
 }
 
 fn is_among(leases: &[Lease], lease: Lease) -> bool
@@ -169,7 +169,7 @@ fn leases_on(alloc: Global, file: u64, events: &[Event]) -> Result<Vec<Lease>, M
 }
 
 /// The chains of a file: for each lease on it the changes of what its client caches, with the positions between which they
-/// happen, for `capture_judge::judge_placing`. Clients of which something may be missing have none. The events are in the order
+/// happen, for `capture_judge::judge_placing`. Clients that aren't judged have none. The events are in the order
 /// of the capture.
 ///
 /// Fails where there is no memory.

@@ -84,6 +84,26 @@ pub struct Proof {
     pub last: u64,
 }
 
+/// Why a client isn't judged.
+#[derive(Clone, Copy, Debug, PartialEq, Eq)]
+pub enum NotJudged {
+    /// Something of one of its connections is missing, or can't be read.
+    Missing,
+    /// It has a lease under one key on two files, or what it is told of a lease comes over several connections, which have no
+    /// order between them.
+    Disputed,
+    /// A break under the key of one of its leases came over a connection of which it isn't known whose it is.
+    Stranger,
+}
+
+/// A client that isn't judged.
+#[derive(Clone, Copy, Debug, PartialEq, Eq)]
+pub struct Loss {
+    /// The client's number.
+    pub client: u64,
+    pub reason: NotJudged,
+}
+
 /// What a message of a capture shows of leases.
 #[derive(Clone, Copy, Debug, PartialEq, Eq)]
 pub enum Event {
@@ -94,6 +114,6 @@ pub enum Event {
     Accepted(Lease),
     Ended(End),
     Taken(Proof),
-    /// From the client with this number, something may be missing, so that it isn't judged.
-    Lost(u64),
+    /// A client isn't judged.
+    Lost(Loss),
 }

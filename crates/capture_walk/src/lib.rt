@@ -16,7 +16,7 @@
 //! }
 //! ```
 //!
-//! What isn't sure is left out, so that nobody is charged by it: a client of which something may be missing has no chains.
+//! What isn't sure is left out, so that nobody is charged by it: a client that isn't judged has no chains, and `NotJudged` says why.
 #![tactic(auto)]
 
 mod chains;
@@ -37,7 +37,7 @@ mod walk;
 
 pub use chains::{chains_on, files_in};
 pub use compound::{FrameFault, read_frame};
-pub use event::{Acknowledged, Break, End, Event, Grant, Lease, Proof, Sent};
+pub use event::{Acknowledged, Break, End, Event, Grant, Lease, Loss, NotJudged, Proof, Sent};
 pub use files::Place;
 pub use frame::Frame;
 pub use laws::opens_are_made;

@@ -4,8 +4,9 @@ ghost use Rattle.capture_walk.specs.Events.{lease_under, open_named, keeps, ende
 ghost use Rattle.capture_walk.specs.Events.{is_disputed, disputed};
 ghost use Rattle.capture_walk.specs.Events.{granted_lease, granted_of, lease_made, lost_under, broken_of, broken, lost_of};
 ghost use Rattle.capture_walk.specs.Events.{acknowledged, accepted, told_by, is_under, is_of};
+ghost use Rattle.capture_walk.specs.declared.event.Event.TheVariants as event;
 
-use crate::event::{Acknowledged, Break, End, Event, Grant, Lease, Proof, Sent};
+use crate::event::{Acknowledged, Break, End, Event, Grant, Lease, Loss, NotJudged, Proof, Sent};
 use crate::note::{BreakNote, KeyLevel, LeaseGiven, Note, OpenName, Seen};
 use crate::opens::Open;
 use lease_state::{LeaseKey, Memory};
@@ -125,6 +126,12 @@ fn push_proof(events: &mut Vec<Event>, seen: &Seen<'_>, one: Option<Open>) -> Re
     Ok(())
 }
 
+fn lost(client: u64, reason: NotJudged) -> Event
+    ensures { result ≡ event.Lost (record { client = client; reason = reason }) }
+{
+    Event::Lost(Loss { client, reason })
+}
+
 // Whether an open is under the lease's key, and of another lease or connection.
 fn is_disputed(seen: &Seen<'_>, lease: Lease, one: &Open) -> bool
     ensures { result ≡ is_disputed seen.now lease one.now }
@@ -149,7 +156,7 @@ fn push_disputed(
     ensures { OnOk result (events.new.items ≡ events.old.items ++ disputed seen.now lease opens.now) }
 {
     if has_dispute(seen, lease, opens) {
-        events.push(Event::Lost(lease.client))?;
+        events.push(lost(lease.client, NotJudged::Disputed))?;
     }
     Ok(())
 }
@@ -198,7 +205,7 @@ fn push_lost_under(
 {
     if let Some(lease) = lease {
         if lease.key.0.as_slice() == key.0.as_slice() {
-            events.push(Event::Lost(lease.client))?;
+            events.push(lost(lease.client, NotJudged::Stranger))?;
         }
     }
     Ok(())
@@ -290,7 +297,7 @@ fn push_lost(events: &mut Vec<Event>, client: Option<u64>) -> Result<(), Memory>
     ensures { OnOk result (events.new.items ≡ events.old.items ++ lost_of client) }
 {
     if let Some(client) = client {
-        events.push(Event::Lost(client))?;
+        events.push(lost(client, NotJudged::Missing))?;
     }
     Ok(())
 }

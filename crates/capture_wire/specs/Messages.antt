@@ -202,8 +202,8 @@ abbrev pub response_fault : ℕ → ℕ → List ℕ → Option Unreadable
 response_fault command status message =
     if command == 0 && status == 0 then of_message (fixed_fault 128 65 message)
     else if command == 5 && status == 0 then
-        create_fault (fixed_fault 152 89 message)
-        (option_map (λ one. unreadable.Contexts one) (contexts_fault direction.Reply message))
+    create_fault (fixed_fault 152 89 message)
+    (option_map (λ one. unreadable.Contexts one) (contexts_fault direction.Reply message))
     else None
 
 -- the fault of what the command of a header has

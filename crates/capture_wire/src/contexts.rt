@@ -147,7 +147,10 @@ pub fn read_create_contexts(
     check_contexts(contexts_of_create(direction, message)?)?;
     let lease = lease_of(direction, contexts_of_create(direction, message)?);
     let durable = find_context(Kind::Durable, contexts_of_create(direction, message)?).is_some();
-    let reconnect = find_context(Kind::Reconnect, contexts_of_create(direction, message)?).is_some();
+    let reconnect = find_context(
+        Kind::Reconnect,
+        contexts_of_create(direction, message)?,
+    ).is_some();
     let snapshot = find_context(Kind::Snapshot, contexts_of_create(direction, message)?).is_some();
     Ok(CreateContexts {
         lease,

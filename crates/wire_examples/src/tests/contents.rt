@@ -37,7 +37,10 @@ fn requests_are_read_by_their_command(rt: HostRuntime) -> Result<(), Fail> {
     let closes = Request::Close(CloseRequest { file_id: FILE_ID });
     assert_eq!(&rt; content(&close), Ok(Content::Request(closes)));
     let flush = message(rt.alloc(), 7, 0, body)?;
-    assert_eq!(&rt; content(&flush), Ok(Content::Request(Request::OnOpen(FILE_ID))));
+    assert_eq!(&rt;
+        content(&flush),
+        Ok(Content::Request(Request::OnOpen(FILE_ID)))
+    );
     assert_eq!(&rt;
         content(&flush[..87]),
         Err(Unreadable::Message(MessageFault::Short))
@@ -109,7 +112,10 @@ pppppppppppppppp\x02\x01\0\0\0\0\0\0",
         reconnect: false,
         snapshot: false,
     };
-    assert_eq!(&rt; read_create_contexts(Direction::Request, &bytes), Ok(wanted));
+    assert_eq!(&rt;
+        read_create_contexts(Direction::Request, &bytes),
+        Ok(wanted)
+    );
     assert_eq!(&rt;
         read_message(&bytes[..190]).err(),
         Some(Unreadable::Contexts(WireFault::BadData(120)))

@@ -2,9 +2,9 @@
 use crate::tests::KEY;
 use capture_judge::{Change, Level, Placing, judge_placing};
 use capture_walk::{
-    BreakNote, CreateAsked, CreateGiven, Event, Frame, FrameFault, KeyLevel, LeaseGiven, Note, OpenName,
-    Seen, TreeAsked, TreeGiven, Walk, chains_on, closed_behind, files_in, ids_of, level_of, note_of,
-    read_frame,
+    BreakNote, CreateAsked, CreateGiven, Event, Frame, FrameFault, KeyLevel, LeaseGiven, Loss,
+    NotJudged, Note, OpenName, Seen, TreeAsked, TreeGiven, Walk, chains_on, closed_behind,
+    files_in, ids_of, level_of, note_of, read_frame,
 };
 use capture_wire::{Guid, MessageFault, Smb2FileId, Unreadable};
 use lease_state::{LeaseKey, LeaseState, Memory};
@@ -69,7 +69,11 @@ fn ask(walk: &mut Walk, number: u64, connection: u8, name: &[u8]) -> Result<(), 
         unnamed: false,
         closes: false,
     };
-    walk.take(&seen(number.saturating_add(3), connection, Note::CreateAsked(asked)))
+    walk.take(&seen(
+        number.saturating_add(3),
+        connection,
+        Note::CreateAsked(asked),
+    ))
 }
 
 // The server grants it.
@@ -133,7 +137,10 @@ fn names_tell_files_apart(rt: HostRuntime) -> Result<(), Fail> {
     grant(&mut walk, 5, 1, Level::Writes)?;
     ask(&mut walk, 7, 2, b"F\0")?;
     grant(&mut walk, 11, 2, Level::Something)?;
-    assert_eq!(&rt; files_in(alloc, walk.events())?.as_slice(), [5, 11].as_slice());
+    assert_eq!(&rt;
+        files_in(alloc, walk.events())?.as_slice(),
+        [5, 11].as_slice()
+    );
     Ok(())
 }
 
@@ -229,9 +236,16 @@ fn gaps_and_renames_are_not_judged(rt: HostRuntime) -> Result<(), Fail> {
     walk.take(&seen(6, 1, Note::RenameAsked(9)))?;
     ask(&mut walk, 7, 2, b"f\0")?;
     grant(&mut walk, 11, 2, Level::Something)?;
-    assert_eq!(&rt; files_in(alloc, walk.events())?.as_slice(), [5, 11].as_slice());
+    assert_eq!(&rt;
+        files_in(alloc, walk.events())?.as_slice(),
+        [5, 11].as_slice()
+    );
     walk.take(&seen(12, 1, Note::Gap))?;
-    assert_eq!(&rt; walk.events().last(), Some(&Event::Lost(1)));
+    let loss = Loss {
+        client: 1,
+        reason: NotJudged::Missing,
+    };
+    assert_eq!(&rt; walk.events().last(), Some(&Event::Lost(loss)));
     assert_eq!(&rt; chains_on(alloc, 5, walk.events())?.len(), 0);
     Ok(())
 }
