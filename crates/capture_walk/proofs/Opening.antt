@@ -1,5 +1,6 @@
 -- The opens that there are, by the messages that made them.
-use Rattle.std.proofs.Common.{◌≡◌, ◌⊎◌, inl, inr, Bool, true, false, not, List, [], ◌∷◌, ◌++◌, Option, Some, None, filter, refl, ap, sym}
+use Rattle.std.proofs.Common.{◌≡◌, ◌⊎◌, inl, inr, Bool, true, false}
+use Rattle.std.proofs.Common.{not, List, [], ◌∷◌, ◌++◌, Option, Some, None, filter, refl, ap, sym}
 use Rattle.std.proofs.Common.{subst, if◌then◌else◌, option_to_list, ◌∙◌}
 use Rattle.std.specs.List.{AllByRecursion}
 use Rattle.capture_walk.specs.Opens.{opens, made, ends, is_left}

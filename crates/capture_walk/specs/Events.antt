@@ -84,7 +84,10 @@ is_disputed seen lease one =
     is_under lease.client lease.key.0 one.lease && not (is_of lease one.lease && one.connection == seen.connection)
 
 abbrev pub disputed : Seen → Lease → List Open → List Event
-disputed seen lease held = if list_any (is_disputed seen lease) held then event.Lost (record { client = lease.client; reason = reason.Disputed }) ∷ [] else []
+disputed seen lease held =
+    if list_any (is_disputed seen lease) held
+    then event.Lost (record { client = lease.client; reason = reason.Disputed }) ∷ []
+    else []
 
 abbrev pub granted_lease : Seen → LeaseGiven → Lease → List Event
 granted_lease seen given lease =

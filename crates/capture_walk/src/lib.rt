@@ -16,7 +16,8 @@
 //! }
 //! ```
 //!
-//! What isn't sure is left out, so that nobody is charged by it: a client that isn't judged has no chains, and `NotJudged` says why.
+//! What isn't sure is left out, so that nobody is charged by it: a client that isn't judged has no chains, and `NotJudged` says
+//! why.
 #![tactic(auto)]
 
 mod chains;
