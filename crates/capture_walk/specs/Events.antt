@@ -131,40 +131,54 @@ abbrev pub lost_of : Option ℕ → List Event
 lost_of None = []
 lost_of (Some client) = event.Lost (record { client = client; reason = reason.Missing }) ∷ []
 
-abbrev pub acknowledged : Seen → Level → Option Lease → List Event
-acknowledged seen level None = []
-acknowledged seen level (Some lease) =
-    event.Acknowledged (record { lease = lease; level = level; last = seen.latest }) ∷ []
+-- the last break of a lease
+abbrev pub last_break : Lease → Option Sent → List Event → Option Sent
+last_break lease found [] = found
+last_break lease found (event.Broken one ∷ later) =
+    last_break lease (if is_same one.lease lease then Some one.sent else found) later
+last_break lease found (_ ∷ later) = last_break lease found later
+
+-- an acknowledgment shows that the break was taken
+abbrev pub taken_break : Seen → Option Sent → List Event
+taken_break seen None = []
+taken_break seen (Some sent) =
+    event.Taken (record { connection = sent.connection; number = sent.number; last = seen.latest }) ∷ []
+
+abbrev pub acknowledged : Seen → Level → Option Lease → List Event → List Event
+acknowledged seen level None before = []
+acknowledged seen level (Some lease) before =
+    event.Acknowledged (record { lease = lease; level = level; last = seen.latest })
+    ∷ taken_break seen (last_break lease None before)
 
 abbrev pub accepted : Option Lease → List Event
 accepted None = []
 accepted (Some lease) = event.Accepted lease ∷ []
 
--- by what it is, its connection's client, the open that it makes, and the opens before it
-abbrev pub told_by : Note → Seen → Option ℕ → Option Open → List Open → List Event
-told_by (note.CreateGiven given) seen client one held = granted_of seen given.lease (lease_made one) held
-told_by (note.OnOpen name) seen client one held =
+-- by what it is, its connection's client, the open that it makes, and the opens and the events before it
+abbrev pub told_by : Note → Seen → Option ℕ → Option Open → List Open → List Event → List Event
+told_by (note.CreateGiven given) seen client one held before = granted_of seen given.lease (lease_made one) held
+told_by (note.OnOpen name) seen client one held before =
     proof_of seen (open_named seen.server name.session name.file_id held)
-told_by (note.Close name) seen client one held =
+told_by (note.Close name) seen client one held before =
     proof_of seen (open_named seen.server name.session name.file_id held)
-told_by (note.Acknowledge given) seen client one held =
-    acknowledged seen given.level (lease_under client given.key.0 held)
-told_by (note.Accepted key) seen client one held = accepted (lease_under client key.0 held)
-told_by (note.Break break) seen client one held = broken seen break client held
-told_by note.Gap seen client one held = lost_of client
-told_by _ seen client one held = []
+told_by (note.Acknowledge given) seen client one held before =
+    acknowledged seen given.level (lease_under client given.key.0 held) before
+told_by (note.Accepted key) seen client one held before = accepted (lease_under client key.0 held)
+told_by (note.Break break) seen client one held before = broken seen break client held
+told_by note.Gap seen client one held before = lost_of client
+told_by _ seen client one held before = []
 
 -- ---- all events
 
--- what a message shows after those before it
-abbrev pub events_of : Seen → List Seen → List Event
-events_of seen past =
-    ended seen (opens past) ++ told_by seen.note seen (client_of seen.connection past) (made seen past) (opens past)
+-- the events after a message, where the leases that end with it are among those before
+abbrev pub with_told : Seen → List Seen → List Event → List Event
+with_told seen past before =
+    before ++ told_by seen.note seen (client_of seen.connection past) (made seen past) (opens past) before
 
 -- in the order of the capture
 abbrev pub events : List Seen → List Event
 events [] = []
-events (seen ∷ past) = events past ++ events_of seen past
+events (seen ∷ past) = with_told seen past (events past ++ ended seen (opens past))
 
 -- The walk knows what these messages show.
 pub record Knows (past : List Seen) (walk : Walk) : Type 0 where

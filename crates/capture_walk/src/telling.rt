@@ -1,7 +1,7 @@
-ghost use Rattle.std.specs.Prelude.{◌≡◌, ◌++◌, OnOk};
+ghost use Rattle.std.specs.Prelude.{◌≡◌, None, ◌++◌, OnOk};
 ghost use Rattle.std.specs.List.{list_any, flat_map};
 ghost use Rattle.capture_walk.specs.Events.{lease_under, open_named, keeps, ended_by, ended, proof_of, sent_at};
-ghost use Rattle.capture_walk.specs.Events.{is_disputed, disputed};
+ghost use Rattle.capture_walk.specs.Events.{is_disputed, disputed, last_break, taken_break};
 ghost use Rattle.capture_walk.specs.Events.{granted_lease, granted_of, lease_made, lost_under, broken_of, broken, lost_of};
 ghost use Rattle.capture_walk.specs.Events.{acknowledged, accepted, told_by, is_under, is_of};
 ghost use Rattle.capture_walk.specs.declared.event.Event.TheVariants as event;
@@ -266,22 +266,58 @@ fn push_broken(
     }
 }
 
+// The last break of a lease.
+fn last_break(events: &[Event], lease: Lease) -> Option<Sent>
+    ensures { result ≡ last_break lease None events.now }
+{
+    let mut found = None;
+    for event in events {
+        if let Event::Broken(one) = event {
+            if one.lease.is(lease) {
+                found = Some(one.sent);
+            }
+        }
+    }
+    found
+}
+
+// That a break was taken.
+fn push_taken_break(
+    events: &mut Vec<Event>,
+    seen: &Seen<'_>,
+    sent: Option<Sent>,
+) -> Result<(), Memory>
+    ensures { OnOk result (events.new.items ≡ events.old.items ++ taken_break seen.now sent) }
+{
+    if let Some(sent) = sent {
+        events.push(Event::Taken(Proof {
+            connection: sent.connection,
+            number: sent.number,
+            last: seen.latest,
+        }))?;
+    }
+    Ok(())
+}
+
 fn push_acknowledged(
     events: &mut Vec<Event>,
     seen: &Seen<'_>,
     given: KeyLevel,
     lease: Option<Lease>,
 ) -> Result<(), Memory>
-    ensures { OnOk result (events.new.items ≡ events.old.items ++ acknowledged seen.now given.level lease) }
+    ensures { OnOk result (events.new.items
+        ≡ events.old.items ++ acknowledged seen.now given.level lease events.old.items) }
 {
-    if let Some(lease) = lease {
-        events.push(Event::Acknowledged(Acknowledged {
-            lease,
-            level: given.level,
-            last: seen.latest,
-        }))?;
-    }
-    Ok(())
+    let Some(lease) = lease else {
+        return Ok(());
+    };
+    let sent = last_break(events, lease);
+    events.push(Event::Acknowledged(Acknowledged {
+        lease,
+        level: given.level,
+        last: seen.latest,
+    }))?;
+    push_taken_break(events, seen, sent)
 }
 
 fn push_accepted(events: &mut Vec<Event>, lease: Option<Lease>) -> Result<(), Memory>
@@ -316,7 +352,8 @@ pub(crate) fn push_told(
     made: Option<Open>,
     opens: &[Open],
 ) -> Result<(), Memory>
-    ensures { OnOk result (events.new.items ≡ events.old.items ++ told_by seen.now.note seen.now client made opens.now) }
+    ensures { OnOk result (events.new.items ≡ events.old.items ++ told_by seen.now.note seen.now client made opens.now
+        events.old.items) }
 {
     match seen.note {
         Note::CreateGiven(given) => push_granted(

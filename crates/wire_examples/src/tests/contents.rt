@@ -67,7 +67,7 @@ fn breaks_are_read(rt: HostRuntime) -> Result<(), Fail> {
     assert_eq!(&rt; content(&accepted), Ok(Content::Response(accepts)));
     // an acknowledgment of an oplock break
     let oplock = message(rt.alloc(), 18, 0, b"\x18\0\x01\0\0\0\0\0aaaaaaaabbbbbbbb")?;
-    assert_eq!(&rt; content(&oplock), Ok(Content::Request(Request::Other)));
+    assert!(&rt; matches!(content(&oplock), Ok(Content::Request(Request::Other))));
     Ok(())
 }
 

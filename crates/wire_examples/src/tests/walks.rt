@@ -294,3 +294,32 @@ fn compounds_go_by_the_ids_of_the_first(rt: HostRuntime) -> Result<(), Fail> {
     assert!(&rt; walk.place_of(1).is_none());
     Ok(())
 }
+
+// The grant at 10 isn't used, but the break behind it is acknowledged at 13, though not accepted.
+#[test]
+fn an_acknowledgment_shows_what_was_taken(rt: HostRuntime) -> Result<(), Fail> {
+    let alloc = rt.alloc();
+    let mut walk = Walk::new(alloc);
+    ask(&mut walk, 1, 1, b"f\0")?;
+    grant(&mut walk, 5, 1, Level::Writes)?;
+    let breaks = BreakNote {
+        key: key(1),
+        level: Level::Something,
+        acknowledged: true,
+    };
+    walk.take(&seen(6, 1, Note::Break(breaks)))?;
+    let keeps = KeyLevel {
+        key: key(1),
+        level: Level::Something,
+    };
+    walk.take(&seen(7, 1, Note::Acknowledge(keeps)))?;
+    let change = |level, first, last| Change { level, first, last };
+    let wanted = [
+        change(Level::Writes, 10, Some(13)),
+        change(Level::Something, 12, Some(13)),
+        change(Level::Nothing, 12, None),
+    ];
+    let changes = only_chain(alloc, &walk, 5)?;
+    assert!(&rt; changes.is_some_and(|changes| changes.as_slice() == wanted.as_slice()));
+    Ok(())
+}
