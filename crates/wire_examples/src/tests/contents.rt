@@ -14,13 +14,23 @@ const FILE_ID: Smb2FileId = Smb2FileId {
     volatile: 6,
 };
 
-// A message of a command, from the client (0) or the server (1), with this body after its header. It has MessageId 9.
-fn message(alloc: Global, command: u8, flags: u8, body: &[u8]) -> Result<Vec<u8>, Fail> {
-    let mut message = Vec::from_slice(alloc, b"\xfeSMB\x40\0")?;
-    message.extend_from_slice(&[0; 58])?;
-    message[12] = command;
-    message[16] = flags;
-    message[24] = 9;
+// MessageId 9, and that of a message that answers no request.
+const ASKED: &[u8; 8] = b"\x09\0\0\0\0\0\0\0";
+
+const UNASKED: &[u8; 8] = &[0xff; 8];
+
+// A message of a command, from the client (0) or the server (1), with this MessageId and this body after its header.
+fn message(
+    alloc: Global,
+    command: u8,
+    flags: u8,
+    id: &[u8; 8],
+    body: &[u8],
+) -> Result<Vec<u8>, Fail> {
+    let mut message = Vec::from_slice(alloc, b"\xfeSMB\x40\0\0\0\0\0\0\0")?;
+    message.extend_from_slice(&[command, 0, 0, 0, flags, 0, 0, 0, 0, 0, 0, 0])?;
+    message.extend_from_slice(id)?;
+    message.extend_from_slice(&[0; 32])?;
     message.extend_from_slice(body)?;
     Ok(message)
 }
@@ -33,21 +43,22 @@ fn content(bytes: &[u8]) -> Result<Content<'_>, Unreadable> {
 fn requests_are_read_by_their_command(rt: HostRuntime) -> Result<(), Fail> {
     // StructureSize 24, Flags, FileId
     let body = b"\x18\0\0\0\0\0\0\0\x05\0\0\0\0\0\0\0\x06\0\0\0\0\0\0\0";
-    let close = message(rt.alloc(), 6, 0, body)?;
+    let close = message(rt.alloc(), 6, 0, ASKED, body)?;
     let closes = Request::Close(CloseRequest { file_id: FILE_ID });
     assert_eq!(&rt; content(&close), Ok(Content::Request(closes)));
-    let flush = message(rt.alloc(), 7, 0, body)?;
+    let mut flush = message(rt.alloc(), 7, 0, ASKED, body)?;
     assert_eq!(&rt;
         content(&flush),
         Ok(Content::Request(Request::OnOpen(FILE_ID)))
     );
+    flush.truncate(87);
     assert_eq!(&rt;
-        content(&flush[..87]),
+        content(&flush),
         Err(Unreadable::Message(MessageFault::Short))
     );
-    let echo = message(rt.alloc(), 13, 0, b"\x04\0\0\0")?;
+    let echo = message(rt.alloc(), 13, 0, ASKED, b"\x04\0\0\0")?;
     assert_eq!(&rt; content(&echo), Ok(Content::Request(Request::Other)));
-    let answer = message(rt.alloc(), 6, 1, body)?;
+    let answer = message(rt.alloc(), 6, 1, ASKED, body)?;
     assert_eq!(&rt; content(&answer), Ok(Content::Response(Response::Other)));
     assert_eq!(&rt; Command::of(18), Command::OplockBreak);
     Ok(())
@@ -59,14 +70,20 @@ fn breaks_are_read(rt: HostRuntime) -> Result<(), Fail> {
     let body = b"\x24\0\0\0\0\0\0\0\0\x01\x02\x03\x04\x05\x06\x07\x08\x09\x0a\x0b\x0c\x0d\x0e\x0f\
 \x01\0\0\0\0\0\0\0\0\0\0\0";
     let (key, state) = (KEY, LeaseState::from_wire(1));
-    let given = message(rt.alloc(), 18, 0, body)?;
+    let given = message(rt.alloc(), 18, 0, ASKED, body)?;
     let acknowledges = Request::Acknowledge(Acknowledgment { key, state });
     assert_eq!(&rt; content(&given), Ok(Content::Request(acknowledges)));
-    let accepted = message(rt.alloc(), 18, 1, body)?;
+    let accepted = message(rt.alloc(), 18, 1, ASKED, body)?;
     let accepts = Response::Accepted(BreakResponse { key, state });
     assert_eq!(&rt; content(&accepted), Ok(Content::Response(accepts)));
     // an acknowledgment of an oplock break
-    let oplock = message(rt.alloc(), 18, 0, b"\x18\0\x01\0\0\0\0\0aaaaaaaabbbbbbbb")?;
+    let oplock = message(
+        rt.alloc(),
+        18,
+        0,
+        ASKED,
+        b"\x18\0\x01\0\0\0\0\0aaaaaaaabbbbbbbb",
+    )?;
     assert!(&rt; matches!(content(&oplock), Ok(Content::Request(Request::Other))));
     Ok(())
 }
@@ -79,9 +96,10 @@ fn a_notification_answers_no_request(rt: HostRuntime) -> Result<(), Fail> {
         current: LeaseState::from_wire(7),
         new: LeaseState::from_wire(3),
     };
-    let mut bytes = message(rt.alloc(), 18, 1, &notification.encode())?;
-    assert_eq!(&rt; content(&bytes), Ok(Content::Response(Response::Other)));
-    bytes[24..32].copy_from_slice(&[0xff; 8]);
+    let body = notification.encode();
+    let asked = message(rt.alloc(), 18, 1, ASKED, &body)?;
+    assert!(&rt; matches!(content(&asked), Ok(Content::Response(Response::Other))));
+    let bytes = message(rt.alloc(), 18, 1, UNASKED, &body)?;
     let breaks = Response::Break(notification);
     assert_eq!(&rt; content(&bytes), Ok(Content::Response(breaks)));
     Ok(())
@@ -90,16 +108,15 @@ fn a_notification_answers_no_request(rt: HostRuntime) -> Result<(), Fail> {
 // StructureSize 57, and what this test doesn't look at; no name, and 80 bytes of contexts at 120: RqLs of version 2.
 #[test]
 fn contexts_of_version_2_are_found(rt: HostRuntime) -> Result<(), Fail> {
-    let mut body = Vec::from_slice(rt.alloc(), &[0; 56])?;
-    body[0] = 57;
-    body[48] = 120;
-    body[52] = 80;
+    let mut body = Vec::from_slice(rt.alloc(), b"\x39\0")?;
+    body.extend_from_slice(&[0; 46])?;
+    body.extend_from_slice(b"\x78\0\0\0\x50\0\0\0")?;
     body.extend_from_slice(
         b"\0\0\0\0\x10\0\x04\0\0\0\x18\0\x34\0\0\0RqLs\0\0\0\0\
 \0\x01\x02\x03\x04\x05\x06\x07\x08\x09\x0a\x0b\x0c\x0d\x0e\x0f\x07\0\0\0\0\0\0\0\0\0\0\0\0\0\0\0\
 pppppppppppppppp\x02\x01\0\0\0\0\0\0",
     )?;
-    let bytes = message(rt.alloc(), 5, 0, &body)?;
+    let mut bytes = message(rt.alloc(), 5, 0, ASKED, &body)?;
     let lease = LeaseContext {
         key: KEY,
         state: LeaseState::from_wire(7),
@@ -116,8 +133,9 @@ pppppppppppppppp\x02\x01\0\0\0\0\0\0",
         read_create_contexts(Direction::Request, &bytes),
         Ok(wanted)
     );
+    bytes.truncate(190);
     assert_eq!(&rt;
-        read_message(&bytes[..190]).err(),
+        read_message(&bytes).err(),
         Some(Unreadable::Contexts(WireFault::BadData(120)))
     );
     Ok(())

@@ -6,8 +6,9 @@ use capture_walk::{
     NotJudged, Note, OpenName, Seen, TreeAsked, TreeGiven, Walk, chains_on, closed_behind,
     files_in, ids_of, level_of, note_of, read_frame,
 };
-use capture_wire::{Guid, MessageFault, Smb2FileId, Unreadable};
+use capture_wire::{Guid, Smb2FileId};
 use lease_state::{LeaseKey, LeaseState, Memory};
+use lease_wire::WireFault;
 use std::alloc::Global;
 use std::test::Fail;
 
@@ -254,31 +255,46 @@ fn gaps_and_renames_are_not_judged(rt: HostRuntime) -> Result<(), Fail> {
 #[test]
 fn compounds_go_by_the_ids_of_the_first(rt: HostRuntime) -> Result<(), Fail> {
     let alloc = rt.alloc();
-    let mut bytes = Vec::from_slice(alloc, b"\xfeSMB\x40\0")?;
-    bytes.extend_from_slice(&[0; 114])?;
-    bytes[12] = 5;
-    bytes[20] = 120;
-    bytes[36] = 7;
-    bytes[40] = 3;
-    bytes[64] = 57;
-    bytes.extend_from_slice(b"\xfeSMB\x40\0")?;
-    bytes.extend_from_slice(&[0; 58])?;
-    bytes[132] = 6;
-    bytes[136] = 4;
+    let mut bytes = Vec::from_slice(
+        alloc,
+        b"\xfeSMB\x40\0\0\0\0\0\0\0\x05\0\0\0\0\0\0\0\x78\0\0\0",
+    )?;
+    bytes.extend_from_slice(b"\0\0\0\0\0\0\0\0\0\0\0\0\x07\0\0\0\x03\0\0\0\0\0\0\0")?;
+    bytes.extend_from_slice(&[0; 16])?;
+    bytes.extend_from_slice(b"\x39\0")?;
+    bytes.extend_from_slice(&[0; 54])?;
+    bytes.extend_from_slice(b"\xfeSMB\x40\0\0\0\0\0\0\0\x06\0\0\0\x04\0\0\0\0\0\0\0")?;
+    bytes.extend_from_slice(&[0; 40])?;
     bytes.extend_from_slice(b"\x18\0\0\0\0\0\0\0")?;
     bytes.extend_from_slice(&[0xff; 16])?;
     let messages = read_frame(alloc, &bytes)?;
     assert_eq!(&rt; messages.len(), 2);
-    let ids = ids_of(&messages[0], None);
+    let Some((first, later)) = messages.split_first() else {
+        return Ok(());
+    };
+    let ids = ids_of(first, None);
     assert_eq!(&rt; ids.session, 3);
-    assert!(&rt; closed_behind(&messages[1..]));
-    let related = ids_of(&messages[1], Some(ids));
-    assert_eq!(&rt; related, ids);
-    assert_eq!(&rt; note_of(&messages[1], related, false), Note::Other);
-    assert_eq!(&rt;
-        read_frame(alloc, &bytes[..200]).err(),
-        Some(FrameFault::Message(Unreadable::Message(MessageFault::Short)))
-    );
+    assert!(&rt; closed_behind(later));
+    for message in later {
+        let related = ids_of(message, Some(ids));
+        assert_eq!(&rt; related, ids);
+        assert!(&rt; matches!(note_of(message, related, false), Note::Other));
+    }
+    Ok(())
+}
+
+// The same, as they are taken, and where the frame is cut off.
+#[test]
+fn frames_are_taken_whole(rt: HostRuntime) -> Result<(), Fail> {
+    let alloc = rt.alloc();
+    let mut bytes = Vec::from_slice(
+        alloc,
+        b"\xfeSMB\x40\0\0\0\0\0\0\0\x06\0\0\0\0\0\0\0\0\0\0\0",
+    )?;
+    bytes.extend_from_slice(&[0; 40])?;
+    bytes.extend_from_slice(b"\x18\0\0\0\0\0\0\0")?;
+    bytes.extend_from_slice(&[1; 16])?;
+    let messages = read_frame(alloc, &bytes)?;
     assert_eq!(&rt; level_of(LeaseState::from_wire(3)), Level::Something);
 
     let mut walk = Walk::new(alloc);
@@ -292,6 +308,9 @@ fn compounds_go_by_the_ids_of_the_first(rt: HostRuntime) -> Result<(), Fail> {
     walk.take_frame(&frame, &messages)?;
     assert_eq!(&rt; walk.events().len(), 0);
     assert!(&rt; walk.place_of(1).is_none());
+    let cut = Vec::from_slice(alloc, b"\xfeSMB\x40")?;
+    let short = FrameFault::Header(WireFault::Short(0));
+    assert_eq!(&rt; read_frame(alloc, &cut).err(), Some(short));
     Ok(())
 }
 
