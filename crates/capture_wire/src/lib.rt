@@ -5,7 +5,8 @@
 //!
 //! A reader of a message is given the message from its header on, since offsets in it count from there;
 //! `lease_wire::first_message` splits a compound into its messages, and `lease_wire::contexts_of_create` finds create contexts.
-//! A reader looks at the layout alone: which message it is has to be known, by `read_header`.
+//! `read_message` reads any message by its command and direction. The other readers look at the layout alone: which message it
+//! is has to be known, by `read_header`.
 //!
 //! ```
 //! let mut message = [0; 88];
