@@ -89,7 +89,7 @@ pub struct Proof {
 pub enum NotJudged {
     /// Something of one of its connections is missing, or can't be read.
     Missing,
-    /// It has a lease under one key on two files, or what it is told of a lease comes over several connections, which have no
+    /// It has a lease under one key on two files, or what it learns of a lease comes over several connections, which have no
     /// order between them.
     Disputed,
     /// A break under the key of one of its leases came over a connection of which it isn't known whose it is.

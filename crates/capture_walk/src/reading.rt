@@ -35,7 +35,7 @@ pub enum Named {
     /// The one that a CREATE of the same compound makes.
     Created,
     Open(Smb2FileId),
-    /// A related request has a FileId of its own, beside that of the request before it.
+    /// A related request has a FileId of its own, and not that of the request before it.
     Unclear,
 }
 
@@ -127,7 +127,7 @@ pub fn ids_of(message: &Message<'_>, before: Option<Ids>) -> Ids
     ids_by(&message.header, own_named(&message.content), before)
 }
 
-/// Whether a CLOSE among the messages behind a CREATE in its compound closes what it opens.
+/// Whether a CLOSE among the messages after a CREATE in its compound closes what it opens.
 pub fn closed_behind(later: &[Message<'_>]) -> bool
     ensures { result ≡ reading.closed_behind later.now }
 {
@@ -336,7 +336,7 @@ fn response_note<'a>(header: &Header, response: &Response) -> Note<'a>
     }
 }
 
-/// What a message tells the walk, by the ids that it goes by, and whether a CREATE is closed in the same compound.
+/// What a message says to the walk, by the ids that it goes by, and whether a CREATE is closed in the same compound.
 pub fn note_of<'a>(message: &Message<'a>, ids: Ids, closes: bool) -> Note<'a>
     ensures { result ≡ reading.note_of message.now ids closes }
 {

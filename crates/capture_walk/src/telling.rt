@@ -344,7 +344,7 @@ fn lease_made(made: Option<Open>) -> Option<Lease>
     made?.lease
 }
 
-/// What a message tells besides, by the client of its connection, the open that it makes, and the opens before it.
+/// What a message shows besides, by the client of its connection, the open that it makes, and the opens before it.
 pub(crate) fn push_told(
     events: &mut Vec<Event>,
     seen: &Seen<'_>,

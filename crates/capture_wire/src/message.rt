@@ -66,7 +66,7 @@ pub enum Response {
     Create(CreateResponse, CreateContexts),
     /// A notification of a lease break, which answers no request.
     Break(Notification),
-    /// That an acknowledgment of a lease break is accepted.
+    /// An acknowledgment of a lease break is accepted.
     Accepted(BreakResponse),
     /// Any other: the header has its Status.
     Other,
@@ -260,7 +260,7 @@ fn read_content<'a>(header: &Header, message: &'a [u8]) -> Result<Content<'a>, U
 /// # Errors
 ///
 /// The fault of the header, or else that of what the command has: a request is refused as its reader refuses it, and so is a
-/// response of STATUS_SUCCESS to NEGOTIATE or CREATE; of other responses nothing is read behind the header. Requests that only
+/// response of STATUS_SUCCESS to NEGOTIATE or CREATE; of other responses nothing is read after the header. Requests that only
 /// name an open are refused with `Short` where they end within its FileId.
 pub fn read_message(bytes: &[u8]) -> Result<Message<'_>, Unreadable>
     ensures refused { result_err result ≡ unreadable_of bytes.now }
