@@ -1,9 +1,10 @@
 -- Facts of the code as the definitions see them; their kinds, and the words that their lines begin with.
-use Rattle.std.specs.Prelude.{ℕ, List, [], ◌∷◌, codes, bytes_eq, if◌then◌else◌, Option, Some, None}
+use Rattle.std.specs.Prelude.{◌≡◌, ℕ, List, [], ◌∷◌, codes, bytes_eq, if◌then◌else◌, Option, Some, None}
 use Rattle.lease_state.specs.State.{state_of}
 use Rattle.lease_client.specs.Answers.{settlement_of}
 use Rattle.lease_model.specs.records.Facts as model
 use Rattle.lease_state.specs.declared.number.ClientNo.{ClientNo}
+use Rattle.lease_state.specs.declared.number.FileNo.{FileNo}
 use Rattle.lease_facts.specs.declared.fact.Fact as fact
 use Rattle.lease_facts.specs.declared.fact.ClientFact.{ClientFact}
 use Rattle.lease_facts.specs.declared.fact.ClientFact.TheVariants as told
@@ -94,6 +95,10 @@ client_of (fact.TheVariants.Settled client number outcome) = Some client
 client_of (fact.TheVariants.Believes client file state) = Some client
 client_of (fact.TheVariants.CachedRead client file bytes) = Some client
 client_of (fact.TheVariants.Strayed client) = Some client
+
+-- the fact starts a file: no other kind is about no client
+abbrev pub IsStart : fact.Fact → Type 0
+IsStart one = (file : FileNo) × (bytes : List ℕ) × (one ≡ fact.TheVariants.Start file bytes)
 
 -- the same of a fact as the definitions see it
 abbrev pub client_about : model.Fact → Option ℕ

@@ -1,5 +1,5 @@
-ghost use Rattle.std.specs.Prelude.{◌≡◌};
-ghost use Rattle.lease_facts.specs.Facts.{fact_of, client_about, client_number, kind_of, client_of, client_word, client_deed};
+ghost use Rattle.std.specs.Prelude.{◌≡◌, ◌↔◌, None};
+ghost use Rattle.lease_facts.specs.Facts.{IsStart, fact_of, client_about, client_number, kind_of, client_of, client_word, client_deed};
 ghost use Rattle.lease_facts.specs.Facts.{client_fact, client_named, kind_word, facts_listed};
 
 use crate::words::is;
@@ -88,6 +88,7 @@ impl Fact {
     pub fn client(&self) -> Option<ClientNo>
         ensures value { result ≡ client_of self.now }
         ensures number { client_number result ≡ client_about (fact_of self.now) }
+        ensures none { (result ≡ None) ↔ IsStart self.now }
     {
         match self {
             Fact::Start(_, _) => None,
