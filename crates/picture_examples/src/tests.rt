@@ -176,7 +176,13 @@ fn lanes_stand_by_their_numbers_around_the_server(rt: HostRuntime) -> Result<(),
     let placed = read_placed(alloc, b"joined 255\njoined 2\njoined 1\n")?;
     let notes = String::from_str(alloc, "one\ntwo\n")?;
     let picture = picture_of(alloc, placed.facts.as_slice(), &[], notes, &[], &[])?;
-    assert_eq!(rt; picture.size, Size { width: 1320, height: 244 });
+    assert_eq!(rt;
+        picture.size,
+        Size {
+            width: 1320,
+            height: 244
+        }
+    );
     let mut text = String::new(alloc);
     push_picture(&mut text, &picture)?;
     let drawn = text.as_str();
