@@ -169,11 +169,43 @@ static void of_rules(void) {
     smblease_server_free(&server);
 }
 
+/* A durable open of client 2 on file 1 waits for its client; and a server takes the place of another one. */
+static void of_kept_opens(void) {
+    struct smblease_files files = {0};
+    struct smblease_server server = {0};
+    struct smblease_client client = {0};
+    struct smblease_guid guid = {{2}};
+    struct smblease_open_terms terms = {7, 1, 3, 3, 1, {0}};
+    struct smblease_client_request request = {0};
+    uint64_t kept = 0;
+    uint8_t room[200] = {0};
+    IS(smblease_client_new(&client, &guid, 2), SMBLEASE_DONE);
+    IS(smblease_client_connect(&client), SMBLEASE_DONE);
+    IS(smblease_client_open(&client, &terms), SMBLEASE_DONE);
+    IS(smblease_client_request_at(&client, 0, &request, room, sizeof room), SMBLEASE_DONE);
+    for (int k = 0; k < 2; k++) {
+        IS(smblease_files_add(&files, NULL, 0), SMBLEASE_DONE);
+        IS(smblease_files_add(&files, NULL, 0), SMBLEASE_DONE);
+        IS(smblease_server_new(&server, &files), SMBLEASE_DONE);
+        IS(smblease_server_join(&server, 2), SMBLEASE_DONE);
+    }
+    IS(smblease_server_receive_create(&server, 2, 1, 3, 3, room, request.length), SMBLEASE_DONE);
+    IS(smblease_server_kept(&server, 2, 1, &kept), SMBLEASE_NO_SUCH);
+    IS(smblease_server_cut(&server, 2), SMBLEASE_DONE);
+    IS(smblease_server_kept(&server, 1, 2, &kept), SMBLEASE_NO_SUCH);
+    IS(kept, 0);
+    IS(smblease_server_kept(&server, 2, 1, &kept), SMBLEASE_DONE);
+    IS(kept, 1);
+    smblease_server_free(&server);
+    smblease_client_free(&client);
+}
+
 int main(void) {
     of_no_client();
     of_a_client();
     of_answers();
     of_a_server();
     of_rules();
+    of_kept_opens();
     return wrong;
 }

@@ -177,6 +177,15 @@ class Picture:
             column = 1 + (int(fact.words[2]) - 1) % 8
             assert (number(bar, "x"), number(bar, "width")) == (self.lanes[fact.client] - 10 * column, 8), place
 
+    def look_at_lanes(self) -> None:
+        """Each reaches from the first row to below the last one."""
+        whole = edge(0) + ROW // 2, edge(self.rows[-1]) + ROW // 2
+        expected = {"lane": {(self.lanes[str(it)], *whole) for it in self.clients}, "connection": {(self.lanes[None], *whole)}}
+        for kind, lanes in expected.items():
+            lines = map(ends, self.root.findall(f"{SVG}line[@class='{kind}']"))
+            found = {(one[0], one[1], two[1]) for one, two in lines}
+            assert {it for it in found if kind == "lane" or it[0] == self.lanes[None]} == lanes, (found, lanes)
+
     def look_at_connections(self) -> None:
         rows = [edge(it) + ROW // 2 for it in self.rows]
         for client in map(str, self.clients):
@@ -205,5 +214,6 @@ class Picture:
         self.look_at_requests()
         self.look_at_arrows()
         self.look_at_beliefs()
+        self.look_at_lanes()
         self.look_at_connections()
         assert {it.tag for it in self.root.iter()} <= ELEMENTS

@@ -52,11 +52,12 @@ def test_each_call_fails(name: str) -> None:
     pytest.fail("it never ends as it does where no call fails")
 
 
+@pytest.mark.parametrize("more", ["0", "1", "5"])
 @pytest.mark.parametrize("name", SHORT)
-def test_each_call_is_interrupted(name: str) -> None:
-    """It is made again, and nothing is lost."""
+def test_each_call_is_interrupted(name: str, more: str) -> None:
+    """It is made again, however often in a row, and nothing is lost."""
     words, _ = SHORT[name]
-    whole, env = run(words), {"LD_PRELOAD": shim("streams")}
+    whole, env = run(words), {"LD_PRELOAD": shim("streams"), "INTERRUPTIONS": more}
     assert [call for call in range(1, 20) if run(words, env={**env, "INTERRUPTED_CALL": str(call)}) != whole] == []
 
 
@@ -67,7 +68,7 @@ def test_calls_of_machines(name: str) -> None:
     whole, kinds = run([name], given), set()
     assert whole.status == 0 and whole.out
     for call in range(1, 100):
-        assert run([name], given, {**env, "INTERRUPTED_CALL": str(call)}) == whole, call
+        assert run([name], given, {**env, "INTERRUPTED_CALL": str(call), "INTERRUPTIONS": "2"}) == whole, call
         ended = run([name], given, {**env, "FAILING_CALL": str(call)})
         if ended == whole:
             break

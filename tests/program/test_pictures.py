@@ -45,6 +45,10 @@ def test_damaged_record(number: int, chooser: random.Random) -> None:
     check_record("".join(f"{it}\n" for it in damaged(chooser, lines)).encode("latin-1"))
 
 
+def test_long_record() -> None:
+    check_record(b"start 1 61\njoined 1\n" + b"sent 1\ntook 1\n" * 150)
+
+
 def test_no_record() -> None:
     check_record(b"")
 

@@ -13,7 +13,7 @@ import pytest
 
 from tests import needs
 from tests.paths import built_program
-from tests.program.ran import Ended, answered, run, unread
+from tests.program.ran import SAFE, Ended, answered, run, unread
 
 NOBODY = 65534
 LAST = {"replay": b"# safe\n", "judge": b"safe\n"}
@@ -34,6 +34,21 @@ def test_no_file(command: str, path: str, why: str) -> None:
 def test_name_that_is_quoted() -> None:
     name = 'no "file"\n\u00e9\\'
     assert run(["judge", name]) == unread(r"no \x22file\x22\x0a\xc3\xa9\x5c", MISSING)
+
+
+@pytest.mark.parametrize("name", [" judged", "judged ", "-x", "--", "@judged"])
+def test_names_are_taken_as_they_are(name: str, tmp_path: Path) -> None:
+    """The file next to it, whose name is nearly the same, isn't the one that is read."""
+    for path, text in ((tmp_path / "judged", b"took 1\n"), (tmp_path / name, b"")):
+        path.write_bytes(text)
+    assert run(["judge", tmp_path / name]) == Ended(0, SAFE)
+    assert run(["judge", tmp_path / "judged"]).status == 1
+
+
+def test_an_argument_that_is_no_text() -> None:
+    had = subprocess.run([built_program(), "judge", b"\xff"], capture_output=True, timeout=120, check=False)
+    assert (had.returncode, had.stdout) == (2, b"")
+    assert had.stderr == b"error: an argument is no text, or there is no memory for it\n"
 
 
 @COMMANDS

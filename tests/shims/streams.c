@@ -1,6 +1,6 @@
 /* Preloaded into a program: call FAILING_CALL of read and write, counted from 1, fails, and each later one too; call INTERRUPTED_CALL is
-   interrupted before anything is moved, and no other one; with ONE_BYTE set, a call moves one byte at most. Writes to standard error are
-   left alone, and not counted. */
+   interrupted before anything is moved, and as many after it as INTERRUPTIONS says, or none; with ONE_BYTE set, a call moves one byte at
+   most. Writes to standard error are left alone, and not counted. */
 #include <errno.h>
 #include <stdlib.h>
 #include <unistd.h>
@@ -11,9 +11,9 @@ static long calls;
 
 /* Why this call fails, or 0. */
 static int failure(void) {
-    const char *failing = getenv("FAILING_CALL"), *interrupted = getenv("INTERRUPTED_CALL");
+    const char *failing = getenv("FAILING_CALL"), *interrupted = getenv("INTERRUPTED_CALL"), *more = getenv("INTERRUPTIONS");
     calls++;
-    if (interrupted && calls == atol(interrupted)) return EINTR;
+    if (interrupted && calls >= atol(interrupted) && calls <= atol(interrupted) + (more ? atol(more) : 0)) return EINTR;
     return failing && calls >= atol(failing) ? EIO : 0;
 }
 

@@ -6,7 +6,8 @@ mod verdicts;
 mod words;
 
 use crate::tests::words::{joined, read, record, sent, start, took};
-use lease_world::{Judge, Rule, Verdict, judge_each};
+use lease_world::{Judge, Rule, RunFault, Verdict, judge_each};
+use std::alloc::Global;
 use std::test::Fail;
 
 // The sixth fact shows other bytes than the file had when the last message was sent, and then nothing mends it.
@@ -51,6 +52,20 @@ fn facts_are_judged_one_by_one(rt: HostRuntime) -> Result<(), Fail> {
         Verdict::Malformed { place: 2 }
     );
     assert_eq!(rt; judge_each(alloc, facts.iter().take(1))?, Verdict::Safe);
+    Ok(())
+}
+
+fn written(alloc: Global, fault: RunFault) -> Result<String, Fail> {
+    let text = format!(in alloc; "{fault}")?;
+    Ok(text)
+}
+
+#[test]
+fn faults_of_runs_have_numbers(rt: HostRuntime) -> Result<(), Fail> {
+    let alloc = rt.alloc();
+    assert_eq!(rt; written(alloc, RunFault::BadSetup)?.as_str(), "1 BadSetup");
+    assert_eq!(rt; written(alloc, RunFault::TooMany)?.as_str(), "2 TooMany");
+    assert_eq!(rt; written(alloc, RunFault::Memory)?.as_str(), "3 Memory");
     Ok(())
 }
 
