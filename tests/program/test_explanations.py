@@ -45,4 +45,5 @@ def test_of_several_rivals_the_earliest_is_named() -> None:
     readers = [line for client in (3, 1, 2) for line in (f"sent {client}", f"took {client}", f"believes {client} 1 R")]
     text = "".join(f"{it}\n" for it in ["start 1 61", *joined, *readers, "sent 4", "took 4", "believes 4 1 RW"])
     told = run(["judge", "--explain", "-"], text.encode()).out.decode().splitlines()
-    assert told[:3] == ["unsafe 17 1", "line 17: client 4 believes RW of file 1", "line 8: client 3 believes R of file 1, since here"]
+    assert told[:3] == ["unsafe 17 1", "line 17: client 4 believes RW of file 1",
+                        "line 8: client 3 believes R of file 1, since here"]
