@@ -42,8 +42,8 @@ def test_damaged_record(_number: int, chooser: random.Random) -> None:
 
 def test_of_several_rivals_the_earliest_is_named() -> None:
     joined = [f"joined {client}" for client in (1, 2, 3, 4)]
-    readers = [line for client in (3, 1, 2) for line in (f"sent {client}", f"took {client}", f"believes {client} 1 R")]
+    readers = [line for client in (2, 3, 1) for line in (f"sent {client}", f"took {client}", f"believes {client} 1 R")]
     text = "".join(f"{it}\n" for it in ["start 1 61", *joined, *readers, "sent 4", "took 4", "believes 4 1 RW"])
     told = run(["judge", "--explain", "-"], text.encode()).out.decode().splitlines()
     assert told[:3] == ["unsafe 17 1", "line 17: client 4 believes RW of file 1",
-                        "line 8: client 3 believes R of file 1, since here"]
+                        "line 8: client 2 believes R of file 1, since here"]

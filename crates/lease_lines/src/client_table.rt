@@ -1,4 +1,4 @@
-ghost use Rattle.std.specs.Prelude.{◌≡◌, ◌≤◌, ◌&&◌, nat_le, nat_lt, bytes_eq, [], IfOk, OnOk, length, map};
+ghost use Rattle.std.specs.Prelude.{◌≡◌, ◌≤◌, ◌&&◌, nat_le, nat_lt, bytes_eq, [], None, IfOk, IsOk, OnOk, length, map};
 ghost use Rattle.std.specs.List.{list_any};
 ghost use Rattle.std.specs.String.{string_bytes};
 ghost use Rattle.lease_client.specs.Known.{client_of};
@@ -122,8 +122,9 @@ impl ClientTable {
     }
 
     fn add_client(&mut self, alloc: Global, guid: [u8; 16]) -> Result<bool, Memory>
-        ensures { IfOk result (λ taken. Takes (with_client (clients_of self.old) guid (clients_of self.old).files) taken
+        ensures taken { IfOk result (λ taken. Takes (with_client (clients_of self.old) guid (clients_of self.old).files) taken
             (clients_of self.old) (clients_of self.new) [] []) }
+        ensures refused { with_client (clients_of self.old) guid (clients_of self.old).files ≡ None → IsOk result }
     {
         let Some(files) = self.files else {
             return Ok(false);
@@ -137,9 +138,10 @@ impl ClientTable {
 
     #[tactic(auto, unfolding(crate::specs::ClientTables::line_told))]
     fn take_line(&mut self, line: ClientLine, text: &mut String) -> Result<bool, Memory>
-        ensures { IfOk result
+        ensures taken { IfOk result
             (λ taken. Takes (line_told (clients_of self.old) line) taken (clients_of self.old) (clients_of self.new)
             (string_bytes text.old) (string_bytes text.new)) }
+        ensures refused { line_told (clients_of self.old) line ≡ None → IsOk result }
     {
         match line {
             ClientLine::Files(count) => Ok(self.set_files(count)),

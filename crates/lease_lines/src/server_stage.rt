@@ -1,4 +1,4 @@
-ghost use Rattle.std.specs.Prelude.{◌≡◌, ◌++◌, [], IfOk, OnOk};
+ghost use Rattle.std.specs.Prelude.{◌≡◌, ◌++◌, [], None, IfOk, IsOk, OnOk};
 ghost use Rattle.std.specs.String.{string_bytes};
 ghost use Rattle.lease_model.specs.server.Progress.{Progress};
 ghost use Rattle.share_server.specs.Outs.{IsAfter};
@@ -104,7 +104,9 @@ impl Stage {
 
     // One more file; none where the server has begun, or there is no number for it.
     fn add_file(self, alloc: Global, content: Content) -> Result<(Stage, bool), Memory>
-        ensures { IfOk result (λ r. Takes (with_file (stage_of self) content) r.1 (stage_of self) (stage_of r.0) [] []) }
+        ensures taken { IfOk result
+            (λ r. Takes (with_file (stage_of self) content) r.1 (stage_of self) (stage_of r.0) [] []) }
+        ensures refused { with_file (stage_of self) content ≡ None → IsOk result }
     {
         match self {
             Stage::Fresh => {
@@ -125,8 +127,9 @@ impl Stage {
 
     #[tactic(auto, unfolding(crate::specs::ServerTables::line_told))]
     fn take_line(self, line: ServerLine, text: &mut String) -> Result<(Stage, bool), Memory>
-        ensures { IfOk result (λ r. Takes (line_told (stage_of self) line) r.1 (stage_of self) (stage_of r.0)
+        ensures taken { IfOk result (λ r. Takes (line_told (stage_of self) line) r.1 (stage_of self) (stage_of r.0)
             (string_bytes text.old) (string_bytes text.new)) }
+        ensures refused { line_told (stage_of self) line ≡ None → IsOk result }
     {
         match line {
             ServerLine::Rules(rules) => Ok(self.set_rules(*text.allocator(), rules)),

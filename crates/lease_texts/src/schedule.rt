@@ -39,8 +39,9 @@ impl Schedule {
     // Files and clients stand before the first event.
     #[tactic(auto, unfolding(crate::specs::Schedules::with_part))]
     fn add(&mut self, part: Part) -> Result<(), LineFault>
-        ensures { MatchResult result (λ _. with_part (draft_of self.old) (Some part) ≡ Some (draft_of self.new))
+        ensures added { MatchResult result (λ _. with_part (draft_of self.old) (Some part) ≡ Some (draft_of self.new))
             (λ fault. fault ≡ LineFault.Refused → with_part (draft_of self.old) (Some part) ≡ None) }
+        ensures refused { with_part (draft_of self.old) (Some part) ≡ None → result ≡ Err LineFault.Refused }
     {
         match part {
             Part::Happens(event) => self.events.push(event)?,

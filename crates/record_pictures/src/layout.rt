@@ -5,8 +5,10 @@ ghost use Rattle.std.specs.String.{string_bytes};
 ghost use Rattle.record_pictures.specs.Captions.{captions, caption_of, seen_mark};
 ghost use Rattle.record_pictures.specs.Lanes.{client_name, clients_of, left_of_server, line_count, name_at, name_in, names_over};
 ghost use Rattle.record_pictures.specs.Lanes.{page_height, page_size, size_for};
+ghost use Rattle.record_pictures.specs.Places.{spot};
 ghost use Rattle.record_pictures.specs.Requests.{asked_from, requests_drawn, seen_request};
 ghost use Rattle.record_pictures.specs.declared.fault.PictureFault.TheVariants as fault;
+ghost use Rattle.record_pictures.specs.declared.shape.Shape.TheVariants as shape;
 
 use crate::captions::caption_of;
 use crate::fault::PictureFault;
@@ -42,7 +44,8 @@ fn heading(lane: u16, text: String) -> Shape
 }
 
 fn line(lane: u16, rows: (u16, u16), look: Look) -> Shape
-    ensures { name_in result ≡ [] }
+    ensures unnamed { name_in result ≡ [] }
+    ensures drawn { result ≡ shape.Line (spot lane rows.0) (spot lane rows.1) look }
 {
     Shape::Line {
         from: spot(lane, rows.0),
