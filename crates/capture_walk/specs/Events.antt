@@ -127,6 +127,10 @@ abbrev pub broken : Seen → BreakNote → Option ℕ → List Open → List Eve
 broken seen one None held = flat_map (λ other. lost_under one.key.0 other.lease) held
 broken seen one (Some client) held = broken_of seen one (lease_under (Some client) one.key.0 held) held
 
+-- at a capture made at the client, a message is taken where the capture has it
+abbrev pub all_taken : Seen → Event
+all_taken seen = event.Taken (record { connection = seen.connection; number = seen.number; last = seen.latest })
+
 abbrev pub lost_of : Option ℕ → List Event
 lost_of None = []
 lost_of (Some client) = event.Lost (record { client = client; reason = reason.Missing }) ∷ []
@@ -166,6 +170,7 @@ told_by (note.Acknowledge given) seen client one held before =
 told_by (note.Accepted key) seen client one held before = accepted (lease_under client key.0 held)
 told_by (note.Break break) seen client one held before = broken seen break client held
 told_by note.Gap seen client one held before = lost_of client
+told_by note.Taken seen client one held before = all_taken seen ∷ []
 told_by _ seen client one held before = []
 
 -- ---- all events

@@ -74,13 +74,13 @@ pub struct End {
     pub last: u64,
 }
 
-/// A request that shows what its client had taken on a connection.
+/// What shows which of the server's messages a client had taken on a connection.
 #[derive(Clone, Copy, Debug, PartialEq, Eq)]
 pub struct Proof {
     pub connection: u64,
     /// The number of the server's last message that it shows to have been taken, and with it all before.
     pub number: u64,
-    /// The last position at which the client sent the request.
+    /// The last position at which it can have taken that one.
     pub last: u64,
 }
 

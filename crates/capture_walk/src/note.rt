@@ -120,6 +120,9 @@ pub enum Note<'a> {
     RenameAsked(u64),
     /// Something is missing, or can't be read.
     Gap,
+    /// The client has taken all messages of the server on the connection up to this number: at a capture made at the client, after
+    /// each frame of the server.
+    Taken,
     /// The connection ends.
     End,
     Other,

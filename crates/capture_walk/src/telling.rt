@@ -1,9 +1,9 @@
-ghost use Rattle.std.specs.Prelude.{◌≡◌, None, ◌++◌, OnOk};
+ghost use Rattle.std.specs.Prelude.{◌≡◌, None, ◌++◌, ◌∷◌, [], OnOk};
 ghost use Rattle.std.specs.List.{list_any, flat_map};
 ghost use Rattle.capture_walk.specs.Events.{lease_under, open_named, keeps, ended_by, ended, proof_of, sent_at};
 ghost use Rattle.capture_walk.specs.Events.{is_disputed, disputed, last_break, taken_break};
 ghost use Rattle.capture_walk.specs.Events.{granted_lease, granted_of, lease_made, lost_under, broken_of, broken, lost_of};
-ghost use Rattle.capture_walk.specs.Events.{acknowledged, accepted, told_by, is_under, is_of};
+ghost use Rattle.capture_walk.specs.Events.{acknowledged, accepted, told_by, is_under, is_of, all_taken};
 ghost use Rattle.capture_walk.specs.declared.event.Event.TheVariants as event;
 
 use crate::event::{Acknowledged, Break, End, Event, Grant, Lease, Loss, NotJudged, Proof, Sent};
@@ -338,6 +338,18 @@ fn push_lost(events: &mut Vec<Event>, client: Option<u64>) -> Result<(), Memory>
     Ok(())
 }
 
+// That all messages of the server on a connection were taken.
+fn push_all_taken(events: &mut Vec<Event>, seen: &Seen<'_>) -> Result<(), Memory>
+    ensures { OnOk result (events.new.items ≡ events.old.items ++ all_taken seen.now ∷ []) }
+{
+    events.push(Event::Taken(Proof {
+        connection: seen.connection,
+        number: seen.number,
+        last: seen.latest,
+    }))?;
+    Ok(())
+}
+
 fn lease_made(made: Option<Open>) -> Option<Lease>
     ensures { result ≡ lease_made made }
 {
@@ -372,6 +384,7 @@ pub(crate) fn push_told(
         Note::Accepted(key) => push_accepted(events, lease_under(opens, client, key)),
         Note::Break(one) => push_broken(events, seen, one, client, opens),
         Note::Gap => push_lost(events, client),
+        Note::Taken => push_all_taken(events, seen),
         _ => Ok(()),
     }
 }

@@ -342,3 +342,23 @@ fn an_acknowledgment_shows_what_was_taken(rt: HostRuntime) -> Result<(), Fail> {
     assert!(&rt; changes.is_some_and(|changes| changes.as_slice() == wanted.as_slice()));
     Ok(())
 }
+
+// At a capture made at the client, the grant at 10 was taken where the capture has it.
+#[test]
+fn a_client_takes_what_its_capture_has(rt: HostRuntime) -> Result<(), Fail> {
+    let alloc = rt.alloc();
+    let mut walk = Walk::new(alloc);
+    ask(&mut walk, 1, 1, b"f\0")?;
+    grant(&mut walk, 5, 1, Level::Writes)?;
+    let mut taken = seen(5, 1, Note::Taken);
+    taken.latest = 10;
+    walk.take(&taken)?;
+    let wanted = [Change {
+        level: Level::Writes,
+        first: 10,
+        last: Some(10),
+    }];
+    let changes = only_chain(alloc, &walk, 5)?;
+    assert!(&rt; changes.is_some_and(|changes| changes.as_slice() == wanted.as_slice()));
+    Ok(())
+}
