@@ -9,10 +9,11 @@ use Rattle.capture_walk.specs.declared.creates.Creates.{Creates}
 -- ---- by looking back
 
 -- what counts of a CREATE request
-abbrev pub create_of : ℕ → CreateAsked → Create
-create_of connection asked = record {
-  connection = connection;
+abbrev pub create_of : Seen → CreateAsked → Create
+create_of seen asked = record {
+  connection = seen.connection;
   id = asked.id;
+  position = seen.latest;
   tree = asked.tree;
   name = asked.name.now;
   key = asked.key;
@@ -20,10 +21,10 @@ create_of connection asked = record {
   closes = asked.closes;
 }
 
-abbrev pub asked_after : ℕ → ℕ → ℕ → Option CreateAsked → Option Create → Option Create
-asked_after connection id other (Some asked) before =
-    if other == connection && asked.id == id then Some (create_of other asked) else before
-asked_after connection id other None before = before
+abbrev pub asked_after : ℕ → ℕ → Seen → Option CreateAsked → Option Create → Option Create
+asked_after connection id seen (Some asked) before =
+    if seen.connection == connection && asked.id == id then Some (create_of seen asked) else before
+asked_after connection id seen None before = before
 
 abbrev pub answered_after : ℕ → ℕ → ℕ → Option ℕ → Option Create → Option Create
 answered_after connection id other (Some answer) before = if other == connection && answer == id then None else before
@@ -33,7 +34,7 @@ answered_after connection id other None before = before
 abbrev pub pending : ℕ → ℕ → List Seen → Option Create
 pending connection id [] = None
 pending connection id (seen ∷ past) =
-    asked_after connection id seen.connection (create_asked seen.note)
+    asked_after connection id seen (create_asked seen.note)
     (answered_after connection id seen.connection (answered seen.note) (pending connection id past))
 
 -- ---- the table

@@ -1,6 +1,7 @@
 -- What messages show of leases, by the opens that there are.
-use Rattle.std.specs.Prelude.{◌≡◌, ℕ, ◌==◌, ◌&&◌, Bool, false, not, if◌then◌else◌, List, [], ◌∷◌, ◌++◌, Option, Some, None}
-use Rattle.std.specs.Prelude.{bytes_eq}
+use Rattle.std.specs.Prelude.{◌≡◌, ℕ, ◌==◌, ◌+◌, ◌-◌, ◌%◌, nat_lt, ◌&&◌, ◌||◌, Bool, true, false, not, if◌then◌else◌, List, []}
+use Rattle.std.specs.Prelude.{◌∷◌, ◌++◌, Option, Some, None, bytes_eq}
+use Rattle.std.specs.Option.{option_map}
 use Rattle.std.specs.List.{list_any, flat_map}
 use Rattle.capture_wire.specs.declared.field.Smb2FileId.{Smb2FileId}
 use Rattle.capture_walk.specs.Clients.{KnowsClients, client_of}
@@ -17,12 +18,16 @@ use Rattle.capture_walk.specs.declared.note.LeaseGiven.{LeaseGiven}
 use Rattle.capture_walk.specs.declared.note.Seen.{Seen}
 use Rattle.capture_walk.specs.declared.event.Lease.{Lease}
 use Rattle.capture_walk.specs.declared.event.Sent.{Sent}
+use Rattle.capture_walk.specs.declared.event.Grant.{Grant}
+use Rattle.capture_walk.specs.declared.event.Break.{Break}
+use Rattle.capture_walk.specs.declared.event.Said.{Said}
 use Rattle.capture_walk.specs.declared.event.Event.{Event}
 use Rattle.capture_walk.specs.declared.event.Event.TheVariants as event
 use Rattle.capture_walk.specs.declared.event.NotJudged.TheVariants as reason
 use Rattle.capture_walk.specs.declared.opens.Open.{Open}
 use Rattle.capture_walk.specs.declared.walk.Walk.{Walk}
 use Rattle.capture_judge.specs.declared.values.Level.{Level}
+use Rattle.capture_judge.specs.declared.values.Level.TheVariants as level
 
 -- ---- what is looked up in the opens
 
@@ -77,33 +82,108 @@ proof_of seen None = []
 proof_of seen (Some one) =
     event.Taken (record { connection = one.connection; number = one.number; last = seen.latest }) ∷ []
 
+abbrev pub dispute : Lease → Event
+dispute lease = event.Lost (record { client = lease.client; reason = reason.Disputed })
+
 -- One key for two files is more than the rules of leases allow (3.3.5.9.8), so that a break of it can't be told to be of either.
--- And what comes over different connections has no order, so that it isn't known what a client has in the end.
-abbrev pub is_disputed : Seen → Lease → Open → Bool
-is_disputed seen lease one =
-    is_under lease.client lease.key.0 one.lease && not (is_of lease one.lease && one.connection == seen.connection)
+abbrev pub is_elsewhere : Lease → Open → Bool
+is_elsewhere lease one = is_under lease.client lease.key.0 one.lease && not (is_of lease one.lease)
 
-abbrev pub disputed : Seen → Lease → List Open → List Event
-disputed seen lease held =
-    if list_any (is_disputed seen lease) held
-    then event.Lost (record { client = lease.client; reason = reason.Disputed }) ∷ []
-    else []
+abbrev pub disputed : Lease → List Open → List Event
+disputed lease held = if list_any (is_elsewhere lease) held then dispute lease ∷ [] else []
 
-abbrev pub granted_lease : Seen → LeaseGiven → Lease → List Event
-granted_lease seen given lease =
+-- ---- the order of what the server says of a lease
+
+-- Only what the server says orders a chain, so that opens on several connections are no dispute in themselves: what a client sends
+-- has bounds of its own, and the server answers it later.
+
+abbrev pub said_by_grant : Grant → Said
+said_by_grant one = record { sent = one.sent; level = one.level; epoch = one.epoch; breaks = false }
+
+abbrev pub said_by_break : Break → Said
+said_by_break one = record { sent = one.sent; level = one.level; epoch = one.epoch; breaks = true }
+
+abbrev pub without_epoch : Said → Said
+without_epoch said = record { sent = said.sent; level = said.level; epoch = None; breaks = said.breaks }
+
+-- what it said last; a lease that is granted again after its end has epochs of its own
+abbrev pub last_said : Lease → Option Said → List Event → Option Said
+last_said lease found [] = found
+last_said lease found (event.Granted one ∷ later) =
+    last_said lease (if is_same one.lease lease then Some (said_by_grant one) else found) later
+last_said lease found (event.Broken one ∷ later) =
+    last_said lease (if is_same one.lease lease then Some (said_by_break one) else found) later
+last_said lease found (event.Ended one ∷ later) =
+    last_said lease (if is_same one.lease lease then option_map without_epoch found else found) later
+last_said lease found (_ ∷ later) = last_said lease found later
+
+-- how far an epoch is ahead of another one, where 0 follows on 65535
+abbrev pub ahead : ℕ → ℕ → ℕ
+ahead before now = (now + (65536 - before)) % 65536
+
+-- newer, as clients take it (3.2.5.19.2)
+abbrev pub is_newer : ℕ → ℕ → Bool
+is_newer before now = nat_lt 0 (ahead before now) && nat_lt (ahead before now) 32768
+
+abbrev pub is_same_level : Level → Level → Bool
+is_same_level level.Nothing level.Nothing = true
+is_same_level level.Something level.Something = true
+is_same_level level.Writes level.Writes = true
+is_same_level one other = false
+
+-- What comes over one connection has its order, and what answers a request comes after what the capture has before that.
+abbrev pub is_in_order : Said → Said → Option ℕ → Bool
+is_in_order before now None = now.sent.connection == before.sent.connection
+is_in_order before now (Some asked) =
+    now.sent.connection == before.sent.connection || nat_lt before.sent.position asked
+
+-- Else the epochs show the order. What has the same one and leaves the same changes nothing, wherever it belongs.
+abbrev pub shows_order : Said → Said → ℕ → ℕ → Bool
+shows_order before now old new = is_newer old new || (new == old && is_same_level before.level now.level)
+
+-- a grant that changes nothing has the epoch that there is, and a break has a new one
+abbrev pub follows_on : Said → Said → ℕ → ℕ → Bool
+follows_on before now old new = shows_order before now old new || (new == old && not now.breaks)
+
+abbrev pub misnumbered : Lease → Said → Said → Option ℕ → Option ℕ → List Event
+misnumbered lease before now (Some old) (Some new) =
+    if follows_on before now old new then []
+    else event.Misnumbered (record { lease = lease; before = old; epoch = new; position = now.sent.position }) ∷ []
+misnumbered lease before now old new = []
+
+abbrev pub has_order : Said → Said → Option ℕ → Option ℕ → Bool
+has_order before now (Some old) (Some new) = shows_order before now old new
+has_order before now old new = false
+
+-- what is to be said of the order of a message, by the position of the request that it answers, if it does
+abbrev pub ordered : Lease → Option Said → Said → Option ℕ → List Event
+ordered lease None now asked = []
+ordered lease (Some before) now asked =
+    if is_in_order before now asked then misnumbered lease before now before.epoch now.epoch
+    else if has_order before now before.epoch now.epoch then [] else dispute lease ∷ []
+
+-- ---- grants and breaks
+
+abbrev pub grant_of : Seen → LeaseGiven → Lease → Grant
+grant_of seen given lease =
+    record { lease = lease; level = given.level; sent = sent_at seen; epoch = given.epoch }
+
+abbrev pub granted_lease : Seen → LeaseGiven → Lease → ℕ → Option Said → List Event
+granted_lease seen given lease asked said =
     if given.breaking then []
-    else event.Granted (record { lease = lease; level = given.level; sent = sent_at seen }) ∷ []
+    else ordered lease said (said_by_grant (grant_of seen given lease)) (Some asked)
+    ++ event.Granted (grant_of seen given lease) ∷ []
 
-abbrev pub granted_of : Seen → Option LeaseGiven → Option Lease → List Open → List Event
-granted_of seen None lease held = []
-granted_of seen (Some given) None held = []
-granted_of seen (Some given) (Some lease) held =
-    disputed seen lease held ++ granted_lease seen given lease
+abbrev pub granted_open : Seen → LeaseGiven → ℕ → Option Lease → List Open → List Event → List Event
+granted_open seen given asked None held before = []
+granted_open seen given asked (Some lease) held before =
+    disputed lease held ++ granted_lease seen given lease asked (last_said lease None before)
 
 -- the lease of the open that a CREATE response makes
-abbrev pub lease_made : Option Open → Option Lease
-lease_made None = None
-lease_made (Some one) = one.lease
+abbrev pub granted_of : Seen → Option LeaseGiven → Option Open → List Open → List Event → List Event
+granted_of seen None one held before = []
+granted_of seen (Some given) None held before = []
+granted_of seen (Some given) (Some one) held before = granted_open seen given one.asked one.lease held before
 
 -- where it isn't known whose a connection is, a break on it may be of any lease under its key
 abbrev pub lost_under : List ℕ → Option Lease → List Event
@@ -111,21 +191,33 @@ lost_under key None = []
 lost_under key (Some lease) =
     if bytes_eq lease.key.0 key then event.Lost (record { client = lease.client; reason = reason.Stranger }) ∷ [] else []
 
-abbrev pub broken_lease : Seen → BreakNote → Lease → Event
-broken_lease seen one lease = event.Broken (record {
+-- NewEpoch counts where the server gave the lease an epoch before.
+abbrev pub new_epoch : Option Said → ℕ → Option ℕ
+new_epoch None epoch = None
+new_epoch (Some said) epoch = option_map (λ old. epoch) said.epoch
+
+abbrev pub break_of : Seen → BreakNote → Lease → Option Said → Break
+break_of seen one lease said = record {
   lease = lease;
   level = one.level;
   sent = sent_at seen;
   acknowledged = one.acknowledged;
-})
+  epoch = new_epoch said one.epoch;
+}
 
-abbrev pub broken_of : Seen → BreakNote → Option Lease → List Open → List Event
-broken_of seen one None held = []
-broken_of seen one (Some lease) held = disputed seen lease held ++ broken_lease seen one lease ∷ []
+abbrev pub broken_after : Lease → Option Said → Break → List Event
+broken_after lease said one = ordered lease said (said_by_break one) None ++ event.Broken one ∷ []
 
-abbrev pub broken : Seen → BreakNote → Option ℕ → List Open → List Event
-broken seen one None held = flat_map (λ other. lost_under one.key.0 other.lease) held
-broken seen one (Some client) held = broken_of seen one (lease_under (Some client) one.key.0 held) held
+abbrev pub broken_of : Seen → BreakNote → Option Lease → List Open → List Event → List Event
+broken_of seen one None held before = []
+broken_of seen one (Some lease) held before =
+    disputed lease held
+    ++ broken_after lease (last_said lease None before) (break_of seen one lease (last_said lease None before))
+
+abbrev pub broken : Seen → BreakNote → Option ℕ → List Open → List Event → List Event
+broken seen one None held before = flat_map (λ other. lost_under one.key.0 other.lease) held
+broken seen one (Some client) held before =
+    broken_of seen one (lease_under (Some client) one.key.0 held) held before
 
 -- at a capture made at the client, a message is taken where the capture has it
 abbrev pub all_taken : Seen → Event
@@ -160,7 +252,7 @@ accepted (Some lease) = event.Accepted lease ∷ []
 
 -- by what it is, its connection's client, the open that it makes, and the opens and the events before it
 abbrev pub told_by : Note → Seen → Option ℕ → Option Open → List Open → List Event → List Event
-told_by (note.CreateGiven given) seen client one held before = granted_of seen given.lease (lease_made one) held
+told_by (note.CreateGiven given) seen client one held before = granted_of seen given.lease one held before
 told_by (note.OnOpen name) seen client one held before =
     proof_of seen (open_named seen.server name.session name.file_id held)
 told_by (note.Close name) seen client one held before =
@@ -168,7 +260,7 @@ told_by (note.Close name) seen client one held before =
 told_by (note.Acknowledge given) seen client one held before =
     acknowledged seen given.level (lease_under client given.key.0 held) before
 told_by (note.Accepted key) seen client one held before = accepted (lease_under client key.0 held)
-told_by (note.Break break) seen client one held before = broken seen break client held
+told_by (note.Break break) seen client one held before = broken seen break client held before
 told_by note.Gap seen client one held before = lost_of client
 told_by note.Taken seen client one held before = all_taken seen ∷ []
 told_by _ seen client one held before = []

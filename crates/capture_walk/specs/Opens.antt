@@ -26,14 +26,15 @@ lease_by (Some given) (Some asked) None file = None
 lease_by (Some given) (Some asked) (Some client) file =
     if bytes_eq given.key.0 asked.0 then Some (record { client = client; key = given.key; file = file }) else None
 
-abbrev pub open_at : Seen → CreateGiven → ℕ → Option Lease → Open
-open_at seen given tree lease = record {
+abbrev pub open_at : Seen → CreateGiven → Create → Option Lease → Open
+open_at seen given create lease = record {
   server = seen.server;
   connection = seen.connection;
   session = given.session;
-  tree = tree;
+  tree = create.tree;
   file_id = given.file_id;
   number = seen.number;
+  asked = create.position;
   lease = lease;
 }
 
@@ -44,7 +45,7 @@ open_by seen given None place past = None
 open_by seen given (Some create) None past = None
 open_by seen given (Some create) (Some place) past =
     if create.closes then None
-    else Some (open_at seen given create.tree
+    else Some (open_at seen given create
     (lease_by given.lease create.key (client_of seen.connection past)
     (file_opened given.is_new seen.number (file_of place past))))
 

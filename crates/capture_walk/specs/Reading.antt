@@ -149,19 +149,15 @@ request_note header request.Other ids closes = note.Other
 
 -- ---- what responses tell
 
--- Only leases of version 1 on files count: what clients have of one of version 2 depends on its epoch. A folder has
--- FILE_ATTRIBUTE_DIRECTORY, and where a lease is granted OplockLevel is SMB2_OPLOCK_LEVEL_LEASE.
-abbrev pub lease_counted : Option ℕ → LeaseContext → Option LeaseGiven
-lease_counted (Some epoch) lease = None
-lease_counted None lease = Some (record { key = lease.key; level = level_in lease.state; breaking = lease.breaking })
+abbrev pub lease_found : LeaseContext → LeaseGiven
+lease_found lease =
+    record { key = lease.key; level = level_in lease.state; breaking = lease.breaking; epoch = lease.epoch }
 
-abbrev pub lease_found : Option LeaseContext → Option LeaseGiven
-lease_found None = None
-lease_found (Some lease) = lease_counted lease.epoch lease
-
+-- Only leases on files count. A folder has FILE_ATTRIBUTE_DIRECTORY, and where a lease is granted OplockLevel is
+-- SMB2_OPLOCK_LEVEL_LEASE.
 abbrev pub lease_given : CreateResponse → Option LeaseContext → Option LeaseGiven
 lease_given given lease =
-    if given.oplock_level == 255 && not (has_flag 16 given.attributes) then lease_found lease else None
+    if given.oplock_level == 255 && not (has_flag 16 given.attributes) then option_map lease_found lease else None
 
 -- FILE_SUPERSEDED or FILE_CREATED
 abbrev pub is_new : CreateResponse → Bool
@@ -189,10 +185,11 @@ response_note header (response.Create given contexts) = note.CreateGiven (record
   is_new = is_new given;
   lease = lease_given given contexts.lease;
 })
-response_note header (response.Break notification) = note.Break (record {
+response_note header (response.Break notification new_epoch) = note.Break (record {
   key = notification.key;
   level = level_in notification.new;
   acknowledged = notification.ack_required;
+  epoch = new_epoch;
 })
 response_note header (response.Accepted accepted) = note.Accepted accepted.key
 response_note header response.Other = other_note header

@@ -13,6 +13,8 @@ use std::alloc::Global;
 pub(crate) struct Create {
     pub(crate) connection: u64,
     pub(crate) id: u64,
+    // Where the capture has it.
+    pub(crate) position: u64,
     pub(crate) tree: u32,
     pub(crate) name: Bytes,
     pub(crate) key: Option<LeaseKey>,
@@ -79,6 +81,7 @@ impl Creates {
         let create = Create {
             connection: seen.connection,
             id: asked.id,
+            position: seen.latest,
             tree: asked.tree,
             name,
             key: asked.key,

@@ -1,5 +1,6 @@
 ghost use Rattle.std.specs.Prelude.{◌≡◌};
 ghost use Rattle.capture_walk.specs.Chains.{is_same};
+ghost use Rattle.capture_walk.specs.Events.{said_by_grant, said_by_break};
 
 use capture_judge::Level;
 use lease_state::LeaseKey;
@@ -41,6 +42,8 @@ pub struct Grant {
     pub lease: Lease,
     pub level: Level,
     pub sent: Sent,
+    /// Epoch, where the lease is of version 2.
+    pub epoch: Option<u16>,
 }
 
 /// A break of a lease.
@@ -52,6 +55,44 @@ pub struct Break {
     pub sent: Sent,
     /// Whether it has to be acknowledged.
     pub acknowledged: bool,
+    /// NewEpoch, where the lease is of version 2.
+    pub epoch: Option<u16>,
+}
+
+// What the server says of a lease, by a grant or a break.
+#[derive(Clone, Copy, Debug)]
+pub(crate) struct Said {
+    pub(crate) sent: Sent,
+    pub(crate) level: Level,
+    pub(crate) epoch: Option<u16>,
+    // Whether it is a break.
+    pub(crate) breaks: bool,
+}
+
+impl Grant {
+    pub(crate) fn said(&self) -> Said
+        ensures { result ≡ said_by_grant self.now }
+    {
+        Said {
+            sent: self.sent,
+            level: self.level,
+            epoch: self.epoch,
+            breaks: false,
+        }
+    }
+}
+
+impl Break {
+    pub(crate) fn said(&self) -> Said
+        ensures { result ≡ said_by_break self.now }
+    {
+        Said {
+            sent: self.sent,
+            level: self.level,
+            epoch: self.epoch,
+            breaks: true,
+        }
+    }
 }
 
 /// An acknowledgment of a break.
@@ -84,13 +125,25 @@ pub struct Proof {
     pub last: u64,
 }
 
+/// An epoch of a lease that doesn't follow on the one before it (MS-SMB2 3.2.5.19.2, 3.3.4.7), so that clients may pass the
+/// message over.
+#[derive(Clone, Copy, Debug, PartialEq, Eq)]
+pub struct Misnumbered {
+    pub lease: Lease,
+    /// The epoch that the server gave before.
+    pub before: u16,
+    pub epoch: u16,
+    /// Where the capture has the message.
+    pub position: u64,
+}
+
 /// Why a client isn't judged.
 #[derive(Clone, Copy, Debug, PartialEq, Eq)]
 pub enum NotJudged {
     /// Something of one of its connections is missing, or can't be read.
     Missing,
-    /// It has a lease under one key on two files, or what it learns of a lease comes over several connections, which have no
-    /// order between them.
+    /// It has a lease under one key on two files, or what it learns of a lease comes over several connections, and neither epochs
+    /// nor requests show in which order.
     Disputed,
     /// A break under the key of one of its leases came over a connection of which it isn't known whose it is.
     Stranger,
@@ -114,6 +167,8 @@ pub enum Event {
     Accepted(Lease),
     Ended(End),
     Taken(Proof),
+    /// An epoch doesn't follow on.
+    Misnumbered(Misnumbered),
     /// A client isn't judged.
     Lost(Loss),
 }

@@ -38,7 +38,9 @@ mod walk;
 
 pub use chains::{chains_on, files_in};
 pub use compound::{FrameFault, read_frame};
-pub use event::{Acknowledged, Break, End, Event, Grant, Lease, Loss, NotJudged, Proof, Sent};
+pub use event::{
+    Acknowledged, Break, End, Event, Grant, Lease, Loss, Misnumbered, NotJudged, Proof, Sent,
+};
 pub use files::Place;
 pub use frame::Frame;
 pub use laws::opens_are_made;

@@ -46,6 +46,8 @@ pub struct LeaseGiven {
     pub level: Level,
     /// A break of it is in progress, so that nothing is granted.
     pub breaking: bool,
+    /// Epoch, where the lease is of version 2.
+    pub epoch: Option<u16>,
 }
 
 /// A CREATE response of STATUS_SUCCESS.
@@ -57,7 +59,7 @@ pub struct CreateGiven {
     pub file_id: Smb2FileId,
     /// Whether it made the file, or another one in its place.
     pub is_new: bool,
-    /// A lease of version 1 on a file; those on folders don't count.
+    /// A lease of either version on a file; those on folders don't count.
     pub lease: Option<LeaseGiven>,
 }
 
@@ -90,6 +92,8 @@ pub struct BreakNote {
     pub level: Level,
     /// Whether it has to be acknowledged.
     pub acknowledged: bool,
+    /// NewEpoch, which counts where the lease is of version 2.
+    pub epoch: u16,
 }
 
 /// What a message says, as far as the walk goes by it.

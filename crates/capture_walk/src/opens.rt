@@ -28,6 +28,8 @@ pub(crate) struct Open {
     pub(crate) file_id: Smb2FileId,
     // The number of that message.
     pub(crate) number: u64,
+    // Where the capture has its request.
+    pub(crate) asked: u64,
     pub(crate) lease: Option<Lease>,
 }
 
@@ -78,16 +80,17 @@ fn lease_of(
     })
 }
 
-fn open_of(seen: &Seen<'_>, given: CreateGiven, tree: u32, lease: Option<Lease>) -> Open
-    ensures { result ≡ open_at seen.now given tree lease }
+fn open_of(seen: &Seen<'_>, given: CreateGiven, create: &Create, lease: Option<Lease>) -> Open
+    ensures { result ≡ open_at seen.now given create.now lease }
 {
     Open {
         server: seen.server,
         connection: seen.connection,
         session: given.session,
-        tree,
+        tree: create.tree,
         file_id: given.file_id,
         number: seen.number,
+        asked: create.position,
         lease,
     }
 }
@@ -143,5 +146,5 @@ pub(crate) fn open_given(
         return Ok(None);
     }
     let lease = lease_of(given.lease, create.key, clients.of(seen.connection), file);
-    Ok(Some(open_of(seen, given, create.tree, lease)))
+    Ok(Some(open_of(seen, given, create, lease)))
 }

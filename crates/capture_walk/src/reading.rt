@@ -260,17 +260,15 @@ fn request_note<'a>(header: &Header, request: &Request<'a>, ids: Ids, closes: bo
 }
 
 fn lease_found(lease: Option<LeaseContext>) -> Option<LeaseGiven>
-    ensures { result ≡ reading.lease_found lease }
+    ensures { result ≡ option_map reading.lease_found lease }
 {
     let lease = lease?;
-    match lease.epoch {
-        Some(_) => None,
-        None => Some(LeaseGiven {
-            key: lease.key,
-            level: level_of(lease.state),
-            breaking: lease.breaking,
-        }),
-    }
+    Some(LeaseGiven {
+        key: lease.key,
+        level: level_of(lease.state),
+        breaking: lease.breaking,
+        epoch: lease.epoch,
+    })
 }
 
 fn is_folder(attributes: u32) -> bool
@@ -326,10 +324,11 @@ fn response_note<'a>(header: &Header, response: &Response) -> Note<'a>
             is_new: given.action == 0 || given.action == 2,
             lease: lease_given(given, contexts.lease),
         }),
-        Response::Break(notification) => Note::Break(BreakNote {
+        Response::Break(notification, new_epoch) => Note::Break(BreakNote {
             key: notification.key,
             level: level_of(notification.new),
             acknowledged: notification.ack_required,
+            epoch: *new_epoch,
         }),
         Response::Accepted(accepted) => Note::Accepted(accepted.key),
         Response::Other => other_note(header),

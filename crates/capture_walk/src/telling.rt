@@ -1,14 +1,20 @@
 ghost use Rattle.std.specs.Prelude.{◌≡◌, None, ◌++◌, ◌∷◌, [], OnOk};
 ghost use Rattle.std.specs.List.{list_any, flat_map};
+ghost use Rattle.std.specs.Option.{option_map};
 ghost use Rattle.capture_walk.specs.Events.{lease_under, open_named, keeps, ended_by, ended, proof_of, sent_at};
-ghost use Rattle.capture_walk.specs.Events.{is_disputed, disputed, last_break, taken_break};
-ghost use Rattle.capture_walk.specs.Events.{granted_lease, granted_of, lease_made, lost_under, broken_of, broken, lost_of};
+ghost use Rattle.capture_walk.specs.Events.{is_elsewhere, disputed, last_break, taken_break};
+ghost use Rattle.capture_walk.specs.Events.{last_said, without_epoch, is_newer, is_same_level, is_in_order, shows_order};
+ghost use Rattle.capture_walk.specs.Events.{has_order, follows_on, misnumbered, ordered, new_epoch, grant_of, break_of};
+ghost use Rattle.capture_walk.specs.Events.{granted_lease, granted_of, lost_under, broken_of, broken, lost_of};
 ghost use Rattle.capture_walk.specs.Events.{acknowledged, accepted, told_by, is_under, is_of, all_taken};
 ghost use Rattle.capture_walk.specs.declared.event.Event.TheVariants as event;
 
-use crate::event::{Acknowledged, Break, End, Event, Grant, Lease, Loss, NotJudged, Proof, Sent};
+use crate::event::{
+    Acknowledged, Break, End, Event, Grant, Lease, Loss, Misnumbered, NotJudged, Proof, Said, Sent,
+};
 use crate::note::{BreakNote, KeyLevel, LeaseGiven, Note, OpenName, Seen};
 use crate::opens::Open;
+use capture_judge::Level;
 use lease_state::{LeaseKey, Memory};
 
 fn is_under(lease: Option<Lease>, client: u64, key: LeaseKey) -> bool
@@ -132,33 +138,158 @@ fn lost(client: u64, reason: NotJudged) -> Event
     Event::Lost(Loss { client, reason })
 }
 
-// Whether an open is under the lease's key, and of another lease or connection.
-fn is_disputed(seen: &Seen<'_>, lease: Lease, one: &Open) -> bool
-    ensures { result ≡ is_disputed seen.now lease one.now }
+// Whether an open is under the lease's key, and not of the lease.
+fn is_elsewhere(lease: Lease, one: &Open) -> bool
+    ensures { result ≡ is_elsewhere lease one.now }
 {
-    is_under(one.lease, lease.client, lease.key)
-        && !(is_of(lease, one.lease) && one.connection == seen.connection)
+    is_under(one.lease, lease.client, lease.key) && !is_of(lease, one.lease)
 }
 
-fn has_dispute(seen: &Seen<'_>, lease: Lease, opens: &[Open]) -> bool
-    ensures { result ≡ list_any (is_disputed seen.now lease) opens.now }
+fn has_dispute(lease: Lease, opens: &[Open]) -> bool
+    ensures { result ≡ list_any (is_elsewhere lease) opens.now }
 {
-    opens.iter().any(|one| is_disputed(seen, lease, one))
+    opens.iter().any(|one| is_elsewhere(lease, one))
 }
 
-// What a client has of the lease in the end isn't known.
-fn push_disputed(
-    events: &mut Vec<Event>,
-    seen: &Seen<'_>,
-    lease: Lease,
-    opens: &[Open],
-) -> Result<(), Memory>
-    ensures { OnOk result (events.new.items ≡ events.old.items ++ disputed seen.now lease opens.now) }
+// A lease whose key is that of another file, too.
+fn push_disputed(events: &mut Vec<Event>, lease: Lease, opens: &[Open]) -> Result<(), Memory>
+    ensures { OnOk result (events.new.items ≡ events.old.items ++ disputed lease opens.now) }
 {
-    if has_dispute(seen, lease, opens) {
+    if has_dispute(lease, opens) {
         events.push(lost(lease.client, NotJudged::Disputed))?;
     }
     Ok(())
+}
+
+// What the server said last of a lease.
+fn last_said(events: &[Event], lease: Lease) -> Option<Said>
+    ensures { result ≡ last_said lease None events.now }
+{
+    let mut found: Option<Said> = None;
+    for event in events {
+        match event {
+            Event::Granted(one) if one.lease.is(lease) => found = Some(one.said()),
+            Event::Broken(one) if one.lease.is(lease) => found = Some(one.said()),
+            Event::Ended(one) if one.lease.is(lease) => found = without_epoch(found),
+            _ => {}
+        }
+    }
+    found
+}
+
+fn without_epoch(said: Option<Said>) -> Option<Said>
+    ensures { result ≡ option_map without_epoch said }
+{
+    let said = said?;
+    Some(Said {
+        epoch: None,
+        ..said
+    })
+}
+
+fn is_newer(before: u16, now: u16) -> bool
+    ensures { result ≡ is_newer before now }
+{
+    let ahead = now.wrapping_sub(before);
+    0 < ahead && ahead < 0x8000
+}
+
+fn is_same_level(one: Level, other: Level) -> bool
+    ensures { result ≡ is_same_level one other }
+{
+    matches!(
+        (one, other),
+        (Level::Nothing, Level::Nothing)
+            | (Level::Something, Level::Something)
+            | (Level::Writes, Level::Writes)
+    )
+}
+
+fn is_in_order(before: Said, now: Said, asked: Option<u64>) -> bool
+    ensures { result ≡ is_in_order before now asked }
+{
+    match asked {
+        Some(asked) => {
+            now.sent.connection == before.sent.connection || before.sent.position < asked
+        }
+        None => now.sent.connection == before.sent.connection,
+    }
+}
+
+fn shows_order(before: Said, now: Said, old: u16, new: u16) -> bool
+    ensures { result ≡ shows_order before now old new }
+{
+    is_newer(old, new) || (new == old && is_same_level(before.level, now.level))
+}
+
+fn follows_on(before: Said, now: Said, old: u16, new: u16) -> bool
+    ensures { result ≡ follows_on before now old new }
+{
+    shows_order(before, now, old, new) || (new == old && !now.breaks)
+}
+
+fn push_misnumbered(
+    events: &mut Vec<Event>,
+    lease: Lease,
+    before: Said,
+    now: Said,
+) -> Result<(), Memory>
+    ensures { OnOk result (events.new.items ≡ events.old.items ++ misnumbered lease before now before.epoch now.epoch) }
+{
+    let (Some(old), Some(new)) = (before.epoch, now.epoch) else {
+        return Ok(());
+    };
+    if !follows_on(before, now, old, new) {
+        events.push(Event::Misnumbered(Misnumbered {
+            lease,
+            before: old,
+            epoch: new,
+            position: now.sent.position,
+        }))?;
+    }
+    Ok(())
+}
+
+fn has_order(before: Said, now: Said) -> bool
+    ensures { result ≡ has_order before now before.epoch now.epoch }
+{
+    match (before.epoch, now.epoch) {
+        (Some(old), Some(new)) => shows_order(before, now, old, new),
+        _ => false,
+    }
+}
+
+// What is to be said of the order of a message of the server.
+fn push_order(
+    events: &mut Vec<Event>,
+    lease: Lease,
+    before: Option<Said>,
+    now: Said,
+    asked: Option<u64>,
+) -> Result<(), Memory>
+    ensures { OnOk result (events.new.items ≡ events.old.items ++ ordered lease before now asked) }
+{
+    let Some(before) = before else {
+        return Ok(());
+    };
+    if is_in_order(before, now, asked) {
+        return push_misnumbered(events, lease, before, now);
+    }
+    if !has_order(before, now) {
+        events.push(lost(lease.client, NotJudged::Disputed))?;
+    }
+    Ok(())
+}
+
+fn grant_of(seen: &Seen<'_>, given: LeaseGiven, lease: Lease) -> Grant
+    ensures { result ≡ grant_of seen.now given lease }
+{
+    Grant {
+        lease,
+        level: given.level,
+        sent: sent_at(seen),
+        epoch: given.epoch,
+    }
 }
 
 fn push_granted_lease(
@@ -166,16 +297,17 @@ fn push_granted_lease(
     seen: &Seen<'_>,
     given: LeaseGiven,
     lease: Lease,
+    asked: u64,
+    said: Option<Said>,
 ) -> Result<(), Memory>
-    ensures { OnOk result (events.new.items ≡ events.old.items ++ granted_lease seen.now given lease) }
+    ensures { OnOk result (events.new.items ≡ events.old.items ++ granted_lease seen.now given lease asked said) }
 {
-    if !given.breaking {
-        events.push(Event::Granted(Grant {
-            lease,
-            level: given.level,
-            sent: sent_at(seen),
-        }))?;
+    if given.breaking {
+        return Ok(());
     }
+    let grant = grant_of(seen, given, lease);
+    push_order(events, lease, said, grant.said(), Some(asked))?;
+    events.push(Event::Granted(grant))?;
     Ok(())
 }
 
@@ -184,16 +316,20 @@ fn push_granted(
     events: &mut Vec<Event>,
     seen: &Seen<'_>,
     given: Option<LeaseGiven>,
-    lease: Option<Lease>,
+    made: Option<Open>,
     opens: &[Open],
 ) -> Result<(), Memory>
-    ensures { OnOk result (events.new.items ≡ events.old.items ++ granted_of seen.now given lease opens.now) }
+    ensures { OnOk result (events.new.items ≡ events.old.items ++ granted_of seen.now given made opens.now events.old.items) }
 {
-    let (Some(given), Some(lease)) = (given, lease) else {
+    let (Some(given), Some(one)) = (given, made) else {
         return Ok(());
     };
-    push_disputed(events, seen, lease, opens)?;
-    push_granted_lease(events, seen, given, lease)
+    let Some(lease) = one.lease else {
+        return Ok(());
+    };
+    let said = last_said(events, lease);
+    push_disputed(events, lease, opens)?;
+    push_granted_lease(events, seen, given, lease, one.asked, said)
 }
 
 fn push_lost_under(
@@ -221,6 +357,27 @@ fn push_strange_break(events: &mut Vec<Event>, key: LeaseKey, opens: &[Open]) ->
     Ok(())
 }
 
+fn new_epoch(said: Option<Said>, epoch: u16) -> Option<u16>
+    ensures { result ≡ new_epoch said epoch }
+{
+    match said?.epoch {
+        Some(_) => Some(epoch),
+        None => None,
+    }
+}
+
+fn break_of(seen: &Seen<'_>, one: BreakNote, lease: Lease, said: Option<Said>) -> Break
+    ensures { result ≡ break_of seen.now one lease said }
+{
+    Break {
+        lease,
+        level: one.level,
+        sent: sent_at(seen),
+        acknowledged: one.acknowledged,
+        epoch: new_epoch(said, one.epoch),
+    }
+}
+
 fn push_broken_lease(
     events: &mut Vec<Event>,
     seen: &Seen<'_>,
@@ -228,18 +385,16 @@ fn push_broken_lease(
     lease: Option<Lease>,
     opens: &[Open],
 ) -> Result<(), Memory>
-    ensures { OnOk result (events.new.items ≡ events.old.items ++ broken_of seen.now one lease opens.now) }
+    ensures { OnOk result (events.new.items ≡ events.old.items ++ broken_of seen.now one lease opens.now events.old.items) }
 {
     let Some(lease) = lease else {
         return Ok(());
     };
-    push_disputed(events, seen, lease, opens)?;
-    events.push(Event::Broken(Break {
-        lease,
-        level: one.level,
-        sent: sent_at(seen),
-        acknowledged: one.acknowledged,
-    }))?;
+    let said = last_said(events, lease);
+    let broken = break_of(seen, one, lease, said);
+    push_disputed(events, lease, opens)?;
+    push_order(events, lease, said, broken.said(), None)?;
+    events.push(Event::Broken(broken))?;
     Ok(())
 }
 
@@ -250,7 +405,7 @@ fn push_broken(
     client: Option<u64>,
     opens: &[Open],
 ) -> Result<(), Memory>
-    ensures { OnOk result (events.new.items ≡ events.old.items ++ broken seen.now one client opens.now) }
+    ensures { OnOk result (events.new.items ≡ events.old.items ++ broken seen.now one client opens.now events.old.items) }
 {
     match client {
         Some(client) => {
@@ -350,12 +505,6 @@ fn push_all_taken(events: &mut Vec<Event>, seen: &Seen<'_>) -> Result<(), Memory
     Ok(())
 }
 
-fn lease_made(made: Option<Open>) -> Option<Lease>
-    ensures { result ≡ lease_made made }
-{
-    made?.lease
-}
-
 /// What a message shows besides, by the client of its connection, the open that it makes, and the opens before it.
 pub(crate) fn push_told(
     events: &mut Vec<Event>,
@@ -368,13 +517,7 @@ pub(crate) fn push_told(
         events.old.items) }
 {
     match seen.note {
-        Note::CreateGiven(given) => push_granted(
-            events,
-            seen,
-            given.lease,
-            lease_made(made),
-            opens,
-        ),
+        Note::CreateGiven(given) => push_granted(events, seen, given.lease, made, opens),
         Note::OnOpen(name) | Note::Close(name) => {
             push_proof(events, seen, open_named(opens, seen.server, name))
         }

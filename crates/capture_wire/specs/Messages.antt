@@ -18,6 +18,7 @@ use Rattle.capture_wire.specs.Header.{IsHeader}
 use Rattle.capture_wire.specs.Connecting.{IsNegotiateRequest, IsNegotiateResponse, IsSessionSetupRequest, IsTreeConnectRequest}
 use Rattle.capture_wire.specs.Files.{IsCreateRequest, IsCreateResponse, IsCloseRequest, IsReadRequest, IsWriteRequest}
 use Rattle.capture_wire.specs.Files.{IsSetInfoRequest}
+use Rattle.capture_wire.specs.Contexts.{new_epoch_of}
 use Rattle.capture_wire.specs.Creates.{AreContexts, contexts_fault}
 use Rattle.capture_wire.specs.declared.fault.MessageFault.{MessageFault}
 use Rattle.capture_wire.specs.declared.fault.MessageFault.TheVariants as fault
@@ -112,15 +113,16 @@ is_break header = header.command == 18 && header.message_id == unasked
 abbrev pub notification_fault : List ℕ → Option WireFault
 notification_fault message = wire.message_fault 44 (drop 64 message)
 
-abbrev pub IsNotice : Header → List ℕ → Notification → Type 0
-IsNotice header message notification =
+-- NewEpoch stands in what version 1 reserves
+abbrev pub IsNotice : Header → List ℕ → Notification → ℕ → Type 0
+IsNotice header message notification new_epoch =
     (is_break header ≡ true) × (notification_fault message ≡ None)
-    × IsNotification (take 44 (drop 64 message)) (notice_of notification)
+    × IsNotification (take 44 (drop 64 message)) (notice_of notification) × (new_epoch ≡ new_epoch_of message)
 
 -- the notification that a message of the server is, if it is one
-abbrev pub IsNoticeOf : Header → List ℕ → Option Notification → Type 0
+abbrev pub IsNoticeOf : Header → List ℕ → Option (Notification × ℕ) → Type 0
 IsNoticeOf header message None = is_break header ≡ true → notification_fault message ≢ None
-IsNoticeOf header message (Some notification) = IsNotice header message notification
+IsNoticeOf header message (Some notice) = IsNotice header message notice.0 notice.1
 
 -- the response accepts what a request of OPLOCK_BREAK acknowledged
 abbrev pub is_accepted : Header → Bool
@@ -138,7 +140,7 @@ IsAcceptedOf header message (Some accepted) = IsAccepted header message accepted
 
 -- what a message of the server says of a break of a lease, if it does
 abbrev pub IsBreak : Header → List ℕ → Response → Type 0
-IsBreak header message (response.Break notification) = IsNotice header message notification
+IsBreak header message (response.Break notification new_epoch) = IsNotice header message notification new_epoch
 IsBreak header message (response.Accepted accepted) = IsAccepted header message accepted
 IsBreak header message response.Other = IsNoticeOf header message None × IsAcceptedOf header message None
 IsBreak header message _ = ⊥
@@ -148,7 +150,7 @@ IsResponse header message (response.Negotiate given) = (is_granted 0 header ≡ 
 IsResponse header message (response.Create given contexts) =
     (is_granted 5 header ≡ true) × IsCreateResponse message given
     × AreContexts direction.Reply (items_in direction.Reply message) contexts
-IsResponse header message (response.Break notification) = IsNotice header message notification
+IsResponse header message (response.Break notification new_epoch) = IsNotice header message notification new_epoch
 IsResponse header message (response.Accepted accepted) = IsAccepted header message accepted
 IsResponse header message response.Other =
     (is_granted 0 header ≡ false) × (is_granted 5 header ≡ false) × IsBreak header message response.Other

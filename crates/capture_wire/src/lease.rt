@@ -1,4 +1,4 @@
-ghost use Rattle.std.specs.Prelude.{◌≡◌, length, IfOk};
+ghost use Rattle.std.specs.Prelude.{◌≡◌, ◌≤◌, length, IfOk};
 ghost use Rattle.std.specs.Option.{option_map};
 ghost use Rattle.std.specs.Result.{result_err};
 ghost use Rattle.capture_wire.specs.Faults.{data_fault, fixed_fault};
@@ -89,6 +89,14 @@ pub fn read_lease_v2(direction: Direction, bytes: &[u8]) -> Result<LeaseV2, Mess
     })
 }
 
+/// NewEpoch of a lease break notification that is all there.
+pub(crate) fn new_epoch(message: &[u8]) -> u16
+    requires { 108 ≤ length message.now }
+    ensures { result ≡ new_epoch_of message.now }
+{
+    LittleEndian::read_u16(&message[66..])
+}
+
 /// NewEpoch of a lease break notification (MS-SMB2 2.2.23.2), from its header on: the lease's epoch after the break, where the
 /// lease is of version 2. `lease_wire::Notification` reads the other fields.
 ///
@@ -100,5 +108,5 @@ pub fn read_new_epoch(message: &[u8]) -> Result<u16, MessageFault>
     ensures value { IfOk result (λ epoch. epoch ≡ new_epoch_of message.now) }
 {
     check_fixed(message, 108, 44)?;
-    Ok(LittleEndian::read_u16(&message[66..]))
+    Ok(new_epoch(message))
 }

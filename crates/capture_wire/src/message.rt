@@ -22,6 +22,7 @@ use crate::files::{
     read_write_request,
 };
 use crate::header::{Header, read_header};
+use crate::lease::new_epoch;
 use crate::set_info::{SetInfoRequest, read_set_info_request};
 use lease_wire::{Acknowledgment, BreakResponse, Direction, HEADER_SIZE, Notification, WireFault};
 
@@ -64,8 +65,9 @@ pub enum Response {
     Negotiate(NegotiateResponse),
     /// Of STATUS_SUCCESS.
     Create(CreateResponse, CreateContexts),
-    /// A notification of a lease break, which answers no request.
-    Break(Notification),
+    /// A notification of a lease break, which answers no request, with NewEpoch: the epoch of the lease after it, where the lease
+    /// is of version 2.
+    Break(Notification, u16),
     /// An acknowledgment of a lease break is accepted.
     Accepted(BreakResponse),
     /// Any other: the header has its Status.
@@ -185,8 +187,9 @@ fn is_granted(command: u16, header: &Header) -> bool
     header.command == command && header.status == STATUS_SUCCESS
 }
 
-// The notification of a lease break that a message of the server is, if it is one.
-fn read_notification(header: &Header, message: &[u8]) -> Option<Notification>
+// The notification of a lease break that a message of the server is, if it is one, and its NewEpoch.
+#[tactic(auto, using(crate::proofs::Notices::notice_fits))]
+fn read_notification(header: &Header, message: &[u8]) -> Option<(Notification, u16)>
     requires { 64 ≤ length message.now }
     ensures { IsNoticeOf header.now message.now result }
 {
@@ -194,7 +197,7 @@ fn read_notification(header: &Header, message: &[u8]) -> Option<Notification>
         return None;
     }
     match Notification::decode(body_of(message)) {
-        Ok((notification, _)) => Some(notification),
+        Ok((notification, _)) => Some((notification, new_epoch(message))),
         Err(_fault) => None,
     }
 }
@@ -217,8 +220,8 @@ fn read_break(header: &Header, message: &[u8]) -> Response
     requires { 64 ≤ length message.now }
     ensures { IsBreak header.now message.now result }
 {
-    if let Some(notification) = read_notification(header, message) {
-        return Response::Break(notification);
+    if let Some((notification, new_epoch)) = read_notification(header, message) {
+        return Response::Break(notification, new_epoch);
     }
     match read_accepted(header, message) {
         Some(response) => Response::Accepted(response),

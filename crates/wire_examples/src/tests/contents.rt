@@ -96,11 +96,13 @@ fn a_notification_answers_no_request(rt: HostRuntime) -> Result<(), Fail> {
         current: LeaseState::from_wire(7),
         new: LeaseState::from_wire(3),
     };
-    let body = notification.encode();
+    let mut body = notification.encode();
+    body[2] = 3;
+    body[3] = 4;
     let asked = message(rt.alloc(), 18, 1, ASKED, &body)?;
     assert!(&rt; matches!(content(&asked), Ok(Content::Response(Response::Other))));
     let bytes = message(rt.alloc(), 18, 1, UNASKED, &body)?;
-    let breaks = Response::Break(notification);
+    let breaks = Response::Break(notification, 0x0403);
     assert_eq!(&rt; content(&bytes), Ok(Content::Response(breaks)));
     Ok(())
 }

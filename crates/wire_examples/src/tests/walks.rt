@@ -46,11 +46,16 @@ fn seen<'a>(number: u64, connection: u8, note: Note<'a>) -> Seen<'a> {
     }
 }
 
+// A client connects.
+fn join(walk: &mut Walk, number: u64, connection: u8, client: u8) -> Result<(), Memory> {
+    let mut guid = Guid(*b"guid of a client");
+    guid.0[0] = client;
+    walk.take(&seen(number, connection, Note::Negotiate(guid)))
+}
+
 // A client connects, and asks for a lease on a file: four messages from a number on.
 fn ask(walk: &mut Walk, number: u64, connection: u8, name: &[u8]) -> Result<(), Memory> {
-    let mut guid = Guid(*b"guid of a client");
-    guid.0[0] = connection;
-    walk.take(&seen(number, connection, Note::Negotiate(guid)))?;
+    join(walk, number, connection, connection)?;
     let asked = TreeAsked {
         id: 1,
         path: b"\\\0s\0",
@@ -79,11 +84,23 @@ fn ask(walk: &mut Walk, number: u64, connection: u8, name: &[u8]) -> Result<(), 
 
 // The server grants it.
 fn grant(walk: &mut Walk, number: u64, connection: u8, level: Level) -> Result<(), Memory> {
+    grant_numbered(walk, number, connection, level, None)
+}
+
+// The same with an epoch, where the lease is of version 2.
+fn grant_numbered(
+    walk: &mut Walk,
+    number: u64,
+    connection: u8,
+    level: Level,
+    epoch: Option<u16>,
+) -> Result<(), Memory> {
     let name = open_name(connection);
     let lease = LeaseGiven {
         key: key(connection),
         level,
         breaking: false,
+        epoch,
     };
     let given = CreateGiven {
         id: 2,
@@ -158,6 +175,7 @@ fn a_break_makes_room(rt: HostRuntime) -> Result<(), Fail> {
         key: key(1),
         level: Level::Something,
         acknowledged: true,
+        epoch: 0,
     };
     walk.take(&seen(11, 1, Note::Break(breaks)))?;
     let keeps = KeyLevel {
@@ -210,6 +228,7 @@ fn a_break_that_is_not_acknowledged_is_a_doubt(rt: HostRuntime) -> Result<(), Fa
         key: key(1),
         level: Level::Something,
         acknowledged: true,
+        epoch: 0,
     };
     walk.take(&seen(6, 1, Note::Break(breaks)))?;
     let last = |level, first| Change {
@@ -325,6 +344,7 @@ fn an_acknowledgment_shows_what_was_taken(rt: HostRuntime) -> Result<(), Fail> {
         key: key(1),
         level: Level::Something,
         acknowledged: true,
+        epoch: 0,
     };
     walk.take(&seen(6, 1, Note::Break(breaks)))?;
     let keeps = KeyLevel {
@@ -340,6 +360,66 @@ fn an_acknowledgment_shows_what_was_taken(rt: HostRuntime) -> Result<(), Fail> {
     ];
     let changes = only_chain(alloc, &walk, 5)?;
     assert!(&rt; changes.is_some_and(|changes| changes.as_slice() == wanted.as_slice()));
+    Ok(())
+}
+
+// A break of the first client's lease.
+fn break_to<'a>(level: Level, epoch: u16) -> Note<'a> {
+    Note::Break(BreakNote {
+        key: key(1),
+        level,
+        acknowledged: true,
+        epoch,
+    })
+}
+
+fn is_dispute(event: &Event) -> bool {
+    matches!(event, Event::Lost(loss) if loss.reason == NotJudged::Disputed)
+}
+
+// A client of two connections: the break at 7 comes after the grant by its epoch, and the one at 8 may have come before it.
+#[test]
+fn epochs_order_connections(rt: HostRuntime) -> Result<(), Fail> {
+    let mut walk = Walk::new(rt.alloc());
+    ask(&mut walk, 1, 1, b"f\0")?;
+    grant_numbered(&mut walk, 5, 1, Level::Writes, Some(65535))?;
+    join(&mut walk, 6, 2, 1)?;
+    walk.take(&seen(7, 2, break_to(Level::Something, 0)))?;
+    assert!(&rt; !walk.events().iter().any(is_dispute));
+    let last = walk.events().last();
+    assert!(&rt; matches!(last, Some(Event::Broken(broken)) if broken.epoch == Some(0)));
+    walk.take(&seen(8, 1, break_to(Level::Nothing, 65535)))?;
+    assert!(&rt; walk.events().iter().any(is_dispute));
+    Ok(())
+}
+
+// Without epochs a break over another connection has no place.
+#[test]
+fn leases_of_version_1_have_no_order_between_connections(rt: HostRuntime) -> Result<(), Fail> {
+    let mut walk = Walk::new(rt.alloc());
+    ask(&mut walk, 1, 1, b"f\0")?;
+    grant(&mut walk, 5, 1, Level::Writes)?;
+    join(&mut walk, 6, 2, 1)?;
+    walk.take(&seen(7, 2, break_to(Level::Something, 0)))?;
+    assert!(&rt; walk.events().iter().any(is_dispute));
+    Ok(())
+}
+
+// A break on the grant's connection that has the grant's epoch: its order is known, and its number is wrong.
+#[test]
+fn an_epoch_that_does_not_follow_on_is_shown(rt: HostRuntime) -> Result<(), Fail> {
+    let mut walk = Walk::new(rt.alloc());
+    ask(&mut walk, 1, 1, b"f\0")?;
+    grant_numbered(&mut walk, 5, 1, Level::Writes, Some(3))?;
+    walk.take(&seen(6, 1, break_to(Level::Something, 3)))?;
+    let shown = |event: &Event| {
+        matches!(
+            event,
+            Event::Misnumbered(one) if one.before == 3 && one.epoch == 3 && one.position == 12
+        )
+    };
+    assert!(&rt; walk.events().iter().any(shown));
+    assert!(&rt; !walk.events().iter().any(is_dispute));
     Ok(())
 }
 
