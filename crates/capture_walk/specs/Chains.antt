@@ -1,10 +1,11 @@
 -- What events show of leases: chains of changes, by the events that come after each one. Events are in the order of the capture.
-use Rattle.std.specs.Prelude.{ℕ, ◌==◌, nat_lt, Bool, true, false, not, ◌&&◌, ◌||◌, if◌then◌else◌, List, [], ◌∷◌, ◌++◌}
-use Rattle.std.specs.Prelude.{Option, Some, None, bytes_eq}
+use Rattle.std.specs.Prelude.{ℕ, ◌==◌, nat_lt, nat_le, Bool, true, false, not, ◌&&◌, ◌||◌, if◌then◌else◌, List, [], ◌∷◌, ◌++◌}
+use Rattle.std.specs.Prelude.{Option, Some, None, bytes_eq, filter}
 use Rattle.std.specs.List.{list_any, flat_map}
 use Rattle.capture_judge.specs.declared.values.Level.{Level}
 use Rattle.capture_judge.specs.declared.values.Level.TheVariants.{Nothing}
 use Rattle.capture_judge.specs.declared.values.Change.{Change}
+use Rattle.capture_walk.specs.Sides.{sooner}
 use Rattle.capture_walk.specs.declared.event.Lease.{Lease}
 use Rattle.capture_walk.specs.declared.event.Sent.{Sent}
 use Rattle.capture_walk.specs.declared.event.Break.{Break}
@@ -37,7 +38,8 @@ acknowledgment lease (_ ∷ later) = acknowledgment lease later
 abbrev pub is_accepted : Lease → Bool → List Event → Bool
 is_accepted lease given [] = false
 is_accepted lease given (event.Acknowledged one ∷ later) = is_accepted lease (given || is_same one.lease lease) later
-is_accepted lease given (event.Accepted one ∷ later) = if given && is_same one lease then true else is_accepted lease given later
+is_accepted lease given (event.Accepted one ∷ later) =
+    if given && is_same one.lease lease then true else is_accepted lease given later
 is_accepted lease given (event.Broken broken ∷ later) =
     if is_same broken.lease lease then false else is_accepted lease given later
 is_accepted lease given (_ ∷ later) = is_accepted lease given later
@@ -76,15 +78,39 @@ abbrev pub changes : Lease → List Event → List Change
 changes lease [] = []
 changes lease (one ∷ later) = changes_by lease one later ++ changes lease later
 
+-- ---- what is missing
+
+-- the event was seen up to a position
+abbrev pub is_until : ℕ → Event → Bool
+is_until since (event.Granted grant) = nat_le grant.sent.position since
+is_until since (event.Broken broken) = nat_le broken.sent.position since
+is_until since (event.Acknowledged given) = nat_le given.last since
+is_until since (event.Accepted one) = nat_le one.position since
+is_until since (event.Ended end) = nat_le end.last since
+is_until since (event.Taken proof) = nat_le proof.last since
+is_until since _ = false
+
+-- the position from which on something of a client may be missing: that of the earliest of its losses
+abbrev pub earliest : Option ℕ → ℕ → ℕ
+earliest None since = since
+earliest (Some other) since = sooner since other
+
+abbrev pub lost_since : ℕ → Option ℕ → List Event → Option ℕ
+lost_since client found [] = found
+lost_since client found (event.Lost loss ∷ later) =
+    lost_since client (if loss.client == client then Some (earliest found loss.since) else found) later
+lost_since client found (_ ∷ later) = lost_since client found later
+
+-- Before it nothing is missing. What came later doesn't count, not even to show what was taken before; and any lease may be lost.
+abbrev pub cut_off : ℕ → List Change → List Change
+cut_off since [] = []
+cut_off since (one ∷ others) = (one ∷ others) ++ doubt true since
+
+abbrev pub known_changes : Lease → List Event → Option ℕ → List Change
+known_changes lease events None = changes lease events
+known_changes lease events (Some since) = cut_off since (changes lease (filter (is_until since) events))
+
 -- ---- chains
-
-abbrev pub is_loss_of : ℕ → Event → Bool
-is_loss_of client (event.Lost loss) = loss.client == client
-is_loss_of client _ = false
-
--- the client isn't judged, for whatever reason
-abbrev pub is_lost : ℕ → List Event → Bool
-is_lost client events = list_any (is_loss_of client) events
 
 -- the leases on a file, in the order in which they are granted first
 abbrev pub leases_behind : ℕ → List Lease → List Event → List Lease
@@ -98,10 +124,14 @@ leases_behind file found (_ ∷ later) = leases_behind file found later
 abbrev pub leases_on : ℕ → List Event → List Lease
 leases_on file events = leases_behind file [] events
 
--- the chain of a lease, by its client and its changes, where the client is judged
+-- the chain of a lease, by its client and its changes, where any are known
+abbrev pub chain_by : ℕ → List Change → List (ℕ × List Change)
+chain_by client [] = []
+chain_by client (one ∷ others) = (client, one ∷ others) ∷ []
+
 abbrev pub chain_of : List Event → Lease → List (ℕ × List Change)
 chain_of events lease =
-    if is_lost lease.client events then [] else (lease.client, changes lease events) ∷ []
+    chain_by lease.client (known_changes lease events (lost_since lease.client None events))
 
 -- the chains of a file
 abbrev pub chains_on : ℕ → List Event → List (ℕ × List Change)

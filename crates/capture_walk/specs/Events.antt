@@ -5,6 +5,7 @@ use Rattle.std.specs.Option.{option_map}
 use Rattle.std.specs.List.{list_any, flat_map}
 use Rattle.capture_wire.specs.declared.field.Smb2FileId.{Smb2FileId}
 use Rattle.capture_walk.specs.Clients.{KnowsClients, client_of}
+use Rattle.capture_walk.specs.Sides.{KnowsSides, missing_since}
 use Rattle.capture_walk.specs.Trees.{KnowsTrees}
 use Rattle.capture_walk.specs.Creates.{KnowsCreates}
 use Rattle.capture_walk.specs.Renames.{KnowsRenames}
@@ -82,8 +83,9 @@ proof_of seen None = []
 proof_of seen (Some one) =
     event.Taken (record { connection = one.connection; number = one.number; last = seen.latest }) ∷ []
 
+-- What isn't in order, or comes over a strange connection, may have been said at any time before: nothing of the client is sure.
 abbrev pub dispute : Lease → Event
-dispute lease = event.Lost (record { client = lease.client; reason = reason.Disputed })
+dispute lease = event.Lost (record { client = lease.client; since = 0; reason = reason.Disputed })
 
 -- One key for two files is more than the rules of leases allow (3.3.5.9.8), so that a break of it can't be told to be of either.
 abbrev pub is_elsewhere : Lease → Open → Bool
@@ -94,8 +96,8 @@ disputed lease held = if list_any (is_elsewhere lease) held then dispute lease �
 
 -- ---- the order of what the server says of a lease
 
--- Only what the server says orders a chain, so that opens on several connections are no dispute in themselves: what a client sends
--- has bounds of its own, and the server answers it later.
+-- Only what the server says orders a chain, so that opens on several connections are no dispute in themselves: what a client
+-- sends has bounds of its own, and the server answers it later.
 
 abbrev pub said_by_grant : Grant → Said
 said_by_grant one = record { sent = one.sent; level = one.level; epoch = one.epoch; breaks = false }
@@ -189,7 +191,9 @@ granted_of seen (Some given) (Some one) held before = granted_open seen given on
 abbrev pub lost_under : List ℕ → Option Lease → List Event
 lost_under key None = []
 lost_under key (Some lease) =
-    if bytes_eq lease.key.0 key then event.Lost (record { client = lease.client; reason = reason.Stranger }) ∷ [] else []
+    if bytes_eq lease.key.0 key
+    then event.Lost (record { client = lease.client; since = 0; reason = reason.Stranger }) ∷ []
+    else []
 
 -- NewEpoch counts where the server gave the lease an epoch before.
 abbrev pub new_epoch : Option Said → ℕ → Option ℕ
@@ -223,9 +227,9 @@ broken seen one (Some client) held before =
 abbrev pub all_taken : Seen → Event
 all_taken seen = event.Taken (record { connection = seen.connection; number = seen.number; last = seen.latest })
 
-abbrev pub lost_of : Option ℕ → List Event
-lost_of None = []
-lost_of (Some client) = event.Lost (record { client = client; reason = reason.Missing }) ∷ []
+abbrev pub lost_of : Option ℕ → ℕ → List Event
+lost_of None since = []
+lost_of (Some client) since = event.Lost (record { client = client; since = since; reason = reason.Missing }) ∷ []
 
 -- the last break of a lease
 abbrev pub last_break : Lease → Option Sent → List Event → Option Sent
@@ -246,31 +250,34 @@ acknowledged seen level (Some lease) before =
     event.Acknowledged (record { lease = lease; level = level; last = seen.latest })
     ∷ taken_break seen (last_break lease None before)
 
-abbrev pub accepted : Option Lease → List Event
-accepted None = []
-accepted (Some lease) = event.Accepted lease ∷ []
+abbrev pub accepted : Seen → Option Lease → List Event
+accepted seen None = []
+accepted seen (Some lease) = event.Accepted (record { lease = lease; position = seen.latest }) ∷ []
 
--- by what it is, its connection's client, the open that it makes, and the opens and the events before it
-abbrev pub told_by : Note → Seen → Option ℕ → Option Open → List Open → List Event → List Event
-told_by (note.CreateGiven given) seen client one held before = granted_of seen given.lease one held before
-told_by (note.OnOpen name) seen client one held before =
+-- by what it is, its connection's client, the open that it makes, from where on something is missing if it is a gap, and the
+-- opens and the events before it
+abbrev pub told_by : Note → Seen → Option ℕ → Option Open → ℕ → List Open → List Event → List Event
+told_by (note.CreateGiven given) seen client one since held before = granted_of seen given.lease one held before
+told_by (note.OnOpen name) seen client one since held before =
     proof_of seen (open_named seen.server name.session name.file_id held)
-told_by (note.Close name) seen client one held before =
+told_by (note.Close name) seen client one since held before =
     proof_of seen (open_named seen.server name.session name.file_id held)
-told_by (note.Acknowledge given) seen client one held before =
+told_by (note.Acknowledge given) seen client one since held before =
     acknowledged seen given.level (lease_under client given.key.0 held) before
-told_by (note.Accepted key) seen client one held before = accepted (lease_under client key.0 held)
-told_by (note.Break break) seen client one held before = broken seen break client held before
-told_by note.Gap seen client one held before = lost_of client
-told_by note.Taken seen client one held before = all_taken seen ∷ []
-told_by _ seen client one held before = []
+told_by (note.Accepted key) seen client one since held before = accepted seen (lease_under client key.0 held)
+told_by (note.Break break) seen client one since held before = broken seen break client held before
+told_by note.Gap seen client one since held before = lost_of client since
+told_by note.Taken seen client one since held before = all_taken seen ∷ []
+told_by _ seen client one since held before = []
 
 -- ---- all events
 
 -- the events after a message, where the leases that end with it are among those before
 abbrev pub with_told : Seen → List Seen → List Event → List Event
 with_told seen past before =
-    before ++ told_by seen.note seen (client_of seen.connection past) (made seen past) (opens past) before
+    before
+    ++ told_by seen.note seen (client_of seen.connection past) (made seen past) (missing_since seen.connection past) (opens past)
+    before
 
 -- in the order of the capture
 abbrev pub events : List Seen → List Event
@@ -280,6 +287,7 @@ events (seen ∷ past) = with_told seen past (events past ++ ended seen (opens p
 -- The walk knows what these messages show.
 pub record Knows (past : List Seen) (walk : Walk) : Type 0 where
   pub clients : KnowsClients past walk.clients
+  pub sides : KnowsSides past walk.sides
   pub trees : KnowsTrees past walk.trees
   pub creates : KnowsCreates past walk.creates
   pub renames : KnowsRenames past walk.renames
@@ -290,6 +298,7 @@ pub record Knows (past : List Seen) (walk : Walk) : Type 0 where
 -- All but what is known of files is the same.
 pub record HasSameButFiles (before now : Walk) : Type 0 where
   pub clients : now.clients ≡ before.clients
+  pub sides : now.sides ≡ before.sides
   pub trees : now.trees ≡ before.trees
   pub creates : now.creates ≡ before.creates
   pub renames : now.renames ≡ before.renames
@@ -299,6 +308,7 @@ pub record HasSameButFiles (before now : Walk) : Type 0 where
 -- The opens are these, and all else is the same.
 pub record HasOpens (held : List Open) (before now : Walk) : Type 0 where
   pub clients : now.clients ≡ before.clients
+  pub sides : now.sides ≡ before.sides
   pub trees : now.trees ≡ before.trees
   pub creates : now.creates ≡ before.creates
   pub renames : now.renames ≡ before.renames

@@ -1,5 +1,6 @@
 pub mod Chains
 pub mod Clients
+pub mod Sides
 pub mod Notes
 pub mod Trees
 pub mod Creates

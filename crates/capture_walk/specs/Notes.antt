@@ -1,5 +1,5 @@
 -- What a note is of, of each kind that is looked for.
-use Rattle.std.specs.Prelude.{ℕ, Option, Some, None}
+use Rattle.std.specs.Prelude.{ℕ, Bool, true, false, Option, Some, None}
 use Rattle.capture_wire.specs.declared.field.Guid.{Guid}
 use Rattle.capture_walk.specs.declared.note.Note.{Note}
 use Rattle.capture_walk.specs.declared.note.Note.TheVariants as note
@@ -37,3 +37,25 @@ answered _ = None
 abbrev pub rename_asked : Note → Option ℕ
 rename_asked (note.RenameAsked id) = Some id
 rename_asked _ = None
+
+-- a client's message, of those that say something
+abbrev pub is_request : Note → Bool
+is_request (note.Negotiate guid) = true
+is_request (note.TreeAsked asked) = true
+is_request (note.CreateAsked asked) = true
+is_request (note.OnOpen name) = true
+is_request (note.Close name) = true
+is_request (note.Leave session) = true
+is_request (note.LeaveTree name) = true
+is_request (note.Acknowledge given) = true
+is_request (note.RenameAsked id) = true
+is_request _ = false
+
+-- a server's message, likewise
+abbrev pub is_answer : Note → Bool
+is_answer (note.TreeGiven given) = true
+is_answer (note.CreateGiven given) = true
+is_answer (note.Answered id) = true
+is_answer (note.Accepted key) = true
+is_answer (note.Break break) = true
+is_answer _ = false

@@ -1,9 +1,9 @@
-ghost use Rattle.std.specs.Prelude.{◌≡◌, false, ◌≤◌, ◌+◌, ◌++◌, [], length, drop, map, OnOk, IfOk};
+ghost use Rattle.std.specs.Prelude.{◌≡◌, false, ◌≤◌, ◌+◌, ◌++◌, [], None, length, drop, map, filter, OnOk, IfOk};
 ghost use Rattle.std.specs.List.{list_any};
 ghost use Rattle.capture_judge.specs.Worked.{shown};
 ghost use Rattle.capture_walk.specs.Chains.{taken, acknowledgment, is_accepted, changes_by_break, changes, changes_by};
-ghost use Rattle.capture_walk.specs.Chains.{is_lost, is_loss_of, doubt};
-ghost use Rattle.capture_walk.specs.Chains.{leases_on, chains_on, files_in, is_file, is_same, chain_of};
+ghost use Rattle.capture_walk.specs.Chains.{doubt, earliest, lost_since, is_until, cut_off, known_changes};
+ghost use Rattle.capture_walk.specs.Chains.{leases_on, chains_on, files_in, is_file, is_same, chain_by, chain_of};
 
 use crate::event::{Acknowledged, Break, Event, Lease, Sent};
 use capture_judge::{Chain, Change, Level};
@@ -47,7 +47,7 @@ fn is_accepted(lease: Lease, later: &[Event]) -> bool
         match event {
             Event::Acknowledged(given) => is_given = is_given || given.lease.is(lease),
             Event::Accepted(accepted) => {
-                if is_given && accepted.is(lease) {
+                if is_given && accepted.lease.is(lease) {
                     return true;
                 }
             }
@@ -140,11 +140,76 @@ fn changes_of(alloc: Global, lease: Lease, events: &[Event]) -> Result<Vec<Chang
     Ok(changes)
 }
 
-// Whether the client isn't judged.
-fn is_lost(client: u64, events: &[Event]) -> bool
-    ensures { result ≡ is_lost client events.now }
+fn earliest(found: Option<u64>, since: u64) -> u64
+    ensures { result ≡ earliest found since }
 {
-    events.iter().any(|event| matches!(event, Event::Lost(loss) if loss.client == client))
+    match found {
+        Some(other) if since < other => since,
+        Some(other) => other,
+        None => since,
+    }
+}
+
+// From which position on something of a client may be missing.
+fn lost_since(client: u64, events: &[Event]) -> Option<u64>
+    ensures { result ≡ lost_since client None events.now }
+{
+    let mut found: Option<u64> = None;
+    for event in events {
+        if let Event::Lost(loss) = event {
+            if loss.client == client {
+                found = Some(earliest(found, loss.since));
+            }
+        }
+    }
+    found
+}
+
+fn is_until(since: u64, event: &Event) -> bool
+    ensures { result ≡ is_until since event.now }
+{
+    match event {
+        Event::Granted(grant) => grant.sent.position <= since,
+        Event::Broken(broken) => broken.sent.position <= since,
+        Event::Acknowledged(given) => given.last <= since,
+        Event::Accepted(accepted) => accepted.position <= since,
+        Event::Ended(end) => end.last <= since,
+        Event::Taken(proof) => proof.last <= since,
+        Event::Misnumbered(_) | Event::Lost(_) => false,
+    }
+}
+
+// The events up to a position.
+fn events_until(alloc: Global, since: u64, events: &[Event]) -> Result<Vec<Event>, Memory>
+    ensures { IfOk result (λ found. found.items ≡ filter (is_until since) events.now) }
+{
+    let mut found: Vec<Event> = Vec::new(alloc);
+    for event in events {
+        if is_until(since, event) {
+            found.push(*event)?;
+        }
+    }
+    Ok(found)
+}
+
+fn cut_off(since: u64, changes: &mut Vec<Change>) -> Result<(), Memory>
+    ensures { OnOk result (changes.new.items ≡ cut_off since changes.old.items) }
+{
+    let is_any = !changes.is_empty();
+    push_doubt(changes, is_any, since)
+}
+
+// The changes of a lease up to where something of its client may be missing.
+fn known_changes(alloc: Global, lease: Lease, events: &[Event]) -> Result<Vec<Change>, Memory>
+    ensures { IfOk result (λ found. found.items
+        ≡ known_changes lease events.now (lost_since lease.client None events.now)) }
+{
+    let Some(since) = lost_since(lease.client, events) else {
+        return changes_of(alloc, lease, events);
+    };
+    let mut changes = changes_of(alloc, lease, &events_until(alloc, since, events)?)?;
+    cut_off(since, &mut changes)?;
+    Ok(changes)
 }
 
 fn is_among(leases: &[Lease], lease: Lease) -> bool
@@ -168,9 +233,18 @@ fn leases_on(alloc: Global, file: u64, events: &[Event]) -> Result<Vec<Lease>, M
     Ok(leases)
 }
 
+fn push_chain(chains: &mut Vec<Chain>, client: u64, changes: Vec<Change>) -> Result<(), Memory>
+    ensures { OnOk result (map shown chains.new.items ≡ map shown chains.old.items ++ chain_by client changes.items) }
+{
+    if !changes.is_empty() {
+        chains.push(Chain { client, changes })?;
+    }
+    Ok(())
+}
+
 /// The chains of a file: for each lease on it the changes of what its client caches, with the positions between which they
-/// happen, for `capture_judge::judge_placing`. Clients that aren't judged have none. The events are in the order
-/// of the capture.
+/// happen, for `capture_judge::judge_placing`. From where something of a client may be missing it may have lost its leases, and what
+/// comes later doesn't count. The events are in the order of the capture.
 ///
 /// Fails where there is no memory.
 pub fn chains_on(alloc: Global, file: u64, events: &[Event]) -> Result<Vec<Chain>, Memory>
@@ -178,11 +252,8 @@ pub fn chains_on(alloc: Global, file: u64, events: &[Event]) -> Result<Vec<Chain
 {
     let mut chains = Vec::new(alloc);
     for lease in &leases_on(alloc, file, events)? {
-        if !is_lost(lease.client, events) {
-            let changes = changes_of(alloc, *lease, events)?;
-            let client = lease.client;
-            chains.push(Chain { client, changes })?;
-        }
+        let changes = known_changes(alloc, *lease, events)?;
+        push_chain(&mut chains, lease.client, changes)?;
     }
     Ok(chains)
 }

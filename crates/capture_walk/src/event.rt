@@ -137,7 +137,7 @@ pub struct Misnumbered {
     pub position: u64,
 }
 
-/// Why a client isn't judged.
+/// Why a client isn't judged any more.
 #[derive(Clone, Copy, Debug, PartialEq, Eq)]
 pub enum NotJudged {
     /// Something of one of its connections is missing, or can't be read.
@@ -149,12 +149,23 @@ pub enum NotJudged {
     Stranger,
 }
 
-/// A client that isn't judged.
+/// A client that isn't judged from a position on.
 #[derive(Clone, Copy, Debug, PartialEq, Eq)]
 pub struct Loss {
     /// The client's number.
     pub client: u64,
+    /// The first position from which on something of it may be missing, on whichever of its connections; 0 where nothing of it is
+    /// sure.
+    pub since: u64,
     pub reason: NotJudged,
+}
+
+/// The server accepted the acknowledgment of a break.
+#[derive(Clone, Copy, Debug, PartialEq, Eq)]
+pub struct Accepted {
+    pub lease: Lease,
+    /// Where the capture has that.
+    pub position: u64,
 }
 
 /// What a message of a capture shows of leases.
@@ -163,12 +174,11 @@ pub enum Event {
     Granted(Grant),
     Broken(Break),
     Acknowledged(Acknowledged),
-    /// The server accepted the acknowledgment of a break of the lease.
-    Accepted(Lease),
+    Accepted(Accepted),
     Ended(End),
     Taken(Proof),
     /// An epoch doesn't follow on.
     Misnumbered(Misnumbered),
-    /// A client isn't judged.
+    /// A client isn't judged any more.
     Lost(Loss),
 }

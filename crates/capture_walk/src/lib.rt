@@ -32,6 +32,7 @@ mod note;
 mod opens;
 mod reading;
 mod renames;
+mod sides;
 mod telling;
 mod trees;
 mod walk;
@@ -39,7 +40,8 @@ mod walk;
 pub use chains::{chains_on, files_in};
 pub use compound::{FrameFault, read_frame};
 pub use event::{
-    Acknowledged, Break, End, Event, Grant, Lease, Loss, Misnumbered, NotJudged, Proof, Sent,
+    Accepted, Acknowledged, Break, End, Event, Grant, Lease, Loss, Misnumbered, NotJudged, Proof,
+    Sent,
 };
 pub use files::Place;
 pub use frame::Frame;

@@ -124,8 +124,8 @@ pub enum Note<'a> {
     RenameAsked(u64),
     /// Something is missing, or can't be read.
     Gap,
-    /// The client has taken all messages of the server on the connection up to this number: at a capture made at the client, after
-    /// each frame of the server.
+    /// The client has taken all messages of the server on the connection up to this number: at a capture made at the client,
+    /// after each frame of the server.
     Taken,
     /// The connection ends.
     End,
@@ -187,6 +187,38 @@ impl<'a> Note<'a> {
             Note::Answered(id) => Some(id),
             _ => None,
         }
+    }
+
+    // Whether it is a client's message that says something.
+    pub(crate) fn is_request(self) -> bool
+        ensures { result ≡ notes.is_request self.entry }
+    {
+        matches!(
+            self,
+            Note::Negotiate(_)
+                | Note::TreeAsked(_)
+                | Note::CreateAsked(_)
+                | Note::OnOpen(_)
+                | Note::Close(_)
+                | Note::Leave(_)
+                | Note::LeaveTree(_)
+                | Note::Acknowledge(_)
+                | Note::RenameAsked(_)
+        )
+    }
+
+    // Whether it is a server's message that says something.
+    pub(crate) fn is_answer(self) -> bool
+        ensures { result ≡ notes.is_answer self.entry }
+    {
+        matches!(
+            self,
+            Note::TreeGiven(_)
+                | Note::CreateGiven(_)
+                | Note::Answered(_)
+                | Note::Accepted(_)
+                | Note::Break(_)
+        )
     }
 
     pub(crate) fn rename_asked(self) -> Option<u64>

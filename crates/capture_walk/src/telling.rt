@@ -10,7 +10,8 @@ ghost use Rattle.capture_walk.specs.Events.{acknowledged, accepted, told_by, is_
 ghost use Rattle.capture_walk.specs.declared.event.Event.TheVariants as event;
 
 use crate::event::{
-    Acknowledged, Break, End, Event, Grant, Lease, Loss, Misnumbered, NotJudged, Proof, Said, Sent,
+    Accepted, Acknowledged, Break, End, Event, Grant, Lease, Loss, Misnumbered, NotJudged, Proof,
+    Said, Sent,
 };
 use crate::note::{BreakNote, KeyLevel, LeaseGiven, Note, OpenName, Seen};
 use crate::opens::Open;
@@ -132,10 +133,15 @@ fn push_proof(events: &mut Vec<Event>, seen: &Seen<'_>, one: Option<Open>) -> Re
     Ok(())
 }
 
+// A client of which nothing is sure.
 fn lost(client: u64, reason: NotJudged) -> Event
-    ensures { result ≡ event.Lost (record { client = client; reason = reason }) }
+    ensures { result ≡ event.Lost (record { client = client; since = 0; reason = reason }) }
 {
-    Event::Lost(Loss { client, reason })
+    Event::Lost(Loss {
+        client,
+        since: 0,
+        reason,
+    })
 }
 
 // Whether an open is under the lease's key, and not of the lease.
@@ -475,20 +481,32 @@ fn push_acknowledged(
     push_taken_break(events, seen, sent)
 }
 
-fn push_accepted(events: &mut Vec<Event>, lease: Option<Lease>) -> Result<(), Memory>
-    ensures { OnOk result (events.new.items ≡ events.old.items ++ accepted lease) }
+fn push_accepted(
+    events: &mut Vec<Event>,
+    seen: &Seen<'_>,
+    lease: Option<Lease>,
+) -> Result<(), Memory>
+    ensures { OnOk result (events.new.items ≡ events.old.items ++ accepted seen.now lease) }
 {
     if let Some(lease) = lease {
-        events.push(Event::Accepted(lease))?;
+        events.push(Event::Accepted(Accepted {
+            lease,
+            position: seen.latest,
+        }))?;
     }
     Ok(())
 }
 
-fn push_lost(events: &mut Vec<Event>, client: Option<u64>) -> Result<(), Memory>
-    ensures { OnOk result (events.new.items ≡ events.old.items ++ lost_of client) }
+// A gap in a connection.
+fn push_lost(events: &mut Vec<Event>, client: Option<u64>, since: u64) -> Result<(), Memory>
+    ensures { OnOk result (events.new.items ≡ events.old.items ++ lost_of client since) }
 {
     if let Some(client) = client {
-        events.push(lost(client, NotJudged::Missing))?;
+        events.push(Event::Lost(Loss {
+            client,
+            since,
+            reason: NotJudged::Missing,
+        }))?;
     }
     Ok(())
 }
@@ -505,15 +523,17 @@ fn push_all_taken(events: &mut Vec<Event>, seen: &Seen<'_>) -> Result<(), Memory
     Ok(())
 }
 
-/// What a message shows besides, by the client of its connection, the open that it makes, and the opens before it.
+/// What a message shows besides, by the client of its connection, the open that it makes, from where on something is missing if
+/// it is a gap, and the opens before it.
 pub(crate) fn push_told(
     events: &mut Vec<Event>,
     seen: &Seen<'_>,
     client: Option<u64>,
     made: Option<Open>,
+    since: u64,
     opens: &[Open],
 ) -> Result<(), Memory>
-    ensures { OnOk result (events.new.items ≡ events.old.items ++ told_by seen.now.note seen.now client made opens.now
+    ensures { OnOk result (events.new.items ≡ events.old.items ++ told_by seen.now.note seen.now client made since opens.now
         events.old.items) }
 {
     match seen.note {
@@ -524,9 +544,9 @@ pub(crate) fn push_told(
         Note::Acknowledge(given) => {
             push_acknowledged(events, seen, given, lease_under(opens, client, given.key))
         }
-        Note::Accepted(key) => push_accepted(events, lease_under(opens, client, key)),
+        Note::Accepted(key) => push_accepted(events, seen, lease_under(opens, client, key)),
         Note::Break(one) => push_broken(events, seen, one, client, opens),
-        Note::Gap => push_lost(events, client),
+        Note::Gap => push_lost(events, client, since),
         Note::Taken => push_all_taken(events, seen),
         _ => Ok(()),
     }

@@ -12,6 +12,7 @@ use crate::files::{Files, Place};
 use crate::note::Seen;
 use crate::opens::{Open, open_given};
 use crate::renames::Renames;
+use crate::sides::Sides;
 use crate::telling::{push_ended, push_told};
 use crate::trees::Trees;
 use lease_state::Memory;
@@ -21,6 +22,7 @@ use std::alloc::Global;
 #[derive(Debug, Drop)]
 pub struct Walk {
     clients: Clients,
+    sides: Sides,
     trees: Trees,
     creates: Creates,
     renames: Renames,
@@ -37,6 +39,7 @@ impl Walk {
     {
         Walk {
             clients: Clients::new(alloc),
+            sides: Sides::new(alloc),
             trees: Trees::new(alloc),
             creates: Creates::new(alloc),
             renames: Renames::new(alloc),
@@ -96,9 +99,11 @@ impl Walk {
         let made = self.name_files(seen)?;
         push_ended(&mut self.events, seen, &self.opens)?;
         let client = self.clients.of(seen.connection);
-        push_told(&mut self.events, seen, client, made, &self.opens)?;
+        let since = self.sides.missing_since(seen.connection);
+        push_told(&mut self.events, seen, client, made, since, &self.opens)?;
         self.change_opens(seen, made)?;
         self.clients.note(seen)?;
+        self.sides.note(seen)?;
         self.trees.note(seen)?;
         self.renames.note(seen)?;
         self.creates.note(seen)

@@ -263,10 +263,18 @@ fn gaps_and_renames_are_not_judged(rt: HostRuntime) -> Result<(), Fail> {
     walk.take(&seen(12, 1, Note::Gap))?;
     let loss = Loss {
         client: 1,
+        since: 10,
         reason: NotJudged::Missing,
     };
     assert_eq!(&rt; walk.events().last(), Some(&Event::Lost(loss)));
-    assert_eq!(&rt; chains_on(alloc, 5, walk.events())?.len(), 0);
+    let change = |level| Change {
+        level,
+        first: 10,
+        last: None,
+    };
+    let wanted = [change(Level::Writes), change(Level::Nothing)];
+    let changes = only_chain(alloc, &walk, 5)?;
+    assert!(&rt; changes.is_some_and(|changes| changes.as_slice() == wanted.as_slice()));
     Ok(())
 }
 
@@ -440,5 +448,46 @@ fn a_client_takes_what_its_capture_has(rt: HostRuntime) -> Result<(), Fail> {
     }];
     let changes = only_chain(alloc, &walk, 5)?;
     assert!(&rt; changes.is_some_and(|changes| changes.as_slice() == wanted.as_slice()));
+    Ok(())
+}
+
+// The client sent its last request before the gap at 11: the grant at 10 was taken by then. What the capture has of the break
+// at 14 and its acknowledgment comes after what may be missing.
+#[test]
+fn a_gap_cuts_chains_off(rt: HostRuntime) -> Result<(), Fail> {
+    let alloc = rt.alloc();
+    let mut walk = Walk::new(alloc);
+    ask(&mut walk, 1, 1, b"f\0")?;
+    grant(&mut walk, 5, 1, Level::Writes)?;
+    use_open(&mut walk, 6, 1)?;
+    walk.take(&seen(7, 1, break_to(Level::Something, 0)))?;
+    walk.take(&seen(8, 1, Note::Gap))?;
+    let keeps = KeyLevel {
+        key: key(1),
+        level: Level::Something,
+    };
+    walk.take(&seen(9, 1, Note::Acknowledge(keeps)))?;
+    walk.take(&seen(10, 1, Note::Accepted(key(1))))?;
+    let change = |level, first, last| Change { level, first, last };
+    let wanted = [
+        change(Level::Writes, 10, Some(11)),
+        change(Level::Nothing, 11, None),
+    ];
+    let changes = only_chain(alloc, &walk, 5)?;
+    assert!(&rt; changes.is_some_and(|changes| changes.as_slice() == wanted.as_slice()));
+    Ok(())
+}
+
+// What has no place in the order may have come first, so that no change of the client is sure.
+#[test]
+fn a_dispute_leaves_no_chain(rt: HostRuntime) -> Result<(), Fail> {
+    let alloc = rt.alloc();
+    let mut walk = Walk::new(alloc);
+    ask(&mut walk, 1, 1, b"f\0")?;
+    grant(&mut walk, 5, 1, Level::Writes)?;
+    use_open(&mut walk, 6, 1)?;
+    join(&mut walk, 7, 2, 1)?;
+    walk.take(&seen(8, 2, break_to(Level::Something, 0)))?;
+    assert_eq!(&rt; chains_on(alloc, 5, walk.events())?.len(), 0);
     Ok(())
 }

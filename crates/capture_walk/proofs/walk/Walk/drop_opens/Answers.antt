@@ -5,6 +5,7 @@ use Rattle.capture_walk.proofs.walk.Walk.drop_opens.Goals as goal
 pub returns : goal.returns
 returns c = record {
   clients = refl;
+  sides = refl;
   trees = refl;
   creates = refl;
   renames = refl;
