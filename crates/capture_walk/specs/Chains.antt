@@ -81,14 +81,19 @@ changes lease (one ∷ later) = changes_by lease one later ++ changes lease late
 -- ---- what is missing
 
 -- the event was seen up to a position
-abbrev pub is_until : ℕ → Event → Bool
-is_until since (event.Granted grant) = nat_le grant.sent.position since
-is_until since (event.Broken broken) = nat_le broken.sent.position since
-is_until since (event.Acknowledged given) = nat_le given.last since
-is_until since (event.Accepted one) = nat_le one.position since
-is_until since (event.Ended end) = nat_le end.last since
-is_until since (event.Taken proof) = nat_le proof.last since
-is_until since _ = false
+abbrev pub is_before : ℕ → Event → Bool
+is_before since (event.Granted grant) = nat_le grant.sent.position since
+is_before since (event.Broken broken) = nat_le broken.sent.position since
+is_before since (event.Acknowledged given) = nat_le given.last since
+is_before since (event.Accepted one) = nat_le one.position since
+is_before since (event.Ended end) = nat_le end.last since
+is_before since (event.Taken proof) = nat_le proof.last since
+is_before since _ = false
+
+-- the event counts, by the position from which on something is missing, if there is one
+abbrev pub is_known : Option ℕ → Event → Bool
+is_known None one = true
+is_known (Some since) one = is_before since one
 
 -- the position from which on something of a client may be missing: that of the earliest of its losses
 abbrev pub earliest : Option ℕ → ℕ → ℕ
@@ -101,14 +106,15 @@ lost_since client found (event.Lost loss ∷ later) =
     lost_since client (if loss.client == client then Some (earliest found loss.since) else found) later
 lost_since client found (_ ∷ later) = lost_since client found later
 
--- Before it nothing is missing. What came later doesn't count, not even to show what was taken before; and any lease may be lost.
-abbrev pub cut_off : ℕ → List Change → List Change
-cut_off since [] = []
-cut_off since (one ∷ others) = (one ∷ others) ++ doubt true since
+-- From there on any lease may be lost.
+abbrev pub cut_off : Option ℕ → List Change → List Change
+cut_off None found = found
+cut_off (Some since) [] = []
+cut_off (Some since) (one ∷ others) = (one ∷ others) ++ doubt true since
 
+-- Before it nothing is missing. What came later doesn't count, not even to show what was taken before.
 abbrev pub known_changes : Lease → List Event → Option ℕ → List Change
-known_changes lease events None = changes lease events
-known_changes lease events (Some since) = cut_off since (changes lease (filter (is_until since) events))
+known_changes lease events since = cut_off since (changes lease (filter (is_known since) events))
 
 -- ---- chains
 

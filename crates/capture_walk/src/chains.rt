@@ -2,7 +2,7 @@ ghost use Rattle.std.specs.Prelude.{◌≡◌, false, ◌≤◌, ◌+◌, ◌++�
 ghost use Rattle.std.specs.List.{list_any};
 ghost use Rattle.capture_judge.specs.Worked.{shown};
 ghost use Rattle.capture_walk.specs.Chains.{taken, acknowledgment, is_accepted, changes_by_break, changes, changes_by};
-ghost use Rattle.capture_walk.specs.Chains.{doubt, earliest, lost_since, is_until, cut_off, known_changes};
+ghost use Rattle.capture_walk.specs.Chains.{doubt, earliest, lost_since, is_before, is_known, cut_off, known_changes};
 ghost use Rattle.capture_walk.specs.Chains.{leases_on, chains_on, files_in, is_file, is_same, chain_by, chain_of};
 
 use crate::event::{Acknowledged, Break, Event, Lease, Sent};
@@ -10,13 +10,40 @@ use capture_judge::{Chain, Change, Level};
 use lease_state::Memory;
 use std::alloc::Global;
 
+fn is_before(since: u64, event: &Event) -> bool
+    ensures { result ≡ is_before since event.now }
+{
+    match event {
+        Event::Granted(grant) => grant.sent.position <= since,
+        Event::Broken(broken) => broken.sent.position <= since,
+        Event::Acknowledged(given) => given.last <= since,
+        Event::Accepted(accepted) => accepted.position <= since,
+        Event::Ended(end) => end.last <= since,
+        Event::Taken(proof) => proof.last <= since,
+        Event::Misnumbered(_) | Event::Lost(_) => false,
+    }
+}
+
+// Whether an event counts, where something may be missing from a position on.
+fn is_known(since: Option<u64>, event: &Event) -> bool
+    ensures { result ≡ is_known since event.now }
+{
+    match since {
+        Some(since) => is_before(since, event),
+        None => true,
+    }
+}
+
 // The position at which a message of the server is first shown to have been taken.
-fn taken(sent: Sent, later: &[Event]) -> Option<u64>
-    ensures { result ≡ taken sent later.now }
+fn taken(sent: Sent, later: &[Event], since: Option<u64>) -> Option<u64>
+    ensures { result ≡ taken sent (filter (is_known since) later.now) }
 {
     for event in later {
         if let Event::Taken(proof) = event {
-            if proof.connection == sent.connection && sent.number <= proof.number {
+            if proof.connection == sent.connection
+                && sent.number <= proof.number
+                && is_known(since, event)
+            {
                 return Some(proof.last);
             }
         }
@@ -25,11 +52,12 @@ fn taken(sent: Sent, later: &[Event]) -> Option<u64>
 }
 
 // The acknowledgment of a break of a lease.
-fn acknowledgment(lease: Lease, later: &[Event]) -> Option<Acknowledged>
-    ensures { result ≡ acknowledgment lease later.now }
+fn acknowledgment(lease: Lease, later: &[Event], since: Option<u64>) -> Option<Acknowledged>
+    ensures { result ≡ acknowledgment lease (filter (is_known since) later.now) }
 {
     for event in later {
         match event {
+            _ if !is_known(since, event) => {}
             Event::Acknowledged(given) if given.lease.is(lease) => return Some(*given),
             Event::Broken(broken) if broken.lease.is(lease) => return None,
             _ => {}
@@ -39,12 +67,13 @@ fn acknowledgment(lease: Lease, later: &[Event]) -> Option<Acknowledged>
 }
 
 // Whether the server accepts the acknowledgment of a break of a lease.
-fn is_accepted(lease: Lease, later: &[Event]) -> bool
-    ensures { result ≡ is_accepted lease false later.now }
+fn is_accepted(lease: Lease, later: &[Event], since: Option<u64>) -> bool
+    ensures { result ≡ is_accepted lease false (filter (is_known since) later.now) }
 {
     let mut is_given = false;
     for event in later {
         match event {
+            _ if !is_known(since, event) => {}
             Event::Acknowledged(given) => is_given = is_given || given.lease.is(lease),
             Event::Accepted(accepted) => {
                 if is_given && accepted.lease.is(lease) {
@@ -77,26 +106,32 @@ fn push_doubt(changes: &mut Vec<Change>, is_doubtful: bool, position: u64) -> Re
 }
 
 // What a break leaves, where these events come after it.
-fn push_broken(changes: &mut Vec<Change>, broken: &Break, later: &[Event]) -> Result<(), Memory>
+fn push_broken(
+    changes: &mut Vec<Change>,
+    broken: &Break,
+    later: &[Event],
+    since: Option<u64>,
+) -> Result<(), Memory>
     ensures { OnOk result (changes.new.items
-        ≡ changes.old.items ++ changes_by_break broken.now (acknowledgment broken.now.lease later.now) later.now) }
+        ≡ changes.old.items ++ changes_by_break broken.now
+        (acknowledgment broken.now.lease (filter (is_known since) later.now)) (filter (is_known since) later.now)) }
 {
     let first = broken.sent.position;
-    match acknowledgment(broken.lease, later) {
+    match acknowledgment(broken.lease, later, since) {
         Some(given) => {
             changes.push(Change {
                 level: given.level,
                 first,
                 last: Some(given.last),
             })?;
-            let is_doubtful = broken.acknowledged && !is_accepted(broken.lease, later);
+            let is_doubtful = broken.acknowledged && !is_accepted(broken.lease, later, since);
             push_doubt(changes, is_doubtful, first)
         }
         None => {
             changes.push(Change {
                 level: broken.level,
                 first,
-                last: taken(broken.sent, later),
+                last: taken(broken.sent, later, since),
             })?;
             push_doubt(changes, broken.acknowledged, first)
         }
@@ -109,16 +144,20 @@ fn push_changes(
     lease: Lease,
     event: &Event,
     later: &[Event],
+    since: Option<u64>,
 ) -> Result<(), Memory>
-    ensures { OnOk result (changes.new.items ≡ changes.old.items ++ changes_by lease event.now later.now) }
+    ensures { OnOk result
+        (changes.new.items ≡ changes.old.items ++ changes_by lease event.now (filter (is_known since) later.now)) }
 {
     match event {
         Event::Granted(grant) if grant.lease.is(lease) => changes.push(Change {
             level: grant.level,
             first: grant.sent.position,
-            last: taken(grant.sent, later),
+            last: taken(grant.sent, later, since),
         })?,
-        Event::Broken(broken) if broken.lease.is(lease) => push_broken(changes, broken, later)?,
+        Event::Broken(broken) if broken.lease.is(lease) => push_broken(
+            changes, broken, later, since,
+        )?,
         Event::Ended(end) if end.lease.is(lease) => changes.push(Change {
             level: Level::Nothing,
             first: end.first,
@@ -129,13 +168,20 @@ fn push_changes(
     Ok(())
 }
 
-// All changes of a lease.
-fn changes_of(alloc: Global, lease: Lease, events: &[Event]) -> Result<Vec<Change>, Memory>
-    ensures { IfOk result (λ found. found.items ≡ changes lease events.now) }
+// All changes of a lease, by the events that count.
+fn changes_of(
+    alloc: Global,
+    lease: Lease,
+    events: &[Event],
+    since: Option<u64>,
+) -> Result<Vec<Change>, Memory>
+    ensures { IfOk result (λ found. found.items ≡ changes lease (filter (is_known since) events.now)) }
 {
     let mut changes = Vec::new(alloc);
     for (index, event) in events.iter().enumerate() {
-        push_changes(&mut changes, lease, event, &events[index + 1..])?;
+        if is_known(since, event) {
+            push_changes(&mut changes, lease, event, &events[index + 1..], since)?;
+        }
     }
     Ok(changes)
 }
@@ -165,36 +211,12 @@ fn lost_since(client: u64, events: &[Event]) -> Option<u64>
     found
 }
 
-fn is_until(since: u64, event: &Event) -> bool
-    ensures { result ≡ is_until since event.now }
-{
-    match event {
-        Event::Granted(grant) => grant.sent.position <= since,
-        Event::Broken(broken) => broken.sent.position <= since,
-        Event::Acknowledged(given) => given.last <= since,
-        Event::Accepted(accepted) => accepted.position <= since,
-        Event::Ended(end) => end.last <= since,
-        Event::Taken(proof) => proof.last <= since,
-        Event::Misnumbered(_) | Event::Lost(_) => false,
-    }
-}
-
-// The events up to a position.
-fn events_until(alloc: Global, since: u64, events: &[Event]) -> Result<Vec<Event>, Memory>
-    ensures { IfOk result (λ found. found.items ≡ filter (is_until since) events.now) }
-{
-    let mut found: Vec<Event> = Vec::new(alloc);
-    for event in events {
-        if is_until(since, event) {
-            found.push(*event)?;
-        }
-    }
-    Ok(found)
-}
-
-fn cut_off(since: u64, changes: &mut Vec<Change>) -> Result<(), Memory>
+fn cut_off(since: Option<u64>, changes: &mut Vec<Change>) -> Result<(), Memory>
     ensures { OnOk result (changes.new.items ≡ cut_off since changes.old.items) }
 {
+    let Some(since) = since else {
+        return Ok(());
+    };
     let is_any = !changes.is_empty();
     push_doubt(changes, is_any, since)
 }
@@ -204,10 +226,8 @@ fn known_changes(alloc: Global, lease: Lease, events: &[Event]) -> Result<Vec<Ch
     ensures { IfOk result (λ found. found.items
         ≡ known_changes lease events.now (lost_since lease.client None events.now)) }
 {
-    let Some(since) = lost_since(lease.client, events) else {
-        return changes_of(alloc, lease, events);
-    };
-    let mut changes = changes_of(alloc, lease, &events_until(alloc, since, events)?)?;
+    let since = lost_since(lease.client, events);
+    let mut changes = changes_of(alloc, lease, events, since)?;
     cut_off(since, &mut changes)?;
     Ok(changes)
 }

@@ -1,7 +1,9 @@
-use Rattle.std.proofs.Common.{◌≡◌, drop}
-use Rattle.capture_walk.specs.Chains.{acknowledgment}
+use Rattle.std.proofs.Common.{◌≡◌, drop, filter}
+use Rattle.capture_walk.specs.Chains.{acknowledgment, is_known}
 use Rattle.capture_walk.proofs.chains.acknowledgment.Given as goal
 
 -- what is left gives the whole
 abbrev pub invariant-loop-event : goal.invariant-loop-event
-invariant-loop-event l = acknowledgment l.lease (drop l.event-index l.later) ≡ acknowledgment l.lease l.later
+invariant-loop-event l =
+    acknowledgment l.lease (filter (is_known l.since) (drop l.event-index l.later))
+    ≡ acknowledgment l.lease (filter (is_known l.since) l.later)
