@@ -491,3 +491,53 @@ fn a_dispute_leaves_no_chain(rt: HostRuntime) -> Result<(), Fail> {
     assert_eq!(&rt; chains_on(alloc, 5, walk.events())?.len(), 0);
     Ok(())
 }
+
+// The header of a message of the server.
+fn response_header(command: u8, id: [u8; 8]) -> [u8; 64] {
+    let mut header = [0; 64];
+    header[..6].copy_from_slice(b"\xfeSMB\x40\0");
+    header[12] = command;
+    header[16] = 1;
+    header[24..32].copy_from_slice(&id);
+    header
+}
+
+// A response that grants RW by a lease of version 2 with Epoch 7, and a notification with NewEpoch 8 that breaks it to R.
+#[test]
+fn epochs_come_from_frames(rt: HostRuntime) -> Result<(), Fail> {
+    let alloc = rt.alloc();
+    let mut bytes = Vec::from_slice(alloc, &response_header(5, [2, 0, 0, 0, 0, 0, 0, 0]))?;
+    bytes.extend_from_slice(b"\x59\0\xff\0\x01\0\0\0")?;
+    bytes.extend_from_slice(&[0; 72])?;
+    bytes.extend_from_slice(b"\x98\0\0\0\x50\0\0\0")?;
+    bytes.extend_from_slice(b"\0\0\0\0\x10\0\x04\0\0\0\x18\0\x34\0\0\0RqLs\0\0\0\0")?;
+    bytes.extend_from_slice(&KEY.0)?;
+    bytes.extend_from_slice(b"\x05\0\0\0\0\0\0\0\0\0\0\0\0\0\0\0")?;
+    bytes.extend_from_slice(b"pppppppppppppppp\x07\0\0\0\0\0\0\0")?;
+    let lease = LeaseGiven {
+        key: KEY,
+        level: Level::Writes,
+        breaking: false,
+        epoch: Some(7),
+    };
+    for message in &read_frame(alloc, &bytes)? {
+        let note = note_of(message, ids_of(message, None), false);
+        assert!(&rt; matches!(note, Note::CreateGiven(given) if given.lease == Some(lease)));
+    }
+
+    let mut bytes = Vec::from_slice(alloc, &response_header(18, [0xff; 8]))?;
+    bytes.extend_from_slice(b"\x2c\0\x08\0\x01\0\0\0")?;
+    bytes.extend_from_slice(&KEY.0)?;
+    bytes.extend_from_slice(b"\x05\0\0\0\x01\0\0\0\0\0\0\0\0\0\0\0\0\0\0\0")?;
+    let wanted = BreakNote {
+        key: KEY,
+        level: Level::Something,
+        acknowledged: true,
+        epoch: 8,
+    };
+    for message in &read_frame(alloc, &bytes)? {
+        let note = note_of(message, ids_of(message, None), false);
+        assert_eq!(&rt; note, Note::Break(wanted));
+    }
+    Ok(())
+}
