@@ -164,6 +164,18 @@ ordered lease (Some before) now asked =
     if is_in_order before now asked then misnumbered lease before now before.epoch now.epoch
     else if has_order before now before.epoch now.epoch then [] else dispute lease ∷ []
 
+-- A break that was of no open that is known, over another connection, may be of the lease that the server grants, if the capture
+-- has it after the request for that.
+abbrev pub is_stray_of : Lease → ℕ → ℕ → Event → Bool
+is_stray_of lease connection asked (event.Stray one) =
+    is_under one.client one.key.0 (Some lease)
+    && not (one.sent.connection == connection || nat_lt one.sent.position asked)
+is_stray_of lease connection asked _ = false
+
+abbrev pub strayed : Lease → ℕ → ℕ → List Event → List Event
+strayed lease connection asked before =
+    if list_any (is_stray_of lease connection asked) before then dispute lease ∷ [] else []
+
 -- ---- grants and breaks
 
 abbrev pub grant_of : Seen → LeaseGiven → Lease → Grant
@@ -179,7 +191,8 @@ granted_lease seen given lease asked said =
 abbrev pub granted_open : Seen → LeaseGiven → ℕ → Option Lease → List Open → List Event → List Event
 granted_open seen given asked None held before = []
 granted_open seen given asked (Some lease) held before =
-    disputed lease held ++ granted_lease seen given lease asked (last_said lease None before)
+    disputed lease held ++ strayed lease seen.connection asked before
+    ++ granted_lease seen given lease asked (last_said lease None before)
 
 -- the lease of the open that a CREATE response makes
 abbrev pub granted_of : Seen → Option LeaseGiven → Option Open → List Open → List Event → List Event
@@ -212,16 +225,19 @@ break_of seen one lease said = record {
 abbrev pub broken_after : Lease → Option Said → Break → List Event
 broken_after lease said one = ordered lease said (said_by_break one) None ++ event.Broken one ∷ []
 
-abbrev pub broken_of : Seen → BreakNote → Option Lease → List Open → List Event → List Event
-broken_of seen one None held before = []
-broken_of seen one (Some lease) held before =
+abbrev pub stray : Seen → BreakNote → ℕ → Event
+stray seen one client = event.Stray (record { client = client; key = one.key; sent = sent_at seen })
+
+abbrev pub broken_of : Seen → BreakNote → ℕ → Option Lease → List Open → List Event → List Event
+broken_of seen one client None held before = stray seen one client ∷ []
+broken_of seen one client (Some lease) held before =
     disputed lease held
     ++ broken_after lease (last_said lease None before) (break_of seen one lease (last_said lease None before))
 
 abbrev pub broken : Seen → BreakNote → Option ℕ → List Open → List Event → List Event
 broken seen one None held before = flat_map (λ other. lost_under one.key.0 other.lease) held
 broken seen one (Some client) held before =
-    broken_of seen one (lease_under (Some client) one.key.0 held) held before
+    broken_of seen one client (lease_under (Some client) one.key.0 held) held before
 
 -- at a capture made at the client, a message is taken where the capture has it
 abbrev pub all_taken : Seen → Event

@@ -20,7 +20,7 @@ fn is_before(since: u64, event: &Event) -> bool
         Event::Accepted(accepted) => accepted.position <= since,
         Event::Ended(end) => end.last <= since,
         Event::Taken(proof) => proof.last <= since,
-        Event::Misnumbered(_) | Event::Lost(_) => false,
+        Event::Stray(_) | Event::Misnumbered(_) | Event::Lost(_) => false,
     }
 }
 

@@ -125,6 +125,15 @@ pub struct Proof {
     pub last: u64,
 }
 
+/// A break under a key under which no open of the client is known.
+#[derive(Clone, Copy, Debug, PartialEq, Eq)]
+pub struct Stray {
+    /// The client's number.
+    pub client: u64,
+    pub key: LeaseKey,
+    pub sent: Sent,
+}
+
 /// An epoch of a lease that doesn't follow on the one before it (MS-SMB2 3.2.5.19.2, 3.3.4.7), so that clients may pass the
 /// message over.
 #[derive(Clone, Copy, Debug, PartialEq, Eq)]
@@ -177,6 +186,8 @@ pub enum Event {
     Accepted(Accepted),
     Ended(End),
     Taken(Proof),
+    /// A break is of no lease that is known.
+    Stray(Stray),
     /// An epoch doesn't follow on.
     Misnumbered(Misnumbered),
     /// A client isn't judged any more.

@@ -41,7 +41,7 @@ pub use chains::{chains_on, files_in};
 pub use compound::{FrameFault, read_frame};
 pub use event::{
     Accepted, Acknowledged, Break, End, Event, Grant, Lease, Loss, Misnumbered, NotJudged, Proof,
-    Sent,
+    Sent, Stray,
 };
 pub use files::Place;
 pub use frame::Frame;

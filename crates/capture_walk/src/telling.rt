@@ -1,17 +1,18 @@
-ghost use Rattle.std.specs.Prelude.{◌≡◌, None, ◌++◌, ◌∷◌, [], OnOk};
+ghost use Rattle.std.specs.Prelude.{◌≡◌, Some, None, ◌++◌, ◌∷◌, [], if◌then◌else◌, OnOk};
 ghost use Rattle.std.specs.List.{list_any, flat_map};
 ghost use Rattle.std.specs.Option.{option_map};
 ghost use Rattle.capture_walk.specs.Events.{lease_under, open_named, keeps, ended_by, ended, proof_of, sent_at};
 ghost use Rattle.capture_walk.specs.Events.{is_elsewhere, disputed, last_break, taken_break};
 ghost use Rattle.capture_walk.specs.Events.{last_said, without_epoch, is_newer, is_same_level, is_in_order, shows_order};
 ghost use Rattle.capture_walk.specs.Events.{has_order, follows_on, misnumbered, ordered, new_epoch, grant_of, break_of};
+ghost use Rattle.capture_walk.specs.Events.{dispute, is_stray_of, strayed, stray};
 ghost use Rattle.capture_walk.specs.Events.{granted_lease, granted_of, lost_under, broken_of, broken, lost_of};
 ghost use Rattle.capture_walk.specs.Events.{acknowledged, accepted, told_by, is_under, is_of, all_taken};
 ghost use Rattle.capture_walk.specs.declared.event.Event.TheVariants as event;
 
 use crate::event::{
     Accepted, Acknowledged, Break, End, Event, Grant, Lease, Loss, Misnumbered, NotJudged, Proof,
-    Said, Sent,
+    Said, Sent, Stray,
 };
 use crate::note::{BreakNote, KeyLevel, LeaseGiven, Note, OpenName, Seen};
 use crate::opens::Open;
@@ -287,6 +288,35 @@ fn push_order(
     Ok(())
 }
 
+fn is_stray_of(lease: Lease, connection: u64, asked: u64, event: &Event) -> bool
+    ensures { result ≡ is_stray_of lease connection asked event.now }
+{
+    match event {
+        Event::Stray(one) => {
+            is_under(Some(lease), one.client, one.key)
+                && !(one.sent.connection == connection || one.sent.position < asked)
+        }
+        _ => false,
+    }
+}
+
+fn has_stray(events: &[Event], lease: Lease, connection: u64, asked: u64) -> bool
+    ensures { result ≡ list_any (is_stray_of lease connection asked) events.now }
+{
+    events
+        .iter()
+        .any(|event| is_stray_of(lease, connection, asked, event))
+}
+
+fn push_strayed(events: &mut Vec<Event>, lease: Lease, is_strayed: bool) -> Result<(), Memory>
+    ensures { OnOk result (events.new.items ≡ events.old.items ++ (if is_strayed then dispute lease ∷ [] else [])) }
+{
+    if is_strayed {
+        events.push(lost(lease.client, NotJudged::Disputed))?;
+    }
+    Ok(())
+}
+
 fn grant_of(seen: &Seen<'_>, given: LeaseGiven, lease: Lease) -> Grant
     ensures { result ≡ grant_of seen.now given lease }
 {
@@ -334,7 +364,9 @@ fn push_granted(
         return Ok(());
     };
     let said = last_said(events, lease);
+    let is_strayed = has_stray(events, lease, seen.connection, one.asked);
     push_disputed(events, lease, opens)?;
+    push_strayed(events, lease, is_strayed)?;
     push_granted_lease(events, seen, given, lease, one.asked, said)
 }
 
@@ -384,17 +416,34 @@ fn break_of(seen: &Seen<'_>, one: BreakNote, lease: Lease, said: Option<Said>) -
     }
 }
 
+fn push_stray(
+    events: &mut Vec<Event>,
+    seen: &Seen<'_>,
+    one: BreakNote,
+    client: u64,
+) -> Result<(), Memory>
+    ensures { OnOk result (events.new.items ≡ events.old.items ++ stray seen.now one client ∷ []) }
+{
+    events.push(Event::Stray(Stray {
+        client,
+        key: one.key,
+        sent: sent_at(seen),
+    }))?;
+    Ok(())
+}
+
 fn push_broken_lease(
     events: &mut Vec<Event>,
     seen: &Seen<'_>,
     one: BreakNote,
-    lease: Option<Lease>,
+    client: u64,
     opens: &[Open],
 ) -> Result<(), Memory>
-    ensures { OnOk result (events.new.items ≡ events.old.items ++ broken_of seen.now one lease opens.now events.old.items) }
+    ensures { OnOk result (events.new.items ≡ events.old.items ++ broken_of seen.now one client
+        (lease_under (Some client) one.key.0 opens.now) opens.now events.old.items) }
 {
-    let Some(lease) = lease else {
-        return Ok(());
+    let Some(lease) = lease_under(opens, Some(client), one.key) else {
+        return push_stray(events, seen, one, client);
     };
     let said = last_said(events, lease);
     let broken = break_of(seen, one, lease, said);
@@ -414,15 +463,7 @@ fn push_broken(
     ensures { OnOk result (events.new.items ≡ events.old.items ++ broken seen.now one client opens.now events.old.items) }
 {
     match client {
-        Some(client) => {
-            push_broken_lease(
-                events,
-                seen,
-                one,
-                lease_under(opens, Some(client), one.key),
-                opens,
-            )
-        }
+        Some(client) => push_broken_lease(events, seen, one, client, opens),
         None => push_strange_break(events, one.key, opens),
     }
 }

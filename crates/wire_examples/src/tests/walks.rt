@@ -541,3 +541,28 @@ fn epochs_come_from_frames(rt: HostRuntime) -> Result<(), Fail> {
     }
     Ok(())
 }
+
+// A break of no open that is known may be of the one whose response comes later over another connection.
+#[test]
+fn a_stray_break_is_a_dispute(rt: HostRuntime) -> Result<(), Fail> {
+    let mut walk = Walk::new(rt.alloc());
+    ask(&mut walk, 1, 1, b"f\0")?;
+    join(&mut walk, 5, 2, 1)?;
+    walk.take(&seen(6, 2, break_to(Level::Something, 9)))?;
+    assert!(&rt; matches!(walk.events().last(), Some(Event::Stray(_))));
+    grant_numbered(&mut walk, 7, 1, Level::Writes, Some(8))?;
+    assert!(&rt; walk.events().iter().any(is_dispute));
+    Ok(())
+}
+
+// But not if the client asks for that one later.
+#[test]
+fn a_stray_break_before_the_request_is_none(rt: HostRuntime) -> Result<(), Fail> {
+    let mut walk = Walk::new(rt.alloc());
+    join(&mut walk, 1, 2, 1)?;
+    walk.take(&seen(2, 2, break_to(Level::Something, 9)))?;
+    ask(&mut walk, 3, 1, b"f\0")?;
+    grant_numbered(&mut walk, 7, 1, Level::Writes, Some(8))?;
+    assert!(&rt; !walk.events().iter().any(is_dispute));
+    Ok(())
+}
