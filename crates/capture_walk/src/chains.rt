@@ -263,8 +263,8 @@ fn push_chain(chains: &mut Vec<Chain>, client: u64, changes: Vec<Change>) -> Res
 }
 
 /// The chains of a file: for each lease on it the changes of what its client caches, with the positions between which they
-/// happen, for `capture_judge::judge_placing`. From where something of a client may be missing it may have lost its leases, and what
-/// comes later doesn't count. The events are in the order of the capture.
+/// happen, for `capture_judge::judge_placing`. From where something of a client may be missing it may have lost its leases,
+/// and what comes later doesn't count. The events are in the order of the capture.
 ///
 /// Fails where there is no memory.
 pub fn chains_on(alloc: Global, file: u64, events: &[Event]) -> Result<Vec<Chain>, Memory>

@@ -16,8 +16,10 @@
 //! }
 //! ```
 //!
-//! What isn't sure is left out, so that nobody is charged by it: a client that isn't judged has no chains, and `NotJudged` says
-//! why.
+//! At a capture made at a client, `Note::Taken` follows each frame of the server, with the number of its last message.
+//!
+//! What isn't sure is left out, so that nobody is charged by it: from where something of a client may be missing it isn't
+//! judged, and `NotJudged` says why.
 #![tactic(auto)]
 
 mod chains;
