@@ -1,3 +1,4 @@
+mod capture_lines;
 mod captures;
 mod contents;
 mod messages;

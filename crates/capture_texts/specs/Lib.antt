@@ -1,0 +1,7 @@
+pub mod Lines
+pub mod Positions
+pub mod Connections
+pub mod Servers
+pub mod Captures
+pub mod Reports
+pub mod Laws

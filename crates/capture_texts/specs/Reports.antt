@@ -1,0 +1,154 @@
+-- What is said of a capture: of each file what is decided of it, and of the whole a verdict. Lines, and messages that are seen,
+-- have the newest one first.
+use Rattle.std.specs.Prelude.{◌≡◌, ◌≢◌, ◌-◌, ◌/◌, ℕ, nat_lt, Bool, true, false, if◌then◌else◌, ◌==◌, List, [], ◌∷◌, length}
+use Rattle.std.specs.Prelude.{map, filter, Option, None, slice_get}
+use Rattle.std.specs.List.{list_any, AllZip}
+use Rattle.std.specs.Option.{option_map}
+use Rattle.capture_judge.specs.Beginnings.{IsCrowded}
+use Rattle.capture_judge.specs.Placing.{IsPlacement, IsClean}
+use Rattle.capture_judge.specs.Verdicts.{IsUnsafe}
+use Rattle.capture_judge.specs.Worked.{shown}
+use Rattle.capture_judge.specs.declared.values.Chain.{Chain}
+use Rattle.capture_judge.specs.declared.values.Step.{Step}
+use Rattle.capture_walk.specs.Chains.{chains_on, files_in}
+use Rattle.capture_walk.specs.Events.{events}
+use Rattle.capture_walk.specs.Files.{lives, place_of_life, Place}
+use Rattle.capture_walk.specs.declared.event.Event.{Event}
+use Rattle.capture_walk.specs.declared.event.Event.TheVariants as event
+use Rattle.capture_walk.specs.declared.event.Loss.{Loss}
+use Rattle.capture_walk.specs.declared.event.Misnumbered.{Misnumbered}
+use Rattle.capture_walk.specs.declared.note.Seen.{Seen}
+use Rattle.capture_texts.specs.Captures.{Shows, moments, has_frame}
+use Rattle.capture_texts.specs.Servers.{servers, address_of}
+use Rattle.capture_texts.specs.declared.finding.CaptureVerdict.{CaptureVerdict}
+use Rattle.capture_texts.specs.declared.finding.CaptureVerdict.TheVariants as verdict
+use Rattle.capture_texts.specs.declared.finding.ClientFinding.{ClientFinding}
+use Rattle.capture_texts.specs.declared.finding.ClientName.{ClientName}
+use Rattle.capture_texts.specs.declared.finding.EpochFinding.{EpochFinding}
+use Rattle.capture_texts.specs.declared.finding.FileFinding.{FileFinding}
+use Rattle.capture_texts.specs.declared.finding.FilePlace.{FilePlace}
+use Rattle.capture_texts.specs.declared.finding.Judged.{Judged}
+use Rattle.capture_texts.specs.declared.finding.Judged.TheVariants as judged
+use Rattle.capture_texts.specs.declared.finding.Report.{Report}
+use Rattle.capture_texts.specs.declared.line.Line.{Line}
+use Rattle.capture_texts.specs.declared.line.Moment.{Moment}
+use Rattle.capture_texts.specs.declared.line.Side.{Side}
+
+-- ---- what is decided of a file, by its chains
+
+-- the moment of the line that has a position: the first line has 1 and 2
+abbrev pub moment_at : ℕ → List Moment → Option Moment
+moment_at position known = slice_get known ((position - 1) / 2)
+
+abbrev pub IsJudged : List Moment → List Chain → Judged → Type 0
+IsJudged known chains judged.NoClient = chains ≡ []
+IsJudged known chains judged.Safe = (chains ≢ []) × (steps : List Step) × IsPlacement chains steps × IsClean chains steps
+IsJudged known chains (judged.Unsafe moment) =
+    (position : ℕ) × IsUnsafe chains position × (moment ≡ moment_at position known)
+IsJudged known chains judged.Contradictory = (steps : List Step) → IsPlacement chains steps → ⊥
+IsJudged known chains judged.TooMany = IsCrowded chains
+
+-- ---- files
+
+abbrev pub place_named : List (List ℕ) → Place → FilePlace
+place_named addresses place = record {
+  server = address_of place.server addresses;
+  path = place.path;
+  name = place.name;
+}
+
+abbrev pub number_named : ClientName → ℕ
+number_named name = name.number
+
+abbrev pub chain_client : Chain → ℕ
+chain_client chain = chain.client
+
+-- What is found of a file, by what is seen.
+pub record IsFound (past : List Line) (seen : List Seen) (file : ℕ) (finding : FileFinding) : Type 0 where
+  pub file_is : finding.file ≡ file
+  pub place_is : finding.place ≡ option_map (place_named (servers past)) (place_of_life file (lives seen))
+  pub chains : List Chain
+  pub shows : map shown chains ≡ chains_on file (events seen)
+  pub judged_is : IsJudged (moments past) chains finding.judged
+  pub clients_are : map number_named finding.clients.items ≡ map chain_client chains
+
+-- one for each file, in their order
+abbrev pub AreFound : List Line → List Seen → List ℕ → List FileFinding → Type 0
+AreFound past seen files findings = AllZip (IsFound past seen) files findings
+
+-- ---- clients that aren't judged
+
+abbrev pub is_of : ℕ → Loss → Bool
+is_of client loss = loss.client == client
+
+-- of the losses of one client that from which on least is known: the first of those with the lowest position
+abbrev pub greater : Loss → Loss → Loss
+greater loss one = if nat_lt loss.since one.since then loss else one
+
+abbrev pub with_loss : Loss → List Loss → List Loss
+with_loss loss [] = loss ∷ []
+with_loss loss (one ∷ others) = if is_of loss.client one then greater loss one ∷ others else one ∷ with_loss loss others
+
+abbrev pub losses_behind : List Loss → List Event → List Loss
+losses_behind found [] = found
+losses_behind found (event.Lost loss ∷ later) = losses_behind (with_loss loss found) later
+losses_behind found (_ ∷ later) = losses_behind found later
+
+abbrev pub losses : List Event → List Loss
+losses events = losses_behind [] events
+
+-- the moment of a position, if it isn't that before all lines
+abbrev pub moment_since : ℕ → List Moment → Option Moment
+moment_since position known = if position == 0 then None else moment_at position known
+
+pub record IsClientFound (known : List Moment) (loss : Loss) (finding : ClientFinding) : Type 0 where
+  pub client_is : finding.client.number ≡ loss.client
+  pub since_is : finding.since ≡ moment_since loss.since known
+  pub reason_is : finding.reason ≡ loss.reason
+
+abbrev pub AreClientsFound : List Line → List Loss → List ClientFinding → Type 0
+AreClientsFound past losses findings = AllZip (IsClientFound (moments past)) losses findings
+
+-- ---- epochs that don't follow on
+
+abbrev pub epochs : List Event → List Misnumbered
+epochs [] = []
+epochs (event.Misnumbered one ∷ later) = one ∷ epochs later
+epochs (_ ∷ later) = epochs later
+
+pub record IsEpochFound (known : List Moment) (one : Misnumbered) (finding : EpochFinding) : Type 0 where
+  pub client_is : finding.client.number ≡ one.lease.client
+  pub moment_is : finding.moment ≡ moment_at one.position known
+  pub before_is : finding.before ≡ one.before
+  pub epoch_is : finding.epoch ≡ one.epoch
+
+abbrev pub AreEpochsFound : List Line → List Misnumbered → List EpochFinding → Type 0
+AreEpochsFound past found findings = AllZip (IsEpochFound (moments past)) found findings
+
+-- ---- the whole
+
+abbrev pub is_unsafe : Judged → Bool
+is_unsafe (judged.Unsafe moment) = true
+is_unsafe _ = false
+
+abbrev pub is_safe : Judged → Bool
+is_safe judged.Safe = true
+is_safe _ = false
+
+-- the verdict on a capture, by what is found of its files
+abbrev pub verdict_of : List FileFinding → CaptureVerdict
+verdict_of files =
+    if list_any (λ one. is_unsafe one.judged) files then verdict.Unsafe
+    else if list_any (λ one. is_safe one.judged) files then verdict.Safe
+    else verdict.NothingJudged
+
+-- The report is that of a capture with these lines, made at this side.
+pub record IsReport (at : Side) (past : List Line) (report : Report) : Type 0 where
+  pub seen : List Seen
+  pub unread : ℕ
+  pub shows : Shows at past seen unread
+  pub files : AreFound past seen (files_in (events seen)) report.files.items
+  pub clients : AreClientsFound past (losses (events seen)) report.clients.items
+  pub epochs : AreEpochsFound past (epochs (events seen)) report.epochs.items
+  pub frames : report.counts.frames ≡ length (filter has_frame past)
+  pub unread_is : report.counts.unread ≡ unread

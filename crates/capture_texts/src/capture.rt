@@ -1,0 +1,230 @@
+ghost use Rattle.std.specs.Prelude.{◌≡◌, ◌+◌, ◌∷◌, ◌<◌, ◌^◌, [], List, Some, None, Err, OnOk, IfOk, length};
+ghost use Rattle.capture_texts.specs.Captures.{Knows, HasSeen, IsBehind, HasTaken, HasMarked, ShowsLine, with_text};
+ghost use Rattle.capture_texts.specs.Captures.{frame_at, mark_at, mark_earliest};
+ghost use Rattle.capture_texts.specs.Connections.{differs};
+ghost use Rattle.capture_texts.specs.Lines.{line_at};
+ghost use Rattle.capture_texts.specs.declared.line.Line.{Line};
+ghost use Rattle.capture_texts.specs.declared.line.Moment.{Moment};
+ghost use Rattle.capture_texts.specs.declared.line.Said.TheVariants as said;
+ghost use Rattle.capture_walk.specs.declared.note.Seen.{Seen};
+ghost use Rattle.lease_texts.specs.declared.fault.LineFault.TheVariants as fault;
+
+use crate::connections::{Connections, Spot};
+use crate::line::{FrameSaid, Line, Moment, Said, Side};
+use crate::reading::read_line;
+use crate::servers::Servers;
+use crate::walking::Walking;
+use capture_walk::{Frame, Note};
+use lease_state::Memory;
+use lease_texts::{LineFault, is_passed_over};
+use std::alloc::Global;
+
+// A line that was taken.
+#[derive(Debug, Drop)]
+pub(crate) struct Kept {
+    pub(crate) moment: Moment,
+    pub(crate) connection: u64,
+    // The number of what is seen first with it.
+    pub(crate) number: u64,
+    pub(crate) is_frame: bool,
+    // Whether it isn't a frame that can't be read.
+    pub(crate) is_read: bool,
+}
+
+/// The lines of a capture, taken one by one. Those that are passed over don't count.
+#[derive(Debug, Drop)]
+pub struct Capture {
+    pub(crate) at: Side,
+    pub(crate) kept: Vec<Kept>,
+    pub(crate) connections: Connections,
+    pub(crate) servers: Servers,
+    pub(crate) walking: Walking,
+}
+
+impl Capture {
+    /// A capture made at a side of its connections, before any line. Allocates nothing.
+    pub fn new(alloc: Global, at: Side) -> Capture
+        ensures at { result.at ≡ at }
+        ensures empty { Knows [] result }
+    {
+        Capture {
+            at,
+            kept: Vec::new(alloc),
+            connections: Connections::new(alloc),
+            servers: Servers::new(alloc),
+            walking: Walking::new(alloc),
+        }
+    }
+
+    // The number of the next line, from 1, where positions of 64 bits go as far.
+    fn next_line(&self) -> Result<u64, Memory>
+        ensures next { IfOk result (λ line. line ≡ length self.now.kept.items + 1) }
+        ensures fits { IfOk result (λ line. line < 2 ^ 63) }
+    {
+        let line = self.kept.len() as u64 + 1;
+        if line < 1 << 63 {
+            Ok(line)
+        } else {
+            Err(Memory)
+        }
+    }
+
+    // Where a frame is for the walk, once its server is known.
+    fn place(&self, line: u64, connection: u64, frame: &FrameSaid) -> Frame
+        requires next { line ≡ length self.now.kept.items + 1 }
+        requires fits { line < 2 ^ 63 }
+        ensures { (past : List Line) (seen : List Seen) → IsBehind past seen frame.now self.now
+            → result ≡ frame_at self.now.at connection frame.now past (length seen) }
+    {
+        Frame {
+            number: self.walking.number,
+            connection,
+            server: self.servers.number(frame.server.as_slice()),
+            earliest: self.connections.earliest(self.at, line, connection, frame),
+            latest: frame.from.position(line),
+        }
+    }
+
+    // The first position at which a gap or an end can have come.
+    fn mark_earliest(&self, line: u64, connection: u64) -> u64
+        requires next { line ≡ length self.now.kept.items + 1 }
+        requires fits { line < 2 ^ 63 }
+        ensures { (past : List Line) (seen : List Seen) → HasSeen past seen self.now
+            → result ≡ mark_earliest self.now.at connection past }
+    {
+        match self.at {
+            Side::Client => Side::Client.position(line),
+            Side::Server => self.connections.far(connection),
+        }
+    }
+
+    // Where a gap or an end is.
+    fn mark(&self, line: u64, connection: u64) -> Frame
+        requires next { line ≡ length self.now.kept.items + 1 }
+        requires fits { line < 2 ^ 63 }
+        ensures { (past : List Line) (seen : List Seen) → HasSeen past seen self.now
+            → result ≡ mark_at self.now.at connection past (length seen) }
+    {
+        Frame {
+            number: self.walking.number,
+            connection,
+            server: self.servers.number(self.connections.server(connection)),
+            earliest: self.mark_earliest(line, connection),
+            latest: Side::Client.position(line),
+        }
+    }
+
+    fn alloc(&self) -> Global {
+        *self.kept.allocator()
+    }
+
+    // Takes a frame. Says whether it can be read.
+    fn take_frame(&mut self, connection: u64, frame: &FrameSaid) -> Result<bool, Memory>
+        ensures at { OnOk result (self.new.at ≡ self.old.at) }
+        ensures taken { IfOk result (λ is_read. (past : List Line) (seen : List Seen) (moment : Moment)
+            → HasSeen past seen self.old → (now : List Seen)
+            × ShowsLine self.old.at (line_at moment connection (said.Frame frame.now)) past is_read seen now
+            × HasTaken (line_at moment connection (said.Frame frame.now)) past now self.old self.new) }
+    {
+        let alloc = self.alloc();
+        let line = self.next_line()?;
+        self.servers.note(frame.server.as_slice())?;
+        let place = self.place(line, connection, frame);
+        let spot = Spot {
+            at: self.at,
+            line,
+            earliest: place.earliest,
+        };
+        self.connections.note(alloc, connection, spot, frame)?;
+        let is_read = self
+            .walking
+            .take_frame(alloc, &place, frame.bytes.as_slice())?;
+        self.walking
+            .note_taken(&place, frame.from.is_taken(self.at))?;
+        Ok(is_read)
+    }
+
+    fn take_mark(&mut self, connection: u64, note: Note<'_>) -> Result<(), Memory>
+        ensures at { OnOk result (self.new.at ≡ self.old.at) }
+        ensures taken { OnOk result ((past : List Line) (seen : List Seen) → HasSeen past seen self.old
+            → HasMarked self.old.at connection note.entry past seen self.old self.new) }
+    {
+        let line = self.next_line()?;
+        let place = self.mark(line, connection);
+        self.walking.take_note(&place, note)
+    }
+
+    // Takes all of a line but what is kept of it. Says whether it isn't a frame that can't be read.
+    fn take_said(&mut self, line: &Line) -> Result<bool, Memory>
+        ensures at { OnOk result (self.new.at ≡ self.old.at) }
+        ensures taken { IfOk result (λ is_read. (past : List Line) (seen : List Seen) → HasSeen past seen self.old
+            → (now : List Seen) × ShowsLine self.old.at line.now past is_read seen now
+            × HasTaken line.now past now self.old self.new) }
+    {
+        match &line.said {
+            Said::Frame(frame) => {
+                let is_read = self.take_frame(line.connection, frame)?;
+                Ok(is_read)
+            }
+            Said::Gap => {
+                self.take_mark(line.connection, Note::Gap)?;
+                Ok(true)
+            }
+            Said::End => {
+                self.take_mark(line.connection, Note::End)?;
+                Ok(true)
+            }
+        }
+    }
+
+    fn take(&mut self, line: Line) -> Result<(), Memory>
+        ensures at { OnOk result (self.new.at ≡ self.old.at) }
+        ensures taken { OnOk result ((past : List Line) → Knows past self.old → Knows (line ∷ past) self.new) }
+    {
+        let number = self.walking.number;
+        let is_read = self.take_said(&line)?;
+        let is_frame = line.said.is_frame();
+        self.kept.push(Kept {
+            moment: line.moment,
+            connection: line.connection,
+            number,
+            is_frame,
+            is_read,
+        })?;
+        Ok(())
+    }
+
+    fn differs(&self, line: &Line) -> bool
+        ensures { (past : List Line) → Knows past self.now → result ≡ differs line.now past }
+    {
+        match &line.said {
+            Said::Frame(frame) => self.connections.differs(line.connection, frame),
+            Said::Gap | Said::End => false,
+        }
+    }
+
+    /// Takes the next line, without its line feed.
+    ///
+    /// # Errors
+    ///
+    /// `Refused` where the line is neither a frame nor a gap nor an end, or has other addresses than its connection: the capture
+    /// is as before then. `Memory` where there is none left, or no number of 64 bits for a message; the capture can't go on
+    /// then.
+    pub fn take_line(&mut self, text: &[u8]) -> Result<(), LineFault>
+        ensures at { OnOk result (self.new.at ≡ self.old.at) }
+        ensures taken { OnOk result ((past : List Line) → Knows past self.old
+            → (now : List Line) × (with_text past text.now ≡ Some now) × Knows now self.new) }
+        ensures refused { result ≡ Err fault.Refused → (past : List Line) → Knows past self.old → with_text past text.now ≡ None }
+        ensures unchanged { result ≡ Err fault.Refused → self.new ≡ self.old }
+    {
+        if is_passed_over(text) {
+            return Ok(());
+        }
+        let line = read_line(self.alloc(), text)?;
+        if self.differs(&line) {
+            return Err(LineFault::Refused);
+        }
+        self.take(line)?;
+        Ok(())
+    }
+}

@@ -1,0 +1,147 @@
+ghost use Rattle.std.specs.Prelude.{◌≡◌, map};
+ghost use Rattle.std.specs.List.{list_any};
+ghost use Rattle.capture_texts.specs.Reports.{is_unsafe, is_safe, verdict_of};
+
+use crate::line::Moment;
+use capture_walk::NotJudged;
+use lease_state::Bytes;
+
+/// Where a file is.
+#[derive(Debug, Drop)]
+pub struct FilePlace {
+    /// The address of the server.
+    pub server: Bytes,
+    /// The share's path, as it stands in the TREE_CONNECT request (MS-SMB2 2.2.9): UTF-16.
+    pub path: Bytes,
+    /// The name below the share, as it stands in the CREATE request (MS-SMB2 2.2.13): UTF-16.
+    pub name: Bytes,
+}
+
+/// A client of a capture.
+#[derive(Debug, Drop)]
+pub struct ClientName {
+    /// The number of its first NEGOTIATE request among what is seen in the capture.
+    pub number: u64,
+    /// The address from which it sent that; no byte where it isn't known.
+    pub address: Bytes,
+}
+
+/// What is decided of a file.
+#[derive(Debug, Drop)]
+pub enum Judged {
+    /// No client that had a lease on it is judged.
+    NoClient,
+    /// What its clients cached may have gone together at all times.
+    Safe,
+    /// Up to this moment two clients cached what doesn't go together, whatever happened between the packets.
+    Unsafe(Option<Moment>),
+    /// What the capture shows can't have happened.
+    Contradictory,
+    /// There are too many ways in which it can have happened.
+    TooMany,
+}
+
+/// What is found of a file on which leases are granted.
+#[derive(Debug, Drop)]
+pub struct FileFinding {
+    /// The number of the CREATE response with which its life begins, among what is seen in the capture.
+    pub file: u64,
+    pub place: Option<FilePlace>,
+    pub judged: Judged,
+    /// The clients that are judged, if only up to some moment: one for each lease.
+    pub clients: Vec<ClientName>,
+}
+
+/// A client that isn't judged from some moment on.
+#[derive(Debug, Drop)]
+pub struct ClientFinding {
+    pub client: ClientName,
+    /// From where on something of it may be missing; none where nothing of it is sure.
+    pub since: Option<Moment>,
+    /// Why, by the first of the messages that show that it isn't judged from there.
+    pub reason: NotJudged,
+}
+
+/// An epoch of a lease that doesn't follow on the one before it (MS-SMB2 3.2.5.19.2), so that a client may pass it over.
+#[derive(Debug, Drop)]
+pub struct EpochFinding {
+    pub client: ClientName,
+    /// Where the server sent it.
+    pub moment: Option<Moment>,
+    /// The epoch before.
+    pub before: u16,
+    pub epoch: u16,
+}
+
+/// What there is in a capture.
+#[derive(Clone, Copy, Debug, PartialEq, Eq)]
+pub struct Counts {
+    /// The connections of which a frame came.
+    pub connections: usize,
+    /// The frames.
+    pub frames: usize,
+    /// Those of them that can't be read: they are encrypted, compressed or bad.
+    pub unread: usize,
+}
+
+/// What is judged of a capture.
+#[derive(Clone, Copy, Debug, PartialEq, Eq)]
+pub enum CaptureVerdict {
+    /// A file is safe, and none is unsafe.
+    Safe,
+    /// A file is unsafe.
+    Unsafe,
+    /// Of no file anything is decided.
+    NothingJudged,
+}
+
+/// What is found in a capture.
+#[derive(Debug, Drop)]
+pub struct Report {
+    /// The files on which leases are granted, in the order in which the capture shows them.
+    pub files: Vec<FileFinding>,
+    /// The clients that aren't judged, or only up to some moment, in the order in which the capture shows that.
+    pub clients: Vec<ClientFinding>,
+    /// The epochs that don't follow on, in the order of the capture.
+    pub epochs: Vec<EpochFinding>,
+    pub counts: Counts,
+}
+
+fn is_unsafe(finding: &FileFinding) -> bool
+    ensures { result ≡ is_unsafe finding.now.judged }
+{
+    matches!(finding.judged, Judged::Unsafe(_))
+}
+
+fn is_safe(finding: &FileFinding) -> bool
+    ensures { result ≡ is_safe finding.now.judged }
+{
+    matches!(finding.judged, Judged::Safe)
+}
+
+fn has_unsafe(files: &[FileFinding]) -> bool
+    ensures { result ≡ list_any (λ one. is_unsafe one.judged) files.now }
+{
+    files.iter().any(is_unsafe)
+}
+
+fn has_safe(files: &[FileFinding]) -> bool
+    ensures { result ≡ list_any (λ one. is_safe one.judged) files.now }
+{
+    files.iter().any(is_safe)
+}
+
+impl Report {
+    /// The verdict on the capture: `Unsafe` where a file is unsafe, else `Safe` where one is safe, else `NothingJudged`.
+    pub fn verdict(&self) -> CaptureVerdict
+        ensures { result ≡ verdict_of self.now.files.items }
+    {
+        if has_unsafe(&self.files) {
+            CaptureVerdict::Unsafe
+        } else if has_safe(&self.files) {
+            CaptureVerdict::Safe
+        } else {
+            CaptureVerdict::NothingJudged
+        }
+    }
+}

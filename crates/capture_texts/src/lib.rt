@@ -1,0 +1,35 @@
+//! Captures of SMB2 as lines of text, one for each frame of the transport, and what is judged of them.
+//!
+//! ```
+//! let mut capture = Capture::new(alloc, Side::Server);
+//! capture.take_line(b"frame 7 12.5 0 10.0.0.1:49832 10.0.0.2:445 from-client 0 fe534d42")?;
+//! let report = capture.report(alloc)?;
+//! println!(rt; "{}", report.verdict())?;
+//! for file in &report.files {
+//!     println!(rt; "{file}")?;
+//! }
+//! ```
+//!
+//! docs/FORMATS.md has the lines. What the report says of each file is proved to be what the definitions of `capture_walk` and
+//! `capture_judge` say of the lines that were taken.
+#![tactic(auto)]
+
+mod capture;
+mod connections;
+mod finding;
+mod laws;
+mod line;
+mod reading;
+mod report;
+mod servers;
+mod texts;
+mod walking;
+
+pub use capture::Capture;
+pub use finding::{
+    CaptureVerdict, ClientFinding, ClientName, Counts, EpochFinding, FileFinding, FilePlace,
+    Judged, Report,
+};
+pub use laws::verdicts_are_of_files;
+pub use lease_texts::LineFault;
+pub use line::{Moment, Side};

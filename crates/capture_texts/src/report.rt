@@ -1,0 +1,266 @@
+ghost use Rattle.std.specs.Prelude.{◌≡◌, List, IfOk, OnOk, map, filter, length};
+ghost use Rattle.std.specs.List.{position};
+ghost use Rattle.capture_texts.specs.Captures.{Knows, HasSeen, moment_kept, is_frame_kept, is_unread};
+ghost use Rattle.capture_texts.specs.Reports.{IsReport, IsFound, AreFound, IsJudged, moment_at, moment_since};
+ghost use Rattle.capture_texts.specs.Reports.{losses, with_loss, greater, is_of, IsClientFound, AreClientsFound};
+ghost use Rattle.capture_texts.specs.Reports.{epochs, IsEpochFound, AreEpochsFound, place_named, number_named, chain_client};
+ghost use Rattle.capture_texts.specs.declared.line.Line.{Line};
+ghost use Rattle.capture_walk.specs.Chains.{files_in};
+ghost use Rattle.capture_walk.specs.Events.{events};
+ghost use Rattle.capture_walk.specs.Files.{place_view};
+ghost use Rattle.capture_walk.specs.declared.note.Seen.{Seen};
+
+use crate::capture::{Capture, Kept};
+use crate::finding::{
+    ClientFinding, ClientName, Counts, EpochFinding, FileFinding, FilePlace, Judged, Report,
+};
+use crate::line::Moment;
+use capture_judge::{Chain, Placing, judge_placing};
+use capture_walk::{Event, Loss, Misnumbered, Place, chains_on, files_in};
+use lease_state::{Bytes, Memory};
+use std::alloc::Global;
+
+fn copy_of(alloc: Global, bytes: &[u8]) -> Result<Bytes, Memory>
+    ensures { IfOk result (λ copy. copy ≡ bytes.now) }
+{
+    Ok(Bytes::new(Vec::from_slice(alloc, bytes)?))
+}
+
+// The moment of the line that has a position.
+fn moment_at(position: u64, kept: &[Kept]) -> Result<Option<Moment>, Memory>
+    ensures { IfOk result (λ moment. moment ≡ moment_at position (map moment_kept kept.now)) }
+{
+    match kept.get(position.saturating_sub(1) as usize / 2) {
+        Some(line) => Ok(Some(line.moment.try_copy()?)),
+        None => Ok(None),
+    }
+}
+
+// What is decided of a file, by its chains.
+fn judge(alloc: Global, chains: &[Chain], kept: &[Kept]) -> Result<Judged, Memory>
+    ensures { IfOk result (λ judged. IsJudged (map moment_kept kept.now) chains.now judged) }
+{
+    if chains.is_empty() {
+        return Ok(Judged::NoClient);
+    }
+    match judge_placing(alloc, chains)? {
+        Placing::Contradictory => Ok(Judged::Contradictory),
+        Placing::Clean(_) => Ok(Judged::Safe),
+        Placing::Unsafe(position) => Ok(Judged::Unsafe(moment_at(position, kept)?)),
+        Placing::TooMany => Ok(Judged::TooMany),
+    }
+}
+
+// The moment of a position, if it isn't that before all lines.
+fn moment_since(position: u64, kept: &[Kept]) -> Result<Option<Moment>, Memory>
+    ensures { IfOk result (λ moment. moment ≡ moment_since position (map moment_kept kept.now)) }
+{
+    if position == 0 {
+        return Ok(None);
+    }
+    moment_at(position, kept)
+}
+
+// The place of the loss of a client.
+fn place_of(found: &[Loss], client: u64) -> Option<usize>
+    ensures { result ≡ position (is_of client) found.now }
+{
+    found.iter().position(|loss| loss.client == client)
+}
+
+// Of two losses of a client that from which on less is known.
+fn greater(loss: Loss, one: Loss) -> Loss
+    ensures { result ≡ greater loss one }
+{
+    if loss.since < one.since { loss } else { one }
+}
+
+// Takes note of a loss: of each client that from which on least is known.
+fn note_loss(found: &mut Vec<Loss>, loss: Loss) -> Result<(), Memory>
+    ensures { OnOk result (found.new.items ≡ with_loss loss found.old.items) }
+{
+    match place_of(found, loss.client) {
+        Some(place) => found[place] = greater(loss, found[place]),
+        None => found.push(loss)?,
+    }
+    Ok(())
+}
+
+fn losses_in(alloc: Global, events: &[Event]) -> Result<Vec<Loss>, Memory>
+    ensures { IfOk result (λ found. found.items ≡ losses events.now) }
+{
+    let mut found: Vec<Loss> = Vec::new(alloc);
+    for event in events {
+        if let Event::Lost(loss) = event {
+            note_loss(&mut found, *loss)?;
+        }
+    }
+    Ok(found)
+}
+
+// The epochs that don't follow on.
+fn epochs_in(alloc: Global, events: &[Event]) -> Result<Vec<Misnumbered>, Memory>
+    ensures { IfOk result (λ found. found.items ≡ epochs events.now) }
+{
+    let mut found: Vec<Misnumbered> = Vec::new(alloc);
+    for event in events {
+        if let Event::Misnumbered(one) = event {
+            found.push(*one)?;
+        }
+    }
+    Ok(found)
+}
+
+impl Capture {
+    // The connection of what is seen with a number.
+    fn connection_of(&self, number: u64) -> Option<u64> {
+        let place = self.kept.partition_point(|line| line.number <= number);
+        if place == 0 {
+            return None;
+        }
+        Some(self.kept[place - 1].connection)
+    }
+
+    fn client_name(&self, alloc: Global, number: u64) -> Result<ClientName, Memory>
+        ensures { IfOk result (λ name. name.number ≡ number) }
+    {
+        let address = match self.connection_of(number) {
+            Some(connection) => self.connections.client(connection),
+            None => &[],
+        };
+        let address = copy_of(alloc, address)?;
+        Ok(ClientName { number, address })
+    }
+
+    fn file_place(&self, alloc: Global, place: Place<'_>) -> Result<FilePlace, Memory>
+        ensures { IfOk result (λ named. named ≡ place_named self.now.servers.addresses.items (place_view place.entry)) }
+    {
+        Ok(FilePlace {
+            server: copy_of(alloc, self.servers.address(place.server))?,
+            path: copy_of(alloc, place.path)?,
+            name: copy_of(alloc, place.name)?,
+        })
+    }
+
+    fn clients_of(&self, alloc: Global, chains: &[Chain]) -> Result<Vec<ClientName>, Memory>
+        ensures { IfOk result (λ clients. map number_named clients.items ≡ map chain_client chains.now) }
+    {
+        let mut clients = Vec::new(alloc);
+        for chain in chains {
+            clients.push(self.client_name(alloc, chain.client)?)?;
+        }
+        Ok(clients)
+    }
+
+    // What is found of a file.
+    fn file_finding(&self, alloc: Global, file: u64) -> Result<FileFinding, Memory>
+        ensures { IfOk result (λ finding. (past : List Line) (seen : List Seen) → HasSeen past seen self.now
+            → IsFound past seen file finding) }
+    {
+        let chains = chains_on(alloc, file, self.walking.walk.events())?;
+        let place = match self.walking.walk.place_of(file) {
+            Some(place) => Some(self.file_place(alloc, place)?),
+            None => None,
+        };
+        Ok(FileFinding {
+            file,
+            place,
+            judged: judge(alloc, &chains, &self.kept)?,
+            clients: self.clients_of(alloc, &chains)?,
+        })
+    }
+
+    fn file_findings(&self, alloc: Global) -> Result<Vec<FileFinding>, Memory>
+        ensures { IfOk result (λ findings. (past : List Line) (seen : List Seen) → HasSeen past seen self.now
+            → AreFound past seen (files_in (events seen)) findings.items) }
+    {
+        let mut findings = Vec::new(alloc);
+        for file in &files_in(alloc, self.walking.walk.events())? {
+            findings.push(self.file_finding(alloc, *file)?)?;
+        }
+        Ok(findings)
+    }
+
+    fn client_finding(&self, alloc: Global, loss: Loss) -> Result<ClientFinding, Memory>
+        ensures { IfOk result (λ finding. IsClientFound (map moment_kept self.now.kept.items) loss finding) }
+    {
+        Ok(ClientFinding {
+            client: self.client_name(alloc, loss.client)?,
+            since: moment_since(loss.since, &self.kept)?,
+            reason: loss.reason,
+        })
+    }
+
+    fn client_findings(&self, alloc: Global) -> Result<Vec<ClientFinding>, Memory>
+        ensures { IfOk result (λ findings. (past : List Line) (seen : List Seen) → HasSeen past seen self.now
+            → AreClientsFound past (losses (events seen)) findings.items) }
+    {
+        let mut findings = Vec::new(alloc);
+        for loss in &losses_in(alloc, self.walking.walk.events())? {
+            findings.push(self.client_finding(alloc, *loss)?)?;
+        }
+        Ok(findings)
+    }
+
+    fn epoch_finding(&self, alloc: Global, one: Misnumbered) -> Result<EpochFinding, Memory>
+        ensures { IfOk result (λ finding. IsEpochFound (map moment_kept self.now.kept.items) one finding) }
+    {
+        Ok(EpochFinding {
+            client: self.client_name(alloc, one.lease.client)?,
+            moment: moment_at(one.position, &self.kept)?,
+            before: one.before,
+            epoch: one.epoch,
+        })
+    }
+
+    fn epoch_findings(&self, alloc: Global) -> Result<Vec<EpochFinding>, Memory>
+        ensures { IfOk result (λ findings. (past : List Line) (seen : List Seen) → HasSeen past seen self.now
+            → AreEpochsFound past (epochs (events seen)) findings.items) }
+    {
+        let mut findings = Vec::new(alloc);
+        for one in &epochs_in(alloc, self.walking.walk.events())? {
+            findings.push(self.epoch_finding(alloc, *one)?)?;
+        }
+        Ok(findings)
+    }
+
+    fn frames(&self) -> usize
+        ensures { result ≡ length (filter is_frame_kept self.now.kept.items) }
+    {
+        self.kept.iter().filter(|line| line.is_frame).count()
+    }
+
+    fn unread(&self) -> usize
+        ensures { result ≡ length (filter is_unread self.now.kept.items) }
+    {
+        self.kept.iter().filter(|line| !line.is_read).count()
+    }
+
+    fn counts(&self) -> Counts
+        ensures frames { result.frames ≡ length (filter is_frame_kept self.now.kept.items) }
+        ensures unread { result.unread ≡ length (filter is_unread self.now.kept.items) }
+    {
+        Counts {
+            connections: self.connections.len(),
+            frames: self.frames(),
+            unread: self.unread(),
+        }
+    }
+
+    /// What the lines so far show: a finding for each file on which leases are granted, the clients that aren't judged, and the
+    /// epochs that don't follow on. Each file is judged here, once, which is a search; the verdict goes by what it found.
+    ///
+    /// # Errors
+    ///
+    /// `Memory` where there is none left.
+    pub fn report(&self, alloc: Global) -> Result<Report, Memory>
+        ensures { IfOk result (λ report. (past : List Line) → Knows past self.now → IsReport self.now.at past report) }
+    {
+        Ok(Report {
+            files: self.file_findings(alloc)?,
+            clients: self.client_findings(alloc)?,
+            epochs: self.epoch_findings(alloc)?,
+            counts: self.counts(),
+        })
+    }
+}

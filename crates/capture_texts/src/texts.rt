@@ -1,0 +1,162 @@
+//! What people read of a report: a line of words for each finding.
+
+use crate::finding::{
+    CaptureVerdict, ClientFinding, ClientName, Counts, EpochFinding, FileFinding, FilePlace, Judged,
+};
+use crate::line::Moment;
+use byteorder::{ByteOrder, LittleEndian};
+use capture_walk::NotJudged;
+use lease_state::Bytes;
+use std::fmt::{self, Write};
+
+// Whether a reader sees the character, and the text round it as it is.
+fn is_seen(letter: char) -> bool {
+    !letter.is_control()
+        && !matches!(letter, '\u{200e}'..='\u{200f}' | '\u{2028}'..='\u{202e}' | '\u{2066}'..='\u{2069}')
+}
+
+fn write_letter<W: fmt::Write>(f: &mut fmt::Formatter<W>, letter: char) -> fmt::Result {
+    if is_seen(letter) {
+        f.write_char(letter)
+    } else {
+        write!(f, "\\u{{{:x}}}", u32::from(letter))
+    }
+}
+
+// A word of a line: bytes that aren't printable ASCII as `\xHH`.
+fn write_word<W: fmt::Write>(f: &mut fmt::Formatter<W>, bytes: &Bytes) -> fmt::Result {
+    for byte in bytes.as_slice() {
+        if byte.is_ascii_graphic() {
+            f.write_char(char::from(*byte))?;
+        } else {
+            write!(f, "\\x{byte:02x}")?;
+        }
+    }
+    Ok(())
+}
+
+// Half a unit at the end of a name.
+fn write_rest<W: fmt::Write>(f: &mut fmt::Formatter<W>, bytes: &[u8]) -> fmt::Result {
+    match bytes.last() {
+        Some(byte) if bytes.len() % 2 == 1 => write!(f, "\\x{byte:02x}"),
+        _ => Ok(()),
+    }
+}
+
+// A name in UTF-16. What isn't valid in it is written as `\u{HHHH}`, and a last byte alone as `\xHH`.
+fn write_name<W: fmt::Write>(f: &mut fmt::Formatter<W>, bytes: &Bytes) -> fmt::Result {
+    let bytes = bytes.as_slice();
+    let units = bytes.chunks_exact(2).map(LittleEndian::read_u16);
+    for letter in char::decode_utf16(units) {
+        match letter {
+            Ok(letter) => write_letter(f, letter)?,
+            Err(unpaired) => write!(f, "\\u{{{:x}}}", unpaired.unpaired_surrogate())?,
+        }
+    }
+    write_rest(f, bytes)
+}
+
+impl fmt::Display for Moment {
+    fn fmt<W: fmt::Write>(&self, f: &mut fmt::Formatter<W>) -> fmt::Result {
+        write!(f, "packet {} at ", self.packet)?;
+        write_word(f, &self.time)
+    }
+}
+
+impl fmt::Display for FilePlace {
+    fn fmt<W: fmt::Write>(&self, f: &mut fmt::Formatter<W>) -> fmt::Result {
+        write_word(f, &self.server)?;
+        f.write_char(' ')?;
+        write_name(f, &self.path)?;
+        f.write_char('\\')?;
+        write_name(f, &self.name)
+    }
+}
+
+impl fmt::Display for ClientName {
+    fn fmt<W: fmt::Write>(&self, f: &mut fmt::Formatter<W>) -> fmt::Result {
+        if self.address.is_empty() {
+            f.write_str("unknown")
+        } else {
+            write_word(f, &self.address)
+        }
+    }
+}
+
+impl fmt::Display for Judged {
+    fn fmt<W: fmt::Write>(&self, f: &mut fmt::Formatter<W>) -> fmt::Result {
+        match self {
+            Judged::NoClient => f.write_str("not judged, no client of it is"),
+            Judged::Safe => f.write_str("safe"),
+            Judged::Unsafe(Some(moment)) => write!(f, "unsafe, {moment}"),
+            Judged::Unsafe(None) => f.write_str("unsafe"),
+            Judged::Contradictory => f.write_str("not judged, what is shown can't have happened"),
+            Judged::TooMany => f.write_str("not judged, it can have happened in too many ways"),
+        }
+    }
+}
+
+impl fmt::Display for FileFinding {
+    fn fmt<W: fmt::Write>(&self, f: &mut fmt::Formatter<W>) -> fmt::Result {
+        match &self.place {
+            Some(place) => write!(f, "file {place}: {}", self.judged)?,
+            None => write!(f, "file: {}", self.judged)?,
+        }
+        for client in &self.clients {
+            write!(f, ", {client}")?;
+        }
+        Ok(())
+    }
+}
+
+fn reason(reason: NotJudged) -> &'static str {
+    match reason {
+        NotJudged::Missing => "something of it is missing or can't be read",
+        NotJudged::Disputed => {
+            "it has one key for two files, or learns of a lease over several connections without an order"
+        }
+        NotJudged::Stranger => {
+            "a break under its key comes over a connection of which it isn't known whose it is"
+        }
+    }
+}
+
+impl fmt::Display for ClientFinding {
+    fn fmt<W: fmt::Write>(&self, f: &mut fmt::Formatter<W>) -> fmt::Result {
+        write!(f, "client {}: not judged", self.client)?;
+        if let Some(moment) = &self.since {
+            write!(f, " after {moment}")?;
+        }
+        write!(f, ", {}", reason(self.reason))
+    }
+}
+
+impl fmt::Display for EpochFinding {
+    fn fmt<W: fmt::Write>(&self, f: &mut fmt::Formatter<W>) -> fmt::Result {
+        write!(f, "client {}: ", self.client)?;
+        if let Some(moment) = &self.moment {
+            write!(f, "{moment}, ")?;
+        }
+        write!(f, "epoch {} follows {}", self.epoch, self.before)
+    }
+}
+
+impl fmt::Display for Counts {
+    fn fmt<W: fmt::Write>(&self, f: &mut fmt::Formatter<W>) -> fmt::Result {
+        write!(
+            f,
+            "{} connections, {} frames, {} of them unreadable",
+            self.connections, self.frames, self.unread
+        )
+    }
+}
+
+impl fmt::Display for CaptureVerdict {
+    fn fmt<W: fmt::Write>(&self, f: &mut fmt::Formatter<W>) -> fmt::Result {
+        f.write_str(match self {
+            CaptureVerdict::Safe => "safe",
+            CaptureVerdict::Unsafe => "unsafe",
+            CaptureVerdict::NothingJudged => "nothing judged",
+        })
+    }
+}
