@@ -1,7 +1,7 @@
 -- What the lines of a capture show: messages, in the terms of capture_walk. Lines, and messages that are seen, have the newest
 -- one first.
 use Rattle.std.specs.Prelude.{◌≡◌, ◌≢◌, ◌+◌, ℕ, Bool, true, false, List, [], ◌∷◌, ◌++◌, length, Option, Some, None, map}
-use Rattle.std.specs.Prelude.{filter, not, if◌then◌else◌}
+use Rattle.std.specs.Prelude.{Result, Ok, filter, not, if◌then◌else◌}
 use Rattle.capture_wire.specs.declared.message.Message.{Message}
 use Rattle.capture_walk.specs.Compounds.{HoldsMessages, FailsAfter}
 use Rattle.capture_walk.specs.Events as walks
@@ -12,7 +12,8 @@ use Rattle.capture_walk.specs.declared.frame.Frame.{Frame}
 use Rattle.capture_walk.specs.declared.note.Note.{Note}
 use Rattle.capture_walk.specs.declared.note.Note.TheVariants as note
 use Rattle.capture_walk.specs.declared.note.Seen.{Seen}
-use Rattle.lease_texts.specs.Reading.{is_passed_over}
+use Rattle.lease_texts.specs.Pieces.{lines_of}
+use Rattle.lease_texts.specs.Reading.{is_passed_over, reads_on}
 use Rattle.capture_texts.specs.Connections.{differs, ends_of, server_in, KnowsConnections}
 use Rattle.capture_texts.specs.Lines.{line_in, is_frame}
 use Rattle.capture_texts.specs.Positions.{next_line, position, is_taken, earliest, far_earliest}
@@ -163,3 +164,16 @@ pub record HasMarked (at : Side) (connection : ℕ) (note : Note) (past : List L
   pub servers : now.servers ≡ before.servers
   pub at_is : now.at ≡ before.at
   pub kept : now.kept ≡ before.kept
+
+-- ---- whole captures
+
+-- the lines that a text is read as, or the number of its first line that is refused
+abbrev pub capture_in : List ℕ → Result (List Line) ℕ
+capture_in text = reads_on with_text 1 [] (lines_of text)
+
+-- The capture is what the text is read as, made at this side.
+pub record IsReadFrom (at : Side) (text : List ℕ) (capture : Capture) : Type 0 where
+  pub lines : List Line
+  pub read : capture_in text ≡ Ok lines
+  pub knows : Knows lines capture
+  pub at_is : capture.at ≡ at

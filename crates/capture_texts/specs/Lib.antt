@@ -4,4 +4,5 @@ pub mod Connections
 pub mod Servers
 pub mod Captures
 pub mod Reports
+pub mod Verdicts
 pub mod Laws

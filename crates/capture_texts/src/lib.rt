@@ -24,6 +24,7 @@ mod report;
 mod servers;
 mod texts;
 mod walking;
+mod whole;
 
 pub use capture::Capture;
 pub use finding::{
@@ -31,5 +32,6 @@ pub use finding::{
     Judged, Report,
 };
 pub use laws::verdicts_are_of_files;
-pub use lease_texts::LineFault;
+pub use lease_texts::{LineFault, TextFault};
 pub use line::{Moment, Side};
+pub use whole::read_capture;
