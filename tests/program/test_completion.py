@@ -77,9 +77,10 @@ def test_each_option_of_a_command_is_known(program: str) -> None:
         assert offered(command, "-") == has, command
 
 
-def test_the_rules_are_known(program: str) -> None:
-    words = re.search(r"--rules[^[]*\[possible values: ([^]]*)\]", help_of(program, "replay"))
-    assert words and offered("replay", "--rules", "") == set(words[1].split(", "))
+@pytest.mark.parametrize("command, option", [("replay", "--rules"), ("capture", "--at")])
+def test_the_words_of_an_option_are_known(program: str, command: str, option: str) -> None:
+    words = re.search(rf"{option}[^[]*\[possible values: ([^]]*)\]", help_of(program, command))
+    assert words and offered(command, option, "") == set(words[1].split(", "))
 
 
 def test_each_kind_is_known(program: str) -> None:

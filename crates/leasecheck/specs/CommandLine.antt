@@ -14,6 +14,8 @@ use Rattle.clap.specs.declared.error.Error.{Error}
 use Rattle.clap.specs.declared.error.kind.ErrorKind.{ErrorKind}
 use Rattle.clap.specs.declared.error.kind.ErrorKind.TheVariants as error
 use Rattle.clap.specs.declared.parser.matches.ArgMatches.{ArgMatches}
+use Rattle.capture_texts.specs.declared.line.Side.{Side}
+use Rattle.capture_texts.specs.declared.line.Side.TheVariants as side
 use Rattle.lease_state.specs.Rules.{profile_rules}
 use Rattle.lease_state.specs.declared.rules.Rules.{Rules}
 use Rattle.lease_texts.specs.Fields.{rules_in}
@@ -43,17 +45,22 @@ abbrev pub rules_words : List Text
 rules_words =
     codes "by-client,as-free" ∷ codes "by-client,whole" ∷ codes "by-key,as-free" ∷ codes "by-key,whole" ∷ []
 
+abbrev pub side_words : List Text
+side_words = codes "client" ∷ codes "server" ∷ []
+
 -- it takes these words, and no other one
 abbrev pub TakesWords : List Text → ValueParser → Type 0
 TakesWords words taken = (names : Bor (List (Bor Text))) × (taken ≡ parser.Names names)
     × (map (λ name. name.now) names.now ≡ words)
 
--- what takes the kinds of `show`, and what takes the rules of `replay`
+-- what takes the kinds of `show`, the rules of `replay`, and the sides of `capture`
 pub record Parsers : Type 0 where
   pub kinds : ValueParser
   pub rules : ValueParser
+  pub sides : ValueParser
   pub take_kinds : TakesWords kind_words kinds
   pub take_rules : TakesWords rules_words rules
+  pub take_sides : TakesWords side_words sides
 
 abbrev pub kind_rule : ValueParser → Rule
 kind_rule kinds = record (needed (codes "KIND")) { parser = Some kinds }
@@ -78,6 +85,12 @@ judge_app = with_rule (with_rule (new_app (codes "judge")) (needed (codes "FILE"
 abbrev pub draw_app : App
 draw_app = with_rule (new_app (codes "draw")) (needed (codes "FILE"))
 
+abbrev pub side_rule : ValueParser → Rule
+side_rule sides = record (new_rule (codes "SIDE")) { long = Some (codes "at"); parser = Some sides }
+
+abbrev pub capture_app : ValueParser → App
+capture_app sides = with_rule (with_rule (new_app (codes "capture")) (needed (codes "FILE"))) (side_rule sides)
+
 -- a version, no command `help`, and a command has to be named
 abbrev pub with_settings : Shape → Shape
 with_settings shape = record shape { has_version = true; disable_help_subcommand = true; subcommand_required = true }
@@ -91,8 +104,8 @@ with_commands app (command ∷ commands) = with_commands (with_subcommand app co
 
 abbrev pub leasecheck_app : Parsers → App
 leasecheck_app parsers = with_commands bare_app
-    (ack_app ∷ show_app parsers.kinds ∷ replay_app parsers.rules ∷ judge_app ∷ draw_app ∷ new_app (codes "client")
-    ∷ new_app (codes "server") ∷ [])
+    (ack_app ∷ show_app parsers.kinds ∷ replay_app parsers.rules ∷ judge_app ∷ draw_app ∷ capture_app parsers.sides
+    ∷ new_app (codes "client") ∷ new_app (codes "server") ∷ [])
 
 -- ---- what is asked for
 
@@ -103,6 +116,7 @@ pub data Request : Type 0 where
   Judge : (path : Text) → Request
   Explain : (path : Text) → Request
   Draw : (path : Text) → Request
+  Capture : (path : Text) (side : Side) → Request
   Version : Request
   Clients : Request
   Server : Request
@@ -114,6 +128,7 @@ request_of (asked.Task (task.Replay path telling rules)) = Replay (string_bytes 
 request_of (asked.Task (task.Judge path)) = Judge (string_bytes path)
 request_of (asked.Task (task.Explain path)) = Explain (string_bytes path)
 request_of (asked.Task (task.Draw path)) = Draw (string_bytes path)
+request_of (asked.Task (task.Capture path side)) = Capture (string_bytes path) side
 request_of (asked.Task task.Version) = Version
 request_of asked.Clients = Clients
 request_of asked.Server = Server
@@ -151,6 +166,21 @@ telling_of messages explains = record { messages = messages; idle = explains }
 abbrev pub judged : Bool → Option Text → Option Request
 judged explains path = option_map (λ path. if explains then Explain path else Judge path) path
 
+-- the side that a word stands for; the server where there is none
+abbrev pub side_named : Text → Option Side
+side_named name =
+    if bytes_eq name (codes "client") then Some side.Client
+    else if bytes_eq name (codes "server") then Some side.Server
+    else None
+
+abbrev pub side_asked : Option Text → Option Side
+side_asked (Some name) = side_named name
+side_asked None = Some side.Server
+
+abbrev pub captured : Option Side → Option Text → Option Request
+captured (Some side) path = option_map (λ path. Capture path side) path
+captured None path = None
+
 -- by the name of a command and what was found of its arguments
 unfoldable pub requested : Text → List Row → Option Request
 requested name rows =
@@ -164,6 +194,8 @@ requested name rows =
     else if bytes_eq name (codes "judge")
     then judged (is_given (first_of (codes "explain") rows)) (first_of (codes "FILE") rows)
     else if bytes_eq name (codes "draw") then option_map Draw (first_of (codes "FILE") rows)
+    else if bytes_eq name (codes "capture")
+    then captured (side_asked (first_of (codes "SIDE") rows)) (first_of (codes "FILE") rows)
     else if bytes_eq name (codes "client") then Some Clients
     else if bytes_eq name (codes "server") then Some Server
     else None

@@ -15,6 +15,7 @@ pub mod Replayed
 pub mod Judging
 pub mod Explaining
 pub mod Drawing
+pub mod Capturing
 pub mod Printed
 pub mod Remarks
 pub mod Refusals

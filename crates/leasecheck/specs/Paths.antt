@@ -2,7 +2,7 @@
 use Rattle.std.specs.Prelude.{ℕ, List, codes, take, drop, bytes_eq, if◌then◌else◌, Option, Some, None}
 use Rattle.std.specs.String.{string_bytes}
 use Rattle.leasecheck.specs.declared.tasks.Task.{Task}
-use Rattle.leasecheck.specs.declared.tasks.Task.TheVariants.{Ack, Show, Replay, Judge, Explain, Draw, Version}
+use Rattle.leasecheck.specs.declared.tasks.Task.TheVariants.{Ack, Show, Replay, Judge, Explain, Draw, Capture, Version}
 
 -- the file that an argument of `ack` or `show` names, which begins with a sign for it
 abbrev pub file_named : List ℕ → Option (List ℕ)
@@ -16,4 +16,5 @@ path_of (Replay path telling rules) = Some (string_bytes path)
 path_of (Judge path) = Some (string_bytes path)
 path_of (Explain path) = Some (string_bytes path)
 path_of (Draw path) = Some (string_bytes path)
+path_of (Capture path side) = Some (string_bytes path)
 path_of Version = None

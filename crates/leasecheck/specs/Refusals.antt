@@ -6,6 +6,7 @@ use Rattle.std.specs.Option.{option_map}
 use Rattle.std.specs.Result.{result_err}
 use Rattle.std.specs.String.{string_bytes}
 use Rattle.std.specs.Io.KnownBytes.{Appends, Keeps}
+use Rattle.capture_texts.specs.Captures.{capture_in}
 use Rattle.lease_wire.specs.Gathering.{gathered, no_values}
 use Rattle.lease_wire.specs.Message.{begins_message, header_fault, first_message, area_fault, items_in}
 use Rattle.lease_wire.specs.Reading.{Item, items_of}
@@ -90,6 +91,7 @@ refusal_of (task.Replay path telling rules) file = replay_refusal file
 refusal_of (task.Judge path) file = line_refusal (record_in file)
 refusal_of (task.Explain path) file = line_refusal (record_in file)
 refusal_of (task.Draw path) file = draw_refusal file
+refusal_of (task.Capture path side) file = line_refusal (capture_in file)
 refusal_of task.Version file = None
 
 -- It is refused whatever bytes its reader may have.
@@ -122,6 +124,7 @@ MayEnd (task.Replay path telling rules) file failure = MayEndReading (replay_ref
 MayEnd (task.Judge path) file failure = MayEndJudging file failure
 MayEnd (task.Explain path) file failure = MayEndReading (line_refusal (record_in file)) failure
 MayEnd (task.Draw path) file failure = MayEndReading (draw_refusal file) failure
+MayEnd (task.Capture path side) file failure = MayEndReading (line_refusal (capture_in file)) failure
 MayEnd task.Version file failure = failure ≡ Memory
 
 -- a writer whose bytes are known has got a beginning of a text

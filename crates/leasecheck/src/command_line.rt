@@ -9,9 +9,11 @@ ghost use Rattle.leasecheck.specs.CommandLine.{kind_rule, kind_words, rules_rule
 ghost use Rattle.leasecheck.specs.CommandLine.{ack_app, show_app, replay_app, judge_app, draw_app, bare_app, leasecheck_app};
 ghost use Rattle.leasecheck.specs.CommandLine.{kind_named, telling_of, is_given, judged, replayed, requested, requested_by};
 ghost use Rattle.leasecheck.specs.CommandLine.{request_of, all_words, shown};
+ghost use Rattle.leasecheck.specs.CommandLine.{capture_app, captured, side_asked, side_named, side_rule, side_words};
 
 use crate::help;
 use crate::tasks::{Asked, Kind, Task, Telling, Usage, VERSION};
+use capture_texts::Side;
 use clap::error::ErrorKind;
 use clap::{Arg, ArgAction, ArgMatches, Command, Error};
 use lease_state::Rules;
@@ -156,6 +158,28 @@ fn draw_command<'a>(alloc: Global) -> Result<Command<'a>, AllocError>
     command(alloc, "draw", about, help::DRAW, help::DRAW_END).arg(file)
 }
 
+const SIDES: &[&str] = &["client", "server"];
+
+fn side_argument<'a>(alloc: Global) -> Arg<'a>
+    ensures rule { (sides : ValueParser) × TakesWords side_words sides × (rule_of result ≡ side_rule sides) }
+    ensures own { result.global ≡ false }
+{
+    Arg::new(alloc, "SIDE").long("at").value_parser(SIDES).help(
+        "Where the capture was made; at the server where it isn't said",
+    )
+}
+
+fn capture_command<'a>(alloc: Global) -> Result<Command<'a>, AllocError>
+    ensures { IfOk result (λ command. (sides : ValueParser) × TakesWords side_words sides × (app_of command ≡ capture_app sides)
+        × ((fields_of command).has_globals ≡ false)) }
+{
+    let about = "Prints whether what a capture shows of leases can have been safe";
+    let file = file_argument(alloc, "The capture, as lines; - is standard input");
+    command(alloc, "capture", about, help::CAPTURE, help::CAPTURE_END)
+        .arg(file)?
+        .arg(side_argument(alloc))
+}
+
 fn client_command<'a>(alloc: Global) -> Command<'a>
     ensures app { app_of result ≡ new_app (codes "client") }
     ensures own { (fields_of result).has_globals ≡ false }
@@ -211,6 +235,7 @@ fn program<'a>(alloc: Global) -> Result<Command<'a>, AllocError>
         .subcommand(replay_command(alloc)?)?
         .subcommand(judge_command(alloc)?)?
         .subcommand(draw_command(alloc)?)?
+        .subcommand(capture_command(alloc)?)?
         .subcommand(client_command(alloc))?
         .subcommand(server_command(alloc))
 }
@@ -306,6 +331,28 @@ fn rules_given(given: &ArgMatches) -> Option<Rules>
     }
 }
 
+fn side_named(name: &str) -> Option<Side>
+    ensures { result ≡ side_named name.now }
+{
+    if name == "client" {
+        Some(Side::Client)
+    } else if name == "server" {
+        Some(Side::Server)
+    } else {
+        None
+    }
+}
+
+// The side that is named; the server's where there is none.
+fn side_given(given: &ArgMatches) -> Option<Side>
+    ensures { result ≡ side_asked (first_of (codes "SIDE") (rows_of (found_of given.now))) }
+{
+    match word_of(given, "SIDE") {
+        Some(name) => side_named(name),
+        None => Some(Side::Server),
+    }
+}
+
 fn ack_asked(alloc: Global, given: &ArgMatches) -> Result<Option<Asked>, AllocError>
     ensures { IfOk result
         (λ found. option_map request_of found ≡ option_map Request.Ack (first_of (codes "HEX") (rows_of (found_of given.now)))) }
@@ -376,6 +423,20 @@ fn draw_asked(alloc: Global, given: &ArgMatches) -> Result<Option<Asked>, AllocE
     }
 }
 
+fn capture_asked(alloc: Global, given: &ArgMatches) -> Result<Option<Asked>, AllocError>
+    ensures { IfOk result (λ found. option_map request_of found
+        ≡ captured (side_asked (first_of (codes "SIDE") (rows_of (found_of given.now))))
+        (first_of (codes "FILE") (rows_of (found_of given.now)))) }
+{
+    let Some(side) = side_given(given) else {
+        return Ok(None);
+    };
+    match owned(alloc, given, "FILE")? {
+        Some(path) => Ok(Some(Asked::Task(Task::Capture(path, side)))),
+        None => Ok(None),
+    }
+}
+
 #[tactic(auto, unfolding(crate::specs::CommandLine::requested))]
 fn asked_of(alloc: Global, name: &str, given: &ArgMatches) -> Result<Option<Asked>, AllocError>
     ensures { IfOk result (λ found. option_map request_of found ≡ requested name.now (rows_of (found_of given.now))) }
@@ -390,6 +451,8 @@ fn asked_of(alloc: Global, name: &str, given: &ArgMatches) -> Result<Option<Aske
         judge_asked(alloc, given)
     } else if name == "draw" {
         draw_asked(alloc, given)
+    } else if name == "capture" {
+        capture_asked(alloc, given)
     } else if name == "client" {
         Ok(Some(Asked::Clients))
     } else if name == "server" {

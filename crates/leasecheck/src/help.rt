@@ -2,8 +2,8 @@
 
 pub(crate) const PROGRAM: &str =
     "Reads and answers the messages of SMB 2.1 leases, replays schedules of clients
-that share files, judges records of such runs, and runs client machines or a
-server that other programs drive by lines";
+that share files, judges records of such runs and captures, and runs client
+machines or a server that other programs drive by lines";
 
 pub(crate) const PROGRAM_END: &str = "Exit status:
   0  done: the answer is on standard output
@@ -11,7 +11,8 @@ pub(crate) const PROGRAM_END: &str = "Exit status:
      standard error says which, and usually a second one what was expected where;
      or the record that was judged is malformed
   2  the command line is refused
-  3  the record that was judged is unsafe
+  3  the record or the capture that was judged is unsafe
+  4  nothing of a capture could be judged
 
 Each command has its own --help, with an example. In the project's repository
 docs/FORMATS.md has the layouts of messages, the lines of schedules and records,
@@ -138,6 +139,31 @@ Exit status:
 
 docs/FORMATS.md in the project's repository has the lines of records and
 schedules, and the marks.";
+
+pub(crate) const CAPTURE: &str =
+    "Reads a capture of SMB2 as lines, one for each frame of the transport, and prints
+'safe' (status 0), 'unsafe' (status 3) or 'nothing judged' (status 4). 'unsafe'
+is said only where in every order that fits the capture two clients cache a file
+of which one caches writes; 'safe' where there is an order in which none do. Then
+it prints a line for each file on which leases were granted, one for each client
+that isn't judged, and how much was read. drive/capture in the project's
+repository makes such lines of a file that tshark reads.";
+
+pub(crate) const CAPTURE_END: &str = "Example:
+  $ printf 'end 1 0.5 1\\n' | leasecheck capture -
+  nothing judged
+  0 connections, 0 frames, 0 of them unreadable
+
+Exit status:
+  0  some file is safe, and none is unsafe
+  1  a line is refused, memory ran out, or a read or a write failed: one line on
+     standard error says which, as 'fault line 7' or 'fault file'
+  2  the command line is refused
+  3  a file is unsafe
+  4  of no file anything is decided
+
+docs/FORMATS.md in the project's repository has the lines of captures, and what
+is printed.";
 
 pub(crate) const CLIENT: &str =
     "Runs client machines: reads standard input line by line, and answers each line

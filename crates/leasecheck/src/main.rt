@@ -13,6 +13,7 @@
 //! prints `ack 00010203-0405-0607-0809-0a0b0c0d0e0f RH`; the tests have it, and more.
 #![tactic(auto)]
 
+mod capturing;
 mod command_line;
 mod conversing;
 mod drawing;

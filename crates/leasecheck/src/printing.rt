@@ -2,6 +2,7 @@ ghost use Rattle.std.specs.Prelude.{◌≡◌, ◌≢◌, ◌≤◌, ◌⊎◌, 
 ghost use Rattle.std.specs.Prelude.{OnOk, length, take};
 ghost use Rattle.std.specs.String.{string_bytes};
 ghost use Rattle.std.specs.Io.KnownBytes.{Appends, Keeps};
+ghost use Rattle.capture_texts.specs.Captures.{capture_in};
 ghost use Rattle.lease_texts.specs.Records.{record_in};
 ghost use Rattle.lease_wire.specs.WireFaults.{message_fault};
 ghost use Rattle.lease_wire.specs.declared.fault.WireFault.{WireFault};
@@ -11,7 +12,7 @@ ghost use Rattle.leasecheck.specs.Drawing.{Draws, draw_refusal};
 ghost use Rattle.leasecheck.specs.Known.{OfBytes};
 ghost use Rattle.leasecheck.specs.Made.{Answers, AnswersTo, IsGiven, PrintsOrEnds, is_record, text_made, status_made};
 ghost use Rattle.leasecheck.specs.Paths.{file_named};
-ghost use Rattle.leasecheck.specs.Printed.{Prints, TellsReason, TellsVerdict};
+ghost use Rattle.leasecheck.specs.Printed.{Prints, TellsCapture, TellsReason, TellsVerdict};
 ghost use Rattle.leasecheck.specs.Refusals.{Begins, Ends, IsRefused, MayEnd, MayEndGiven, MayEndJudging, MayEndReading, MayStop};
 ghost use Rattle.leasecheck.specs.Refusals.{Puts, failure_line, given_refusal, is_replay, line_refusal, shown_fault};
 ghost use Rattle.leasecheck.specs.Remarks.{IsDrawRemark, IsGivenRemark, IsRemark, Says, record_remark, schedule_remark, second_of};
@@ -20,10 +21,10 @@ ghost use Rattle.leasecheck.specs.Shown.{Shows};
 ghost use Rattle.leasecheck.specs.WireRemarks.{bare_remark, shown_remark};
 ghost use Rattle.leasecheck.specs.declared.tasks.Kind.TheVariants as kind;
 
+use crate::capturing::capture_text;
 use crate::drawing::draw_text;
 use crate::explaining::explain_text;
 use crate::failure::Failure;
-use crate::hexadecimal;
 use crate::judging::{judge_text, push_verdict, status_of};
 use crate::reading::read_all;
 use crate::recording::{Record, write_record};
@@ -31,7 +32,9 @@ use crate::refusal::Refusal;
 use crate::replaying::replay;
 use crate::tasks::{Kind, Task, Telling, VERSION, file_named};
 use crate::wire::{ack_lines, render};
+use crate::{capturing, hexadecimal};
 use arrayvec::ArrayString;
+use capture_texts::Side;
 use lease_state::Rules;
 use std::alloc::Global;
 use std::fmt::Write as _;
@@ -101,7 +104,11 @@ fn given_to<I: Read>(alloc: Global, task: &Task, input: &mut I) -> Result<Vec<u8
         Task::Ack(argument) => bytes_given(alloc, argument.as_str(), input),
         Task::Show(_, argument) => bytes_given(alloc, argument.as_str(), input),
         Task::Version => Ok(Vec::new(alloc)),
-        Task::Replay(_, _, _) | Task::Judge(_) | Task::Explain(_) | Task::Draw(_) => {
+        Task::Replay(_, _, _)
+        | Task::Judge(_)
+        | Task::Explain(_)
+        | Task::Draw(_)
+        | Task::Capture(_, _) => {
             let bytes = read_all(alloc, input)?;
             Ok(bytes)
         }
@@ -164,6 +171,17 @@ fn drawn(alloc: Global, file: &[u8]) -> Result<Made, Refusal>
     Ok(Made::Text(done(text)))
 }
 
+// The verdict on a capture, and what is found in it.
+fn captured(alloc: Global, side: Side, text: &[u8]) -> Result<Made, Refusal>
+    ensures answers { Answers (TellsCapture side text.now) (line_refusal (capture_in text.now))
+        (MayEndReading (line_refusal (capture_in text.now))) (λ failure line. ⊥) result }
+    ensures record { IfOk result (λ made. is_record made ≡ false) }
+{
+    let (text, verdict) = capture_text(alloc, side, text)?;
+    let status = capturing::status_of(verdict);
+    Ok(Made::Text(Printed { text, status }))
+}
+
 // All that a task prints which goes by these bytes.
 fn made_of(alloc: Global, task: &Task, given: &[u8]) -> Result<Made, Refusal>
     ensures answers { (file : List ℕ) → IsGiven task.now file given.now → AnswersTo task.now file result }
@@ -179,6 +197,7 @@ fn made_of(alloc: Global, task: &Task, given: &[u8]) -> Result<Made, Refusal>
         }
         Task::Explain(_) => explained(alloc, given),
         Task::Draw(_) => drawn(alloc, given),
+        Task::Capture(_, side) => captured(alloc, *side, given),
         Task::Version => Ok(Made::Text(done(String::from_str(alloc, VERSION)?))),
     }
 }
@@ -310,7 +329,8 @@ pub(crate) fn tell_refusal<F: Write>(refusal: &Refusal, faults: &mut F) -> Resul
 }
 
 /// Does a task, and returns the exit status: 0 where it was done, 1 where its input is refused,
-/// where memory ran out or where a write to `out` failed, 3 where the record of a judge is unsafe.
+/// where memory ran out or where a write to `out` failed, 3 where the record of a judge or a capture is unsafe, 4 where nothing of
+/// a capture is judged.
 ///
 /// The whole text is made before anything is written to `out`, but for a record of more than a block, of which all facts are
 /// there and judged, but whose text is made as it is written: where memory runs out then, a beginning of it stands. On a refusal
@@ -324,7 +344,7 @@ pub fn perform<I: Read, O: Write, F: Write>(
     out: &mut O,
     faults: &mut F,
 ) -> u8
-    ensures status { (result ≤ 1) ⊎ (result ≡ 3) }
+    ensures status { (result ≤ 1) ⊎ ((3 ≤ result) × (result ≤ 4)) }
     ensures printed { result ≢ 1 → Prints task.now (I.remaining input.old) (O.contents out.old) (O.contents out.new) result }
     ensures silent { result ≢ 1 → Keeps (F.contents faults.old) (F.contents faults.new) }
 

@@ -60,7 +60,7 @@ fn perform_on_file<R: Files + Input + AllocGlobal, O: Write, F: Write>(
     faults: &mut F,
 ) -> u8
     ensures silent { result ≢ 1 → Keeps (F.contents faults.old) (F.contents faults.new) }
-    ensures status { (result ≤ 1) ⊎ (result ≡ 3) }
+    ensures status { (result ≤ 1) ⊎ ((3 ≤ result) × (result ≤ 4)) }
     ensures printed { result ≢ 1 → (file : List ℕ)
         × PrintsOf asked.now file (O.contents out.old) (O.contents out.new) result }
     ensures ended { result ≡ 1 → (file : List ℕ)
@@ -112,9 +112,10 @@ fn speak<R: Input + AllocGlobal, O: Write, F: Write>(
 
 /// Does what the words of a command line ask for, those after the program's name, and returns the
 /// exit status: 0 where it was done or help was printed, 1 where the input is refused, memory ran
-/// out or a write failed, 2 where the words are refused, 3 where a judged record is unsafe.
+/// out or a write failed, 2 where the words are refused, 3 where a judged record or capture is unsafe, 4 where nothing of a capture
+/// is judged.
 ///
-/// What is printed with status 0 or 3 is what the words ask for. With these nothing goes to `faults`, but for why machines refuse
+/// What is printed with status 0, 3 or 4 is what the words ask for. With these nothing goes to `faults`, but for why machines refuse
 /// lines.
 ///
 /// Where the words can't be had, since one is no text or there is no memory for them, they are
@@ -125,7 +126,7 @@ pub fn run_words<R: Files + Input + AllocGlobal, O: Write, F: Write>(
     out: &mut O,
     faults: &mut F,
 ) -> u8
-    ensures status { result ≤ 3 }
+    ensures status { result ≤ 4 }
     ensures refused { result ≡ 2 → Keeps (O.contents out.old) (O.contents out.new) }
     ensures unread { IsErr given → result ≡ 2 }
     ensures done { IfOk given (λ words. result ≢ 1 → result ≢ 2

@@ -1,6 +1,7 @@
 ghost use Rattle.std.specs.Prelude.{◌≡◌, option_map};
 ghost use Rattle.leasecheck.specs.Paths.{file_named};
 
+use capture_texts::Side;
 use lease_state::Rules;
 
 /// The kinds of bytes that can be shown.
@@ -43,6 +44,8 @@ pub enum Task {
     Explain(String),
     /// The picture of the record in this file, or of the run of the schedule in it.
     Draw(String),
+    /// What the capture in this file shows of leases, and the verdict on it. It was made at this side of its connections.
+    Capture(String, Side),
     /// The version of the program.
     Version,
 }
@@ -78,8 +81,11 @@ impl Task {
         match self {
             Task::Ack(argument) | Task::Show(_, argument) => file_named(argument.as_str()),
             Task::Version => None,
-            Task::Replay(path, _, _) | Task::Judge(path) | Task::Explain(path) | Task::Draw(path) =>
-                Some(path.as_str()),
+            Task::Replay(path, _, _)
+            | Task::Judge(path)
+            | Task::Explain(path)
+            | Task::Draw(path)
+            | Task::Capture(path, _) => Some(path.as_str()),
         }
     }
 }

@@ -1,0 +1,106 @@
+ghost use Rattle.std.specs.Prelude.{◌≡◌, ◌⊎◌, ◌++◌, ℕ, List, None, Some, IfOk, IfErr, OnOk};
+ghost use Rattle.std.specs.String.{string_bytes};
+ghost use Rattle.capture_texts.specs.Captures.{IsReadFrom, capture_in};
+ghost use Rattle.capture_texts.specs.Verdicts.{IsVerdictOnCapture};
+ghost use Rattle.leasecheck.specs.Capturing.{capture_line, capture_status};
+ghost use Rattle.leasecheck.specs.Refusals.{line_refusal};
+
+use crate::failure::Failure;
+use crate::refusal::Refusal;
+use capture_texts::{Capture, CaptureVerdict, Report, Side, read_capture};
+use lease_texts::TextFault;
+use std::alloc::{AllocError, Global};
+use std::fmt::Write as _;
+
+// The capture that a text is.
+fn capture_of(alloc: Global, side: Side, text: &[u8]) -> Result<Capture, Failure>
+    ensures read { IfOk result (λ capture. IsReadFrom side text.now capture) }
+    ensures refused { IfErr result (λ failure. (failure ≡ Failure.Memory)
+        ⊎ (line_refusal (capture_in text.now) ≡ Some failure)) }
+{
+    match read_capture(alloc, side, text) {
+        Ok(capture) => Ok(capture),
+        Err(TextFault::Line(number)) => Err(Failure::Line(number)),
+        Err(TextFault::Memory) => Err(Failure::Memory),
+    }
+}
+
+fn push_verdict(text: &mut String, verdict: CaptureVerdict) -> Result<(), AllocError>
+    ensures { OnOk result (string_bytes text.new ≡ string_bytes text.old ++ capture_line verdict) }
+{
+    match verdict {
+        CaptureVerdict::Safe => text.push_str("safe\n"),
+        CaptureVerdict::Unsafe => text.push_str("unsafe\n"),
+        CaptureVerdict::NothingJudged => text.push_str("nothing judged\n"),
+    }
+}
+
+fn push_files(text: &mut String, report: &Report) -> Result<(), AllocError> {
+    for file in &report.files {
+        writeln!(text, "{file}")?;
+    }
+    Ok(())
+}
+
+fn push_clients(text: &mut String, report: &Report) -> Result<(), AllocError> {
+    for client in &report.clients {
+        writeln!(text, "{client}")?;
+    }
+    Ok(())
+}
+
+fn push_epochs(text: &mut String, report: &Report) -> Result<(), AllocError> {
+    for epoch in &report.epochs {
+        writeln!(text, "{epoch}")?;
+    }
+    Ok(())
+}
+
+// What is found: a line for each file, one for each client that isn't judged, one for each epoch that doesn't follow on, and what
+// there is in the capture.
+fn findings_of(alloc: Global, report: &Report) -> Result<String, AllocError> {
+    let mut text = String::new(alloc);
+    push_files(&mut text, report)?;
+    push_clients(&mut text, report)?;
+    push_epochs(&mut text, report)?;
+    let counts = report.counts;
+    writeln!(&mut text, "{counts}")?;
+    Ok(text)
+}
+
+/// What `leasecheck capture` prints for a capture that was made at this side of its connections: the verdict, and what is found.
+///
+/// # Errors
+///
+/// `Line` with the number of the first line that is refused, and `Memory` where there is none left.
+pub fn capture_text(
+    alloc: Global,
+    side: Side,
+    text: &[u8],
+) -> Result<(String, CaptureVerdict), Refusal>
+    ensures told { IfOk result (λ answer. (findings : List ℕ)
+        × (string_bytes answer.0 ≡ capture_line answer.1 ++ findings) × IsVerdictOnCapture side text.now answer.1) }
+    ensures accepted { OnOk result (line_refusal (capture_in text.now) ≡ None) }
+    ensures refused { IfErr result (λ told. (told.failure ≡ Failure.Memory)
+        ⊎ (line_refusal (capture_in text.now) ≡ Some told.failure)) }
+    ensures silent { IfErr result (λ told. told.second ≡ None) }
+{
+    let report = capture_of(alloc, side, text)?.report(alloc)?;
+    let verdict = report.verdict();
+    let mut told = String::new(alloc);
+    push_verdict(&mut told, verdict)?;
+    let findings = findings_of(alloc, &report)?;
+    told.push_str(findings.as_str())?;
+    Ok((told, verdict))
+}
+
+/// The exit status of the verdict on a capture.
+pub fn status_of(verdict: CaptureVerdict) -> u8
+    ensures { result ≡ capture_status verdict }
+{
+    match verdict {
+        CaptureVerdict::Safe => 0,
+        CaptureVerdict::Unsafe => 3,
+        CaptureVerdict::NothingJudged => 4,
+    }
+}
