@@ -8,6 +8,7 @@ from collections.abc import Sequence
 
 from smblease.program import Verdict, find_program, judge
 
+from drive.capture_lines import lines_of
 from drive.capture_record import CaptureRecord, record_of, remark
 from drive.commands import NOTHING_JUDGED, NOT_DRIVEN, SAFE, UNSAFE, ended, write
 from drive.faults import DriveFault, Usage
@@ -27,6 +28,7 @@ def parser() -> argparse.ArgumentParser:
                                    epilog=EPILOG, formatter_class=argparse.RawDescriptionHelpFormatter)
     made.add_argument("capture", metavar="FILE", help="a capture that tshark reads, as pcapng")
     made.add_argument("--record", metavar="OUT", help="write the record there")
+    made.add_argument("--lines", action="store_true", help="print the lines that leasecheck capture reads, and nothing else")
     made.add_argument("--at", choices=("client", "server"), default="server",
                       help="where it was made; at a server, which is presumed, it only bounds when clients took messages")
     made.add_argument("--port", metavar="PORT", type=int, action="append", default=[],
@@ -63,7 +65,11 @@ def _judge(arguments: argparse.Namespace) -> int:
         raise Usage("--port is a number from 1 to 65535")
     if not os.path.isfile(arguments.capture):
         raise DriveFault(f"{arguments.capture}: no such file")
-    record = record_of(read_capture(arguments.capture, arguments.port), arguments.at == "client")
+    capture = read_capture(arguments.capture, arguments.port)
+    if arguments.lines:
+        sys.stdout.writelines(f"{line}\n" for line in lines_of(capture))
+        return NOT_DRIVEN if capture.fault else SAFE
+    record = record_of(capture, arguments.at == "client")
     text = text_of(record)
     verdict = judge(arguments.leasecheck, text)
     word = verdict_word(record, verdict)

@@ -13,8 +13,9 @@ from drive.faults import DriveFault
 
 LOST = "tcp.analysis.lost_segment || tcp.analysis.ack_lost_segment || (tcp && frame.cap_len < frame.len)"
 FILTER = f"smb2 || tcp.flags.fin == 1 || tcp.flags.reset == 1 || {LOST}"
-FIELDS = ("frame.number", "frame.time_relative", "tcp.stream", "tcp.srcport", "ip.src", "ipv6.src", "tcp.flags", "tcp.ack",
-          "tcp.nxtseq", "tcp.analysis.lost_segment", "tcp.analysis.ack_lost_segment", "frame.cap_len", "frame.len")
+FIELDS = ("frame.number", "frame.time_relative", "tcp.stream", "ip.src", "ipv6.src", "tcp.srcport", "ip.dst", "ipv6.dst",
+          "tcp.dstport", "tcp.flags", "tcp.ack", "tcp.nxtseq", "tcp.analysis.lost_segment", "tcp.analysis.ack_lost_segment",
+          "frame.cap_len", "frame.len")
 # what reads SMB2 on ports that tshark doesn't know
 ANY_PORT = os.path.join(os.path.dirname(os.path.abspath(__file__)), "smb2_tcp.lua")
 PROTOCOL = bytes.fromhex("fe534d42")
@@ -25,17 +26,25 @@ FIN, RESET = 1, 4
 
 @dataclass(frozen=True)
 class Packet:
-    """A packet. `acknowledged` are the bytes of the other side that its sender's host had, `end` those it has sent."""
+    """A packet. `acknowledged` are the bytes of the other side that its sender's host had, `end` those it has sent. A frame is a
+    message or a compound."""
 
     number: int
     time: str
     stream: int
     sender: str
+    receiver: str
     ends: bool
     acknowledged: int
     end: int
     is_gap: bool
-    messages: tuple[bytes, ...]
+    frames: tuple[bytes, ...]
+
+    @property
+    def messages(self) -> Iterator[bytes]:
+        """Each message by itself."""
+        for frame in self.frames:
+            yield from _parts(frame)
 
     @property
     def told(self) -> str:
@@ -55,13 +64,13 @@ def read_capture(path: str, ports: Sequence[int]) -> Capture:
     with tempfile.TemporaryFile("w+", encoding="utf-8", errors="replace") as rows, \
             tempfile.TemporaryFile("w+", encoding="utf-8", errors="replace") as faults:
         with _started(_fields(path, ports), rows, faults) as process:
-            messages = list(_messages(path, ports))
+            frames = list(_frames(path, ports))
         rows.seek(0)
         faults.seek(0)
         fault = _fault(process.returncode, faults.read())
-        found = [_packet(line.rstrip("\n").split("\t"), one) for line, one in zip(rows, messages)]
+        found = [_packet(line.rstrip("\n").split("\t"), one) for line, one in zip(rows, frames)]
     packets = tuple(packet for packet in found if packet)
-    if not any(packet.messages for packet in packets):
+    if not any(packet.frames for packet in packets):
         raise DriveFault(f"{path}: {fault or 'no SMB2 is in it'}")
     return Capture(packets, fault)
 
@@ -92,8 +101,8 @@ def _fault(status: int, text: str) -> str | None:
     return said[0][len("tshark: "):] if said else f"tshark ended with status {status}"
 
 
-def _messages(path: str, ports: Sequence[int]) -> Iterator[tuple[bytes, ...]]:
-    """The messages of each packet that the filter lets through."""
+def _frames(path: str, ports: Sequence[int]) -> Iterator[tuple[bytes, ...]]:
+    """The frames of each packet that the filter lets through."""
     words = [*_words(path, ports), "-T", "jsonraw", "--no-duplicate-keys", "-j", "smb2"]
     with _started(words, subprocess.PIPE, subprocess.DEVNULL) as process:
         assert process.stdout
@@ -102,45 +111,61 @@ def _messages(path: str, ports: Sequence[int]) -> Iterator[tuple[bytes, ...]]:
             lines.append(line)
             # Two spaces deep a packet begins and ends.
             if line.startswith("  }"):
-                yield _messages_of("".join(lines))
+                yield _frames_of("".join(lines))
                 lines = []
             elif line.startswith(("[", "]", "  ,")):
                 lines = []
 
 
-def _messages_of(text: str) -> tuple[bytes, ...]:
+def _frames_of(text: str) -> tuple[bytes, ...]:
     try:
         raw = json.loads(text.rstrip().rstrip(","))["_source"]["layers"].get("smb2_raw", [])
         items = raw if raw and isinstance(raw[0], list) else [raw] if raw else []
-        return tuple(_parted([bytes.fromhex(item[0]) for item in items]))
+        return tuple(_whole([bytes.fromhex(item[0]) for item in items]))
     except (ValueError, KeyError, TypeError, IndexError):
         raise DriveFault("tshark's answer can't be read") from None
 
 
-def _parted(items: list[bytes]) -> Iterator[bytes]:
-    """Each message by itself: an item holds a compound to its end, and its later messages come as items again."""
-    rest: list[bytes] = []
+def _next_command(item: bytes) -> int:
+    return int.from_bytes(item[20:24], "little") if item[:4] == PROTOCOL else 0
+
+
+def _parts(frame: bytes) -> Iterator[bytes]:
+    """The messages of a compound, or the one message."""
+    while frame:
+        length = _next_command(frame)
+        whole = frame[:length] if 64 <= length < len(frame) else frame
+        yield whole
+        frame = frame[len(whole):]
+
+
+def _whole(items: list[bytes]) -> Iterator[bytes]:
+    """Each frame by itself: an item holds a compound to its end, and its later messages come as items again."""
+    later: list[bytes] = []
     for item in items:
-        if item in rest:
+        if item in later:
             continue
-        rest = []
-        while item:
-            length = int.from_bytes(item[20:24], "little") if item[:4] == PROTOCOL else 0
-            whole = item[:length] if 64 <= length < len(item) else item
-            yield whole
-            item = item[len(whole):]
-            rest += [item, item[:int.from_bytes(item[20:24], "little")]]
+        yield item
+        later = []
+        behind = item
+        for part in _parts(item):
+            behind = behind[len(part):]
+            later += [behind, behind[:_next_command(behind)]]
 
 
 def _number(text: str) -> int:
     return int(text, 0) if text else 0
 
 
-def _packet(row: list[str], messages: tuple[bytes, ...]) -> Packet | None:
+def _packet(row: list[str], frames: tuple[bytes, ...]) -> Packet | None:
     row += [""] * (len(FIELDS) - len(row))
-    number, time, stream, port, address, address6, flags, acknowledged, end, lost, ack_lost, captured, length = row
-    if not stream:
+    if not row[2]:
         return None
+    flags, acknowledged, end, lost, ack_lost, captured, length = row[9:]
     is_gap = bool(lost or ack_lost) or _number(captured) < _number(length)
-    return Packet(int(number), time, int(stream), f"{address or address6}:{port}", bool(_number(flags) & (FIN | RESET)),
-                  _number(acknowledged), _number(end), is_gap, messages)
+    return Packet(int(row[0]), row[1], int(row[2]), _address(*row[3:6]), _address(*row[6:9]),
+                  bool(_number(flags) & (FIN | RESET)), _number(acknowledged), _number(end), is_gap, frames)
+
+
+def _address(address: str, address6: str, port: str) -> str:
+    return f"{address}:{port}" if address else f"[{address6}]:{port}"
