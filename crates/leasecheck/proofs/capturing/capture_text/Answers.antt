@@ -6,8 +6,7 @@ use Rattle.leasecheck.proofs.capturing.capture_text.Goals as goal
 
 pub returns-clause-told : goal.returns-clause-told
 returns-clause-told c =
-    let read = c.in_ok-capture_of.ensures.read in
-    (
+    let read = c.in_ok-capture_of.ensures.read in (
       c.as_str.result.now,
       c.in_ok-push_str.ensures.bytes ∙ ap (λ (text : List ℕ). text ++ c.as_str.result.now)
           (c.in_ok-push_verdict.ensures ∙ ap (λ (text : List ℕ). text ++ capture_line c.verdict-verdict.result)
