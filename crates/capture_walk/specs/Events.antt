@@ -243,9 +243,18 @@ broken seen one (Some client) held before =
 abbrev pub all_taken : Seen → Event
 all_taken seen = event.Taken (record { connection = seen.connection; number = seen.number; last = seen.latest })
 
-abbrev pub lost_of : Option ℕ → ℕ → List Event
-lost_of None since = []
-lost_of (Some client) since = event.Lost (record { client = client; since = since; reason = reason.Missing }) ∷ []
+abbrev pub missing : ℕ → ℕ → Event
+missing client since = event.Lost (record { client = client; since = since; reason = reason.Missing })
+
+-- the client of an open's lease, where the open is at this server
+abbrev pub lost_at : ℕ → ℕ → Open → Option Lease → List Event
+lost_at server since one None = []
+lost_at server since one (Some lease) = if one.server == server then missing lease.client since ∷ [] else []
+
+-- Where it isn't known whose a connection is, what is missing may be of any lease at its server.
+abbrev pub lost_of : Seen → Option ℕ → ℕ → List Open → List Event
+lost_of seen None since held = flat_map (λ one. lost_at seen.server since one one.lease) held
+lost_of seen (Some client) since held = missing client since ∷ []
 
 -- the last break of a lease
 abbrev pub last_break : Lease → Option Sent → List Event → Option Sent
@@ -282,7 +291,7 @@ told_by (note.Acknowledge given) seen client one since held before =
     acknowledged seen given.level (lease_under client given.key.0 held) before
 told_by (note.Accepted key) seen client one since held before = accepted seen (lease_under client key.0 held)
 told_by (note.Break break) seen client one since held before = broken seen break client held before
-told_by note.Gap seen client one since held before = lost_of client since
+told_by note.Gap seen client one since held before = lost_of seen client since held
 told_by note.Taken seen client one since held before = all_taken seen ∷ []
 told_by _ seen client one since held before = []
 

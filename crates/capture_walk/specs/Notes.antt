@@ -38,6 +38,10 @@ abbrev pub rename_asked : Note → Option ℕ
 rename_asked (note.RenameAsked id) = Some id
 rename_asked _ = None
 
+abbrev pub is_gap : Note → Bool
+is_gap note.Gap = true
+is_gap _ = false
+
 -- a client's message, of those that say something
 abbrev pub is_request : Note → Bool
 is_request (note.Negotiate guid) = true

@@ -2,7 +2,7 @@
 use Rattle.std.specs.Prelude.{◌≡◌, ℕ, ◌==◌, ◌&&◌, ◌||◌, Bool, false, List, [], ◌∷◌, Option, Some, None}
 use Rattle.std.specs.Option.{is_some}
 use Rattle.std.specs.List.{list_any}
-use Rattle.capture_walk.specs.Notes.{rename_asked, answered}
+use Rattle.capture_walk.specs.Notes.{rename_asked, answered, is_gap}
 use Rattle.capture_walk.specs.declared.note.Seen.{Seen}
 use Rattle.capture_walk.specs.declared.renames.Renaming.{Renaming}
 use Rattle.capture_walk.specs.declared.renames.Renames.{Renames}
@@ -24,9 +24,11 @@ abbrev pub answers_rename : Seen → Option ℕ → List Seen → Bool
 answers_rename seen None past = false
 answers_rename seen (Some id) past = was_rename seen.connection id past
 
--- Names may lead to other files after a request that changes names, and after the response to one.
+-- Names may lead to other files after a request that changes names, after the response to one, and where something is missing,
+-- which may have been one.
 abbrev pub is_change : Seen → List Seen → Bool
-is_change seen past = is_some (rename_asked seen.note) || answers_rename seen (answered seen.note) past
+is_change seen past =
+    is_some (rename_asked seen.note) || (answers_rename seen (answered seen.note) past || is_gap seen.note)
 
 -- ---- the table
 

@@ -221,6 +221,12 @@ impl<'a> Note<'a> {
         )
     }
 
+    pub(crate) fn is_gap(self) -> bool
+        ensures { result ≡ notes.is_gap self.entry }
+    {
+        matches!(self, Note::Gap)
+    }
+
     pub(crate) fn rename_asked(self) -> Option<u64>
         ensures { result ≡ notes.rename_asked self.entry }
     {

@@ -56,7 +56,7 @@ impl Renames {
     pub(crate) fn is_change(&self, seen: &Seen<'_>) -> bool
         ensures { (past : List Seen) → KnowsRenames past self.now → result ≡ is_change seen.now past }
     {
-        seen.note.rename_asked().is_some() || self.answers(seen)
+        seen.note.rename_asked().is_some() || (self.answers(seen) || seen.note.is_gap())
     }
 
     /// Takes note of the next message.

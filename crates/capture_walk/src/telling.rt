@@ -6,7 +6,7 @@ ghost use Rattle.capture_walk.specs.Events.{is_elsewhere, disputed, last_break, 
 ghost use Rattle.capture_walk.specs.Events.{last_said, without_epoch, is_newer, is_same_level, is_in_order, shows_order};
 ghost use Rattle.capture_walk.specs.Events.{has_order, follows_on, misnumbered, ordered, new_epoch, grant_of, break_of};
 ghost use Rattle.capture_walk.specs.Events.{dispute, is_stray_of, strayed, stray};
-ghost use Rattle.capture_walk.specs.Events.{granted_lease, granted_of, lost_under, broken_of, broken, lost_of};
+ghost use Rattle.capture_walk.specs.Events.{granted_lease, granted_of, lost_under, broken_of, broken, lost_of, lost_at, missing};
 ghost use Rattle.capture_walk.specs.Events.{acknowledged, accepted, told_by, is_under, is_of, all_taken};
 ghost use Rattle.capture_walk.specs.declared.event.Event.TheVariants as event;
 
@@ -538,16 +538,56 @@ fn push_accepted(
     Ok(())
 }
 
-// A gap in a connection.
-fn push_lost(events: &mut Vec<Event>, client: Option<u64>, since: u64) -> Result<(), Memory>
-    ensures { OnOk result (events.new.items ≡ events.old.items ++ lost_of client since) }
+fn missing(client: u64, since: u64) -> Event
+    ensures { result ≡ missing client since }
 {
-    if let Some(client) = client {
-        events.push(Event::Lost(Loss {
-            client,
-            since,
-            reason: NotJudged::Missing,
-        }))?;
+    Event::Lost(Loss {
+        client,
+        since,
+        reason: NotJudged::Missing,
+    })
+}
+
+fn push_lost_at(events: &mut Vec<Event>, server: u64, since: u64, one: &Open) -> Result<(), Memory>
+    ensures { OnOk result (events.new.items ≡ events.old.items ++ lost_at server since one.now one.now.lease) }
+{
+    if let Some(lease) = one.lease {
+        if one.server == server {
+            events.push(missing(lease.client, since))?;
+        }
+    }
+    Ok(())
+}
+
+// A gap in a connection of which it isn't known whose it is.
+fn push_lost_around(
+    events: &mut Vec<Event>,
+    server: u64,
+    since: u64,
+    opens: &[Open],
+) -> Result<(), Memory>
+    ensures { OnOk result (events.new.items
+        ≡ events.old.items ++ flat_map (λ one. lost_at server since one one.lease) opens.now) }
+{
+    for one in opens {
+        push_lost_at(events, server, since, one)?;
+    }
+    Ok(())
+}
+
+// A gap in a connection.
+fn push_lost(
+    events: &mut Vec<Event>,
+    seen: &Seen<'_>,
+    client: Option<u64>,
+    since: u64,
+    opens: &[Open],
+) -> Result<(), Memory>
+    ensures { OnOk result (events.new.items ≡ events.old.items ++ lost_of seen.now client since opens.now) }
+{
+    match client {
+        Some(client) => events.push(missing(client, since))?,
+        None => push_lost_around(events, seen.server, since, opens)?,
     }
     Ok(())
 }
@@ -587,7 +627,7 @@ pub(crate) fn push_told(
         }
         Note::Accepted(key) => push_accepted(events, seen, lease_under(opens, client, key)),
         Note::Break(one) => push_broken(events, seen, one, client, opens),
-        Note::Gap => push_lost(events, client, since),
+        Note::Gap => push_lost(events, seen, client, since, opens),
         Note::Taken => push_all_taken(events, seen),
         _ => Ok(()),
     }

@@ -381,11 +381,11 @@ fn a_frame_is_refused_that_has_other_addresses_than_its_connection(
 fn findings_are_lines_of_words(rt: HostRuntime) -> Result<(), Fail> {
     let alloc = rt.alloc();
     let mut capture = Capture::new(alloc, Side::Server);
+    send(&mut capture, alloc, (10, 3, 0), b"\xfdSMB")?;
     ask(&mut capture, alloc, 11, 1)?;
     send(&mut capture, alloc, (16, 1, 0), &read(alloc, 1)?)?;
     ask(&mut capture, alloc, 21, 2)?;
     send(&mut capture, alloc, (26, 2, 0), &read(alloc, 2)?)?;
-    send(&mut capture, alloc, (27, 3, 0), b"\xfdSMB")?;
     let report = capture.report(alloc)?;
     for finding in &report.files {
         let text = format!(in alloc; "{finding}")?;

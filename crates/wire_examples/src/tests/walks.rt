@@ -478,6 +478,50 @@ fn a_gap_cuts_chains_off(rt: HostRuntime) -> Result<(), Fail> {
     Ok(())
 }
 
+// The gap may hide a request that changes names, so that the name leads to another file after it.
+#[test]
+fn a_gap_may_hide_a_rename(rt: HostRuntime) -> Result<(), Fail> {
+    let alloc = rt.alloc();
+    let mut walk = Walk::new(alloc);
+    ask(&mut walk, 1, 1, b"f\0")?;
+    grant(&mut walk, 5, 1, Level::Writes)?;
+    join(&mut walk, 6, 3, 3)?;
+    walk.take(&seen(7, 3, Note::Gap))?;
+    ask(&mut walk, 8, 2, b"f\0")?;
+    grant(&mut walk, 12, 2, Level::Something)?;
+    assert_eq!(&rt;
+        files_in(alloc, walk.events())?.as_slice(),
+        [5, 12].as_slice()
+    );
+    Ok(())
+}
+
+// A connection that began before the capture is anybody's at its server: what is missing on it may have given the lease up.
+#[test]
+fn a_gap_of_a_stranger_may_be_of_any_lease(rt: HostRuntime) -> Result<(), Fail> {
+    let alloc = rt.alloc();
+    let mut walk = Walk::new(alloc);
+    ask(&mut walk, 1, 1, b"f\0")?;
+    grant(&mut walk, 5, 1, Level::Writes)?;
+    let mut elsewhere = seen(6, 9, Note::Gap);
+    elsewhere.server = 2;
+    walk.take(&elsewhere)?;
+    assert!(&rt;
+        !walk
+            .events()
+            .iter()
+            .any(|event| matches!(event, Event::Lost(_)))
+    );
+    walk.take(&seen(7, 9, Note::Gap))?;
+    let loss = Loss {
+        client: 1,
+        since: 0,
+        reason: NotJudged::Missing,
+    };
+    assert_eq!(&rt; walk.events().last(), Some(&Event::Lost(loss)));
+    Ok(())
+}
+
 // What has no place in the order may have come first, so that no change of the client is sure.
 #[test]
 fn a_dispute_leaves_no_chain(rt: HostRuntime) -> Result<(), Fail> {
