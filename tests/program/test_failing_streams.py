@@ -31,6 +31,7 @@ SHORT: dict[str, tuple[list[str], tuple[bytes, ...]]] = {
        for name in ("every_fact_safe", "two_caches_one_writes", "taken_without_a_message")},
     "draw break_answered": on_file("draw", TESTS / "schedules" / "break_answered"),
     "replay --explain raw_requests": on_file("replay --explain", TESTS / "schedules" / "raw_requests"),
+    "capture two_caches": on_file("capture", TESTS / "captures" / "two_caches"),
 }
 # Machines, and lines that they answer, one of them with a reason on standard error.
 MACHINES = {

@@ -74,6 +74,8 @@ FAULTS = [
     (["replay", "-"], "raw 1 ask\n", "fault line 1",
      'line 1, field 3: a request, which is create, read, close, write or ack; it is "ask"'),
     (["replay", "-"], "cut 1\n\nfile 61\n", "fault line 3", "line 3: files and clients stand before the first event"),
+    (["capture", "-"], "end 1 0.5 1\nend 1\n", "fault line 2",
+     "line 2: a frame with the addresses that its connection has, a gap or an end stands here"),
 ]
 
 

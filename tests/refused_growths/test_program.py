@@ -71,7 +71,7 @@ def test_command_line(tmp_path: Path, words: list[str], status: int, early: list
     Refusing(tmp_path, [built_program(), *words]).check(status, fits)
 
 
-@pytest.mark.parametrize("task", ["replay", "judge", "draw"])
+@pytest.mark.parametrize("task", ["replay", "judge", "draw", "capture"])
 def test_missing_file(tmp_path: Path, task: str) -> None:
     check_reading(tmp_path, [task], MISSING, 1)
 
@@ -92,6 +92,16 @@ def test_judge(tmp_path: Path, task: list[str], record: Path) -> None:
 def test_draw(tmp_path: Path, path: Path) -> None:
     """A picture is drawn of any record that is read."""
     check_reading(tmp_path, ["draw"], path, int(path.name == "line_that_is_none"))
+
+
+@pytest.mark.parametrize("side", ["client", "server"])
+def test_capture(tmp_path: Path, side: str) -> None:
+    check_reading(tmp_path, ["capture", "--at", side], TESTS / "captures" / "two_caches", 3)
+
+
+def test_line_of_a_capture_that_is_none(tmp_path: Path) -> None:
+    (tmp_path / "capture").write_text("end 1 0.5 1\nend 1\n", encoding="ascii")
+    check_reading(tmp_path, ["capture"], tmp_path / "capture", 1)
 
 
 @pytest.mark.parametrize("task", [["replay"], ["replay", "--messages"]], ids=" ".join)

@@ -20,6 +20,11 @@ line_or_place number (Some complaint) = complaint_line number complaint
 abbrev pub part_remark : ℕ → List ℕ → List ℕ
 part_remark number line = line_or_place number (complaint part_table line)
 
+-- of a line of a capture
+abbrev pub capture_remark : ℕ → List ℕ
+capture_remark number = codes "line " ++ decimal number
+    ++ (codes ": a frame with the addresses that its connection has, a gap or an end stands here" ++ 10 ∷ [])
+
 -- the line of a number, from 1
 abbrev pub line_among : List (List ℕ) → ℕ → List ℕ
 line_among lines number = slice_index_or lines (number - 1) []

@@ -10,7 +10,7 @@ use Rattle.lease_world.specs.declared.setup.RunFault.TheVariants as run
 use Rattle.leasecheck.specs.Arguments.{argument_bytes}
 use Rattle.leasecheck.specs.Drawing.{is_schedule, facts_line, count_of}
 use Rattle.leasecheck.specs.HexRemarks.{hex_remark}
-use Rattle.leasecheck.specs.LineRemarks.{fact_remark, part_remark, line_among, line_at}
+use Rattle.leasecheck.specs.LineRemarks.{capture_remark, fact_remark, part_remark, line_among, line_at}
 use Rattle.leasecheck.specs.Paths.{file_named}
 use Rattle.leasecheck.specs.SetupRemarks.{setup_remark, events_remark}
 use Rattle.leasecheck.specs.WireRemarks.{bare_remark, shown_remark}
@@ -105,6 +105,10 @@ abbrev pub IsDrawRemark : List ℕ → Failure → List ℕ → Type 0
 IsDrawRemark text failure line = DrawRemark (is_schedule (record_in text) (schedule_in text)) text failure line
     ⊎ ((failure ≡ Picture) × (line ≡ facts_line (count_of (record_in text) (schedule_in text))))
 
+-- what is said of a capture: of its line that is refused
+abbrev pub IsCaptureRemark : Failure → List ℕ → Type 0
+IsCaptureRemark failure line = (number : ℕ) × (failure ≡ Line number) × (line ≡ capture_remark number)
+
 -- The line is what is said after this failure of a task whose file has these bytes.
 abbrev pub IsRemark : Task → List ℕ → Failure → List ℕ → Type 0
 IsRemark (task.Ack argument) file failure line = IsGivenRemark (bare_remark kind.Break) (string_bytes argument) file failure line
@@ -113,7 +117,7 @@ IsRemark (task.Replay path telling rules) file failure line = schedule_remark fi
 IsRemark (task.Judge path) file failure line = record_remark file failure ≡ Some line
 IsRemark (task.Explain path) file failure line = record_remark file failure ≡ Some line
 IsRemark (task.Draw path) file failure line = IsDrawRemark file failure line
-IsRemark (task.Capture path side) file failure line = ⊥
+IsRemark (task.Capture path side) file failure line = IsCaptureRemark failure line
 IsRemark task.Version file failure line = ⊥
 
 -- A refusal has no second line, or this one.

@@ -4,6 +4,7 @@ ghost use Rattle.capture_texts.specs.Captures.{IsReadFrom, capture_in};
 ghost use Rattle.capture_texts.specs.Verdicts.{IsVerdictOnCapture};
 ghost use Rattle.leasecheck.specs.Capturing.{capture_line, capture_status};
 ghost use Rattle.leasecheck.specs.Refusals.{line_refusal};
+ghost use Rattle.leasecheck.specs.Remarks.{IsCaptureRemark, Says};
 
 use crate::failure::Failure;
 use crate::refusal::Refusal;
@@ -13,15 +14,16 @@ use std::alloc::{AllocError, Global};
 use std::fmt::Write as _;
 
 // The capture that a text is.
-fn capture_of(alloc: Global, side: Side, text: &[u8]) -> Result<Capture, Failure>
+fn capture_of(alloc: Global, side: Side, text: &[u8]) -> Result<Capture, Refusal>
     ensures read { IfOk result (λ capture. IsReadFrom side text.now capture) }
-    ensures refused { IfErr result (λ failure. (failure ≡ Failure.Memory)
-        ⊎ (line_refusal (capture_in text.now) ≡ Some failure)) }
+    ensures refused { IfErr result (λ told. (told.failure ≡ Failure.Memory)
+        ⊎ (line_refusal (capture_in text.now) ≡ Some told.failure)) }
+    ensures said { IfErr result (λ told. Says told IsCaptureRemark) }
 {
     match read_capture(alloc, side, text) {
         Ok(capture) => Ok(capture),
-        Err(TextFault::Line(number)) => Err(Failure::Line(number)),
-        Err(TextFault::Memory) => Err(Failure::Memory),
+        Err(TextFault::Line(number)) => Err(Refusal::of_capture(alloc, number)),
+        Err(TextFault::Memory) => Err(Refusal::bare(Failure::Memory)),
     }
 }
 
@@ -72,7 +74,7 @@ fn findings_of(alloc: Global, report: &Report) -> Result<String, AllocError> {
 ///
 /// # Errors
 ///
-/// `Line` with the number of the first line that is refused, and `Memory` where there is none left.
+/// `Line` with the number of the first line that is refused, and what is said of that, and `Memory` where there is none left.
 pub fn capture_text(
     alloc: Global,
     side: Side,
@@ -83,7 +85,7 @@ pub fn capture_text(
     ensures accepted { OnOk result (line_refusal (capture_in text.now) ≡ None) }
     ensures refused { IfErr result (λ told. (told.failure ≡ Failure.Memory)
         ⊎ (line_refusal (capture_in text.now) ≡ Some told.failure)) }
-    ensures silent { IfErr result (λ told. told.second ≡ None) }
+    ensures said { IfErr result (λ told. Says told IsCaptureRemark) }
 {
     let report = capture_of(alloc, side, text)?.report(alloc)?;
     let verdict = report.verdict();

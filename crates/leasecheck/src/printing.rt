@@ -15,7 +15,7 @@ ghost use Rattle.leasecheck.specs.Paths.{file_named};
 ghost use Rattle.leasecheck.specs.Printed.{Prints, TellsCapture, TellsReason, TellsVerdict};
 ghost use Rattle.leasecheck.specs.Refusals.{Begins, Ends, IsRefused, MayEnd, MayEndGiven, MayEndJudging, MayEndReading, MayStop};
 ghost use Rattle.leasecheck.specs.Refusals.{Puts, failure_line, given_refusal, is_replay, line_refusal, shown_fault};
-ghost use Rattle.leasecheck.specs.Remarks.{IsDrawRemark, IsGivenRemark, IsRemark, Says, record_remark, schedule_remark, second_of};
+ghost use Rattle.leasecheck.specs.Remarks.{IsCaptureRemark, IsDrawRemark, IsGivenRemark, IsRemark, Says, record_remark, schedule_remark, second_of};
 ghost use Rattle.leasecheck.specs.Replayed.{Replays, replay_refusal};
 ghost use Rattle.leasecheck.specs.Shown.{Shows};
 ghost use Rattle.leasecheck.specs.WireRemarks.{bare_remark, shown_remark};
@@ -174,7 +174,7 @@ fn drawn(alloc: Global, file: &[u8]) -> Result<Made, Refusal>
 // The verdict on a capture, and what is found in it.
 fn captured(alloc: Global, side: Side, text: &[u8]) -> Result<Made, Refusal>
     ensures answers { Answers (TellsCapture side text.now) (line_refusal (capture_in text.now))
-        (MayEndReading (line_refusal (capture_in text.now))) (λ failure line. ⊥) result }
+        (MayEndReading (line_refusal (capture_in text.now))) IsCaptureRemark result }
     ensures record { IfOk result (λ made. is_record made ≡ false) }
 {
     let (text, verdict) = capture_text(alloc, side, text)?;

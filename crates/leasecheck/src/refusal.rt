@@ -2,8 +2,8 @@ ghost use Rattle.std.specs.Prelude.{◌≡◌, Some, None, MatchResult};
 
 use crate::failure::Failure;
 use crate::remarks::{
-    bare_remark, events_remark, fact_remark, facts_remark, hex_remark, line_at, part_remark,
-    setup_remark, shown_remark, unread_line,
+    bare_remark, capture_remark, events_remark, fact_remark, facts_remark, hex_remark, line_at,
+    part_remark, setup_remark, shown_remark, unread_line,
 };
 use crate::tasks::{Kind, Task};
 use lease_state::Memory;
@@ -49,7 +49,7 @@ impl Refusal {
     ghost use Rattle.leasecheck.specs.FileFaults.{IsUnreadRemark};
     ghost use Rattle.leasecheck.specs.Judging.{SaysLine};
     ghost use Rattle.record_pictures.specs.declared.fault.PictureFault.TheVariants as picture_fault;
-    ghost use Rattle.leasecheck.specs.LineRemarks.{line_at, part_remark};
+    ghost use Rattle.leasecheck.specs.LineRemarks.{capture_remark, line_at, part_remark};
     ghost use Rattle.leasecheck.specs.Paths.{path_of};
     ghost use Rattle.leasecheck.specs.Remarks.{Says, IsArgumentRemark, IsGivenRemark, run_remark};
     ghost use Rattle.leasecheck.specs.WireRemarks.{bare_remark, shown_remark};
@@ -144,6 +144,17 @@ impl Refusal {
         Refusal {
             failure: Failure::Line(number),
             second: some(part_remark(alloc, number, line_at(text, number))),
+        }
+    }
+
+    /// A line of a capture that is refused.
+    pub fn of_capture(alloc: Global, number: u64) -> Refusal
+        ensures failure { result.failure ≡ Failure.Line number }
+        ensures said { IfSome result.second (λ line. string_bytes line ≡ capture_remark number) }
+    {
+        Refusal {
+            failure: Failure::Line(number),
+            second: some(capture_remark(alloc, number)),
         }
     }
 

@@ -10,5 +10,5 @@ mod setup;
 pub(crate) use bytes::{bare_remark, shown_remark};
 pub(crate) use digits::hex_remark;
 pub(crate) use files::unread_line;
-pub(crate) use lines::{fact_remark, line_at, part_remark};
+pub(crate) use lines::{capture_remark, fact_remark, line_at, part_remark};
 pub(crate) use setup::{events_remark, facts_remark, setup_remark};

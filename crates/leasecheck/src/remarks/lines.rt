@@ -47,6 +47,18 @@ fn place_line(alloc: Global, number: u64) -> Result<String, AllocError>
     Ok(text)
 }
 
+/// What is said of a line of a capture that is refused.
+pub(crate) fn capture_remark(alloc: Global, number: u64) -> Result<String, AllocError>
+    ensures { IfOk result (λ text. string_bytes text ≡ remarks.capture_remark number) }
+{
+    let mut text = String::new(alloc);
+    writeln!(
+        text,
+        "line {number}: a frame with the addresses that its connection has, a gap or an end stands here"
+    )?;
+    Ok(text)
+}
+
 /// What is said of a line of a schedule that is refused.
 pub(crate) fn part_remark(alloc: Global, number: u64, line: &[u8]) -> Result<String, AllocError>
     ensures { IfOk result (λ text. string_bytes text ≡ remarks.part_remark number line.now) }
