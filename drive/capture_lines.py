@@ -60,10 +60,10 @@ def lines_of(capture: Capture) -> Iterator[str]:
 
 def _connections(packets: Iterable[Packet]) -> Iterator[tuple[int, _Connection]]:
     framed = [packet for packet in packets if packet.frames]
+    first = {packet.stream: packet for packet in reversed(framed)}
     readable = {packet.stream: packet for packet in reversed(framed) if packet.frames[0][:4] == PROTOCOL}
-    for stream in {packet.stream for packet in framed}:
-        first = readable.get(stream) or next(packet for packet in framed if packet.stream == stream)
-        yield stream, _Connection(*_ends(first))
+    for stream, packet in {**first, **readable}.items():
+        yield stream, _Connection(*_ends(packet))
 
 
 def _ends(packet: Packet) -> tuple[str, str]:
