@@ -40,17 +40,13 @@ frame_at at connection frame past number = record {
   latest = position frame.from (next_line past);
 }
 
--- a gap, or the end of a connection: where the client is, it is seen at once
-abbrev pub mark_earliest : Side → ℕ → List Line → ℕ
-mark_earliest side.Client connection past = position side.Client (next_line past)
-mark_earliest side.Server connection past = far_earliest side.Server connection past
-
+-- A gap, or the end of a connection: whichever side it is of, it came after the last frame that the other side sent.
 abbrev pub mark_at : Side → ℕ → List Line → ℕ → Frame
 mark_at at connection past number = record {
   number = number;
   connection = connection;
   server = server_number (server_in (ends_of connection past)) (servers past);
-  earliest = mark_earliest at connection past;
+  earliest = far_earliest at connection past;
   latest = position side.Client (next_line past);
 }
 

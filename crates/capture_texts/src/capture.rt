@@ -1,6 +1,6 @@
 ghost use Rattle.std.specs.Prelude.{◌≡◌, ◌+◌, ◌∷◌, ◌<◌, ◌^◌, [], List, Some, None, Err, OnOk, IfOk, length};
 ghost use Rattle.capture_texts.specs.Captures.{Knows, HasSeen, IsBehind, HasTaken, HasMarked, ShowsLine, with_text};
-ghost use Rattle.capture_texts.specs.Captures.{frame_at, mark_at, mark_earliest};
+ghost use Rattle.capture_texts.specs.Captures.{frame_at, mark_at};
 ghost use Rattle.capture_texts.specs.Connections.{differs};
 ghost use Rattle.capture_texts.specs.Lines.{line_at};
 ghost use Rattle.capture_texts.specs.declared.line.Line.{Line};
@@ -85,19 +85,6 @@ impl Capture {
         }
     }
 
-    // The first position at which a gap or an end can have come.
-    fn mark_earliest(&self, line: u64, connection: u64) -> u64
-        requires next { line ≡ length self.now.kept.items + 1 }
-        requires fits { line < 2 ^ 63 }
-        ensures { (past : List Line) (seen : List Seen) → HasSeen past seen self.now
-            → result ≡ mark_earliest self.now.at connection past }
-    {
-        match self.at {
-            Side::Client => Side::Client.position(line),
-            Side::Server => self.connections.far(connection),
-        }
-    }
-
     // Where a gap or an end is.
     fn mark(&self, line: u64, connection: u64) -> Frame
         requires next { line ≡ length self.now.kept.items + 1 }
@@ -109,7 +96,7 @@ impl Capture {
             number: self.walking.number,
             connection,
             server: self.servers.number(self.connections.server(connection)),
-            earliest: self.mark_earliest(line, connection),
+            earliest: self.connections.far(connection),
             latest: Side::Client.position(line),
         }
     }

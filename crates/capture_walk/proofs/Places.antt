@@ -1,8 +1,8 @@
 -- Places that are the same by their bytes.
-use Rattle.std.proofs.Common.{◌≡◌, ℕ, ◌==◌, ◌&&◌, Bool, true, false, if◌then◌else◌, List, [], ◌∷◌, None, refl, ap, arith, filter}
+use Rattle.std.proofs.Common.{◌≡◌, ℕ, ◌==◌, ◌&&◌, Bool, true, false, List, refl, ap, arith}
 use Rattle.std.proofs.lemmas.Slice.Eq.{bytes_eq-Decides}
 use Rattle.std.specs.Str.{bytes_eq}
-use Rattle.capture_walk.specs.Files.{Place, is_same_place, file_in, is_elsewhere}
+use Rattle.capture_walk.specs.Files.{Place, is_same_place, file_in}
 use Rattle.capture_walk.specs.declared.files.Named.{Named}
 
 and_left : (a b : Bool) → (a && b) ≡ true → a ≡ true
@@ -37,11 +37,3 @@ same_place one other is =
 pub found_same : (one other : Place) (table : List Named) → is_same_place one other ≡ true
     → file_in one table ≡ file_in other table
 found_same one other table is = ap (λ place. file_in place table) (same_place one other is)
-
--- of a server whose files were forgotten nothing is found
-pub file_in_elsewhere : (place : Place) (server : ℕ) (table : List Named)
-    → file_in place (filter (is_elsewhere server) table)
-    ≡ (if server == place.server then None else file_in place table)
-file_in_elsewhere place server [] = grind arith
-file_in_elsewhere place server (one ∷ table) =
-    let e = file_in_elsewhere place server table in grind (arith, and_left)

@@ -1,5 +1,5 @@
 -- What events show of leases: chains of changes, by the events that come after each one. Events are in the order of the capture.
-use Rattle.std.specs.Prelude.{ℕ, ◌==◌, nat_lt, nat_le, Bool, true, false, not, ◌&&◌, ◌||◌, if◌then◌else◌, List, [], ◌∷◌, ◌++◌}
+use Rattle.std.specs.Prelude.{ℕ, ◌==◌, nat_lt, nat_le, Bool, true, false, not, ◌&&◌, if◌then◌else◌, List, [], ◌∷◌, ◌++◌}
 use Rattle.std.specs.Prelude.{Option, Some, None, bytes_eq, filter}
 use Rattle.std.specs.List.{list_any, flat_map}
 use Rattle.capture_judge.specs.declared.values.Level.{Level}
@@ -34,10 +34,12 @@ acknowledgment lease (event.Acknowledged given ∷ later) =
 acknowledgment lease (event.Broken broken ∷ later) = if is_same broken.lease lease then None else acknowledgment lease later
 acknowledgment lease (_ ∷ later) = acknowledgment lease later
 
--- whether the server accepted it, before another break of the lease; `given` says whether the acknowledgment has come
+-- Whether the server accepted it, before another break of the lease; `given` says whether the acknowledgment has come. Of two of
+-- them it isn't known which one was accepted.
 abbrev pub is_accepted : Lease → Bool → List Event → Bool
 is_accepted lease given [] = false
-is_accepted lease given (event.Acknowledged one ∷ later) = is_accepted lease (given || is_same one.lease lease) later
+is_accepted lease given (event.Acknowledged one ∷ later) =
+    if is_same one.lease lease then (if given then false else is_accepted lease true later) else is_accepted lease given later
 is_accepted lease given (event.Accepted one ∷ later) =
     if given && is_same one.lease lease then true else is_accepted lease given later
 is_accepted lease given (event.Broken broken ∷ later) =

@@ -1,6 +1,6 @@
 -- CREATE requests that aren't answered for good. Messages that are called past have the newest one first, and so has the table.
 use Rattle.std.specs.Prelude.{◌≡◌, ℕ, ◌==◌, ◌&&◌, Bool, not, if◌then◌else◌, List, [], ◌∷◌, Option, Some, None}
-use Rattle.capture_walk.specs.Notes.{create_asked, answered}
+use Rattle.capture_walk.specs.Notes.{create_asked, answered, leaves}
 use Rattle.capture_walk.specs.declared.note.CreateAsked.{CreateAsked}
 use Rattle.capture_walk.specs.declared.note.Seen.{Seen}
 use Rattle.capture_walk.specs.declared.creates.Create.{Create}
@@ -30,12 +30,18 @@ abbrev pub answered_after : ℕ → ℕ → ℕ → Option ℕ → Option Create
 answered_after connection id other (Some answer) before = if other == connection && answer == id then None else before
 answered_after connection id other None before = before
 
--- the last CREATE request with a MessageId on a connection, unless it was answered for good since
+-- What leaves the connection, or a session or a tree connect of it, may have come before the answer, of which it isn't known then
+-- whether an open comes of it.
+abbrev pub left_after : ℕ → Seen → Option Create → Option Create
+left_after connection seen before = if seen.connection == connection && leaves seen.note then None else before
+
+-- the last CREATE request with a MessageId on a connection, unless it was answered for good since, or what it asks for may be gone
 abbrev pub pending : ℕ → ℕ → List Seen → Option Create
 pending connection id [] = None
 pending connection id (seen ∷ past) =
     asked_after connection id seen (create_asked seen.note)
-    (answered_after connection id seen.connection (answered seen.note) (pending connection id past))
+    (left_after connection seen
+    (answered_after connection id seen.connection (answered seen.note) (pending connection id past)))
 
 -- ---- the table
 
@@ -45,6 +51,9 @@ is_named connection id one = one.connection == connection && one.id == id
 abbrev pub create_in : ℕ → ℕ → List Create → Option Create
 create_in connection id [] = None
 create_in connection id (one ∷ table) = if is_named connection id one then Some one else create_in connection id table
+
+abbrev pub is_of_another : ℕ → Create → Bool
+is_of_another connection one = not (one.connection == connection)
 
 abbrev pub is_kept : ℕ → ℕ → Create → Bool
 is_kept connection id one = not (is_named connection id one)

@@ -1,6 +1,6 @@
 -- Files: each of a server, a share's path, a name and one life. Messages that are called past have the newest one first, and so
 -- has the table.
-use Rattle.std.specs.Prelude.{◌≡◌, ℕ, ◌==◌, ◌&&◌, Bool, true, false, not, if◌then◌else◌, List, [], ◌∷◌, ◌++◌, Option, Some, None}
+use Rattle.std.specs.Prelude.{◌≡◌, ℕ, ◌==◌, ◌&&◌, Bool, true, false, if◌then◌else◌, List, [], ◌∷◌, ◌++◌, Option, Some, None}
 use Rattle.std.specs.Prelude.{unwrap_or, bytes_eq}
 use Rattle.capture_walk.specs.Notes.{create_given}
 use Rattle.capture_walk.specs.Renames.{is_change}
@@ -57,11 +57,12 @@ file_by place None is_new number before = before
 file_by place (Some other) is_new number before =
     if is_same_place other place then Some (file_opened is_new number before) else before
 
--- the file at a place after one more message, by the CREATE response that it may be
+-- the file at a place after one more message, by the CREATE response that it may be; a server may have several addresses, so that
+-- names change at each of them
 abbrev pub file_after : Place → Seen → List Seen → Option CreateGiven → Option ℕ → Option ℕ
 file_after place seen past (Some given) before =
     file_by place (place_given seen given past) given.is_new seen.number before
-file_after place seen past None before = if is_change seen past && seen.server == place.server then None else before
+file_after place seen past None before = if is_change seen past then None else before
 
 -- the file at a place, by the number of the message with which its life began
 abbrev pub file_of : Place → List Seen → Option ℕ
@@ -100,9 +101,6 @@ place_view place = record { server = place.server; path = place.path.now; name =
 abbrev pub file_in : Place → List Named → Option ℕ
 file_in place [] = None
 file_in place (one ∷ table) = if is_same_place (place_of_named one) place then Some one.file else file_in place table
-
-abbrev pub is_elsewhere : ℕ → Named → Bool
-is_elsewhere server one = not (one.server == server)
 
 pub record KnowsFiles (past : List Seen) (files : Files) : Type 0 where
   pub files_at : (place : Place) → file_in place files.named.items ≡ file_of place past

@@ -38,6 +38,13 @@ abbrev pub rename_asked : Note → Option ℕ
 rename_asked (note.RenameAsked id) = Some id
 rename_asked _ = None
 
+-- what ends opens of a connection, a session or a tree connect
+abbrev pub leaves : Note → Bool
+leaves note.End = true
+leaves (note.Leave session) = true
+leaves (note.LeaveTree name) = true
+leaves _ = false
+
 abbrev pub is_gap : Note → Bool
 is_gap note.Gap = true
 is_gap _ = false

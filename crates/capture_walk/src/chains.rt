@@ -74,7 +74,12 @@ fn is_accepted(lease: Lease, later: &[Event], since: Option<u64>) -> bool
     for event in later {
         match event {
             _ if !is_known(since, event) => {}
-            Event::Acknowledged(given) => is_given = is_given || given.lease.is(lease),
+            Event::Acknowledged(given) if given.lease.is(lease) => {
+                if is_given {
+                    return false;
+                }
+                is_given = true;
+            }
             Event::Accepted(accepted) => {
                 if is_given && accepted.lease.is(lease) {
                     return true;

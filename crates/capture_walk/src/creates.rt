@@ -1,6 +1,6 @@
 ghost use Rattle.std.specs.Prelude.{◌≡◌, ◌∷◌, [], ℕ, List, filter, OnOk};
 ghost use Rattle.std.specs.Option.{option_map};
-ghost use Rattle.capture_walk.specs.Creates.{create_in, is_kept, pending, answered_after, KnowsCreates};
+ghost use Rattle.capture_walk.specs.Creates.{create_in, is_kept, is_of_another, left_after, pending, answered_after, KnowsCreates};
 ghost use Rattle.capture_walk.specs.Notes.{answered};
 ghost use Rattle.capture_walk.specs.declared.note.Seen.{Seen};
 
@@ -69,11 +69,29 @@ impl Creates {
         }
     }
 
+    // Those of a connection aren't waited for any more.
+    fn forget(&mut self, connection: u64)
+        ensures { self.new.pending.items ≡ filter (is_of_another connection) self.old.pending.items }
+    {
+        self.pending.retain(|one| one.connection != connection);
+    }
+
+    #[tactic(auto, using(crate::proofs::Removal::create_in_left))]
+    fn note_leaving(&mut self, seen: &Seen<'_>)
+        ensures { (connection id : ℕ) → create_in connection id self.new.pending.items
+            ≡ left_after connection seen.now (create_in connection id self.old.pending.items) }
+    {
+        if seen.note.leaves() {
+            self.forget(seen.connection);
+        }
+    }
+
     /// Takes note of the next message.
     pub(crate) fn note(&mut self, seen: &Seen<'_>) -> Result<(), Memory>
         ensures { OnOk result ((past : List Seen) → KnowsCreates past self.old → KnowsCreates (seen.now ∷ past) self.new) }
     {
         self.note_answer(seen);
+        self.note_leaving(seen);
         let Some(asked) = seen.note.create_asked() else {
             return Ok(());
         };

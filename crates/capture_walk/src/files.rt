@@ -1,6 +1,6 @@
 ghost use Rattle.std.specs.Prelude.{◌++◌, ◌≡◌, ◌∷◌, [], if◌then◌else◌, Some, None, List, ◌∷◌, filter, OnOk, IfOk, unwrap_or};
 ghost use Rattle.capture_walk.specs.Files.{file_in, life_at, place_of_life, named_at, file_by, file_opened};
-ghost use Rattle.capture_walk.specs.Files.{is_elsewhere, is_same_place, place_view, KnowsFiles};
+ghost use Rattle.capture_walk.specs.Files.{is_same_place, place_view, KnowsFiles};
 ghost use Rattle.capture_walk.specs.Files as places;
 ghost use Rattle.std.specs.Option.{option_map};
 ghost use Rattle.capture_walk.specs.Renames as renames;
@@ -121,22 +121,13 @@ impl Files {
     }
 
     /// Takes note of a message that is no CREATE response, and after which names may lead to other files or not.
-    #[tactic(auto, using(crate::proofs::Places::file_in_elsewhere))]
     pub(crate) fn note_change(&mut self, seen: &Seen<'_>, is_change: bool)
         ensures { (past : List Seen) → KnowsFiles past self.old → create_given seen.now.note ≡ None
             → is_change ≡ renames.is_change seen.now past → KnowsFiles (seen.now ∷ past) self.new }
     {
         if is_change {
-            self.forget(seen.server);
+            self.named.clear();
         }
-    }
-
-    // What was at places of the server isn't known any more.
-    fn forget(&mut self, server: u64)
-        ensures named { self.new.named.items ≡ filter (is_elsewhere server) self.old.named.items }
-        ensures begun { self.new.begun ≡ self.old.begun }
-    {
-        self.named.retain(|one| one.server != server);
     }
 
     /// Where a file is that began, by its number.

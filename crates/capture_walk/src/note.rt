@@ -221,6 +221,13 @@ impl<'a> Note<'a> {
         )
     }
 
+    // Whether it ends opens of a connection, a session or a tree connect.
+    pub(crate) fn leaves(self) -> bool
+        ensures { result ≡ notes.leaves self.entry }
+    {
+        matches!(self, Note::End | Note::Leave(_) | Note::LeaveTree(_))
+    }
+
     pub(crate) fn is_gap(self) -> bool
         ensures { result ≡ notes.is_gap self.entry }
     {

@@ -50,8 +50,10 @@ impl Open {
     {
         match seen.note {
             Note::Close(name) => self.is_named(seen.server, name.session, name.file_id),
-            Note::CreateGiven(given) => self.is_named(seen.server, given.session, given.file_id),
-            Note::Leave(session) => self.server == seen.server && self.session == session,
+            Note::CreateGiven(given) => {
+                self.server == seen.server && self.file_id.persistent == given.file_id.persistent
+            }
+            Note::Leave(session) => self.session == session,
             Note::LeaveTree(name) => {
                 self.server == seen.server && self.session == name.session && self.tree == name.tree
             }

@@ -84,7 +84,7 @@ fn create(alloc: Global) -> Result<Vec<u8>, Fail> {
 }
 
 fn file_id(connection: u8) -> [u8; 16] {
-    [5, 0, 0, 0, 0, 0, 0, 0, connection, 0, 0, 0, 0, 0, 0, 0]
+    [connection, 0, 0, 0, 0, 0, 0, 0, 5, 0, 0, 0, 0, 0, 0, 0]
 }
 
 // A grant of RW.

@@ -23,8 +23,8 @@ fn open_name(connection: u8) -> OpenName {
     OpenName {
         session: u64::from(connection),
         file_id: Smb2FileId {
-            persistent: 5,
-            volatile: u64::from(connection),
+            persistent: u64::from(connection),
+            volatile: 5,
         },
     }
 }
