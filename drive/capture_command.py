@@ -3,6 +3,7 @@ from __future__ import annotations
 
 import argparse
 import os
+import re
 import sys
 from collections.abc import Sequence
 
@@ -12,7 +13,7 @@ from drive.capture_lines import lines_of
 from drive.capture_record import CaptureRecord, record_of, remark
 from drive.commands import NOTHING_JUDGED, NOT_DRIVEN, SAFE, UNSAFE, ended, write
 from drive.faults import DriveFault, Usage
-from drive.packets import read_capture
+from drive.packets import SessionKey, read_capture
 
 EPILOG = """The record is printed, and after it the verdict as a line `# safe`, `# unsafe PLACE RULE` or `# nothing judged`, a
 line that says how many connections were judged and why others weren't, and of an unsafe one the packets that show it, so that
@@ -21,6 +22,13 @@ each fact of a record a remark names the packet that shows it.
 
 Exit status: 0 some order that fits the capture is safe; 1 the capture can't be read, or there is no SMB2 in it; 2 the
 command line is refused; 3 it is unsafe: rule 1 is broken in every order that fits the capture; 4 nothing was judged."""
+
+
+def session_key(text: str) -> SessionKey:
+    found = re.fullmatch("([0-9A-Fa-f]{16}):([0-9A-Fa-f]{32})", text)
+    if not found:
+        raise argparse.ArgumentTypeError(f"{text!r} isn't ID:KEY, of 16 and 32 hexadecimal digits")
+    return SessionKey(*found.groups())
 
 
 def parser() -> argparse.ArgumentParser:
@@ -33,6 +41,9 @@ def parser() -> argparse.ArgumentParser:
                       help="where it was made; at a server, which is presumed, it only bounds when clients took messages")
     made.add_argument("--port", metavar="PORT", type=int, action="append", default=[],
                       help="a port on which SMB2 isn't found without that; may be given more than once")
+    made.add_argument("--session-key", metavar="ID:KEY", type=session_key, action="append", default=[],
+                      help="decrypt this session: its SessionId, in the order of its bytes in a message, and its session key, in "
+                           "16 and 32 hexadecimal digits; may be given more than once")
     made.add_argument("--leasecheck", metavar="PATH", default=find_program(), help="the program leasecheck")
     return made
 
@@ -65,7 +76,7 @@ def _judge(arguments: argparse.Namespace) -> int:
         raise Usage("--port is a number from 1 to 65535")
     if not os.path.isfile(arguments.capture):
         raise DriveFault(f"{arguments.capture}: no such file")
-    capture = read_capture(arguments.capture, arguments.port)
+    capture = read_capture(arguments.capture, arguments.port, arguments.session_key)
     if arguments.lines:
         sys.stdout.writelines(f"{line}\n" for line in lines_of(capture))
         return NOT_DRIVEN if capture.fault else SAFE

@@ -7,7 +7,8 @@ import subprocess
 import tempfile
 from collections.abc import Iterator, Sequence
 from dataclasses import dataclass
-from typing import IO
+from itertools import repeat
+from typing import IO, Any
 
 from drive.faults import DriveFault
 
@@ -22,6 +23,25 @@ PROTOCOL = bytes.fromhex("fe534d42")
 ENCRYPTED = bytes.fromhex("fd534d42")
 COMPRESSED = bytes.fromhex("fc534d42")
 FIN, RESET = 1, 4
+# what tshark calls that part of a message which it decrypted
+DECRYPTED = "Encrypted SMB3 data"
+
+
+@dataclass(frozen=True)
+class SessionKey:
+    """What tshark decrypts a session by: its SessionId, in the order of its bytes in a message, and its key, in digits."""
+
+    session: str
+    key: str
+
+
+@dataclass(frozen=True)
+class _Source:
+    """What tshark is to read, and how."""
+
+    path: str
+    ports: Sequence[int]
+    keys: Sequence[SessionKey]
 
 
 @dataclass(frozen=True)
@@ -58,13 +78,14 @@ class Capture:
     fault: str | None
 
 
-def read_capture(path: str, ports: Sequence[int]) -> Capture:
+def read_capture(path: str, ports: Sequence[int], keys: Sequence[SessionKey] = ()) -> Capture:
     """The packets of a file, up to where it can be read. tshark goes through it twice at a time: its raw messages have no
     numbers, and its fields no messages."""
+    source = _Source(path, ports, keys)
     with tempfile.TemporaryFile("w+", encoding="utf-8", errors="replace") as rows, \
             tempfile.TemporaryFile("w+", encoding="utf-8", errors="replace") as faults:
-        with _started(_fields(path, ports), rows, faults) as process:
-            frames = list(_frames(path, ports))
+        with _started(_fields(source), rows, faults) as process:
+            frames = list(_frames(source))
         rows.seek(0)
         faults.seek(0)
         fault = _fault(process.returncode, faults.read())
@@ -75,15 +96,16 @@ def read_capture(path: str, ports: Sequence[int]) -> Capture:
     return Capture(packets, fault)
 
 
-def _words(path: str, ports: Sequence[int]) -> list[str]:
-    decoded = [word for port in ports for word in ("-d", f"tcp.port=={port},smb2_tcp")]
-    options = ["-X", f"lua_script:{ANY_PORT}", "-o", "tcp.reassemble_out_of_order:TRUE"]
-    return ["tshark", "-n", "-r", path, *options, *decoded, "-Y", FILTER]
+def _words(source: _Source) -> list[str]:
+    decoded = [word for port in source.ports for word in ("-d", f"tcp.port=={port},smb2_tcp")]
+    keys = [word for it in source.keys for word in ("-o", f'uat:smb2_seskey_list:{it.session},{it.key},"",""')]
+    options = ["-X", f"lua_script:{ANY_PORT}", "-o", "tcp.reassemble_out_of_order:TRUE", *keys]
+    return ["tshark", "-n", "-r", source.path, *options, *decoded, "-Y", FILTER]
 
 
-def _fields(path: str, ports: Sequence[int]) -> list[str]:
+def _fields(source: _Source) -> list[str]:
     fields = [word for field in FIELDS for word in ("-e", field)]
-    return [*_words(path, ports), "-T", "fields", "-E", "occurrence=f", *fields]
+    return [*_words(source), "-T", "fields", "-E", "occurrence=f", *fields]
 
 
 def _started(words: list[str], answer: IO[str] | int, faults: IO[str] | int) -> subprocess.Popen[str]:
@@ -101,9 +123,11 @@ def _fault(status: int, text: str) -> str | None:
     return said[0][len("tshark: "):] if said else f"tshark ended with status {status}"
 
 
-def _frames(path: str, ports: Sequence[int]) -> Iterator[tuple[bytes, ...]]:
+def _frames(source: _Source) -> Iterator[tuple[bytes, ...]]:
     """The frames of each packet that the filter lets through."""
-    words = [*_words(path, ports), "-T", "jsonraw", "--no-duplicate-keys", "-j", "smb2"]
+    # What is decrypted stands deeper, where tshark prints all or nothing.
+    depth = "-J" if source.keys else "-j"
+    words = [*_words(source), "-T", "jsonraw", "--no-duplicate-keys", depth, "smb2"]
     with _started(words, subprocess.PIPE, subprocess.DEVNULL) as process:
         assert process.stdout
         lines: list[str] = []
@@ -119,11 +143,20 @@ def _frames(path: str, ports: Sequence[int]) -> Iterator[tuple[bytes, ...]]:
 
 def _frames_of(text: str) -> tuple[bytes, ...]:
     try:
-        raw = json.loads(text.rstrip().rstrip(","))["_source"]["layers"].get("smb2_raw", [])
-        items = raw if raw and isinstance(raw[0], list) else [raw] if raw else []
-        return tuple(_whole([bytes.fromhex(item[0]) for item in items]))
-    except (ValueError, KeyError, TypeError, IndexError):
+        return tuple(_whole(list(_items(json.loads(text.rstrip().rstrip(","))["_source"]["layers"]))))
+    except (ValueError, KeyError, TypeError, IndexError, AttributeError):
         raise DriveFault("tshark's answer can't be read") from None
+
+
+def _items(layers: dict[str, Any]) -> Iterator[bytes]:
+    """The messages of a packet as tshark has them, each that it decrypted in the place of the encrypted one."""
+    raw, trees = layers.get("smb2_raw", []), layers.get("smb2", [])
+    items = raw if raw and isinstance(raw[0], list) else [raw] if raw else []
+    parts = trees if isinstance(trees, list) else [trees]
+    for item, part in zip(items, parts if len(parts) == len(items) else repeat({})):
+        data = bytes.fromhex(item[0])
+        decrypted = part.get(DECRYPTED, {}) if data[:4] == ENCRYPTED else {}
+        yield from _items(decrypted) if "smb2_raw" in decrypted else [data]
 
 
 def _next_command(item: bytes) -> int:
