@@ -8,7 +8,7 @@ from __future__ import annotations
 import signal
 import subprocess
 import time
-from collections.abc import Iterator
+from collections.abc import Iterator, Sequence
 from contextlib import contextmanager
 from pathlib import Path
 
@@ -18,7 +18,7 @@ from smblease.program import judge
 from smblease.schedules import Schedule
 
 from tests import needs
-from tests.drive.commands import PRIVATE_SMBD
+from tests.drive.commands import PRIVATE_SMBD, ran
 from tests.paths import EXAMPLE, TOP, name_of
 
 pytest.importorskip("impacket", reason=f"there is no package impacket; {needs.INSTALLS}")
@@ -30,6 +30,7 @@ from drive.servers import PrivateServer  # noqa: E402
 
 pytestmark = [*PRIVATE_SMBD, needs.program("tshark"), needs.program("dumpcap")]
 TORTURES = ("request", "nobreakself", "upgrade3")
+TORTURES_311 = ("v2_epoch1", "v2_epoch2", "v2_complex2")
 # the rule that is broken
 DRIVEN = {EXAMPLE: None, TOP / "drive" / "found" / "lease_outlives_its_open.schedule": 1}
 
@@ -59,6 +60,20 @@ def on_port(path: Path, port: int) -> str:
     found = path.with_name("of_the_port.pcapng")
     subprocess.run(["tshark", "-r", path, "-Y", f"tcp.port == {port}", "-w", found], capture_output=True, check=True)
     return str(found)
+
+
+def tortured(server: PrivateServer, tests: Sequence[str], path: Path, protocol: str) -> str:
+    """What is captured while smbtorture runs these tests of smb2.lease, and the server is ended."""
+    try:
+        place = server.place
+        words = ["smbtorture", f"//127.0.0.1/{place.share}", "-p", str(place.port), "-U", f"{place.user}%{place.password}",
+                 f"--option=client min protocol={protocol}", f"--option=client max protocol={protocol}",
+                 *(f"smb2.lease.{name}" for name in tests)]
+        with capturing(path):
+            subprocess.run(words, capture_output=True, timeout=60, check=False)
+    finally:
+        server.close()
+    return on_port(path, place.port)
 
 
 def known(facts: list[str], others: int, at_client: bool) -> dict[str, list[str]]:
@@ -101,15 +116,18 @@ def test_while_a_schedule_is_driven(path: Path, program: str, tmp_path: Path) ->
 @needs.program("smbtorture")
 def test_while_smbtorture_runs(program: str, tmp_path: Path) -> None:
     """Each test has files of its own, and its clients one ClientGuid, so that none can break rule 1."""
-    server = PrivateServer()
-    try:
-        place = server.place
-        words = ["smbtorture", f"//127.0.0.1/{place.share}", "-p", str(place.port), "-U", f"{place.user}%{place.password}",
-                 "--option=client min protocol=SMB2_10", "--option=client max protocol=SMB2_10",
-                 *(f"smb2.lease.{name}" for name in TORTURES)]
-        with capturing(tmp_path / "one.pcapng"):
-            subprocess.run(words, capture_output=True, timeout=60, check=False)
-    finally:
-        server.close()
-    sets = record_of(read_capture(on_port(tmp_path / "one.pcapng", place.port), [place.port]), True).sets()
+    path = tortured(PrivateServer(), TORTURES, tmp_path / "one.pcapng", "SMB2_10")
+    sets = record_of(read_capture(path, []), True).sets()
     assert [judge(program, text_of(it)).text for it in sets] == ["safe"] * len(TORTURES)
+
+
+@needs.program("smbtorture")
+def test_while_smbtorture_runs_dialect_311(program: str, tmp_path: Path) -> None:
+    """As above, with leases of version 2; each test is one client to the server."""
+    path = tortured(PrivateServer(protocol="SMB3_11"), TORTURES_311, tmp_path / "one.pcapng", "SMB3_11")
+    lines = ran("capture", [path, "--lines"]).out
+    for side in ("client", "server"):
+        words = [program, "capture", "--at", side, "-"]
+        said = subprocess.run(words, input=lines, capture_output=True, text=True, check=False).stdout.splitlines()
+        found = {line.partition(": ")[0].rpartition("\\")[2] for line in said if line.startswith("file ") and ": safe, " in line}
+        assert (said[0], found) == ("safe", {f"lease_{name}.dat" for name in TORTURES_311})
