@@ -2,13 +2,14 @@
 from __future__ import annotations
 
 import subprocess
+from collections.abc import Sequence
 from pathlib import Path
 from typing import NamedTuple
 
 import pytest
 
 from drive.capture_lines import lines_of
-from drive.packets import read_capture
+from drive.packets import ANY_PORT, read_capture
 from tests import needs
 from tests.drive.commands import ran
 from tests.drive.hand_made import Made
@@ -19,11 +20,25 @@ pytestmark = needs.program("tshark")
 CAPTURES = TOP / "drive" / "captures"
 SAFE, UNSAFE, NOTHING_JUDGED = 0, 3, 4
 WORDS = {SAFE: "safe", UNSAFE: "unsafe", NOTHING_JUDGED: "nothing judged"}
-KEPT = {"two_clients_share_a_file": SAFE, "lease_outlives_its_open": UNSAFE, "key_of_another_file_before": SAFE,
-        "two_servers_of_one_name": SAFE, "contexts_that_cant_be_read": NOTHING_JUDGED}
+OF_21 = {"two_clients_share_a_file": SAFE, "lease_outlives_its_open": UNSAFE, "key_of_another_file_before": SAFE,
+         "two_servers_of_one_name": SAFE, "contexts_that_cant_be_read": NOTHING_JUDGED}
+# those of dialect 3.1.1, with leases of version 2
+OF_311 = {"smbclient_while_it_is_open": SAFE, "smbtorture_v2_leases": SAFE, "lease_outlives_its_open_311": UNSAFE,
+          "encrypted_smbtorture": SAFE, "encrypted_lease_outlives_its_open": UNSAFE}
+KEPT = {**OF_21, **OF_311}
+ENCRYPTED = tuple(sorted(it.stem for it in CAPTURES.glob("*.keys")))
+# The files on which leases were granted, each with how many clients (ClientGuids) took any.
+FILES = {"smbclient_while_it_is_open": {"report.txt": 2}, "lease_outlives_its_open_311": {"file-1": 2},
+         "encrypted_lease_outlives_its_open": {"file-1": 2},
+         "encrypted_smbtorture": {"lease_v2_epoch2.dat": 1, "lease_v2_complex2.dat": 1},
+         "smbtorture_v2_leases": {"lease_v2_epoch1.dat": 1, "lease_v2_epoch2.dat": 1, "lease_v2_epoch3.dat": 1,
+                                  "v2_lease_breaking3.dat": 1, "lease_v2_complex2.dat": 1}}
+# The packets of the grants that clash: of RWH, while another client was granted RH and wasn't sent a break.
+CLASHES = {"lease_outlives_its_open": 134, "lease_outlives_its_open_311": 142, "encrypted_lease_outlives_its_open": 145}
 # Where drive/capture says something else: it judges no dialect above 2.1, and takes two addresses for one server where a lease is
 # seen at both.
 OTHERS = {"two clients, dialect": 1, "a server at two addresses": None}
+ID, KEY = "1122334455667788", "00112233445566778899aabbccddeeff"
 SIDES = pytest.mark.parametrize("side", ["client", "server"])
 
 
@@ -42,23 +57,114 @@ def text_of(path: Path) -> str:
     return "".join(f"{line}\n" for line in lines_of(read_capture(str(path), [])))
 
 
+def keys_of(name: str) -> list[str]:
+    """The keys of the sessions of a capture, as drive/capture takes them."""
+    path = CAPTURES / f"{name}.keys"
+    return path.read_text(encoding="ascii").split() if path.exists() else []
+
+
+def of_kept(name: str, keys: list[str]) -> str:
+    """The lines of a kept capture."""
+    words = [word for it in keys for word in ("--session-key", it)]
+    had = ran("capture", [CAPTURES / f"{name}.pcapng", "--lines", *words])
+    assert (had.status, had.faults) == (SAFE, "")
+    return had.out
+
+
+def shown(name: str, which: str, fields: Sequence[str]) -> list[list[str]]:
+    """What tshark shows of those packets of a kept capture for which the filter holds, a row for each."""
+    keys = [word for it in keys_of(name) for word in ("-o", f'uat:smb2_seskey_list:{it.replace(":", ",")},"",""')]
+    words = ["tshark", "-r", str(CAPTURES / f"{name}.pcapng"), "-X", f"lua_script:{ANY_PORT}", *keys, "-Y", which, "-T", "fields"]
+    words += [word for it in fields for word in ("-e", it)]
+    return [line.split("\t") for line in subprocess.run(words, capture_output=True, text=True, check=True).stdout.splitlines()]
+
+
 @SIDES
 @pytest.mark.parametrize("name", KEPT)
 def test_kept(name: str, side: str, program: str) -> None:
-    path = CAPTURES / f"{name}.pcapng"
-    had = judged(program, ran("capture", [path, "--lines"]).out, side)
+    had = judged(program, of_kept(name, keys_of(name)), side)
     assert (had.status, had.said[0]) == (KEPT[name], WORDS[KEPT[name]])
 
 
 @SIDES
-def test_packet_of_an_unsafe_one(side: str, program: str) -> None:
+@pytest.mark.parametrize("name", CLASHES)
+def test_packet_of_an_unsafe_one(name: str, side: str, program: str) -> None:
     """At the client it is that of the last grant, which clashes; at the server that of the first request by its FileId."""
-    path = CAPTURES / "lease_outlives_its_open.pcapng"
-    clash = {"client": "frame.number == 134", "server": "smb2.flags.response == 0 && smb2.fid && frame.number > 134"}[side]
-    words = ["tshark", "-r", str(path), "-Y", clash, "-T", "fields", "-e", "frame.number", "-e", "frame.time_relative"]
-    found = subprocess.run(words, capture_output=True, text=True, check=False).stdout.split()
-    told = [line for line in judged(program, text_of(path), side).said if f"unsafe, packet {found[0]} at {found[1]}" in line]
-    assert len(told) == 1
+    number = CLASHES[name]
+    clash = {"client": f"frame.number == {number}", "server": f"smb2.flags.response == 0 && smb2.fid && frame.number > {number}"}
+    packet, time = shown(name, clash[side], ["frame.number", "frame.time_relative"])[0]
+    said = judged(program, of_kept(name, keys_of(name)), side).said
+    assert len([line for line in said if f"unsafe, packet {packet} at {time}" in line]) == 1
+
+
+@SIDES
+@pytest.mark.parametrize("name", OF_311)
+def test_files_and_clients(name: str, side: str, program: str) -> None:
+    found: dict[str, int] = {}
+    for line in judged(program, of_kept(name, keys_of(name)), side).said:
+        if line.startswith("file "):
+            path, _, rest = line.rpartition(": ")
+            found[path.rpartition("\\")[2]] = len(set(rest.split(", ")[2 if "unsafe" in rest else 1:]))
+    assert found == FILES[name]
+
+
+@pytest.mark.parametrize("name", OF_311)
+def test_what_it_holds(name: str) -> None:
+    """The dialect is 3.1.1, and leases were granted in contexts of version 2, which alone have a parent key."""
+    answers = shown(name, "smb2.cmd == 0 && smb2.flags.response == 1", ["smb2.dialect"])
+    assert answers and all(row == ["0x0311"] for row in answers)
+    assert shown(name, "smb2.cmd == 5 && smb2.flags.response == 1 && smb2.lease.parent_lease_key", ["frame.number"])
+
+
+@SIDES
+def test_epochs(side: str, program: str) -> None:
+    """smbd sends the second and third break of v2_breaking3 with the epoch of the first, so that they don't follow on (3.3.4.7).
+    The second, from RH to R, changes nothing that the first rule speaks of, and may be passed over."""
+    name = "smbtorture_v2_leases"
+    rows = shown(name, "smb2.cmd == 18 && smb2.lease.lease_oplock == 0x13", ["frame.number", "frame.time_relative"])
+    breaks = [f"packet {number} at {time}, epoch 19 follows 19" for number, time in rows]
+    said = [line.partition(": ")[2] for line in judged(program, of_kept(name, []), side).said if ", epoch " in line]
+    assert len(breaks) == 3
+    assert breaks[2] in said and set(said) <= set(breaks[1:])
+
+
+def frames_of(lines: str) -> list[str]:
+    """The bytes of the frames."""
+    return [line.split(" ")[-1] for line in lines.splitlines() if line.startswith("frame ")]
+
+
+@pytest.mark.parametrize("name", ENCRYPTED)
+def test_decrypted(name: str) -> None:
+    """With its keys each frame is a message; without them those that were encrypted are as they came."""
+    plain, encrypted = frames_of(of_kept(name, keys_of(name))), frames_of(of_kept(name, []))
+    assert {it[:8] for it in plain} == {"fe534d42"}
+    assert {it[:8] for it in encrypted} == {"fe534d42", "fd534d42"}
+    assert len(plain) == len(encrypted)
+    assert all(one == other for one, other in zip(plain, encrypted) if other.startswith("fe"))
+    # OriginalMessageSize (2.2.41)
+    lengths = [int.from_bytes(bytes.fromhex(it)[36:40], "little") for it in encrypted if it.startswith("fd")]
+    assert [len(one) // 2 for one, other in zip(plain, encrypted) if other.startswith("fd")] == lengths
+
+
+@SIDES
+@pytest.mark.parametrize("name", ENCRYPTED)
+def test_without_its_keys(name: str, side: str, program: str) -> None:
+    def is_judged(keys: list[str]) -> bool:
+        had = judged(program, of_kept(name, keys), side)
+        assert (had.status == NOTHING_JUDGED) == (had.said[0] == WORDS[NOTHING_JUDGED])
+        return had.status != NOTHING_JUDGED
+
+    assert is_judged(keys_of(name))
+    assert not is_judged([])
+    assert not is_judged([f"{it[:-2]}{int(it[-2:], 16) ^ 1:02x}" for it in keys_of(name)])
+
+
+@pytest.mark.parametrize("text", ["", f"{ID}", f"{ID}:", f"{ID[1:]}:{KEY}", f"{ID}:{KEY[1:]}", f"x{ID[1:]}:{KEY}",
+                                  f"{ID}:{KEY}0", f'{ID}:{KEY},"",""', f"{ID}:{KEY}\n", f"{ID} {KEY}"])
+def test_session_key_that_is_refused(text: str) -> None:
+    had = ran("capture", [CAPTURES / "encrypted_smbtorture.pcapng", "--session-key", text])
+    assert (had.status, had.out) == (2, "")
+    assert "--session-key" in had.faults and "Traceback" not in had.faults
 
 
 @pytest.mark.parametrize("name", SCENARIOS)
