@@ -34,10 +34,12 @@ def compound(messages: list[bytes]) -> bytes:
     return text + messages[-1]
 
 
-def lease(key: int, state: int, flags: int = 0) -> bytes:
-    """The context RqLs (docs/FORMATS.md, "Canonical text")."""
+def lease(key: int, state: int, flags: int = 0, epoch: int | None = None) -> bytes:
+    """The context RqLs (docs/FORMATS.md, "Canonical text"); where it has an epoch it is of version 2 (2.2.13.2.10)."""
     data = bytes([key] * 16) + struct.pack("<LLQ", state, flags, 0)
-    return struct.pack("<LHHHHL", 0, 16, 4, 0, 24, 32) + b"RqLs" + bytes(4) + data
+    if epoch is not None:
+        data += bytes(16) + struct.pack("<HH", epoch, 0)
+    return struct.pack("<LHHHHL", 0, 16, 4, 0, 24, len(data)) + b"RqLs" + bytes(4) + data
 
 
 def negotiate(guid: int) -> bytes:
@@ -126,8 +128,8 @@ def renamed(identifier: int) -> bytes:
     return message(17, struct.pack("<H", 2), identifier, answers=True)
 
 
-def notification(key: int, held: int, left: int, flags: int = 1) -> bytes:
-    body = struct.pack("<HHL", 44, 0, flags) + bytes([key] * 16) + struct.pack("<LLLLL", held, left, 0, 0, 0)
+def notification(key: int, held: int, left: int, flags: int = 1, epoch: int = 0) -> bytes:
+    body = struct.pack("<HHL", 44, epoch, flags) + bytes([key] * 16) + struct.pack("<LLLLL", held, left, 0, 0, 0)
     return message(18, body, 0xFFFFFFFFFFFFFFFF, answers=True)
 
 
@@ -212,10 +214,11 @@ class Line:
         self.asks(tree_connect())
         self.answers(tree_connected())
 
-    def opens(self, identifier: int, number: int, key: int, state: int, asked: int | None = None, name: str = "f") -> int:
+    def opens(self, identifier: int, number: int, key: int, state: int, asked: int | None = None, name: str = "f",
+              epoch: int | None = None) -> int:
         """Opens a file with a lease, and reads it, so that the grant is known to be taken; the packet of the grant."""
-        self.asks(create(identifier, name, lease(key, state if asked is None else asked)))
-        packet = self.answers(created(identifier, number, lease(key, state)))
+        self.asks(create(identifier, name, lease(key, state if asked is None else asked, epoch=epoch)))
+        packet = self.answers(created(identifier, number, lease(key, state, epoch=epoch)))
         self.asks(read(identifier + 1, number))
         self.answers(read_done(identifier + 1, b"abc"))
         return packet

@@ -137,6 +137,32 @@ def of_two_clients(made: Made, kind: str) -> Expected:
     return Expected(rule, rule, (said,))
 
 
+def of_dialect_311(made: Made) -> Expected:
+    """Two caches under leases of version 2."""
+    line, other = Line(made, 50001), Line(made, 50002)
+    line.begins(1, 0x311)
+    line.opens(3, 11, 0xA1, R | W | H, epoch=1)
+    other.begins(2, 0x311)
+    other.opens(3, 22, 0xB2, R | H, epoch=1)
+    line.asks(hand_made.read(5, 11))
+    return Expected(None, None, ("dialect 3.1.1",))
+
+
+def broken_elsewhere(made: Made, epochs: bool) -> Expected:
+    """A break over another connection than that of the grant, after which the client keeps RH; then another one is granted RWH.
+    Packets of two connections have no order, so that the break may be the earlier one: only epochs show that it isn't."""
+    line, again, other = Line(made, 50001), Line(made, 50002), Line(made, 50003)
+    for one, guid in ((line, 1), (again, 1), (other, 2)):
+        one.begins(guid, 0x311)
+    line.opens(3, 11, 0xA1, R | W | H, epoch=1 if epochs else None)
+    again.answers(hand_made.notification(0xA1, R | W | H, R | H, epoch=2 if epochs else 0))
+    again.asks(hand_made.acknowledgment(3, 0xA1, R | H))
+    again.answers(hand_made.acknowledged(3, 0xA1, R | H))
+    other.opens(3, 22, 0xB2, R | W | H, epoch=1 if epochs else None)
+    line.asks(hand_made.read(5, 11))
+    return SAFE
+
+
 def also_reported(made: Made) -> Expected:
     line = Line(made, 50001)
     line.begins(1)
@@ -246,7 +272,9 @@ SCENARIOS: dict[str, Callable[[Made], Expected]] = {
     "a client with two connections": two_connections, "two connections, one client": one_client_of_two,
     **{f"a key that {kind} had before": partial(key_used_again, kind=kind) for kind in ("another file", "the name")},
     "a break that is acknowledged elsewhere": acknowledged_elsewhere, "two servers": two_servers,
-    "a server at two addresses": server_at_two_addresses,
+    "a server at two addresses": server_at_two_addresses, "two clients, dialect 3.1.1": of_dialect_311,
+    **{f"a break over another connection, with{'' if epochs else 'out'} epochs": partial(broken_elsewhere, epochs=epochs)
+       for epochs in (True, False)},
     "a break after the last close": break_after_the_last_close, "also reported": also_reported, "writes": writes,
     **{f"two clients, {kind}": partial(of_two_clients, kind=kind)
        for kind in ("whole", "before", "dialect", "gap", "cut", "encrypted", "rename", "made again")},

@@ -37,7 +37,8 @@ FILES = {"smbclient_while_it_is_open": {"report.txt": 2}, "lease_outlives_its_op
 CLASHES = {"lease_outlives_its_open": 134, "lease_outlives_its_open_311": 142, "encrypted_lease_outlives_its_open": 145}
 # Where drive/capture says something else: it judges no dialect above 2.1, and takes two addresses for one server where a lease is
 # seen at both.
-OTHERS = {"two clients, dialect": 1, "a server at two addresses": None}
+OTHERS = {"two clients, dialect": 1, "a server at two addresses": None, "two clients, dialect 3.1.1": 1,
+          "a break over another connection, with epochs": 1}
 ID, KEY = "1122334455667788", "00112233445566778899aabbccddeeff"
 SIDES = pytest.mark.parametrize("side", ["client", "server"])
 
