@@ -163,7 +163,8 @@ class Made:
         """The file; of each packet so many bytes are kept."""
         text = struct.pack("<LHHlLLL", 0xA1B2C3D4, 2, 4, 0, 0, 262144, 101)
         for number, (packet, whole) in enumerate(zip(self._packets, self._whole), 1):
-            text += struct.pack("<LLLL", 1000, number * 10000, len(packet[:snaplen]), whole) + packet[:snaplen]
+            seconds, hundredths = divmod(number, 100)
+            text += struct.pack("<LLLL", 1000 + seconds, hundredths * 10000, len(packet[:snaplen]), whole) + packet[:snaplen]
         return text
 
 
