@@ -150,13 +150,26 @@ def _frames_of(text: str) -> tuple[bytes, ...]:
 
 def _items(layers: dict[str, Any]) -> Iterator[bytes]:
     """The messages of a packet as tshark has them, each that it decrypted in the place of the encrypted one."""
-    raw, trees = layers.get("smb2_raw", []), layers.get("smb2", [])
-    items = raw if raw and isinstance(raw[0], list) else [raw] if raw else []
+    items, trees = _raw(layers), layers.get("smb2", [])
     parts = trees if isinstance(trees, list) else [trees]
     for item, part in zip(items, parts if len(parts) == len(items) else repeat({})):
         data = bytes.fromhex(item[0])
-        decrypted = part.get(DECRYPTED, {}) if data[:4] == ENCRYPTED else {}
-        yield from _items(decrypted) if "smb2_raw" in decrypted else [data]
+        yield _decrypted(data, part.get(DECRYPTED, {})) if data[:4] == ENCRYPTED else data
+
+
+def _raw(layers: dict[str, Any]) -> list[list[Any]]:
+    """Bytes, with where they begin, in the packet or in what was decrypted of it."""
+    raw: list[Any] = layers.get("smb2_raw", [])
+    return raw if raw and isinstance(raw[0], list) else [raw] if raw else []
+
+
+def _decrypted(data: bytes, part: dict[str, Any]) -> bytes:
+    """The frame that was decrypted, whose messages stand by themselves; where it isn't there as a whole, what came."""
+    frame = bytearray()
+    for text, start, *_ in _raw(part):
+        frame[start:start + len(text) // 2] = bytes.fromhex(text)
+    # OriginalMessageSize (2.2.41)
+    return bytes(frame) if len(frame) == int.from_bytes(data[36:40], "little") else data
 
 
 def _next_command(item: bytes) -> int:
