@@ -24,12 +24,12 @@ OF_21 = {"two_clients_share_a_file": SAFE, "lease_outlives_its_open": UNSAFE, "k
          "two_servers_of_one_name": SAFE, "contexts_that_cant_be_read": NOTHING_JUDGED}
 # those of dialect 3.1.1, with leases of version 2
 OF_311 = {"smbclient_while_it_is_open": SAFE, "smbtorture_v2_leases": SAFE, "lease_outlives_its_open_311": UNSAFE,
-          "encrypted_smbtorture": SAFE, "encrypted_lease_outlives_its_open": UNSAFE}
+          "encrypted_smbtorture": SAFE, "encrypted_compounds": SAFE, "encrypted_lease_outlives_its_open": UNSAFE}
 KEPT = {**OF_21, **OF_311}
 ENCRYPTED = tuple(sorted(it.stem for it in CAPTURES.glob("*.keys")))
 # The files on which leases were granted, each with how many clients (ClientGuids) took any.
 FILES = {"smbclient_while_it_is_open": {"report.txt": 2}, "lease_outlives_its_open_311": {"file-1": 2},
-         "encrypted_lease_outlives_its_open": {"file-1": 2},
+         "encrypted_lease_outlives_its_open": {"file-1": 2}, "encrypted_compounds": {"a": 1},
          "encrypted_smbtorture": {"lease_v2_epoch2.dat": 1, "lease_v2_complex2.dat": 1},
          "smbtorture_v2_leases": {"lease_v2_epoch1.dat": 1, "lease_v2_epoch2.dat": 1, "lease_v2_epoch3.dat": 1,
                                   "v2_lease_breaking3.dat": 1, "lease_v2_complex2.dat": 1}}
@@ -145,6 +145,18 @@ def test_decrypted(name: str) -> None:
     # OriginalMessageSize (2.2.41)
     lengths = [int.from_bytes(bytes.fromhex(it)[36:40], "little") for it in encrypted if it.startswith("fd")]
     assert [len(one) // 2 for one, other in zip(plain, encrypted) if other.startswith("fd")] == lengths
+
+
+def test_decrypted_compounds() -> None:
+    """Each frame is one line, whether the packet has more of them or the frame has two messages: the client sent a CREATE with
+    its CLOSE three times, twice in one packet with an ECHO."""
+    name = "encrypted_compounds"
+    lines = [line.split(" ") for line in of_kept(name, keys_of(name)).splitlines()]
+    compounds = [(packet, side) for _, packet, _, _, _, _, side, _, frame in (it for it in lines if it[0] == "frame")
+                 if bytes.fromhex(frame)[20:24] != bytes(4)]
+    sent = [packet for packet, side in compounds if side == "from-client"]
+    assert len(compounds) == 6 and len(sent) == 3 and sent[1] == sent[2]
+    assert sum(it[:2] == ["frame", sent[1]] for it in lines) == 3
 
 
 @SIDES

@@ -15,7 +15,7 @@ KEPT = {"two_clients_share_a_file": 0, "lease_outlives_its_open": 3, "key_of_ano
         "two_servers_of_one_name": 0, "contexts_that_cant_be_read": 0,
         # of dialect 3.1.1, which isn't judged
         "smbclient_while_it_is_open": 4, "smbtorture_v2_leases": 4, "lease_outlives_its_open_311": 4, "encrypted_smbtorture": 4,
-        "encrypted_lease_outlives_its_open": 4}
+        "encrypted_compounds": 4, "encrypted_lease_outlives_its_open": 4}
 SIDES = pytest.mark.parametrize("side", ["client", "server"])
 GRANTS = "smb2.cmd == 5 && smb2.flags.response == 1 && smb2.nt_status == 0 && smb2.lease.lease_state"
 
