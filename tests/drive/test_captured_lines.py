@@ -4,7 +4,6 @@ from __future__ import annotations
 import subprocess
 from collections.abc import Sequence
 from pathlib import Path
-from typing import NamedTuple
 
 import pytest
 
@@ -13,12 +12,12 @@ from drive.packets import ANY_PORT, read_capture
 from tests import needs
 from tests.drive.commands import ran
 from tests.drive.hand_made import Made
+from tests.drive.judging import NOTHING_JUDGED, SAFE, UNSAFE, judged
 from tests.drive.scenarios import SCENARIOS
 from tests.paths import TOP
 
 pytestmark = needs.program("tshark")
 CAPTURES = TOP / "drive" / "captures"
-SAFE, UNSAFE, NOTHING_JUDGED = 0, 3, 4
 WORDS = {SAFE: "safe", UNSAFE: "unsafe", NOTHING_JUDGED: "nothing judged"}
 OF_21 = {"two_clients_share_a_file": SAFE, "lease_outlives_its_open": UNSAFE, "key_of_another_file_before": SAFE,
          "two_servers_of_one_name": SAFE, "contexts_that_cant_be_read": NOTHING_JUDGED}
@@ -41,17 +40,6 @@ OTHERS = {"two clients, dialect": 1, "a server at two addresses": None, "two cli
           "a break over another connection, with epochs": 1}
 ID, KEY = "1122334455667788", "00112233445566778899aabbccddeeff"
 SIDES = pytest.mark.parametrize("side", ["client", "server"])
-
-
-class Judged(NamedTuple):
-    status: int
-    said: list[str]
-
-
-def judged(program: str, text: str, side: str) -> Judged:
-    had = subprocess.run([program, "capture", "--at", side, "-"], input=text, capture_output=True, text=True, check=False)
-    assert had.stderr == ""
-    return Judged(had.returncode, had.stdout.splitlines())
 
 
 def text_of(path: Path) -> str:
