@@ -5,8 +5,11 @@ Each comes with its twin, which isn't charged: there what is wrong doesn't happe
 """
 from __future__ import annotations
 
+import uuid
 from collections.abc import Callable
 from typing import NamedTuple
+
+from smblease import CreateAsk
 
 from tests.drive import hand_made
 from tests.drive.hand_made import H, R, W, lease, of_session
@@ -157,6 +160,22 @@ def break_on_its_way(lines: Lines, twin: bool) -> None:
         lines.answers(FIRST, hand_made.notification(FIRST, ALL, R | H))
 
 
+def grant_and_break_wait(lines: Lines, twin: bool) -> None:
+    """The first client takes nothing for so long that its grant and the break of it wait at the server until the timer of the
+    break has run out and the second client has its lease."""
+    lines.asks_to_open(FIRST, 10)
+    lines.asks_to_open(SECOND, 20)
+    if not twin:
+        lines.grants(SECOND, 20)
+        lines.reads(SECOND, 20)
+    lines.grants(FIRST, 10)
+    lines.answers(FIRST, hand_made.notification(FIRST, ALL, R | W))
+    if twin:
+        lines.grants(SECOND, 20)
+        lines.reads(SECOND, 20)
+    lines.reads(FIRST, 10)
+
+
 def acknowledged_twice(lines: Lines, twin: bool) -> None:
     """The first acknowledgment is of too much, and is refused."""
     lines.opens(FIRST, 10)
@@ -212,6 +231,36 @@ def lost_without_a_word(lines: Lines, twin: bool) -> None:
     lines.opens(SECOND, 20)
 
 
+def _connects_anew(lines: Lines, previous: int) -> None:
+    """The first client has a new connection, with the third number, and a session that names the one before it."""
+    lines.asks(THIRD, hand_made.negotiate(FIRST))
+    lines.answers(THIRD, hand_made.negotiated())
+    setup = hand_made.session_setup(THIRD)
+    lines.asks(THIRD, setup[:80] + previous.to_bytes(8, "little") + setup[88:])
+    lines.answers(THIRD, hand_made.session_set_up(THIRD))
+    lines.connects_tree(THIRD)
+
+
+def session_ended_at_another_address(lines: Lines, twin: bool) -> None:
+    """Its connection is lost, and it connects over the server's second address (PreviousSessionId)."""
+    if not twin:
+        lines.addresses[THIRD] = "10.0.1.2:445"
+    lines.opens(FIRST, 10)
+    _connects_anew(lines, previous=FIRST)
+    lines.opens(SECOND, 20)
+
+
+def connected_again(lines: Lines, twin: bool) -> None:
+    """Its connection is lost, of which no packet says so. It connects its durable open again, and closes it."""
+    lines.opens(FIRST, 10)
+    _connects_anew(lines, previous=FIRST if twin else 0)
+    again = CreateAsk(uuid.UUID(bytes=bytes([FIRST] * 16)), reconnect=10).write()
+    lines.asks(THIRD, hand_made.create(11, "f", again))
+    lines.answers(THIRD, hand_made.created(11, 10, lease(FIRST, ALL)))
+    lines.closes(THIRD, 10)
+    lines.opens(SECOND, 20)
+
+
 class Charged(NamedTuple):
     """A run, the sides at which it is charged, and why."""
 
@@ -236,10 +285,14 @@ CHARGED = (
     Charged(closed_before_it_is_opened, (CLIENT,), f"{AFTER}: the client guessed the FileId"),
     Charged(end_on_its_way, (CLIENT,), f"{ON_ITS_WAY}: the end of its connection (Positions.antt, mark_earliest)"),
     Charged(break_on_its_way, (CLIENT,), f"{ON_ITS_WAY}: a break whose timer ran out (Chains.antt, changes_by_break)"),
+    Charged(grant_and_break_wait, SIDES,
+            "a grant and its break may leave the server after the timer of the break ran out (Chains.antt)"),
     Charged(acknowledged_twice, SIDES, "the first acknowledgment counts, though it was refused (Chains.antt, acknowledgment)"),
     Charged(renamed_in_a_gap, SIDES, f"a gap isn't held to hide a request that changes names {PLACES}"),
     Charged(renamed_at_another_address, SIDES, f"a change of names counts only at the address where it is seen {PLACES}"),
     Charged(made_again, SIDES, f"the response to a later CREATE may come before the one that makes the file {PLACES}"),
+    Charged(session_ended_at_another_address, SIDES, "a session ends only at the address where it is (Opens.antt, ends_by)"),
+    Charged(connected_again, SIDES, "an open that is connected again stays in its old session too (Opens.antt, ends_by)"),
     Charged(lost_without_a_word, SIDES, "the first client's open is gone without a packet: its connection was given up, or the"
                                         " server was asked to close it (3.3.4.17)"),
 )
