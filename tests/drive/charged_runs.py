@@ -1,6 +1,6 @@
-"""Short captures of runs in which the server keeps the rules, that are charged nevertheless.
+"""Short captures of runs in which the server keeps the rules, that were charged nevertheless; some still are.
 
-Each comes with its twin, which isn't charged: there what is wrong doesn't happen. The client at 10.0.0.1 is FIRST and that at
+Each comes with its twin, which wasn't: there what was wrong doesn't happen. The client at 10.0.0.1 is FIRST and that at
 10.0.0.2 SECOND, each with a key of its own for the one file.
 """
 from __future__ import annotations
@@ -262,7 +262,7 @@ def connected_again(lines: Lines, twin: bool) -> None:
 
 
 class Charged(NamedTuple):
-    """A run, the sides at which it is charged, and why."""
+    """A run, the sides at which it is charged, if any is left, and why it was."""
 
     run: Callable[[Lines, bool], None]
     sides: tuple[str, ...]
@@ -274,25 +274,25 @@ class Charged(NamedTuple):
         return lines.text()
 
 
-AFTER = "an open is ended only by what the capture has after the response that makes it (Opens.antt, ends_by and made)"
+NOWHERE: tuple[str, ...] = ()
+AFTER = "an open was ended only by what the capture has after the response that makes it"
 ON_ITS_WAY = "at the client, what the server sent to one client may come after what it granted to another one since"
-PLACES = "(Files.antt, file_after)"
 CHARGED = (
-    Charged(opened_after_the_end, (CLIENT,), f"{AFTER}: the end of its connection came before"),
-    Charged(opened_after_its_tree, (CLIENT,), f"{AFTER}: TREE_DISCONNECT didn't wait for it"),
-    Charged(opened_after_its_session, (CLIENT,), f"{AFTER}: LOGOFF didn't wait for it"),
-    Charged(opened_after_its_tree_and_again, SIDES, f"{AFTER}: and the open that stays keeps its lease (Events.antt, ended)"),
-    Charged(closed_before_it_is_opened, (CLIENT,), f"{AFTER}: the client guessed the FileId"),
-    Charged(end_on_its_way, (CLIENT,), f"{ON_ITS_WAY}: the end of its connection (Positions.antt, mark_earliest)"),
+    Charged(opened_after_the_end, NOWHERE, f"{AFTER}: the end of its connection came before"),
+    Charged(opened_after_its_tree, NOWHERE, f"{AFTER}: TREE_DISCONNECT didn't wait for it"),
+    Charged(opened_after_its_session, NOWHERE, f"{AFTER}: LOGOFF didn't wait for it"),
+    Charged(opened_after_its_tree_and_again, NOWHERE, f"{AFTER}: and the open that stayed kept its lease"),
+    Charged(closed_before_it_is_opened, (CLIENT,), f"{AFTER}: the client guessed the FileId (Opens.antt, ends_by and made)"),
+    Charged(end_on_its_way, NOWHERE, f"{ON_ITS_WAY}: the end of its connection"),
     Charged(break_on_its_way, (CLIENT,), f"{ON_ITS_WAY}: a break whose timer ran out (Chains.antt, changes_by_break)"),
     Charged(grant_and_break_wait, SIDES,
             "a grant and its break may leave the server after the timer of the break ran out (Chains.antt)"),
-    Charged(acknowledged_twice, SIDES, "the first acknowledgment counts, though it was refused (Chains.antt, acknowledgment)"),
-    Charged(renamed_in_a_gap, SIDES, f"a gap isn't held to hide a request that changes names {PLACES}"),
-    Charged(renamed_at_another_address, SIDES, f"a change of names counts only at the address where it is seen {PLACES}"),
-    Charged(made_again, SIDES, f"the response to a later CREATE may come before the one that makes the file {PLACES}"),
-    Charged(session_ended_at_another_address, SIDES, "a session ends only at the address where it is (Opens.antt, ends_by)"),
-    Charged(connected_again, SIDES, "an open that is connected again stays in its old session too (Opens.antt, ends_by)"),
+    Charged(acknowledged_twice, NOWHERE, "the first acknowledgment counted, though it was refused"),
+    Charged(renamed_in_a_gap, NOWHERE, "a gap wasn't held to hide a request that changes names"),
+    Charged(renamed_at_another_address, NOWHERE, "a change of names counted only at the address where it is seen"),
+    Charged(made_again, SIDES, "the response to a later CREATE may come before the one that makes the file (Files.antt, file_after)"),
+    Charged(session_ended_at_another_address, NOWHERE, "a session ended only at the address where it is"),
+    Charged(connected_again, NOWHERE, "an open that is connected again stayed in its old session too"),
     Charged(lost_without_a_word, SIDES, "the first client's open is gone without a packet: its connection was given up, or the"
                                         " server was asked to close it (3.3.4.17)"),
 )
