@@ -169,7 +169,7 @@ def _decrypted(data: bytes, part: dict[str, Any]) -> bytes:
     for text, start, *_ in _raw(part):
         frame[start:start + len(text) // 2] = bytes.fromhex(text)
     # OriginalMessageSize (2.2.41)
-    return bytes(frame) if len(frame) == int.from_bytes(data[36:40], "little") else data
+    return bytes(frame) if frame and len(frame) == int.from_bytes(data[36:40], "little") else data
 
 
 def _next_command(item: bytes) -> int:

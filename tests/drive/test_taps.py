@@ -29,13 +29,13 @@ INNOCENT = {
     "two servers": Ways(servers=2),
     "strays": Ways(strays=STRAYS),
     "ends": Ways(losses=SEEN_LOSSES),
+    "ends that cross": Ways(losses=SEEN_LOSSES, crossing=True),
     "gaps": Ways(gaps=True),
     "all": Ways(losses=SEEN_LOSSES, strays=STRAYS, servers=2, previous=True),
     "all, with gaps": Ways(losses=SEEN_LOSSES, strays=STRAYS, servers=2, previous=True, gaps=True),
 }
 # Ways in which runs are charged of which charged_runs has short ones, at these sides, with so many runs that one is.
 CHARGED_WAYS = {
-    "ends that cross": (Ways(losses=SEEN_LOSSES, crossing=True), CLIENT, 100),
     "acknowledgments of too much": (Ways(strays=(ACKNOWLEDGES,)), SERVER, 60),
     "closes before opens": (Ways(strays=(CLOSES_ANY,)), CLIENT, 60),
     "losses that nobody sees": (Ways(losses=(Loss(CLIENT, silent=True),)), SERVER, 60),
