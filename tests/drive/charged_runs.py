@@ -290,7 +290,8 @@ CHARGED = (
     Charged(acknowledged_twice, NOWHERE, "the first acknowledgment counted, though it was refused"),
     Charged(renamed_in_a_gap, NOWHERE, "a gap wasn't held to hide a request that changes names"),
     Charged(renamed_at_another_address, NOWHERE, "a change of names counted only at the address where it is seen"),
-    Charged(made_again, SIDES, "the response to a later CREATE may come before the one that makes the file (Files.antt, file_after)"),
+    Charged(made_again, SIDES,
+            "the response to a later CREATE may come before the one that makes the file (Files.antt, file_after)"),
     Charged(session_ended_at_another_address, NOWHERE, "a session ended only at the address where it is"),
     Charged(connected_again, NOWHERE, "an open that is connected again stayed in its old session too"),
     Charged(lost_without_a_word, SIDES, "the first client's open is gone without a packet: its connection was given up, or the"
