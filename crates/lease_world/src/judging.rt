@@ -132,24 +132,24 @@ impl Judge {
 mod tests {
     use super::Judge;
     use lease_facts::Fact;
-    use lease_state::ClientNo;
+    use lease_state::{ClientNo, Memory};
     use std::alloc::Global;
     use std::test::Fail;
 
-    // Whether a judge takes a fact after so many, of which it keeps nothing.
-    fn takes_after(alloc: Global, count: u64) -> bool {
+    // A judge takes a fact after so many, of which it keeps nothing.
+    fn take_after(alloc: Global, count: u64) -> Result<(), Memory> {
         let mut judge = Judge::new(alloc);
         judge.count = count;
-        judge.add(&Fact::Joined(ClientNo(1))).is_ok()
+        judge.add(&Fact::Joined(ClientNo(1)))
     }
 
     #[test]
     fn facts_are_counted_with_64_bits(rt: HostRuntime) -> Result<(), Fail> {
         let alloc = rt.alloc();
-        assert!(rt; takes_after(alloc, u64::from(u16::MAX)));
-        assert!(rt; takes_after(alloc, u64::from(u32::MAX)));
-        assert!(rt; takes_after(alloc, u64::MAX - 1));
-        assert!(rt; !takes_after(alloc, u64::MAX));
+        take_after(alloc, u64::from(u16::MAX))?;
+        take_after(alloc, u64::from(u32::MAX))?;
+        take_after(alloc, u64::MAX - 1)?;
+        assert!(rt; take_after(alloc, u64::MAX).is_err());
         Ok(())
     }
 }

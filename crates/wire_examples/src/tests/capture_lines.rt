@@ -278,8 +278,9 @@ fn a_client_with_an_encrypted_frame_is_not_judged(rt: HostRuntime) -> Result<(),
 // A frame that is encrypted.
 const FRAME: &[u8] = b"frame 1 0.5 3 10.0.0.3:50000 10.0.0.9:445 from-server 0 fd534d42";
 
-fn is_refused(alloc: Global, line: &[u8]) -> bool {
-    Capture::new(alloc, Side::Server).take_line(line) == Err(LineFault::Refused)
+// What a capture without lines answers to one.
+fn taken(alloc: Global, line: &[u8]) -> Result<(), LineFault> {
+    Capture::new(alloc, Side::Server).take_line(line)
 }
 
 #[test]
@@ -303,61 +304,100 @@ fn lines_of_each_kind_are_taken(rt: HostRuntime) -> Result<(), Fail> {
 
 #[test]
 fn a_line_is_refused_that_is_of_no_kind(rt: HostRuntime) {
-    assert!(&rt; is_refused(rt.alloc(), b"packet 1 0.5 3"));
-    assert!(&rt; is_refused(rt.alloc(), b" gap 1 0.5 3"));
+    assert_eq!(&rt;
+        taken(rt.alloc(), b"packet 1 0.5 3"),
+        Err(LineFault::Refused)
+    );
+    assert_eq!(&rt; taken(rt.alloc(), b" gap 1 0.5 3"), Err(LineFault::Refused));
 }
 
 #[test]
 fn a_line_is_refused_that_lacks_its_connection(rt: HostRuntime) {
-    assert!(&rt; is_refused(rt.alloc(), b"gap 1 0.5"));
-    assert!(&rt; is_refused(rt.alloc(), b"gap 1 0.5 "));
+    assert_eq!(&rt; taken(rt.alloc(), b"gap 1 0.5"), Err(LineFault::Refused));
+    assert_eq!(&rt; taken(rt.alloc(), b"gap 1 0.5 "), Err(LineFault::Refused));
 }
 
 #[test]
 fn a_line_is_refused_whose_packet_is_no_number_of_64_bits(rt: HostRuntime) {
-    assert!(&rt; is_refused(rt.alloc(), b"gap one 0.5 3"));
-    assert!(&rt; is_refused(rt.alloc(), b"gap 18446744073709551616 0.5 3"));
+    assert_eq!(&rt;
+        taken(rt.alloc(), b"gap one 0.5 3"),
+        Err(LineFault::Refused)
+    );
+    assert_eq!(&rt;
+        taken(rt.alloc(), b"gap 18446744073709551616 0.5 3"),
+        Err(LineFault::Refused)
+    );
 }
 
 #[test]
 fn a_line_is_refused_whose_time_is_no_number_of_seconds(rt: HostRuntime) {
-    assert!(&rt; is_refused(rt.alloc(), b"gap 1 noon 3"));
-    assert!(&rt; is_refused(rt.alloc(), b"gap 1 .5 3"));
-    assert!(&rt; is_refused(rt.alloc(), b"gap 1 0. 3"));
-    assert!(&rt; is_refused(rt.alloc(), b"gap 1 0.5.5 3"));
+    assert_eq!(&rt; taken(rt.alloc(), b"gap 1 noon 3"), Err(LineFault::Refused));
+    assert_eq!(&rt; taken(rt.alloc(), b"gap 1 .5 3"), Err(LineFault::Refused));
+    assert_eq!(&rt; taken(rt.alloc(), b"gap 1 0. 3"), Err(LineFault::Refused));
+    assert_eq!(&rt;
+        taken(rt.alloc(), b"gap 1 0.5.5 3"),
+        Err(LineFault::Refused)
+    );
 }
 
 #[test]
 fn a_line_is_refused_whose_time_has_ten_digits_after_the_point(rt: HostRuntime) {
-    assert!(&rt; is_refused(rt.alloc(), b"gap 1 0.0123456789 3"));
+    assert_eq!(&rt;
+        taken(rt.alloc(), b"gap 1 0.0123456789 3"),
+        Err(LineFault::Refused)
+    );
 }
 
 #[test]
 fn a_frame_is_refused_that_lacks_its_bytes(rt: HostRuntime) {
-    assert!(&rt; is_refused(rt.alloc(), b"frame 1 0.5 3 c s from-client 0"));
-    assert!(&rt; is_refused(rt.alloc(), b"frame 1 0.5 3 c s from-client 0 "));
+    assert_eq!(&rt;
+        taken(rt.alloc(), b"frame 1 0.5 3 c s from-client 0"),
+        Err(LineFault::Refused)
+    );
+    assert_eq!(&rt;
+        taken(rt.alloc(), b"frame 1 0.5 3 c s from-client 0 "),
+        Err(LineFault::Refused)
+    );
 }
 
 #[test]
 fn a_frame_is_refused_that_lacks_an_address(rt: HostRuntime) {
-    assert!(&rt; is_refused(rt.alloc(), b"frame 1 0.5 3 c  from-client 0 -"));
+    assert_eq!(&rt;
+        taken(rt.alloc(), b"frame 1 0.5 3 c  from-client 0 -"),
+        Err(LineFault::Refused)
+    );
 }
 
 #[test]
 fn a_frame_is_refused_that_neither_side_sent(rt: HostRuntime) {
-    assert!(&rt; is_refused(rt.alloc(), b"frame 1 0.5 3 c s from-router 0 -"));
+    assert_eq!(&rt;
+        taken(rt.alloc(), b"frame 1 0.5 3 c s from-router 0 -"),
+        Err(LineFault::Refused)
+    );
 }
 
 #[test]
 fn a_frame_is_refused_whose_bytes_are_no_digits(rt: HostRuntime) {
-    assert!(&rt; is_refused(rt.alloc(), b"frame 1 0.5 3 c s from-client 0 fe5"));
-    assert!(&rt; is_refused(rt.alloc(), b"frame 1 0.5 3 c s from-client 0 fg"));
+    assert_eq!(&rt;
+        taken(rt.alloc(), b"frame 1 0.5 3 c s from-client 0 fe5"),
+        Err(LineFault::Refused)
+    );
+    assert_eq!(&rt;
+        taken(rt.alloc(), b"frame 1 0.5 3 c s from-client 0 fg"),
+        Err(LineFault::Refused)
+    );
 }
 
 #[test]
 fn a_line_is_refused_that_has_words_after_its_last(rt: HostRuntime) {
-    assert!(&rt; is_refused(rt.alloc(), b"end 1 0.5 3 4"));
-    assert!(&rt; is_refused(rt.alloc(), b"frame 1 0.5 3 c s from-client 0 - -"));
+    assert_eq!(&rt;
+        taken(rt.alloc(), b"end 1 0.5 3 4"),
+        Err(LineFault::Refused)
+    );
+    assert_eq!(&rt;
+        taken(rt.alloc(), b"frame 1 0.5 3 c s from-client 0 - -"),
+        Err(LineFault::Refused)
+    );
 }
 
 #[test]
