@@ -35,7 +35,7 @@ answered_after connection id other None before = before
 abbrev pub left_after : ℕ → Seen → Option Create → Option Create
 left_after connection seen before = if seen.connection == connection && leaves seen.note then None else before
 
--- the last CREATE request with a MessageId on a connection, unless it was answered for good since, or what it asks for may be gone
+-- the last CREATE request with a MessageId on a connection, unless it was answered for good since or what it asks for may be gone
 abbrev pub pending : ℕ → ℕ → List Seen → Option Create
 pending connection id [] = None
 pending connection id (seen ∷ past) =

@@ -65,9 +65,9 @@ is_file_id one other = one.persistent == other.persistent && one.volatile == oth
 abbrev pub is_named : ℕ → ℕ → Smb2FileId → Open → Bool
 is_named server session file_id one = (one.server == server && one.session == session) && is_file_id one.file_id file_id
 
--- A CLOSE ends an open, and so does a response that gives its persistent FileId again, as where it is connected again; LOGOFF ends
--- those of its session, at whichever address, TREE_DISCONNECT those of its tree connect, and the end of a connection those that were
--- opened on it.
+-- A CLOSE ends an open, and so does a response that gives its persistent FileId again, as where it is connected again. LOGOFF
+-- ends those of its session, at whichever address, TREE_DISCONNECT those of its tree connect, and the end of a connection those
+-- that were opened on it.
 abbrev pub ends_by : Note → Seen → Open → Bool
 ends_by (note.Close name) seen one = is_named seen.server name.session name.file_id one
 ends_by (note.CreateGiven given) seen one =
