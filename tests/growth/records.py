@@ -1,4 +1,4 @@
-"""Families of records for `leasecheck judge`, also with `--explain`. All writes go to the first byte of a file of one
+"""Families of records for `leasecheck judge`, also with `--explain`, and `draw`. All writes go to the first byte of a file of one
 byte, and write what is there, so that a record is as long as its facts are many."""
 from __future__ import annotations
 
@@ -12,6 +12,7 @@ BEGUN = ['start 1 61', 'joined 1', 'sent 1', 'took 1', 'believes 1 1 R']
 READ = 'cachedread 1 1 61'
 CLIENTS = 255
 FILES = 255
+MOST_DRAWN = 5_000
 
 
 def text(lines: list[str]) -> str:
@@ -71,6 +72,21 @@ def facts_of_many(count: int) -> str:
     return text(lines + [f'sent {number % CLIENTS + 1}' for number in range(count)])
 
 
+def rivals_by_files(count: int) -> str:
+    """The same, and the beliefs stand file by file: those of the last file are as late as can be."""
+    lines = [f'start {file} 61' for file in range(1, FILES + 1)]
+    lines += [f'joined {client}' for client in range(1, CLIENTS + 1)]
+    side = max(1, math.isqrt(max(0, count - 1)) + 1)
+    lines += [f'believes {number % side + 1} {number // side + 1} R' for number in range(count)]
+    return text(lines + [f'believes {CLIENTS} {side} R', f'believes 1 {side} RW'])
+
+
+def too_many_to_draw(count: int) -> str:
+    """n facts more than a picture has room for, which are beliefs as in the family above: they are to be counted before they
+    are judged, and why they are unsafe isn't to be looked for."""
+    return text(['joined 1'] * MOST_DRAWN) + rivals_of_the_last_file(count)
+
+
 RECORDS = [
     Family('judge-chosen-numbers', 'judge', chosen_numbers, 1024, 'write'),
     Family('judge-settled-one-by-one', 'judge', settled_one_by_one, 256, 'write'),
@@ -78,5 +94,7 @@ RECORDS = [
     Family('judge-joined-among-many', 'judge', joined_among_many, 16, 'line',
            most_instructions=10_000),
     Family('explain-rivals', 'judge --explain', rivals_of_the_last_file, 8128, 'belief', rule=1),
+    Family('explain-rivals-by-files', 'judge --explain', rivals_by_files, 8128, 'belief', rule=1),
+    Family('draw-too-many', 'draw', too_many_to_draw, 8128, 'belief', fault='fault picture TooMany'),
     Family('explain-facts-of-many', 'judge --explain', facts_of_many, 16384, 'line', most_instructions=1_000),
 ]

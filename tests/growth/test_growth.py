@@ -10,18 +10,19 @@ import math
 import re
 import subprocess
 from pathlib import Path
-from typing import NamedTuple, Sequence
+from typing import IO, NamedTuple, Sequence, Union
 
 import pytest
 
 from tests import needs
-from tests.growth.family import LINEAR, Family
+from tests.growth.clients import CLIENTS
+from tests.growth.family import Family
 from tests.growth.records import RECORDS
 from tests.growth.schedules import SCHEDULES
 from tests.paths import built_program
 
 pytestmark = [pytest.mark.long, needs.program("valgrind"), needs.program("time")]
-FAMILIES = [*RECORDS, *SCHEDULES]
+FAMILIES = [*RECORDS, *SCHEDULES, *CLIENTS]
 
 
 class Sample(NamedTuple):
@@ -33,22 +34,27 @@ class Sample(NamedTuple):
     memory: int
 
 
-def run(command: Sequence[str], status: int) -> "subprocess.CompletedProcess[str]":
-    done = subprocess.run(command, stdin=subprocess.DEVNULL, capture_output=True, text=True, check=False)
-    assert done.returncode == status, (command, done.stderr or done.stdout)
+def run(command: Sequence[str], family: Family, path: Path) -> "subprocess.CompletedProcess[str]":
+    """Runs the command, which ends with the program's, on the input at the path."""
+    given = [*command, built_program(), *family.command.split()]
+    if not family.is_spoken:
+        given.append(str(path))
+    with path.open(encoding="ascii") as lines:
+        source: Union[IO[str], int] = lines if family.is_spoken else subprocess.DEVNULL
+        done = subprocess.run(given, stdin=source, capture_output=True, text=True, check=False)
+    assert done.returncode == family.status, (given, done.stderr or done.stdout)
     return done
 
 
 def measured(family: Family, size: int, folder: Path, setup: int = 0) -> Sample:
     path, note = folder / "input", folder / "peak"
     path.write_text(family.make(size), encoding="ascii")
-    command = [built_program(), *family.command.split(), str(path)]
-    done = run(["valgrind", "--tool=callgrind", "--callgrind-out-file=/dev/null", *command], family.status)
+    done = run(["valgrind", "--tool=callgrind", "--callgrind-out-file=/dev/null"], family, path)
     counted = re.search(r"Collected : (\d+)", done.stderr)
     assert counted, done.stderr
-    family.check_answer(size, done.stdout)
+    family.check_answer(size, done.stdout, done.stderr)
     # (a child of Python itself would count the memory of Python, from before it became the program)
-    run(["/usr/bin/time", "-f", "%M", "-o", str(note), *command], family.status)
+    run(["/usr/bin/time", "-f", "%M", "-o", str(note)], family, path)
     memory = int(note.read_text(encoding="ascii").split()[-1]) * 1024
     return Sample(size, path.stat().st_size, max(1, int(counted[1]) - setup), memory)
 
@@ -72,6 +78,6 @@ def test_growth(family: Family, tmp_path: Path, request: pytest.FixtureRequest) 
         print(f"{one.size:>7,} {family.unit}s {one.length:>9,} bytes {cost}, peak of memory {one.memory // 1024:,} KiB")
     before, last = samples[-2:]
     print(f"exponent: {slope(samples[-2:]):.2f} between the last two, {slope(samples):.2f} over all")
-    assert max(slope(samples[-2:]), slope(samples)) <= LINEAR
+    assert max(slope(samples[-2:]), slope(samples)) <= family.most_exponent
     assert family.most_instructions is None or last.cost <= family.most_instructions * last.size
     assert family.most_memory is None or last.memory - before.memory < family.most_memory * (last.size - before.size)

@@ -4,8 +4,10 @@ pub mod Linked
 pub mod NewClient
 pub mod Numbered
 pub mod Places
+pub mod Queued
 pub mod Replied
 pub mod Rising
+pub mod Shows
 pub mod Sound
 pub mod Steps
 pub mod Turned

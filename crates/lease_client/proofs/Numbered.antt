@@ -29,7 +29,7 @@ taken_out number [] other = (refl, refl)
 taken_out number (write ∷ writes) other = step number write writes other (is_numbered number write) (place_in number writes) refl
     (taken_out number writes other)
 
-abbrev nobody : Pending
+abbrev pub nobody : Pending
 nobody = record { number = 0; patch = record { offset = 0; bytes = [] }; buffered = false }
 
 pub none_numbered : (number : ℕ) (writes : List Pending) → position (is_numbered number) writes ≡ None

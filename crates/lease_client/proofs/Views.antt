@@ -1,7 +1,6 @@
 -- A file with the unanswered writes.
-use Rattle.lease_laws.proofs.Words.{◌++◌, ◌-◌, ◌∙◌, ◌∷◌, ◌≡◌, List, Pending, ℕ, [], ap, arith, drop, length, length-drop, patch}
-use Rattle.lease_laws.proofs.Words.{patches, patches_of, refl, sym, take}
-use Rattle.std.proofs.lemmas.List.{take_all, take-append-drop}
+use Rattle.lease_laws.proofs.Words.{◌++◌, ◌∷◌, ◌≡◌, List, Pending, ℕ, [], arith, patch}
+use Rattle.lease_laws.proofs.Words.{Settlement, map, patches, patches_of, refl, request_written, settled_as, write_requests}
 
 -- the sent writes first, and then those that aren't sent
 pub patched_on : (base : List ℕ) (sent unsent : List Pending)
@@ -9,11 +8,13 @@ pub patched_on : (base : List ℕ) (sent unsent : List Pending)
 patched_on base [] unsent = refl
 patched_on base (write ∷ sent) unsent = patched_on (patch base write.patch) sent unsent
 
--- the first of the writes, and then the rest
-pub patched_rest : (base : List ℕ) (writes : List Pending) (k n : ℕ) → n ≡ length writes - k
-    → patches (patches base (patches_of (take k writes))) (patches_of (take n (drop k writes))) ≡ patches base (patches_of writes)
-patched_rest base writes k n rest =
-    ap (λ (ws : List Pending). patches (patches base (patches_of (take k writes))) (patches_of ws))
-    (take_all n (drop k writes) (omega (arith, rest, length-drop {A = Pending})))
-    ∙ (sym (patched_on base (take k writes) (drop k writes))
-    ∙ ap (λ (ws : List Pending). patches base (patches_of ws)) (take-append-drop k writes))
+-- two parts of writes, as requests and as settled
+pub requested_more : (file_id : ℕ) (first rest : List Pending) → map request_written (write_requests file_id (first ++ rest))
+    ≡ map request_written (write_requests file_id first) ++ map request_written (write_requests file_id rest)
+requested_more file_id [] rest = refl
+requested_more file_id (write ∷ first) rest = let e = requested_more file_id first rest in grind (arith, e)
+
+pub settled_more : (outcome : Settlement) (first rest : List Pending)
+    → settled_as outcome (first ++ rest) ≡ settled_as outcome first ++ settled_as outcome rest
+settled_more outcome [] rest = refl
+settled_more outcome (write ∷ first) rest = let e = settled_more outcome first rest in grind (arith, e)

@@ -13,3 +13,4 @@ pub mod Searches
 pub mod Steps
 pub mod Terms
 pub mod Turns
+pub mod Writes

@@ -1,9 +1,11 @@
 ghost use Rattle.std.specs.Prelude.{◌≡◌, []};
 ghost use Rattle.lease_state.specs.State.{state_of};
 ghost use Rattle.lease_model.specs.client.State.{closed_entry, live_entry, belief_of};
+ghost use Rattle.lease_client.specs.Entries.{phase_of};
 
 use crate::entry::handles::Handles;
 use crate::file::File;
+use crate::writes::queue::Writes;
 use lease_state::{Access, FileId, LeaseState, Patch, Share};
 use std::alloc::Global;
 use std::marker::Model;
@@ -96,7 +98,7 @@ pub struct Parted {
     pub share: Share,
     pub handles: u32,
     /// The buffered writes that weren't answered, in order.
-    pub writes: Vec<Pending>,
+    pub writes: Writes,
 }
 
 impl Model for Parted {
@@ -109,7 +111,7 @@ impl Model for Parted {
       access = parted.access;
       share = parted.share;
       handles = parted.handles;
-      writes = parted.writes.items;
+      writes = parted.writes;
     } };
 }
 
@@ -130,7 +132,7 @@ pub enum Phase {
 #[derive(Debug, Drop)]
 pub struct Entry {
     pub phase: Phase,
-    pub sent: Vec<Pending>,
+    pub sent: Writes,
 }
 
 impl Model for Entry {
@@ -139,7 +141,7 @@ impl Model for Entry {
 
     ghost Value = { model.Entry };
 
-    ghost view = { λ entry. record { phase = phase_of entry.phase; sent = entry.sent.items } };
+    ghost view = { λ entry. record { phase = phase_of entry.phase; sent = entry.sent } };
 }
 
 impl Entry {
@@ -149,13 +151,13 @@ impl Entry {
     {
         Entry {
             phase: Phase::Closed,
-            sent: Vec::new(alloc),
+            sent: Writes::new(alloc),
         }
     }
 
     /// The entry of a file that isn't open, with its sent, unanswered writes.
-    pub fn shut(sent: Vec<Pending>) -> Entry
-        ensures { result ≡ closed_entry sent.items }
+    pub fn shut(sent: Writes) -> Entry
+        ensures { result ≡ closed_entry sent }
     {
         Entry {
             phase: Phase::Closed,
@@ -164,8 +166,8 @@ impl Entry {
     }
 
     /// The entry of a live open, with its sent, unanswered writes.
-    pub fn live(live: Live, sent: Vec<Pending>) -> Entry
-        ensures { result ≡ live_entry live sent.items }
+    pub fn live(live: Live, sent: Writes) -> Entry
+        ensures { result ≡ live_entry live sent }
     {
         Entry {
             phase: Phase::Live(live),
@@ -182,6 +184,13 @@ impl Entry {
         mem::replace(self, Entry::closed(alloc))
     }
 
+    /// The entry that was taken out of this place is put back.
+    pub fn put_back(&mut self, phase: Phase, sent: Writes)
+        ensures { self.new ≡ record { phase = phase_of phase; sent = sent } }
+    {
+        *self = Entry { phase, sent };
+    }
+
     /// What the client believes of the lease: nothing is cached where the entry isn't live.
     pub fn belief(&self) -> LeaseState
         ensures { state_of result ≡ belief_of self.now }
@@ -194,6 +203,6 @@ impl Entry {
 
     /// The allocator of the entry.
     pub fn alloc(&self) -> Global {
-        *self.sent.allocator()
+        self.sent.alloc()
     }
 }

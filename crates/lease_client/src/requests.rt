@@ -9,6 +9,7 @@ ghost use Rattle.lease_model.specs.client.Requests as rules;
 ghost use Rattle.lease_client.specs.Terms.{terms_of};
 
 use crate::entry::{Parted, Pending};
+use crate::writes::queue::Writes;
 use lease_state::{Access, Bytes, FileId, FileNo, LeaseKey, LeaseState, Memory, Request, Share};
 use lease_wire::{Acknowledgment, CreateAsk, write_create_ask};
 use std::alloc::Global;
@@ -43,7 +44,21 @@ fn write_request(file_id: FileId, write: &Pending) -> Result<Request, Memory>
 /// # Errors
 ///
 /// `Memory` where there is none left for the requests.
+#[tactic(auto, using(crate::proofs::Views::requested_more))]
 pub fn push_writes(
+    requests: &mut Vec<Request>,
+    file_id: FileId,
+    writes: &Writes,
+) -> Result<(), Memory>
+    ensures { OnOk result (requests.new.items
+        ≡ requests.old.items ++ map request_written (write_requests file_id.0 writes.now)) }
+{
+    let (first, rest) = writes.as_slices();
+    push_each_write(requests, file_id, first)?;
+    push_each_write(requests, file_id, rest)
+}
+
+fn push_each_write(
     requests: &mut Vec<Request>,
     file_id: FileId,
     writes: &[Pending],

@@ -1,5 +1,5 @@
 ghost use Rattle.std.specs.Prelude.{◌≡◌, IfOk, map, find, Some, ◌∷◌, [], OnOk, if◌then◌else◌, ◌&&◌, ◌==◌};
-ghost use Rattle.std.specs.List.{list_any, position};
+ghost use Rattle.std.specs.List.{list_any};
 ghost use Rattle.lease_state.specs.Content.{patch};
 ghost use Rattle.lease_model.specs.client.Taken.{read_done_turn, not_read_turn, not_written_turn, is_file_closed};
 ghost use Rattle.lease_model.specs.client.State.{live_entry};
@@ -12,7 +12,9 @@ use crate::entry::turn::{Given, Turn};
 use crate::entry::{Entry, Live, Pending, Phase};
 use crate::values::command::Answer;
 use crate::values::note::{Note, Settlement};
-use crate::writes::{push_settled, view};
+use crate::values::shared_bytes::SharedBytes;
+use crate::writes::push_settled;
+use crate::writes::queue::Writes;
 use lease_state::{Bytes, FileId, Memory, Status};
 
 impl Entry {
@@ -30,7 +32,7 @@ impl Entry {
     pub fn has_sent(&self, number: u64) -> bool
         ensures { result ≡ list_any (rules.is_numbered number) self.now.sent }
     {
-        self.sent.iter().any(|write| write.number == number)
+        self.sent.has(number)
     }
 
     /// A Read is answered with the file (MS-SMB2 3.2.5.11).
@@ -45,7 +47,7 @@ impl Entry {
             given.begin(Answer::Quiet);
             return Ok(());
         };
-        live.read_done(&self.sent, bytes, given)
+        live.read_done(&mut self.sent, bytes, given)
     }
 
     /// A Read is refused.
@@ -63,7 +65,7 @@ impl Entry {
                 Ok(())
             }
             phase => {
-                *self = Entry { phase, sent };
+                self.put_back(phase, sent);
                 given.begin(Answer::Quiet);
                 Ok(())
             }
@@ -80,7 +82,7 @@ impl Entry {
         ensures { OnOk result (turned_to self.new given.new
             ≡ turn_written (rules.write_done_turn number self.old)) }
     {
-        let write = take_numbered(&mut self.sent, number);
+        let write = self.sent.take_numbered(number);
         put_write(&mut self.phase, &write)?;
         given.begin(Answer::Quiet);
         given.notes.push(Note::Settled(number, Settlement::Done))?;
@@ -103,8 +105,8 @@ impl Entry {
             ≡ turn_written (not_written_turn file_id.0 number status self.old)) }
     {
         let Entry { phase, mut sent } = self.take();
-        let alloc = *sent.allocator();
-        let _write = take_numbered(&mut sent, number);
+        let alloc = sent.alloc();
+        let _write = sent.take_numbered(number);
         let mut notes = Vec::new(alloc);
         notes.push(Note::Settled(number, Settlement::Failed))?;
         match phase {
@@ -114,32 +116,13 @@ impl Entry {
                 Ok(())
             }
             phase => {
-                *self = Entry { phase, sent };
+                self.put_back(phase, sent);
                 given.begin(Answer::Failed(status));
                 given.notes = notes;
                 Ok(())
             }
         }
     }
-}
-
-// Takes the first write of this number out of the list.
-#[inline(always)]
-fn take_numbered(sent: &mut Vec<Pending>, number: u64) -> Option<Pending>
-    ensures found { result ≡ find (rules.is_numbered number) sent.old.items }
-    ensures rest { sent.new.items ≡ rules.sent_without number sent.old.items }
-{
-    match place_of(sent, number) {
-        Some(place) => Some(sent.remove(place)),
-        None => None,
-    }
-}
-
-// Where the first write of this number is.
-fn place_of(sent: &[Pending], number: u64) -> Option<usize>
-    ensures { result ≡ position (rules.is_numbered number) sent.now }
-{
-    sent.iter().position(|write| write.number == number)
 }
 
 // A base, if there is one, has the write from now on.
@@ -162,19 +145,26 @@ impl Live {
 
     // The bytes become the base under R; the application sees its own unanswered writes in them.
     #[tactic(auto)]
-    fn read_done(&mut self, sent: &[Pending], bytes: Bytes, given: &mut Given) -> Result<(), Memory>
-        ensures { OnOk result (turned_to (live_entry self.new sent.now) given.new
-            ≡ turn_written (rules.read_turn self.old sent.now bytes)) }
+    fn read_done(
+        &mut self,
+        sent: &mut Writes,
+        bytes: Bytes,
+        given: &mut Given,
+    ) -> Result<(), Memory>
+        ensures { OnOk result (turned_to (live_entry self.new sent.new) given.new
+            ≡ turn_written (rules.read_turn self.old sent.old bytes)) }
     {
-        let seen = view(&bytes, sent, self.file.unsent())?;
+        let base = SharedBytes::new(bytes)?;
+        let seen = self.file.over(&base, sent)?;
+        let seen = seen.try_copy(sent.alloc())?;
         self.reads = self.reads.saturating_sub(1);
-        self.learn(bytes);
+        self.learn(base);
         given.begin(Answer::Bytes(seen, false));
         Ok(())
     }
 
     // Under R the bytes become the base.
-    fn learn(&mut self, bytes: Bytes)
+    fn learn(&mut self, bytes: SharedBytes)
         ensures { self.new ≡ record self.old {
           base = if self.old.belief.read then Some bytes else self.old.base;
         } }
@@ -187,20 +177,20 @@ impl Live {
     // Another status, or that of another FileId, leaves the open as it is.
     fn not_written(
         self,
-        sent: Vec<Pending>,
+        sent: Writes,
         notes: Vec<Note>,
         file_id: FileId,
         status: Status,
     ) -> Result<Turn, Memory>
         ensures { IfOk result (λ turn. turn ≡ turn_written
             (if is_file_closed status && self.file_id == file_id.0
-            then rules.closed_by_server self sent.items (map note_of notes.items) status
-            else rules.still_open (live_entry self sent.items) (map note_of notes.items) status)) }
+            then rules.closed_by_server self sent (map note_of notes.items) status
+            else rules.still_open (live_entry self sent) (map note_of notes.items) status)) }
     {
         if status == Status::FileClosed && self.file_id == file_id {
             return self.closed_by_server(sent, notes, status);
         }
-        let requests = Vec::new(*sent.allocator());
+        let requests = Vec::new(sent.alloc());
         Ok(Turn {
             entry: Entry::live(self, sent),
             answer: Answer::Failed(status),
@@ -210,11 +200,11 @@ impl Live {
     }
 
     #[tactic(auto, unfolding(lease_model::specs::client::Taken::read_failed_turn))]
-    fn not_read(self, sent: Vec<Pending>, status: Status) -> Result<Turn, Memory>
-        ensures { IfOk result (λ turn. turn ≡ turn_written (rules.read_failed_turn self sent.items status)) }
+    fn not_read(self, sent: Writes, status: Status) -> Result<Turn, Memory>
+        ensures { IfOk result (λ turn. turn ≡ turn_written (rules.read_failed_turn self sent status)) }
     {
         if status == Status::FileClosed {
-            let notes = Vec::new(*sent.allocator());
+            let notes = Vec::new(sent.alloc());
             return self.closed_by_server(sent, notes, status);
         }
         let mut live = self;
@@ -228,11 +218,11 @@ impl Live {
     #[tactic(auto)]
     fn closed_by_server(
         self,
-        sent: Vec<Pending>,
+        sent: Writes,
         notes: Vec<Note>,
         status: Status,
     ) -> Result<Turn, Memory>
-        ensures { IfOk result (λ turn. turn ≡ turn_written (rules.closed_by_server self sent.items
+        ensures { IfOk result (λ turn. turn ≡ turn_written (rules.closed_by_server self sent
             (map note_of notes.items) status)) }
     {
         let mut notes = notes;
@@ -244,7 +234,7 @@ impl Live {
             },
             None => Phase::Closed,
         };
-        let requests = Vec::new(*sent.allocator());
+        let requests = Vec::new(sent.alloc());
         Ok(Turn {
             entry: Entry { phase, sent },
             answer: Answer::Failed(status),

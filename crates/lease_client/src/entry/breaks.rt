@@ -12,10 +12,11 @@ ghost use Rattle.lease_client.specs.Ended.{is_ended_at};
 ghost use Rattle.lease_client.specs.Turns.{turned_to, turn_written};
 
 use crate::entry::turn::Given;
-use crate::entry::{Entry, Live, Pending, Phase};
+use crate::entry::{Entry, Live, Phase};
 use crate::requests;
 use crate::values::command::Answer;
 use crate::values::state::gives_up;
+use crate::writes::queue::Writes;
 use lease_state::{LeaseState, Memory, Request};
 use lease_wire::Notification;
 
@@ -61,11 +62,11 @@ impl Live {
     #[tactic(auto, using(crate::proofs::Written::written_more))]
     pub fn give_up(
         &mut self,
-        sent: &mut Vec<Pending>,
+        sent: &mut Writes,
         answer: Answer,
         given: &mut Given,
     ) -> Result<(), Memory>
-        ensures sent { OnOk result (sent.new.items ≡ sent.old.items ++ self.old.unsent) }
+        ensures sent { OnOk result (sent.new ≡ sent.old ++ self.old.unsent) }
         ensures given { OnOk result (given.new ≡ record {
           answer = answer_of answer;
           requests = map request_written
@@ -84,13 +85,13 @@ impl Live {
     #[tactic(auto, using(crate::proofs::Written::written_more))]
     fn lowered(
         &mut self,
-        sent: &mut Vec<Pending>,
+        sent: &mut Writes,
         notice: &Notification,
         new: LeaseState,
         given: &mut Given,
     ) -> Result<(), Memory>
-        ensures { OnOk result (turned_to (live_entry self.new sent.new.items) given.new
-            ≡ turn_written (rules.belief_lowered self.old sent.old.items (notice_read notice.now) (state_of new))) }
+        ensures { OnOk result (turned_to (live_entry self.new sent.new) given.new
+            ≡ turn_written (rules.belief_lowered self.old sent.old (notice_read notice.now) (state_of new))) }
     {
         given.begin(Answer::Quiet);
         if gives_up(self.belief, new) {
@@ -108,11 +109,11 @@ impl Live {
     /// `Memory` where there is none left for the requests.
     pub fn send_unsent(
         &mut self,
-        sent: &mut Vec<Pending>,
+        sent: &mut Writes,
         requests: &mut Vec<Request>,
     ) -> Result<(), Memory>
         ensures live { OnOk result (self.new ≡ record self.old { unsent = [] }) }
-        ensures sent { OnOk result (sent.new.items ≡ sent.old.items ++ self.old.unsent) }
+        ensures sent { OnOk result (sent.new ≡ sent.old ++ self.old.unsent) }
         ensures requests { OnOk result (requests.new.items
             ≡ requests.old.items ++ map request_written (write_requests self.old.file_id self.old.unsent)) }
     {

@@ -16,6 +16,7 @@ use crate::requests::Terms;
 use crate::values::command::{Answer, Command, Refusal};
 use crate::values::note::Note;
 use crate::values::shared_bytes::SharedBytes;
+use crate::writes::queue::Writes;
 use lease_state::{FileNo, LeaseKey, Memory, Patch, Request};
 
 impl Entry {
@@ -111,7 +112,7 @@ impl Entry {
             given.begin(Answer::Refused(Refusal::NotOpen));
             return Ok(());
         }
-        live.read(&self.sent, file, given)
+        live.read(&mut self.sent, file, given)
     }
 
     /// A Write, which takes the next number of the client (profile).
@@ -177,7 +178,7 @@ impl Live {
 
     // Whether a Close ends the open: the handle is the last one, nothing is unanswered or asked for, and the belief holds no
     // handles.
-    fn is_ended_by_close(&self, sent: &[Pending]) -> bool
+    fn is_ended_by_close(&self, sent: &Writes) -> bool
         ensures { result ≡ is_ended_by_close self.now sent.now }
     {
         self.handles.count() <= 1
@@ -188,7 +189,7 @@ impl Live {
 
     // The last handle stays while something is unanswered, or the entry asks for more. Without it the entry is parked.
     #[tactic(auto, unfolding(lease_model::specs::client::Commanded::close_turn, lease_model::specs::client::Commanded::last_close_turn))]
-    fn close(&mut self, sent: &[Pending], given: &mut Given)
+    fn close(&mut self, sent: &Writes, given: &mut Given)
         requires { is_ended_by_close self.old sent.now ≡ false }
         ensures { turned_to (live_entry self.new sent.now) given.new
             ≡ turn_written (rules.close_turn self.old sent.now) }
@@ -204,7 +205,7 @@ impl Live {
         }
     }
 
-    fn has_unanswered(&self, sent: &[Pending]) -> bool
+    fn has_unanswered(&self, sent: &Writes) -> bool
         ensures { result ≡ has_unanswered self.now sent.now }
     {
         self.reads != 0 || !sent.is_empty()
@@ -212,10 +213,10 @@ impl Live {
 
     // A Read is answered from the cache, or sent.
     #[tactic(auto, unfolding(lease_model::specs::client::Commanded::live_read_turn))]
-    fn read(&mut self, sent: &[Pending], file: FileNo, given: &mut Given) -> Result<(), Memory>
-        ensures turn { OnOk result (turned_to (live_entry self.new sent.now) given.new
-            ≡ turn_written (rules.live_read_turn file.0 self.old sent.now)) }
-        ensures refused { rules.is_refused (rules.live_read_turn file.0 self.old sent.now).answer ≡ true
+    fn read(&mut self, sent: &mut Writes, file: FileNo, given: &mut Given) -> Result<(), Memory>
+        ensures turn { OnOk result (turned_to (live_entry self.new sent.new) given.new
+            ≡ turn_written (rules.live_read_turn file.0 self.old sent.old)) }
+        ensures refused { rules.is_refused (rules.live_read_turn file.0 self.old sent.old).answer ≡ true
             → IsOk result }
     {
         if !self.access.reads() {
@@ -257,17 +258,17 @@ impl Live {
     #[tactic(auto, unfolding(lease_model::specs::client::Commanded::write_turn, lease_model::specs::values::Limits::last_write_number))]
     fn write(
         &mut self,
-        sent: &mut Vec<Pending>,
+        sent: &mut Writes,
         file: FileNo,
         last_number: &mut u64,
         patch: Patch,
         given: &mut Given,
     ) -> Result<(), Memory>
-        ensures turn { OnOk result (turned_to (live_entry self.new sent.new.items) given.new
-            ≡ turn_written (rules.write_turn file.0 self.old sent.old.items last_number.old patch)) }
+        ensures turn { OnOk result (turned_to (live_entry self.new sent.new) given.new
+            ≡ turn_written (rules.write_turn file.0 self.old sent.old last_number.old patch)) }
         ensures number { OnOk result (last_number.new
-            ≡ rules.number_after (rules.write_turn file.0 self.old sent.old.items last_number.old patch) last_number.old) }
-        ensures refused { rules.is_refused (rules.write_turn file.0 self.old sent.old.items last_number.old patch).answer
+            ≡ rules.number_after (rules.write_turn file.0 self.old sent.old last_number.old patch) last_number.old) }
+        ensures refused { rules.is_refused (rules.write_turn file.0 self.old sent.old last_number.old patch).answer
             ≡ true → IsOk result }
     {
         if !self.access.writes() {
@@ -290,15 +291,15 @@ impl Live {
     #[tactic(auto, unfolding(lease_model::specs::client::Commanded::taken_turn))]
     fn take_write(
         &mut self,
-        sent: &mut Vec<Pending>,
+        sent: &mut Writes,
         file: FileNo,
         number: u64,
         patch: Patch,
         given: &mut Given,
     ) -> Result<(), Memory>
-        ensures turn { OnOk result (turned_to (live_entry self.new sent.new.items) given.new
-            ≡ turn_written (rules.taken_turn file.0 self.old sent.old.items number patch)) }
-        ensures taken { rules.is_refused (rules.taken_turn file.0 self.old sent.old.items number patch).answer ≡ false }
+        ensures turn { OnOk result (turned_to (live_entry self.new sent.new) given.new
+            ≡ turn_written (rules.taken_turn file.0 self.old sent.old number patch)) }
+        ensures taken { rules.is_refused (rules.taken_turn file.0 self.old sent.old number patch).answer ≡ false }
     {
         if self.belief.caches_writes() {
             self.buffer_write(sent, file, number, patch, given)
@@ -310,15 +311,15 @@ impl Live {
     #[tactic(auto, unfolding(lease_model::specs::client::Commanded::buffered_turn))]
     fn buffer_write(
         &mut self,
-        sent: &mut Vec<Pending>,
+        sent: &mut Writes,
         file: FileNo,
         number: u64,
         patch: Patch,
         given: &mut Given,
     ) -> Result<(), Memory>
-        ensures turn { OnOk result (turned_to (live_entry self.new sent.new.items) given.new
-            ≡ turn_written (rules.buffered_turn file.0 self.old sent.old.items number patch)) }
-        ensures taken { rules.is_refused (rules.buffered_turn file.0 self.old sent.old.items number patch).answer
+        ensures turn { OnOk result (turned_to (live_entry self.new sent.new) given.new
+            ≡ turn_written (rules.buffered_turn file.0 self.old sent.old number patch)) }
+        ensures taken { rules.is_refused (rules.buffered_turn file.0 self.old sent.old number patch).answer
             ≡ false }
     {
         given.begin(Answer::Done);
@@ -334,15 +335,15 @@ impl Live {
     #[tactic(auto, unfolding(lease_model::specs::client::Commanded::through_turn))]
     fn send_write(
         &self,
-        sent: &mut Vec<Pending>,
+        sent: &mut Writes,
         file: FileNo,
         number: u64,
         patch: Patch,
         given: &mut Given,
     ) -> Result<(), Memory>
-        ensures turn { OnOk result (turned_to (live_entry self.now sent.new.items) given.new
-            ≡ turn_written (rules.through_turn file.0 self.now sent.old.items number patch)) }
-        ensures taken { rules.is_refused (rules.through_turn file.0 self.now sent.old.items number patch).answer
+        ensures turn { OnOk result (turned_to (live_entry self.now sent.new) given.new
+            ≡ turn_written (rules.through_turn file.0 self.now sent.old number patch)) }
+        ensures taken { rules.is_refused (rules.through_turn file.0 self.now sent.old number patch).answer
             ≡ false }
     {
         given.begin(Answer::Waiting);
@@ -363,10 +364,10 @@ impl Live {
     }
 
     #[tactic(auto, unfolding(lease_model::specs::client::Commanded::flush_turn))]
-    fn flush(&mut self, sent: &mut Vec<Pending>, given: &mut Given) -> Result<(), Memory>
-        ensures turn { OnOk result (turned_to (live_entry self.new sent.new.items) given.new
-            ≡ turn_written (rules.flush_turn self.old sent.old.items)) }
-        ensures refused { rules.is_refused (rules.flush_turn self.old sent.old.items).answer ≡ true → IsOk result }
+    fn flush(&mut self, sent: &mut Writes, given: &mut Given) -> Result<(), Memory>
+        ensures turn { OnOk result (turned_to (live_entry self.new sent.new) given.new
+            ≡ turn_written (rules.flush_turn self.old sent.old)) }
+        ensures refused { rules.is_refused (rules.flush_turn self.old sent.old).answer ≡ true → IsOk result }
     {
         let answer = if self.file.unsent().is_empty() {
             Answer::Done

@@ -1,15 +1,15 @@
-ghost use Rattle.std.specs.Prelude.{◌≡◌, ◌++◌, IfOk, OnOk, filter};
-ghost use Rattle.lease_model.specs.values.Lists.{without};
+ghost use Rattle.std.specs.Prelude.{◌≡◌, ◌++◌, IfOk, OnOk};
 ghost use Rattle.lease_model.specs.client.Connection.{connected_turn, reconnecting_turn};
 ghost use Rattle.lease_model.specs.client.Connection as rules;
 ghost use Rattle.lease_client.specs.Turns.{turned_to, turn_written};
 
 use crate::entry::turn::{Given, Turn};
-use crate::entry::{Entry, Live, Parted, Pending, Phase};
+use crate::entry::{Entry, Live, Parted, Phase};
 use crate::requests;
 use crate::values::command::Answer;
 use crate::values::note::Settlement;
 use crate::writes::push_settled;
+use crate::writes::queue::Writes;
 use lease_state::{FileNo, LeaseKey, Memory};
 
 impl Entry {
@@ -60,7 +60,7 @@ impl Entry {
                 Ok(())
             }
             phase => {
-                *self = Entry { phase, sent };
+                self.put_back(phase, sent);
                 given.begin(Answer::Quiet);
                 Ok(())
             }
@@ -69,10 +69,10 @@ impl Entry {
 }
 
 // An entry that doesn't outlive its connection: of its writes nobody knows.
-fn ended(unanswered: Vec<Pending>) -> Result<Turn, Memory>
-    ensures { IfOk result (λ turn. turn ≡ turn_written (rules.ended_turn unanswered.items)) }
+fn ended(unanswered: Writes) -> Result<Turn, Memory>
+    ensures { IfOk result (λ turn. turn ≡ turn_written (rules.ended_turn unanswered)) }
 {
-    let alloc = *unanswered.allocator();
+    let alloc = unanswered.alloc();
     let mut notes = Vec::new(alloc);
     push_settled(&mut notes, Settlement::Unknown, &unanswered)?;
     Ok(Turn {
@@ -85,16 +85,16 @@ fn ended(unanswered: Vec<Pending>) -> Result<Turn, Memory>
 
 impl Parted {
     // The open waits for the next connection, and nobody knows of the other writes.
-    fn offline(self, unanswered: Vec<Pending>) -> Result<Turn, Memory>
-        ensures { IfOk result (λ turn. turn ≡ turn_written (rules.offline_turn self unanswered.items)) }
+    fn offline(self, unanswered: Writes) -> Result<Turn, Memory>
+        ensures { IfOk result (λ turn. turn ≡ turn_written (rules.offline_turn self unanswered)) }
     {
-        let alloc = *unanswered.allocator();
+        let alloc = unanswered.alloc();
         let mut notes = Vec::new(alloc);
         push_settled(&mut notes, Settlement::Unknown, &unanswered)?;
         Ok(Turn {
             entry: Entry {
                 phase: Phase::Offline(self),
-                sent: Vec::new(alloc),
+                sent: Writes::new(alloc),
             },
             answer: Answer::Quiet,
             requests: Vec::new(alloc),
@@ -102,10 +102,10 @@ impl Parted {
         })
     }
 
-    fn reconnecting(self, sent: Vec<Pending>, file: FileNo, key: LeaseKey) -> Result<Turn, Memory>
-        ensures { IfOk result (λ turn. turn ≡ turn_written (reconnecting_turn key.0 file.0 self sent.items)) }
+    fn reconnecting(self, sent: Writes, file: FileNo, key: LeaseKey) -> Result<Turn, Memory>
+        ensures { IfOk result (λ turn. turn ≡ turn_written (reconnecting_turn key.0 file.0 self sent)) }
     {
-        let alloc = *sent.allocator();
+        let alloc = sent.alloc();
         let mut requests = Vec::new(alloc);
         requests.push(requests::connect_again(alloc, file, key, &self)?)?;
         Ok(Turn {
@@ -123,10 +123,10 @@ impl Parted {
 impl Live {
     // A durable open goes offline. Under W it keeps its buffered writes, those sent and those unsent.
     #[tactic(auto, unfolding(lease_model::specs::client::Connection::live_noticed, lease_model::specs::client::Connection::live_parted))]
-    fn noticed(self, sent: Vec<Pending>) -> Result<Turn, Memory>
-        ensures { IfOk result (λ turn. turn ≡ turn_written (rules.live_noticed self sent.items)) }
+    fn noticed(self, sent: Writes) -> Result<Turn, Memory>
+        ensures { IfOk result (λ turn. turn ≡ turn_written (rules.live_noticed self sent)) }
     {
-        let alloc = *sent.allocator();
+        let alloc = sent.alloc();
         let Live {
             file_id,
             access,
@@ -144,9 +144,9 @@ impl Live {
             return ended(unanswered);
         }
         let (writes, others) = if belief.caches_writes() {
-            split_buffered(unanswered)?
+            unanswered.split_buffered()?
         } else {
-            (Vec::new(alloc), unanswered)
+            (Writes::new(alloc), unanswered)
         };
         let parted = Parted {
             file_id,
@@ -157,23 +157,4 @@ impl Live {
         };
         parted.offline(others)
     }
-}
-
-// The buffered writes, and the others.
-// docs/DECISIONS.md: "Writes that are kept at a notice".
-fn split_buffered(writes: Vec<Pending>) -> Result<(Vec<Pending>, Vec<Pending>), Memory>
-    ensures buffered { IfOk result (λ r. r.0.items ≡ filter (λ write. write.buffered) writes.items) }
-    ensures others { IfOk result (λ r. r.1.items ≡ without (λ write. write.buffered) writes.items) }
-{
-    let alloc = *writes.allocator();
-    let mut buffered = Vec::new(alloc);
-    let mut others = Vec::new(alloc);
-    for write in writes {
-        if write.buffered {
-            buffered.push(write)?;
-        } else {
-            others.push(write)?;
-        }
-    }
-    Ok((buffered, others))
 }

@@ -10,12 +10,13 @@ ghost use Rattle.lease_client.specs.Turns.{turned_to, turn_written};
 
 use crate::entry::handles::Handles;
 use crate::entry::turn::{Given, Turn};
-use crate::entry::{Asked, Entry, Live, Parted, Pending, Phase};
+use crate::entry::{Asked, Entry, Live, Parted, Phase};
 use crate::file::File;
 use crate::requests;
 use crate::values::command::Answer;
 use crate::values::note::Settlement;
 use crate::writes::push_settled;
+use crate::writes::queue::Writes;
 use lease_state::{FileId, LeaseKey, LeaseState, Memory, Status};
 use lease_wire::CreateAnswer;
 
@@ -57,7 +58,7 @@ impl Entry {
                 Ok(())
             }
             phase => {
-                *self = Entry { phase, sent };
+                self.put_back(phase, sent);
                 given.begin(Answer::Quiet);
                 Ok(())
             }
@@ -88,7 +89,7 @@ impl Entry {
                 Ok(())
             }
             phase => {
-                *self = Entry { phase, sent };
+                self.put_back(phase, sent);
                 given.begin(Answer::Quiet);
                 Ok(())
             }
@@ -127,11 +128,11 @@ fn promoted_belief(key: LeaseKey, belief: LeaseState, lease: Granted) -> LeaseSt
 fn opened(
     file_id: FileId,
     asked: Asked,
-    sent: Vec<Pending>,
+    sent: Writes,
     answer: &CreateAnswer,
     belief: LeaseState,
 ) -> Turn
-    ensures { result ≡ turn_written (rules.opened_turn file_id.0 asked.access asked.share sent.items
+    ensures { result ≡ turn_written (rules.opened_turn file_id.0 asked.access asked.share sent
         (answer_read answer.now) (state_of belief)) }
 {
     let live = Live {
@@ -142,7 +143,7 @@ fn opened(
         belief,
         handles: Handles::of(1),
         reads: 0,
-        file: File::unknown(Vec::new(*sent.allocator())),
+        file: File::unknown(Writes::new(sent.alloc())),
     };
     Turn::still(Entry::live(live, sent), Answer::Done)
 }
@@ -152,11 +153,11 @@ impl Parted {
     // given up.
     // docs/DECISIONS.md: "A reconnect keeps its own FileId".
     #[tactic(auto)]
-    fn connected(self, sent: Vec<Pending>, belief: LeaseState) -> Result<Turn, Memory>
+    fn connected(self, sent: Writes, belief: LeaseState) -> Result<Turn, Memory>
         ensures { IfOk result (λ turn.
-            turn ≡ turn_written (rules.reconnected_turn self sent.items (state_of belief))) }
+            turn ≡ turn_written (rules.reconnected_turn self sent (state_of belief))) }
     {
-        let alloc = *sent.allocator();
+        let alloc = sent.alloc();
         let mut unsent = self.writes;
         let mut notes = Vec::new(alloc);
         if !belief.caches_writes() {
@@ -182,11 +183,11 @@ impl Parted {
     }
 
     // The open can't be connected again, and the kept writes are given up.
-    fn given_up(self, sent: Vec<Pending>, status: Status) -> Result<Turn, Memory>
+    fn given_up(self, sent: Writes, status: Status) -> Result<Turn, Memory>
         ensures { IfOk result (λ turn.
-            turn ≡ turn_written (rules.failed_turn status sent.items self.writes)) }
+            turn ≡ turn_written (rules.failed_turn status sent self.writes)) }
     {
-        let alloc = *sent.allocator();
+        let alloc = sent.alloc();
         let mut notes = Vec::new(alloc);
         push_settled(&mut notes, Settlement::Lost, &self.writes)?;
         Ok(Turn {
@@ -202,12 +203,12 @@ impl Live {
     // A live entry is answered only where it asked for more.
     fn created(
         self,
-        sent: Vec<Pending>,
+        sent: Writes,
         key: LeaseKey,
         file_id: FileId,
         answer: &CreateAnswer,
     ) -> Result<Turn, Memory>
-        ensures { IfOk result (λ turn. turn ≡ turn_written (rules.created_for key.0 self sent.items file_id.0
+        ensures { IfOk result (λ turn. turn ≡ turn_written (rules.created_for key.0 self sent file_id.0
             (answer_read answer.now) self.asking)) }
     {
         match self.handles.asking() {
@@ -224,17 +225,17 @@ impl Live {
     #[tactic(auto)]
     fn promoted(
         self,
-        sent: Vec<Pending>,
+        sent: Writes,
         asked: Asked,
         file_id: FileId,
         durable: bool,
         belief: LeaseState,
     ) -> Result<Turn, Memory>
         requires { self.asking ≡ Some asked }
-        ensures { IfOk result (λ turn. turn ≡ turn_written (rules.promoted_turn self sent.items asked
+        ensures { IfOk result (λ turn. turn ≡ turn_written (rules.promoted_turn self sent asked
             file_id.0 durable (state_of belief))) }
     {
-        let alloc = *sent.allocator();
+        let alloc = sent.alloc();
         let mut live = self;
         let mut requests = Vec::new(alloc);
         requests.push(requests::close(live.file_id))?;
@@ -258,8 +259,8 @@ impl Live {
     }
 
     // An entry that asked for more goes on without.
-    fn not_created(self, sent: Vec<Pending>, status: Status) -> Turn
-        ensures { result ≡ turn_written (rules.not_created_for self sent.items status self.asking) }
+    fn not_created(self, sent: Writes, status: Status) -> Turn
+        ensures { result ≡ turn_written (rules.not_created_for self sent status self.asking) }
     {
         let mut live = self;
         match live.handles.asking() {

@@ -1,9 +1,10 @@
 ghost use Rattle.std.specs.Prelude.{◌≡◌, ◌↔◌, IfOk, nat_eq};
+ghost use Rattle.lease_state.specs.Content.{patch};
 ghost use Rattle.std.specs.Cmp.{partial_equiv_from_equiv};
 ghost use Rattle.std.specs.Cmp.Lexicographic.{pointwise, nat_list_eq_equiv};
 
 use bytes::Bytes as Shared;
-use lease_state::{Bytes, Memory};
+use lease_state::{Bytes, Memory, Patch};
 use std::alloc::Global;
 use std::convert::AsSlice;
 use std::marker::Model;
@@ -55,6 +56,32 @@ impl SharedBytes {
         ensures { result.now ≡ self.now }
     {
         self.bytes.as_slice()
+    }
+
+    /// The bytes with a patch. Where no other value holds them, none of them is copied.
+    ///
+    /// # Errors
+    ///
+    /// `Memory` where there is none left.
+    pub(crate) fn patched(self, alloc: Global, change: &Patch) -> Result<SharedBytes, Memory>
+        ensures { IfOk result (λ shared. shared ≡ patch self change.now) }
+    {
+        let mut bytes = self.into_vec(alloc)?;
+        change.apply(&mut bytes)?;
+        SharedBytes::new(Bytes::new(bytes))
+    }
+
+    // The bytes as a vector, which is a copy where another value holds them too.
+    fn into_vec(self, alloc: Global) -> Result<Vec<u8>, Memory>
+        ensures { IfOk result (λ bytes. bytes.items ≡ self) }
+    {
+        match self.bytes.try_into_mut() {
+            Ok(bytes) => match bytes.into_vec() {
+                Ok(bytes) => Ok(bytes),
+                Err(_) => Err(Memory),
+            },
+            Err(bytes) => Ok(Vec::from_slice(alloc, bytes.as_slice())?),
+        }
     }
 
     /// Equal bytes in memory of their own.

@@ -1,5 +1,5 @@
 use Rattle.lease_laws.proofs.Words.{◌++◌, ◌≡◌, map, request_written, take, write_requests}
-use Rattle.lease_client.proofs.requests.push_writes.Given as goal
+use Rattle.lease_client.proofs.requests.push_each_write.Given as goal
 
 abbrev pub invariant-loop-write : goal.invariant-loop-write
 invariant-loop-write l = l.requests.items
