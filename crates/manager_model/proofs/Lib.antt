@@ -1,4 +1,5 @@
 mod Computes
+mod answers
 mod bytes
 mod ends
 mod hosts

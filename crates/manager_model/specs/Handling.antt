@@ -5,7 +5,7 @@ use Rattle.std.specs.Prelude.{◌&&◌}
 use Rattle.std.specs.Prelude.{Result, Ok, Err}
 use Rattle.lease_state.specs.declared.status.Status.{Status}
 use Rattle.lease_model.specs.messages.Requests.{FileRequest, LeaseOf}
-use Rattle.std.specs.Prelude.{Some}
+use Rattle.std.specs.Prelude.{Option}
 use Rattle.lease_model.specs.server.Acknowledge.{acknowledged}
 use Rattle.lease_model.specs.server.Answers.{concluded}
 use Rattle.lease_model.specs.server.Attempt.{Outcome, tried}
@@ -190,10 +190,11 @@ unfoldable pub receive : Manager → ℕ → ℕ → FileRequest → Handling
 receive manager client tag request =
     if manager.server.present client then arrived tag client request (handling manager) else handling manager
 
-unfoldable pub acknowledge : Manager → ℕ → LeaseOf → Handling
+-- An acknowledgment comes, or one that can't be read.
+unfoldable pub acknowledge : Manager → ℕ → Option LeaseOf → Handling
 acknowledge manager client given =
     if manager.server.present client
-    then all_passes (gone_on 0 (acknowledged client (Some given) (begun manager.server)) (handling manager))
+    then all_passes (gone_on 0 (acknowledged client given (begun manager.server)) (handling manager))
     else handling manager
 
 unfoldable pub join : Manager → ℕ → Handling

@@ -110,7 +110,7 @@ pub record AreServer (requests : ℕ → FileRequest) (manager : Manager) (host 
 pub data Coming : Type 0 where
   Joins : (client : ℕ) → Coming
   Asks : (client tag : ℕ) (request : FileRequest) → Coming
-  Acknowledges : (client : ℕ) (given : LeaseOf) → Coming
+  Acknowledges : (client : ℕ) (given : Option LeaseOf) → Coming
   IsCut : (client : ℕ) → Coming
   Expires : (key : Key) → Coming
   Scavenges : (file_id : ℕ) → Coming
@@ -128,7 +128,7 @@ managed manager (Coming.Scavenges file_id) = scavenge manager file_id
 abbrev pub call_of : Coming → Call
 call_of (Coming.Joins client) = Call.Join client
 call_of (Coming.Asks client tag request) = Call.Receive client (Request.OnFile request)
-call_of (Coming.Acknowledges client given) = Call.Receive client (Request.Acknowledge (Some given))
+call_of (Coming.Acknowledges client given) = Call.Receive client (Request.Acknowledge given)
 call_of (Coming.IsCut client) = Call.Cut client
 call_of (Coming.Expires key) = Call.Expire key
 call_of (Coming.Scavenges file_id) = Call.Scavenge file_id

@@ -12,7 +12,7 @@ use Rattle.lease_state.specs.declared.rules.Rules.{Rules}
 use Rattle.manager_model.specs.Hosting.{AreServer, Coming, HasFreeTag, HaveFreeTags, Host, asked_by, call_of, filled}
 use Rattle.manager_model.specs.Hosting.{fresh_manager}
 use Rattle.manager_model.specs.Hosting.{fresh_server, given_along, hosted, hosted_along, managed}
-use Rattle.manager_model.specs.Handling.{Handling, Manager, all_passes, is_under, last_file, one_pass, passes, passes_for}
+use Rattle.manager_model.specs.Handling.{Handling, Manager, all_passes, is_under, one_pass, passes, passes_for}
 use Rattle.manager_model.specs.Handling.{passes_over, withdraw}
 use Rattle.manager_model.specs.Waiting.{AreWaitingFiles}
 
@@ -36,8 +36,8 @@ PassesAreEnough = (count file : ℕ) (now : Handling) → length (now.manager.qu
 
 -- Passes over all files are passes over those where requests wait.
 abbrev pub FilesAreEnough : Type 0
-FilesAreEnough = (files : List ℕ) (now : Handling) → now.manager.server.files ≡ last_file
-    → AreWaitingFiles now.manager.queues files → all_passes now ≡ passes_over files now
+FilesAreEnough = (files : List ℕ) (now : Handling) → AreWaitingFiles now.manager.server.files now.manager.queues files
+    → all_passes now ≡ passes_over files now
 
 -- ---- hosts
 

@@ -1,3 +1,4 @@
+pub mod Answering
 pub mod Bare
 pub mod Decisions
 pub mod Ending

@@ -63,7 +63,7 @@ shared_calls =
     ∷ Coming.Asks 1 10 (create_under sample_key RWH)
     ∷ Coming.Asks 2 20 (create_under later_key RWH)
     ∷ Coming.Asks 1 11 (FileRequest.Write 1 7 (at 0 (0x58 ∷ [])))
-    ∷ Coming.Acknowledges 1 (acknowledged sample_key RH)
+    ∷ Coming.Acknowledges 1 (Some (acknowledged sample_key RH))
     ∷ Coming.Asks 2 21 (FileRequest.Read 2)
     ∷ Coming.Asks 2 22 (FileRequest.Close 9)
     ∷ []
@@ -96,7 +96,7 @@ WithdrawnIsTold = (withdraw (manager_after first_manager waiting_calls) 1 2 20).
 
 abbrev pub WithdrawnIsGone : Type 0
 WithdrawnIsGone = told_along (withdraw (manager_after first_manager waiting_calls) 1 2 20).manager
-    (Coming.Acknowledges 1 (acknowledged sample_key RH) ∷ [])
+    (Coming.Acknowledges 1 (Some (acknowledged sample_key RH)) ∷ [])
     ≡ (Decision.Acknowledged 1 (acknowledged sample_key RH) ∷ []) ∷ []
 
 -- A durable open is left behind when its client is cut. It ends when another client opens the file, whose own open isn't

@@ -1,3 +1,4 @@
+ghost use Rattle.manager_model.specs.Answering.{AnswersComeOnce, WaitersWereAsked};
 ghost use Rattle.manager_model.specs.Ending.{EndsAreTold, EndsByWithdrawalAreTold};
 ghost use Rattle.manager_model.specs.Laws.{BytesDecideNothing, FilesAreEnough, HostsAreServers, PassesAnswer, PassesAreEnough};
 ghost use Rattle.manager_model.specs.Laws.{RunsOfHosts, WithdrawalsAreServed};
@@ -31,4 +32,11 @@ pub fn law_of_hosts()
 pub fn law_of_ends()
     ensures calls { EndsAreTold }
     ensures withdrawals { EndsByWithdrawalAreTold }
+{}
+
+/// A request is answered under its tag at most once, and waits no longer then, and what waits was asked: a host that carried out a
+/// decision for a tag lets go of what it asked under it. Tags under which requests wait are distinct. Does nothing.
+pub fn law_of_answers()
+    ensures once { AnswersComeOnce }
+    ensures asked { WaitersWereAsked }
 {}

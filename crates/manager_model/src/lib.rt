@@ -5,5 +5,5 @@
 mod laws;
 mod worked;
 
-pub use laws::{law_of_bytes, law_of_ends, law_of_hosts, law_of_passes};
+pub use laws::{law_of_answers, law_of_bytes, law_of_ends, law_of_hosts, law_of_passes};
 pub use worked::{managers_tell_by_tags, managers_tell_what_ends, managers_withdraw};

@@ -1,6 +1,6 @@
 -- Each call of a manager tells of the opens that end.
 use Rattle.lease_laws.proofs.Words.{◌++◌, ◌==◌, ◌∷◌, ◌≡◌, Among, Err, FileRequest, Key, LeaseOf, List, Ok, Open, Option, Outcome}
-use Rattle.lease_laws.proofs.Words.{Progress, Result, Server, Some, Status, ℕ, ⊎_elim, [], acknowledged, begun, concluded, false}
+use Rattle.lease_laws.proofs.Words.{Progress, Result, Server, Status, ℕ, ⊎_elim, [], acknowledged, begun, concluded, false}
 use Rattle.lease_laws.proofs.Words.{held_left, inl, inr, is_behind, is_breaking, is_left_behind, join, list_any, not}
 use Rattle.lease_laws.proofs.Words.{put, refl, refused, subst, sym, true, without}
 use Rattle.lease_laws.proofs.server.Lists.{among_append, among_filter, clash, if_cases}
@@ -196,18 +196,18 @@ same_opens : (client : ℕ) (given : Option LeaseOf) (progress : Progress)
 same_opens client given progress = any_judgement client progress (λ given after. after.server.opens ≡ progress.server.opens)
     (record { failed = λ given why. refl; ended = λ told lowered there breaks within. refl }) given
 
-acknowledges_tell : (Asked : Tagged → Type 0) (manager : Manager) (client : ℕ) (given : LeaseOf)
+acknowledges_tell : (Asked : Tagged → Type 0) (manager : Manager) (client : ℕ) (given : Option LeaseOf)
     → Tells Asked manager.server (handling manager) → Tells Asked manager.server (rules.acknowledge manager client given)
 unfolding rules.acknowledge
 acknowledges_tell Asked manager client given t =
-    let after = acknowledged client (Some given) (begun manager.server) in
+    let after = acknowledged client given (begun manager.server) in
     if_cases (Tells Asked manager.server) (manager.server.present client)
     (rules.all_passes (gone_on 0 after (handling manager))) (handling manager)
     (λ up. passes_tell Asked manager.server _ (record {
       asked = t.asked;
       told = λ other there. ⊎_elim
           (λ stays. inl (subst (λ (opens : List Open). has_number opens other.file_id ≡ true)
-          (sym (same_opens client (Some given) (begun manager.server))) stays))
+          (sym (same_opens client given (begun manager.server))) stays))
           (λ told. inr (told_more Asked [] (told_of 0 after.outs) other.file_id told)) (t.told other there);
     }))
     (λ down. t)
@@ -244,7 +244,7 @@ joins_tell Asked manager client t = comes_to Asked manager (join manager.server 
 
 -- ---- any of them
 
-any_tells : (manager : Manager) (coming : Coming) → Tells (WasAsked manager coming) manager.server (managed manager coming)
+pub any_tells : (manager : Manager) (coming : Coming) → Tells (WasAsked manager coming) manager.server (managed manager coming)
 any_tells manager (Coming.Joins client) = joins_tell _ manager client (begins_tell _ manager (λ one w. inl w))
 any_tells manager (Coming.Asks client tag request) = receives_tell _ manager client tag (bare_request request)
     (inr (request, refl, refl)) (begins_tell _ manager (λ one w. inl w))

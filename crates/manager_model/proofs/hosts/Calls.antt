@@ -1,7 +1,7 @@
 -- Calls of a server, and of a manager with its host.
-use Rattle.lease_laws.proofs.Words.{◌++◌, ◌==◌, ◌∙◌, ◌∷◌, ◌≡◌, ◌≤◌, Among, Bool, Call, Err, FileRequest, Held, Key, LeaseOf}
+use Rattle.lease_laws.proofs.Words.{◌++◌, ◌==◌, ◌∙◌, ◌∷◌, ◌≡◌, ◌≤◌, Among, Bool, Call, Err, FileRequest, Held, Key, LeaseOf, Option}
 use Rattle.lease_laws.proofs.Words.{List, Ok, Open, Outcome, Progress, Request}
-use Rattle.lease_laws.proofs.Words.{Result, Server, Some, Status, Tried, ℕ, [], acknowledged, after_first_try, ap, append-nil}
+use Rattle.lease_laws.proofs.Words.{Result, Server, Status, Tried, ℕ, [], acknowledged, after_first_try, ap, append-nil}
 use Rattle.lease_laws.proofs.Words.{ap₂, arrived, arrived_before}
 use Rattle.lease_laws.proofs.Words.{as_held, begun, called, concluded, cut, disconnected, expire, false, file_asked}
 use Rattle.lease_laws.proofs.Words.{file_request_arrived, has_key}
@@ -240,20 +240,20 @@ asks requests manager host server tag client request are asked =
     (λ up. comes_serving requests manager host server tag client request are asked)
     (λ down. begins_serving requests manager host server are)
 
-acknowledges : (requests : ℕ → FileRequest) (manager : Manager) (host : Host) (server : Server) (client : ℕ) (given : LeaseOf)
+acknowledges : (requests : ℕ → FileRequest) (manager : Manager) (host : Host) (server : Server) (client : ℕ) (given : Option LeaseOf)
     → AreServer requests manager host server
-    → Serves requests host (rules.acknowledge manager client given) (receive server client (Request.Acknowledge (Some given)))
+    → Serves requests host (rules.acknowledge manager client given) (receive server client (Request.Acknowledge given))
 unfolding rules.acknowledge receive arrived
 acknowledges requests manager host server client given are =
-    let after = acknowledged client (Some given) (begun server) in
+    let after = acknowledged client given (begun server) in
     both_ways (Serves requests host) (manager.server.present client) (server.present client) _ _ _ _
     (ap (λ (m : Server). m.present client) are.without_bytes)
-    (λ up. all_serve requests host (gone_on 0 (acknowledged client (Some given) (begun manager.server)) (handling manager)) after
+    (λ up. all_serve requests host (gone_on 0 (acknowledged client given (begun manager.server)) (handling manager)) after
     (subst (λ (q : Progress). Serves requests host (gone_on 0 q (handling manager)) after)
-    (sym (ap (λ (m : Server). acknowledged client (Some given) (begun m)) are.without_bytes
-    ∙ acknowledged_so client (Some given) (begun server)))
+    (sym (ap (λ (m : Server). acknowledged client given (begun m)) are.without_bytes
+    ∙ acknowledged_so client given (begun server)))
     (goes_serving requests host 0 (handling manager) (begun server) after (begins_serving requests manager host server are)
-    (acknowledged_faithfully requests 0 client (Some given) (begun server)) (acknowledged-held client (Some given)
+    (acknowledged_faithfully requests 0 client given (begun server)) (acknowledged-held client given
     (begun server)))))
     (λ down. begins_serving requests manager host server are)
 

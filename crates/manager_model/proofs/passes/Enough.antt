@@ -10,10 +10,10 @@ use Rattle.manager_model.proofs.passes.Ways.{any_pass, any_try, passes_on, passe
 
 -- A pass under way over a queue: those passed over and those not looked at yet are what is left of it, and fewer than it had
 -- where one was answered.
-record InPass (file : ℕ) (count : ℕ) (waiting : List Tagged) (pass : Pass) : Type 0 where
-  queue : pass.now.manager.queues file ≡ pass.passed ++ waiting
-  left : length (pass.passed ++ waiting) ≤ count
-  fewer : pass.has_answered ≡ true → length (pass.passed ++ waiting) < count
+pub record InPass (file : ℕ) (count : ℕ) (waiting : List Tagged) (pass : Pass) : Type 0 where
+  pub queue : pass.now.manager.queues file ≡ pass.passed ++ waiting
+  pub left : length (pass.passed ++ waiting) ≤ count
+  pub fewer : pass.has_answered ≡ true → length (pass.passed ++ waiting) < count
 
 still_there : (file count : ℕ) (one : Tagged) (waiting : List Tagged) (pass after : Pass)
     → InPass file count (one ∷ waiting) pass → after.passed ≡ pass.passed ++ one ∷ []
@@ -28,7 +28,7 @@ still_there file count one waiting pass after p passed queue has =
       fewer = λ answered. rw same (p.fewer (sym has ∙ answered));
     }
 
-in_pass : (file count : ℕ) (one : Tagged) (waiting : List Tagged) (pass : Pass) → InPass file count (one ∷ waiting) pass
+pub in_pass : (file count : ℕ) (one : Tagged) (waiting : List Tagged) (pass : Pass) → InPass file count (one ∷ waiting) pass
     → InPass file count waiting (rules.tried_again file one waiting pass)
 in_pass file count one waiting pass p = any_try file one waiting pass (λ after. InPass file count waiting after) (record {
   behind = still_there file count one waiting pass _ p refl refl refl;

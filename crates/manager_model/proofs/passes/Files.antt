@@ -82,7 +82,7 @@ numbers_are (suc count) = ap (λ l. l ++ suc count ∷ []) (numbers_are count)
 record HasRest (bound last : ℕ) (queues : ℕ → List Tagged) (files : List ℕ) : Type 0 where
   rising : AreAbove bound files
   within : (file : ℕ) → Among file files → file ≤ last
-  others : (file : ℕ) → bound < file → Among file files ⊎ (queues file ≡ [])
+  others : (file : ℕ) → bound < file → file ≤ last → Among file files ⊎ (queues file ≡ [])
 
 not_below : (bound n : ℕ) (files : List ℕ) → AreAbove bound files → Among n files → n ≤ bound → ⊥
 not_below bound n [] above among low = among
@@ -108,11 +108,11 @@ over_rest zero bound last (file ∷ files) now at rest =
 over_rest (suc count) bound last [] now at rest =
     file_by_file (suc bound) (numbers_above (suc bound) count) now
     ∙ ap (rules.passes_over (numbers_above (suc bound) count))
-    (nothing_to_pass (suc bound) now (⊎_elim (λ never. absurd never) (λ e. e) (rest.others (suc bound) (omega arith))))
+    (nothing_to_pass (suc bound) now (⊎_elim (λ never. absurd never) (λ e. e) (rest.others (suc bound) (omega arith) (omega (arith, at)))))
     ∙ over_rest count (suc bound) last [] now (omega (arith, at)) (record {
       rising = tt;
       within = rest.within;
-      others = λ file above. rest.others file (omega (arith, above));
+      others = λ file above within. rest.others file (omega (arith, above)) within;
     })
 over_rest (suc count) bound last (file ∷ files) now at rest = either (file == suc bound)
     (λ its.
@@ -122,10 +122,10 @@ over_rest (suc count) bound last (file ∷ files) now at rest = either (file == 
     ∙ over_rest count (suc bound) last files after (omega (arith, at)) (record {
       rising = subst (λ n. AreAbove n files) is rest.rising.1;
       within = λ other among. rest.within other (inr among);
-      others = λ other above. ⊎_elim
+      others = λ other above within. ⊎_elim
           (λ among. ⊎_elim (λ same. absurd (omega (arith, same, is, above))) (λ later. inl later) among)
           (λ none. inr (passes_apart (suc bound) other now (apart_above other (suc bound) above)
-          ∙ none)) (rest.others other (omega (arith, above)));
+          ∙ none)) (rest.others other (omega (arith, above)) within);
     })
     ∙ ap (λ n. rules.passes_over files (rules.passes n now)) (sym is)
     ∙ sym (file_by_file file files now))
@@ -135,19 +135,19 @@ over_rest (suc count) bound last (file ∷ files) now at rest = either (file == 
     ∙ ap (rules.passes_over (numbers_above (suc bound) count))
     (nothing_to_pass (suc bound) now (⊎_elim
     (λ among. absurd (not_below (suc bound) (suc bound) (file ∷ files) (more, rest.rising.1) among (omega arith)))
-    (λ none. none) (rest.others (suc bound) (omega arith))))
+    (λ none. none) (rest.others (suc bound) (omega arith) (omega (arith, at)))))
     ∙ over_rest count (suc bound) last (file ∷ files) now (omega (arith, at)) (record {
       rising = (more, rest.rising.1);
       within = rest.within;
-      others = λ other above. rest.others other (omega (arith, above));
+      others = λ other above within. rest.others other (omega (arith, above)) within;
     }))
 
 pub files_are_enough : FilesAreEnough
 unfolding rules.all_passes
-files_are_enough files now all waiting =
-    ap (λ last. rules.passes_over (numbers_to last) now) all
-    ∙ ap (λ numbers. rules.passes_over numbers now) (numbers_are last_file)
-    ∙ over_rest last_file 0 last_file files now (omega arith) (record {
+files_are_enough files now waiting =
+    let last = now.manager.server.files in
+    ap (λ numbers. rules.passes_over numbers now) (numbers_are last)
+    ∙ over_rest last 0 last files now (omega arith) (record {
       rising = waiting.rising;
       within = waiting.within;
       others = waiting.others;
