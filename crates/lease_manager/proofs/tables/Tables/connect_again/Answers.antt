@@ -1,0 +1,14 @@
+use Rattle.lease_laws.proofs.Words.{connected_again, true}
+use Rattle.lease_manager.specs.Filed.{has_id}
+use Rattle.lease_manager.proofs.StillWaiting.{none_counted}
+use Rattle.lease_manager.proofs.Mapping.{connection_kept}
+use Rattle.lease_manager.proofs.Tabling.{kept_mapped, same_id_where}
+use Rattle.lease_manager.proofs.tables.Tables.connect_again.Goals as goal
+
+pub invariant_of-self : goal.invariant_of-self
+invariant_of-self c = (
+  rw c.connect_again.ensures
+      (kept_mapped c.self.inside.opens (connected_again c.args.fid.0) c.self.inside.summaries c.self.inside.last_id
+      c.self.invariant.0 (connection_kept (has_id c.args.fid.0) true) (same_id_where (has_id c.args.fid.0) true)),
+  λ file. none_counted _ _ _ _ (c.clear.ensures file),
+)

@@ -1,0 +1,9 @@
+use Rattle.lease_laws.proofs.Words.{true}
+use Rattle.lease_manager.specs.contracts.tables.Tables.{the_view}
+use Rattle.lease_manager.proofs.Joining.{present_put, tables_joined}
+use Rattle.lease_manager.proofs.tables.Tables.join.Goals as goal
+
+pub returns-clause-joined : goal.returns-clause-joined
+returns-clause-joined c = rw (c.forget_expired.ensures, ← c.self.view_is)
+    (tables_joined (the_view c.self.inside) c.insert.new.self.keys c.args.client
+    (present_put c.self.inside.present c.insert.new.self c.args.client true c.in_ok-insert.ensures.updates))

@@ -1,0 +1,13 @@
+use Rattle.lease_laws.proofs.Words.{rules, sym, without}
+use Rattle.manager_model.specs.Handling.{is_under}
+use Rattle.lease_manager.proofs.Queuing.{edited_at, unfound_at}
+use Rattle.lease_manager.proofs.tables.queues.Queues.withdrawn.Goals as goal
+
+pub returns-in-Some : goal.returns-in-Some
+returns-in-Some c = edited_at (without (is_under c.args.client.0 c.args.tag.0)) c.args.self.now.by_file
+    (c.get_mut.follows.lender c.forget_under.new.queue) c.args.file c.in-Some.queue.now c.forget_under.new.queue
+    (sym c.in-Some.ensures.value) ((c.get_mut.follows.holds c.forget_under.new.queue).3 (search rules)) c.forget_under.ensures
+
+pub returns-in-None : goal.returns-in-None
+returns-in-None c = rw c.get_mut.follows.holds-at-none
+    (unfound_at (is_under c.args.client.0 c.args.tag.0) c.args.self.now.by_file c.args.file (sym c.in-None.ensures.value))

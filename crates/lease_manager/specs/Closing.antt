@@ -1,0 +1,27 @@
+-- Which opens are closed together, by the leases that there are.
+use Rattle.std.specs.Prelude.{Bool, ◌==◌, ◌&&◌, not}
+use Rattle.lease_model.specs.server.Attempt.{is_left_open}
+use Rattle.lease_model.specs.server.Calls.{is_left_behind}
+use Rattle.lease_model.specs.server.Naming.{key_under}
+use Rattle.lease_model.specs.server.State.{Open, Lease, no_lease, is_breaking, has_key}
+use Rattle.lease_model.specs.values.Keys.{Key}
+use Rattle.std.specs.Prelude.{Option, Some, None}
+use Rattle.lease_manager.specs.declared.values.closing.Closing as code
+
+-- the lease of a key, if there is one
+abbrev pub lease_under : (Key → Lease) → Option Key → Lease
+lease_under leases None = no_lease
+lease_under leases (Some key) = leases key
+
+-- an open under this lease outlives its client's connection
+abbrev pub outlives_under : Lease → Open → Bool
+outlives_under lease one = one.durable && lease.state.handle && not (is_breaking lease)
+
+abbrev pub closes : code.Closing → (Key → Lease) → Open → Bool
+closes (code.TheVariants.Named fid) leases one = one.file_id == fid.0
+closes (code.TheVariants.LeftBehind fid) leases one = is_left_behind fid.0 one
+closes (code.TheVariants.Of key) leases one = has_key key one
+closes (code.TheVariants.LeftOf key) leases one = is_left_open key one
+closes (code.TheVariants.LostBy client) leases one =
+    one.client == client.0 && one.connected
+    && not (outlives_under (lease_under leases (key_under one.client one.lease_key)) one)

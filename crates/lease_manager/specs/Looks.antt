@@ -1,0 +1,16 @@
+-- What the tables are asked, one open at a time.
+use Rattle.std.specs.Prelude.{ℕ, Bool, ◌==◌, ◌&&◌, not}
+use Rattle.lease_model.specs.server.State.{Open, has_key}
+use Rattle.lease_model.specs.values.Keys.{Key}
+
+-- an open of the client on the file that waits for its client
+abbrev pub is_left_by : ℕ → ℕ → Open → Bool
+is_left_by client file one = one.client == client && one.file == file && not one.connected
+
+-- the client's connected open of this FileId
+abbrev pub is_connected_as : ℕ → ℕ → Open → Bool
+is_connected_as client file_id one = one.file_id == file_id && one.client == client && one.connected
+
+-- an open of the key on another file
+abbrev pub is_elsewhere : Key → ℕ → Open → Bool
+is_elsewhere key file one = has_key key one && not (one.file == file)

@@ -1,0 +1,455 @@
+ghost use Rattle.std.specs.Prelude.{◌≡◌, [], true, false, IsOk, IfOk, OnErr, OnOk, length, map, Some, None, ◌==◌};
+ghost use Rattle.std.specs.List.{list_any};
+ghost use Rattle.std.specs.Option.{option_map};
+ghost use Rattle.lease_manager.specs.Leases.{lease_of};
+ghost use Rattle.lease_manager.specs.Listing.{open_of};
+ghost use Rattle.lease_manager.specs.Outs.{IsAfter};
+ghost use Rattle.lease_manager.specs.Requests.{request_like};
+ghost use Rattle.lease_manager.specs.Table.{manager_of, queue_at, server_of};
+ghost use Rattle.lease_model.specs.server.Allowed as grants;
+ghost use Rattle.lease_model.specs.server.Calls.{is_left_behind};
+ghost use Rattle.lease_model.specs.server.Naming.{key_of, key_under};
+ghost use Rattle.lease_model.specs.server.Queries as queries;
+ghost use Rattle.lease_state.specs.State.{state_of};
+ghost use Rattle.manager_model.specs.Handling as model;
+ghost use Rattle.manager_model.specs.Hosting.{fresh_manager};
+
+use crate::calls;
+use crate::laws::managers_are_those_of_hosts;
+use crate::tables::Tables;
+use crate::told::Told;
+use crate::values::decision::Decision;
+use crate::values::key::Key;
+use crate::values::lease::Lease;
+use crate::values::number::{ClientNo, FileNo, Tag};
+use crate::values::open::ListedOpen;
+use crate::values::request::Ask;
+use lease_state::{FileId, LeaseKey, LeaseState, Memory, Rules};
+use std::alloc::Global;
+use std::marker::Model;
+use std::mem;
+
+/// A manager of leases: the opens, the leases and the requests that wait for a break, of files that its host keeps.
+#[derive(Debug, Drop)]
+pub struct Manager {
+    tables: Tables,
+}
+
+impl Model for Manager {
+    ghost use Rattle.lease_manager.specs.Table as table;
+
+    ghost Value = { table.Table };
+
+    ghost view = { λ manager. manager.tables };
+}
+
+impl Manager {
+    /// A manager of these rules, where nothing is open and no client has joined. Each number from 1 on is a file's. Allocates
+    /// nothing.
+    pub fn new(alloc: Global, rules: Rules) -> Manager
+        ensures { manager_of result ≡ model.new_manager rules }
+    {
+        managers_are_those_of_hosts();
+        Manager::with_files(alloc, rules, FileNo(u64::MAX))
+    }
+
+    /// A manager as by `new`, of a host whose files have the numbers from 1 to this one: a create of any other is refused with
+    /// `ObjectNameNotFound` (MS-SMB2 3.3.5.9). Allocates nothing.
+    pub fn with_files(alloc: Global, rules: Rules, files: FileNo) -> Manager
+        ensures { manager_of result ≡ fresh_manager rules files.0 }
+    {
+        Manager {
+            tables: Tables::new(alloc, rules, files),
+        }
+    }
+
+    /// The rules that the manager was given.
+    pub fn rules(&self) -> Rules
+        ensures { result ≡ (server_of self.now).rules }
+    {
+        self.tables.rules()
+    }
+
+    /// The last number that a file can have.
+    pub fn files(&self) -> FileNo
+        ensures { result.0 ≡ (server_of self.now).files }
+    {
+        self.tables.files()
+    }
+
+    // All is forgotten but the rules and the last number of a file, which are these.
+    fn forget(&mut self, rules: Rules, files: FileNo)
+        ensures { manager_of self.new ≡ fresh_manager rules files.0 }
+    {
+        self.tables = Tables::new(self.tables.alloc(), rules, files);
+    }
+
+    /// A client connects (MS-SMB2 3.3.5.1). The keys of its leases whose timer ran out may be granted states again
+    /// (profile). Its host is given nothing to do. Where the client is connected nothing changes.
+    ///
+    /// # Errors
+    ///
+    /// `Memory` where there is none left, and never where the client is connected. The manager has forgotten all but its
+    /// rules and files then, as a new one.
+    pub fn join(&mut self, client: ClientNo) -> Result<(), Memory>
+        ensures after { OnOk result (IsAfter self.new [] (model.join (manager_of self.old) client.0)) }
+        ensures idle { (server_of self.old).present client.0 ≡ true → IsOk result }
+        ensures forgotten { OnErr result
+            (manager_of self.new ≡ fresh_manager (server_of self.old).rules (server_of self.old).files) }
+    {
+        let kept = self.tables.rules();
+        let files = self.tables.files();
+        match calls::join(&mut self.tables, client) {
+            Ok(()) => Ok(()),
+            Err(fault) => {
+                self.forget(kept, files);
+                Err(fault)
+            }
+        }
+    }
+
+    /// A client asks something of a file, under a tag under which nothing of it waits (MS-SMB2 3.3.5). It is refused at once
+    /// where it names no file or no open of the client's; it waits after an earlier request of the client that waits on its
+    /// file (profile); and else it is tried: what it needs of the leases of other keys on its file is broken, and it is
+    /// answered or refused, or waits for acknowledgments. After a close what waits is tried again (profile). The
+    /// decisions are on the list afterwards, whatever was there. Where the client isn't connected there is none, and nothing
+    /// changes.
+    ///
+    /// # Errors
+    ///
+    /// `Memory` where there is none left, and never where the client isn't connected. The manager has forgotten all but its rules and
+    /// files then, as a new one, and the list has nothing of worth.
+    pub fn ask(
+        &mut self,
+        client: ClientNo,
+        tag: Tag,
+        ask: Ask,
+        decisions: &mut Vec<Decision>,
+    ) -> Result<(), Memory>
+        ensures after { OnOk result (IsAfter self.new decisions.new.items
+            (model.receive (manager_of self.old) client.0 tag.0 (request_like ask))) }
+        ensures idle { (server_of self.old).present client.0 ≡ false → IsOk result }
+        ensures forgotten { OnErr result
+            (manager_of self.new ≡ fresh_manager (server_of self.old).rules (server_of self.old).files) }
+    {
+        let kept = self.tables.rules();
+        let files = self.tables.files();
+        let mut given = Told::over(taken_out(decisions));
+        match calls::receive(&mut self.tables, &mut given, client, tag, ask) {
+            Ok(()) => {
+                *decisions = given.into_vec();
+                Ok(())
+            }
+            Err(fault) => {
+                self.forget(kept, files);
+                Err(fault)
+            }
+        }
+    }
+
+    /// A client acknowledges a break of its lease of this key, with this state (MS-SMB2 3.3.5.22.2). Then what waits is tried
+    /// again (profile). The decisions are on the list afterwards, whatever was there. Where the client isn't connected
+    /// there is none, and nothing changes.
+    ///
+    /// # Errors
+    ///
+    /// `Memory` where there is none left, and never where the client isn't connected. The manager has forgotten all but its rules and
+    /// files then, as a new one, and the list has nothing of worth.
+    pub fn acknowledge(
+        &mut self,
+        client: ClientNo,
+        key: LeaseKey,
+        state: LeaseState,
+        decisions: &mut Vec<Decision>,
+    ) -> Result<(), Memory>
+        ensures after { OnOk result (IsAfter self.new decisions.new.items
+            (model.acknowledge (manager_of self.old) client.0 (Some (record { key = key.0; state = state_of state })))) }
+        ensures idle { (server_of self.old).present client.0 ≡ false → IsOk result }
+        ensures forgotten { OnErr result
+            (manager_of self.new ≡ fresh_manager (server_of self.old).rules (server_of self.old).files) }
+    {
+        let kept = self.tables.rules();
+        let files = self.tables.files();
+        let mut given = Told::over(taken_out(decisions));
+        match calls::acknowledge(
+            &mut self.tables,
+            &mut given,
+            Key { client, bytes: key },
+            state,
+        ) {
+            Ok(()) => {
+                *decisions = given.into_vec();
+                Ok(())
+            }
+            Err(fault) => {
+                self.forget(kept, files);
+                Err(fault)
+            }
+        }
+    }
+
+    /// A client sends an acknowledgment that can't be read: it is answered with `InvalidParameter`. Then what waits is tried
+    /// again (profile). The decisions are on the list afterwards, whatever was there. Where the client isn't connected
+    /// there is none, and nothing changes.
+    ///
+    /// # Errors
+    ///
+    /// As of `acknowledge`.
+    pub fn acknowledge_malformed(
+        &mut self,
+        client: ClientNo,
+        decisions: &mut Vec<Decision>,
+    ) -> Result<(), Memory>
+        ensures after { OnOk result (IsAfter self.new decisions.new.items
+            (model.acknowledge (manager_of self.old) client.0 None)) }
+        ensures idle { (server_of self.old).present client.0 ≡ false → IsOk result }
+        ensures forgotten { OnErr result
+            (manager_of self.new ≡ fresh_manager (server_of self.old).rules (server_of self.old).files) }
+    {
+        let kept = self.tables.rules();
+        let files = self.tables.files();
+        let mut given = Told::over(taken_out(decisions));
+        match calls::acknowledge_malformed(&mut self.tables, &mut given, client) {
+            Ok(()) => {
+                *decisions = given.into_vec();
+                Ok(())
+            }
+            Err(fault) => {
+                self.forget(kept, files);
+                Err(fault)
+            }
+        }
+    }
+
+    /// A client's connection is lost (MS-SMB2 3.3.7.1). Its opens that are durable, and whose lease holds `HANDLE_CACHING` and
+    /// isn't breaking, stay, and wait for it; its others end, and its requests that wait are forgotten, without a decision
+    /// for any (profile). Then what waits is tried again. The decisions are on the list afterwards, whatever was there.
+    /// Where the client isn't connected there is none, and nothing changes.
+    ///
+    /// # Errors
+    ///
+    /// `Memory` where there is none left, and never where the client isn't connected. The manager has forgotten all but its rules and
+    /// files then, as a new one, and the list has nothing of worth.
+    pub fn cut(&mut self, client: ClientNo, decisions: &mut Vec<Decision>) -> Result<(), Memory>
+        ensures after { OnOk result (IsAfter self.new decisions.new.items
+            (model.cut (manager_of self.old) client.0)) }
+        ensures idle { (server_of self.old).present client.0 ≡ false → IsOk result }
+        ensures forgotten { OnErr result
+            (manager_of self.new ≡ fresh_manager (server_of self.old).rules (server_of self.old).files) }
+    {
+        let kept = self.tables.rules();
+        let files = self.tables.files();
+        let mut given = Told::over(taken_out(decisions));
+        match calls::cut(&mut self.tables, &mut given, client) {
+            Ok(()) => {
+                *decisions = given.into_vec();
+                Ok(())
+            }
+            Err(fault) => {
+                self.forget(kept, files);
+                Err(fault)
+            }
+        }
+    }
+
+    /// The timer of a lease break runs out (MS-SMB2 3.3.6.5): the opens of the client's lease of this key end, and the key is
+    /// granted nothing until its client joins again (profile). Then what waits is tried again. What the host is to do is on
+    /// the list afterwards, whatever was there. Where no break of the lease waits for its acknowledgment there is none, and
+    /// nothing changes.
+    ///
+    /// # Errors
+    ///
+    /// `Memory` where there is none left, and never where the lease isn't breaking. The manager has forgotten all but its rules and
+    /// files then, as a new one, and the list has nothing of worth.
+    pub fn expire(
+        &mut self,
+        client: ClientNo,
+        key: LeaseKey,
+        decisions: &mut Vec<Decision>,
+    ) -> Result<(), Memory>
+        ensures after { OnOk result (IsAfter self.new decisions.new.items
+            (model.expire (manager_of self.old) (key_of client.0 key.0))) }
+        ensures idle { queries.breaking (server_of self.old) (key_of client.0 key.0) ≡ false → IsOk result }
+        ensures forgotten { OnErr result
+            (manager_of self.new ≡ fresh_manager (server_of self.old).rules (server_of self.old).files) }
+    {
+        let kept = self.tables.rules();
+        let files = self.tables.files();
+        let mut given = Told::over(taken_out(decisions));
+        match calls::expire(&mut self.tables, &mut given, Key { client, bytes: key }) {
+            Ok(()) => {
+                *decisions = given.into_vec();
+                Ok(())
+            }
+            Err(fault) => {
+                self.forget(kept, files);
+                Err(fault)
+            }
+        }
+    }
+
+    /// The timer of a durable open runs out (MS-SMB2 3.3.6.2): the open of this FileId ends, if it waits for its client. Then
+    /// what waits is tried again. The decisions are on the list afterwards, whatever was there. Where no such open
+    /// waits there is none, and nothing changes.
+    ///
+    /// # Errors
+    ///
+    /// `Memory` where there is none left, and never where no such open waits. The manager has forgotten all but its rules and
+    /// files then, as a new one, and the list has nothing of worth.
+    pub fn scavenge(&mut self, fid: FileId, decisions: &mut Vec<Decision>) -> Result<(), Memory>
+        ensures after { OnOk result (IsAfter self.new decisions.new.items
+            (model.scavenge (manager_of self.old) fid.0)) }
+        ensures idle { list_any (is_left_behind fid.0) (server_of self.old).opens ≡ false → IsOk result }
+        ensures forgotten { OnErr result
+            (manager_of self.new ≡ fresh_manager (server_of self.old).rules (server_of self.old).files) }
+    {
+        let kept = self.tables.rules();
+        let files = self.tables.files();
+        let mut given = Told::over(taken_out(decisions));
+        match calls::scavenge(&mut self.tables, &mut given, fid) {
+            Ok(()) => {
+                *decisions = given.into_vec();
+                Ok(())
+            }
+            Err(fault) => {
+                self.forget(kept, files);
+                Err(fault)
+            }
+        }
+    }
+
+    /// A request that waits on the file is taken back, the client's under this tag (MS-SMB2 3.3.5.16). Then what waits is
+    /// tried again. The decisions are on the list afterwards, whatever was there. Where no such request waits that is
+    /// nothing, and nothing changes.
+    ///
+    /// # Errors
+    ///
+    /// `Memory` where there is none left, and never where no such request waits. The manager has forgotten all but its rules and
+    /// files then, as a new one, and the list has nothing of worth.
+    pub fn withdraw(
+        &mut self,
+        file: FileNo,
+        client: ClientNo,
+        tag: Tag,
+        decisions: &mut Vec<Decision>,
+    ) -> Result<(), Memory>
+        ensures after { OnOk result (IsAfter self.new decisions.new.items
+            (model.withdraw (manager_of self.old) file.0 client.0 tag.0)) }
+        ensures idle { list_any (model.is_under client.0 tag.0) (queue_at self.old.queues file.0) ≡ false → IsOk result }
+        ensures forgotten { OnErr result
+            (manager_of self.new ≡ fresh_manager (server_of self.old).rules (server_of self.old).files) }
+    {
+        let kept = self.tables.rules();
+        let files = self.tables.files();
+        let mut given = Told::over(taken_out(decisions));
+        match calls::withdraw(&mut self.tables, &mut given, file, client, tag) {
+            Ok(()) => {
+                *decisions = given.into_vec();
+                Ok(())
+            }
+            Err(fault) => {
+                self.forget(kept, files);
+                Err(fault)
+            }
+        }
+    }
+
+    /// Whether the client is connected (MS-SMB2 3.3.1.7, ConnectionList).
+    pub fn is_connected(&self, client: ClientNo) -> bool
+        ensures { result ≡ (server_of self.now).present client.0 }
+    {
+        self.tables.is_present(client)
+    }
+
+    /// Whether a break of the client's lease of this key waits for its acknowledgment (MS-SMB2 3.3.1.12, Breaking). False
+    /// where the key has no lease.
+    pub fn is_breaking(&self, client: ClientNo, key: LeaseKey) -> bool
+        ensures { result ≡ queries.breaking (server_of self.now) (key_of client.0 key.0) }
+    {
+        self.tables.lease(Key { client, bytes: key }).is_breaking()
+    }
+
+    /// Whether a request of the client under the tag waits on the file.
+    pub fn is_waiting(&self, file: FileNo, client: ClientNo, tag: Tag) -> bool
+        ensures { result ≡ list_any (model.is_under client.0 tag.0) (queue_at self.now.queues file.0) }
+    {
+        self.tables.waits_under(file, client, tag)
+    }
+
+    /// Whether an open of this FileId waits for its client to connect again (MS-SMB2 3.3.1.10, IsDurable).
+    pub fn has_left_behind(&self, fid: FileId) -> bool
+        ensures { result ≡ list_any (is_left_behind fid.0) (server_of self.now).opens }
+    {
+        self.tables.has_left_behind(fid)
+    }
+
+    /// The FileId of the client's oldest durable open on the file that waits to be connected again (profile); `None` where
+    /// there is none.
+    pub fn kept(&self, client: ClientNo, file: FileNo) -> Option<FileId>
+        ensures { option_map (λ file_id. file_id.0) result ≡ queries.kept (server_of self.now) client.0 file.0 }
+    {
+        self.tables.kept(client, file)
+    }
+
+    /// What may be granted of a wanted state (profile): its granted form, without `WRITE_CACHING` where an open on the file
+    /// has another key than this one of the client's. With no key every open on the file has another one.
+    pub fn allowed(
+        &self,
+        client: ClientNo,
+        key: Option<LeaseKey>,
+        file: FileNo,
+        want: LeaseState,
+    ) -> LeaseState
+        ensures { state_of result ≡ grants.allowed (server_of self.now)
+            (key_under client.0 (option_map (λ bytes. bytes.0) key)) file.0 (state_of want) }
+    {
+        self.tables.allowed(own_key(client, key), file, want)
+    }
+
+    /// Whether there is an open of this FileId, connected or not.
+    pub fn has_open(&self, fid: FileId) -> bool
+        ensures { result ≡ list_any (λ one. one.file_id == fid.0) (server_of self.now).opens }
+    {
+        self.tables.has_open(fid)
+    }
+
+    /// All opens, in the order of their FileIds: what a host lists of itself.
+    ///
+    /// # Errors
+    ///
+    /// `Memory` where there is none left for the list.
+    pub fn opens(&self) -> Result<Vec<ListedOpen>, Memory>
+        ensures { IfOk result (λ opens. map open_of opens.items ≡ (server_of self.now).opens) }
+    {
+        self.tables.listed_opens()
+    }
+
+    /// The lease of the client's key (MS-SMB2 3.3.1.12); a key that no open has holds nothing.
+    pub fn lease(&self, client: ClientNo, key: LeaseKey) -> Lease
+        ensures { lease_of result ≡ (server_of self.now).leases (key_of client.0 key.0) }
+    {
+        self.tables.lease(Key { client, bytes: key })
+    }
+
+    /// How many opens there are, those that wait for their clients too.
+    pub fn open_count(&self) -> usize
+        ensures { result ≡ length (server_of self.now).opens }
+    {
+        self.tables.open_count()
+    }
+}
+
+// The key of a request, from its client and its RqLs context.
+fn own_key(client: ClientNo, bytes: Option<LeaseKey>) -> Option<Key>
+    ensures { result ≡ key_under client.0 (option_map (λ bytes. bytes.0) bytes) }
+{
+    bytes.map(|bytes| Key { client, bytes })
+}
+
+// Takes a list out of its place, where an empty one stays. Allocates nothing.
+fn taken_out(decisions: &mut Vec<Decision>) -> Vec<Decision>
+    ensures { result.items ≡ decisions.old.items }
+{
+    let none = Vec::new(*decisions.allocator());
+    mem::replace(decisions, none)
+}

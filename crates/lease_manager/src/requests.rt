@@ -1,0 +1,10 @@
+//! How a request goes from its arrival to its answer.
+
+pub mod acknowledge;
+pub mod answer;
+pub mod arrival;
+pub mod attempt;
+pub mod finding;
+pub mod grant;
+pub mod passes;
+pub mod trial;

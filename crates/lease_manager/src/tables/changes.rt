@@ -1,0 +1,300 @@
+ghost use Rattle.std.specs.Prelude.{◌≡◌, ◌+◌, ◌<◌, ◌++◌, ◌==◌, [], ◌∷◌};
+ghost use Rattle.std.specs.Prelude.{true, not, filter, map, IfOk, OnOk, length, List, Some, vec_len, if◌then◌else◌};
+ghost use Rattle.std.specs.Prelude.{ℕ, false};
+ghost use Rattle.std.specs.List.{remove, slice_get, list_any};
+ghost use Rattle.lease_laws.specs.server.Laws.{Among, AreInOrder};
+ghost use Rattle.lease_model.specs.server.Calls.{disconnected};
+ghost use Rattle.lease_model.specs.server.Grant.{connected_again};
+ghost use Rattle.lease_model.specs.server.Naming.{key_of_open};
+ghost use Rattle.lease_model.specs.server.Progress.{with_lease, with_opens};
+ghost use Rattle.lease_model.specs.server.State.{Open as ModelOpen, has_key, has_lease, no_lease};
+ghost use Rattle.lease_model.specs.values.Keys.{Key as ModelKey};
+ghost use Rattle.lease_model.specs.values.Lists.{without};
+ghost use Rattle.lease_model.specs.values.Tables.{put, put_key};
+ghost use Rattle.lease_manager.specs.Closing.{closes};
+ghost use Rattle.lease_manager.specs.Filed.{has_id};
+ghost use Rattle.lease_manager.specs.LeftOpens.{ids_of, numbers};
+ghost use Rattle.lease_manager.specs.Kept.{opened_with, HaveClosed, is_one_of, disconnected_where};
+ghost use Rattle.lease_manager.specs.Leases.{lease_of};
+ghost use Rattle.lease_manager.specs.Summaries.{Agrees, IsAtHome, lease_in};
+ghost use Rattle.lease_manager.specs.Queues.{all_without, queue_in};
+ghost use Rattle.lease_manager.specs.Table.{client_gone, is_among, manager_of, queue_at, requeued, server_of};
+ghost use Rattle.manager_model.specs.Handling.{is_under};
+
+use crate::tables::Tables;
+use crate::tables::opens::Opens;
+use crate::tables::queues::Queues;
+use crate::tables::still::{forget_files, forget_for, forget_home};
+use crate::tables::summaries::Summaries;
+use crate::values::closing::Closing;
+use crate::values::key::Key;
+use crate::values::lease::Lease;
+use crate::values::number::{ClientNo, FileNo, Tag};
+use crate::values::open::Open;
+use crate::values::request::Held;
+use lease_state::{FileId, Memory};
+use std::alloc::Global;
+use std::collections::BTreeSet;
+
+impl Tables {
+    /// The lease of a key that an open has becomes this one.
+    ///
+    /// # Errors
+    ///
+    /// `Memory` where there is none left for the file's summary; no open is left then.
+    pub fn put_lease(&mut self, key: Key, lease: Lease) -> Result<(), Memory>
+        requires { has_lease (server_of self.old) key ≡ true }
+        ensures changed { OnOk result (server_of self.new ≡ with_lease (server_of self.old) key (lease_of lease)) }
+        ensures queues { OnOk result (self.new.queues ≡ self.old.queues) }
+    {
+        let alloc = self.alloc();
+        forget_home(&mut self.waiting, &self.summaries, key);
+        match self.summaries.put(key, lease) {
+            Ok(()) => Ok(()),
+            Err(memory) => {
+                self.waiting.clear();
+                forget_opens(&mut self.opens, &mut self.summaries, alloc);
+                Err(memory)
+            }
+        }
+    }
+
+    /// Closes opens; with its last open a lease is gone (MS-SMB2 3.3.5.10). The FileIds of those that were closed.
+    ///
+    /// # Errors
+    ///
+    /// `Memory` where there is none left for the list of FileIds.
+    #[tactic(auto)]
+    pub fn close(&mut self, closing: Closing) -> Result<Vec<FileId>, Memory>
+        ensures closed { OnOk result (server_of self.new ≡ with_opens (server_of self.old)
+            (without (closes closing (server_of self.old).leases) (server_of self.old).opens)) }
+        ensures ids { IfOk result (λ ids. numbers ids.items
+            ≡ ids_of (filter (closes closing (server_of self.old).leases) (server_of self.old).opens)) }
+        ensures queues { OnOk result (self.new.queues ≡ self.old.queues) }
+        ensures in_order { AreInOrder (server_of self.old).opens }
+    {
+        let alloc = self.alloc();
+        let ids = self.opens.closed(alloc, &closing, &self.summaries)?;
+        if ids.is_empty() {
+            return Ok(ids);
+        }
+        forget_files(&mut self.waiting, &self.opens, &ids);
+        close_all(&mut self.opens, &mut self.summaries, &ids);
+        Ok(ids)
+    }
+
+    /// The request waits on the file, after those that wait there.
+    ///
+    /// # Errors
+    ///
+    /// `Memory` where there is none left for the file's queue.
+    pub fn hold(&mut self, file: FileNo, one: Held) -> Result<(), Memory>
+        ensures { OnOk result (manager_of self.new ≡ requeued (manager_of self.old) file.0
+            (queue_at self.old.queues file.0 ++ one ∷ [])) }
+    {
+        let alloc = self.alloc();
+        self.queues.push(alloc, file, one)?;
+        Ok(())
+    }
+
+    /// The request at this place of the file's queue no longer waits.
+    pub fn release(&mut self, file: FileNo, place: usize)
+        requires { place < length (queue_at self.old.queues file.0) }
+        ensures { manager_of self.new ≡ requeued (manager_of self.old) file.0
+            (remove (queue_at self.old.queues file.0) place) }
+    {
+        self.waiting.forget(file);
+        self.queues.remove(file, place);
+    }
+
+    /// The requests of the client under the tag no longer wait on the file.
+    pub fn withdraw(&mut self, file: FileNo, client: ClientNo, tag: Tag)
+        ensures { manager_of self.new ≡ requeued (manager_of self.old) file.0
+            (without (is_under client.0 tag.0) (queue_at self.old.queues file.0)) }
+    {
+        self.waiting.forget(file);
+        self.queues.withdraw(file, client, tag);
+    }
+
+    /// The client's connection and its requests that wait are forgotten.
+    ///
+    /// # Errors
+    ///
+    /// `Memory` where there is none left for the list of files; nothing has changed then.
+    pub fn forget(&mut self, client: ClientNo) -> Result<(), Memory>
+        ensures { OnOk result (manager_of self.new ≡ client_gone client.0 (manager_of self.old)) }
+    {
+        let alloc = self.alloc();
+        let files = self.queues.files(alloc)?;
+        self.waiting.clear();
+        forget_connection(&mut self.present, client);
+        forget_queues(&mut self.queues, &files, client);
+        Ok(())
+    }
+
+    /// The timer of the key ran out.
+    ///
+    /// # Errors
+    ///
+    /// `Memory` where there is none left for the list of such keys.
+    pub fn expire(&mut self, key: Key) -> Result<(), Memory>
+        ensures changed { OnOk result (server_of self.new ≡ record (server_of self.old) {
+          expired = put_key (server_of self.old).expired key true;
+        }) }
+        ensures queues { OnOk result (self.new.queues ≡ self.old.queues) }
+    {
+        self.expired.push(key)?;
+        Ok(())
+    }
+
+    /// The FileId given last; 0 before the first.
+    pub fn last_id(&self) -> u64
+        ensures { result ≡ (server_of self.now).last_id }
+    {
+        self.last_id
+    }
+
+    /// One more open, whose client is there, which has the next FileId, and whose key has no open on
+    /// another file. The lease of its key becomes this one.
+    ///
+    /// # Errors
+    ///
+    /// `Memory` where there is none left; no open is left then.
+    pub fn open(&mut self, one: Open, lease: Lease) -> Result<(), Memory>
+        requires here { one.connected ≡ true }
+        requires next { one.file_id ≡ (server_of self.old).last_id + 1 }
+        requires home { IsAtHome (key_of_open one) one.file (server_of self.old).opens }
+        ensures changed { OnOk result (server_of self.new ≡ opened_with (server_of self.old) one (lease_of lease)) }
+        ensures queues { OnOk result (self.new.queues ≡ self.old.queues) }
+    {
+        let alloc = self.alloc();
+        forget_for(&mut self.waiting, &self.queues, &one);
+        self.last_id = one.file_id.0;
+        match add(&mut self.opens, &mut self.summaries, alloc, one, lease) {
+            Ok(()) => Ok(()),
+            Err(memory) => {
+                self.waiting.clear();
+                forget_opens(&mut self.opens, &mut self.summaries, alloc);
+                Err(memory)
+            }
+        }
+    }
+
+    /// The client's opens are no longer connected.
+    ///
+    /// # Errors
+    ///
+    /// `Memory` where there is none left for the lists of FileIds; no open is left then, or nothing
+    /// has changed.
+    pub fn disconnect(&mut self, client: ClientNo) -> Result<(), Memory>
+        ensures changed { OnOk result (server_of self.new ≡ record (server_of self.old) {
+          opens = map (disconnected client.0) (server_of self.old).opens;
+        }) }
+        ensures queues { OnOk result (self.new.queues ≡ self.old.queues) }
+    {
+        let alloc = self.alloc();
+        let ids = self.opens.of_client(alloc, client)?;
+        self.waiting.clear();
+        match disconnect_all(&mut self.opens, alloc, &ids) {
+            Ok(()) => Ok(()),
+            Err(memory) => {
+                forget_opens(&mut self.opens, &mut self.summaries, alloc);
+                Err(memory)
+            }
+        }
+    }
+
+    /// The open of this FileId is connected again.
+    pub fn connect_again(&mut self, fid: FileId)
+        ensures changed { server_of self.new ≡ record (server_of self.old) {
+          opens = map (connected_again fid.0) (server_of self.old).opens;
+        } }
+        ensures queues { self.new.queues ≡ self.old.queues }
+    {
+        self.waiting.clear();
+        self.opens.connect_again(fid);
+    }
+}
+
+// No open is left: so a call ends that finds no memory, and after which its manager forgets all.
+// docs/DECISIONS.md: "No memory within a call of the server".
+fn forget_opens(opens: &mut Opens, summaries: &mut Summaries, alloc: Global)
+    ensures opens { opens.new ≡ [] }
+    ensures agrees { Agrees summaries.new [] }
+{
+    *opens = Opens::new(alloc);
+    *summaries = Summaries::new(alloc);
+}
+
+// The opens of these FileIds are no longer connected.
+fn disconnect_all(opens: &mut Opens, alloc: Global, ids: &[FileId]) -> Result<(), Memory>
+    ensures { OnOk result (opens.new ≡ map (disconnected_where (is_one_of (map (λ id. id.0) ids.now))) opens.old) }
+{
+    for id in ids {
+        opens.disconnect(alloc, *id)?;
+    }
+    Ok(())
+}
+
+// Closes the opens of these FileIds.
+fn close_all(opens: &mut Opens, summaries: &mut Summaries, ids: &[FileId])
+    ensures { Agrees summaries.old opens.old
+        → HaveClosed opens.old (map (λ id. id.0) ids.now) summaries.old opens.new summaries.new }
+{
+    for id in ids {
+        close_one(opens, summaries, *id);
+    }
+}
+
+// Closes the open of this FileId, if there is one.
+fn close_one(opens: &mut Opens, summaries: &mut Summaries, id: FileId)
+    ensures opens { opens.new ≡ without (has_id id.0) opens.old }
+    ensures agrees { Agrees summaries.old opens.old → Agrees summaries.new opens.new }
+    ensures leases { Agrees summaries.old opens.old → (key : ModelKey) → lease_in summaries.new key
+        ≡ (if list_any (has_key key) opens.new then lease_in summaries.old key else no_lease) }
+{
+    match opens.take(id) {
+        Some(one) => summaries.lose(&one),
+        None => {}
+    }
+}
+
+// Adds an open, with the lease of its key.
+fn add(
+    opens: &mut Opens,
+    summaries: &mut Summaries,
+    alloc: Global,
+    one: Open,
+    lease: Lease,
+) -> Result<(), Memory>
+    requires here { one.connected ≡ true }
+    requires last { (other : ModelOpen) → Among other opens.old → other.file_id < one.file_id }
+    ensures opens { OnOk result (opens.new ≡ opens.old ++ one ∷ []) }
+    ensures agrees { OnOk result (IsAtHome (key_of_open one) one.file opens.old → Agrees summaries.old opens.old
+        → Agrees summaries.new opens.new) }
+    ensures leases { OnOk result ((key : ModelKey) → lease_in summaries.new key
+        ≡ (if has_key key one then lease_of lease else lease_in summaries.old key)) }
+{
+    // So no count of them reaches its end.
+    let count = opens.len();
+    prove!(count < usize::MAX);
+    summaries.gain(alloc, &one, lease)?;
+    opens.push(one)?;
+    Ok(())
+}
+
+// The requests of the client no longer wait on these files.
+fn forget_queues(queues: &mut Queues, files: &[FileNo], client: ClientNo)
+    ensures { all_without client.0 (map (λ file. file.0) files.now) (queue_in queues.old) ≡ queue_in queues.new }
+{
+    for file in files {
+        queues.forget(*file, client);
+    }
+}
+
+// The client is no longer connected.
+fn forget_connection(present: &mut BTreeSet<ClientNo>, client: ClientNo)
+    ensures { (n : ℕ) → is_among present.new.keys n ≡ put (is_among present.old.keys) client.0 false n }
+{
+    present.remove(&client);
+}

@@ -1,0 +1,337 @@
+ghost use Rattle.std.specs.Prelude.{◌≡◌, ◌<◌, ◌^◌, ◌++◌, [], ◌∷◌, true, OnOk, IfOk, IfSome, length, map, filter, find};
+ghost use Rattle.std.specs.Option.{option_map};
+ghost use Rattle.lease_laws.specs.server.Laws.{Among, AreInOrder};
+ghost use Rattle.lease_model.specs.server.State.{Open as ModelOpen};
+ghost use Rattle.lease_model.specs.values.Lists.{without};
+ghost use Rattle.lease_manager.specs.Closing.{closes};
+ghost use Rattle.lease_model.specs.server.Grant.{connected_again};
+ghost use Rattle.lease_model.specs.server.Attempt.{is_left_open};
+ghost use Rattle.lease_model.specs.server.State.{has_key};
+ghost use Rattle.lease_manager.specs.Filed.{AreFiled, has_id, is_of, connected_at, disconnected_at};
+ghost use Rattle.lease_manager.specs.LeftOpens.{has_key_in};
+ghost use Rattle.lease_manager.specs.Listing.{open_of};
+ghost use Rattle.lease_manager.specs.Looks.{is_left_by};
+ghost use Rattle.lease_manager.specs.Summaries.{Agrees, IsOneMore, lease_in};
+ghost use Rattle.std.specs.Map.{values_of};
+
+use crate::tables::left_opens::{LeftOpens, Owner};
+use crate::tables::summaries::Summaries;
+use crate::values::closing::Closing;
+use crate::values::key::Key;
+use crate::values::number::{ClientNo, FileNo};
+use crate::values::open::{ListedOpen, Open};
+use lease_state::{FileId, Memory};
+use std::alloc::Global;
+use std::collections::{BTreeMap, BTreeSet};
+use std::marker::Model;
+
+/// The opens of a manager, by their FileIds.
+#[derive(Debug, Drop)]
+pub struct Opens {
+    by_id: BTreeMap<FileId, Open>,
+    /// Those of them that wait for their clients.
+    left: LeftOpens,
+}
+
+impl Model for Opens {
+    ghost use Rattle.std.specs.Prelude.{List};
+    ghost use Rattle.std.specs.Map.{values_of};
+    ghost use Rattle.lease_model.specs.server.State as model;
+    ghost use Rattle.lease_laws.specs.server.Laws.{AreInOrder};
+    ghost use Rattle.lease_manager.specs.Filed.{AreFiled};
+    ghost use Rattle.lease_manager.specs.LeftOpens.{AreWaiting};
+
+    ghost Value = { List model.Open };
+
+    ghost view = { λ opens. values_of opens.by_id.entries };
+
+    ghost invariant = { λ opens. AreFiled opens.by_id.entries × AreInOrder (values_of opens.by_id.entries)
+        × AreWaiting opens.left (values_of opens.by_id.entries) };
+}
+
+impl Opens {
+    /// No open. Allocates nothing.
+    pub fn new(alloc: Global) -> Opens
+        ensures { result ≡ [] }
+    {
+        Opens {
+            by_id: BTreeMap::new(alloc),
+            left: LeftOpens::new(alloc),
+        }
+    }
+
+    /// How many there are. They stand in the order of their FileIds, and no two have one.
+    pub fn len(&self) -> usize
+        ensures count { result ≡ length self.now }
+        ensures small { result < 2 ^ 63 }
+        ensures in_order { AreInOrder self.now }
+    {
+        self.by_id.len()
+    }
+
+    /// All of them, for a listing, in the order of their FileIds.
+    ///
+    /// # Errors
+    ///
+    /// `Memory` where there is none left for the list.
+    pub fn listed(&self, alloc: Global) -> Result<Vec<ListedOpen>, Memory>
+        ensures { IfOk result (λ opens. map open_of opens.items ≡ self.now) }
+    {
+        let mut opens = Vec::new(alloc);
+        for one in self.by_id.values() {
+            opens.push(one.listed())?;
+        }
+        Ok(opens)
+    }
+
+    /// One more open, whose client is there, and whose FileId is above those of all others.
+    ///
+    /// # Errors
+    ///
+    /// `Memory` where there is none left.
+    pub fn push(&mut self, one: Open) -> Result<(), Memory>
+        requires here { one.connected ≡ true }
+        requires last { (other : ModelOpen) → Among other self.old → other.file_id < one.file_id }
+        ensures { OnOk result (self.new ≡ self.old ++ one ∷ []) }
+    {
+        self.by_id.insert(one.file_id, one)?;
+        Ok(())
+    }
+
+    /// The open of this FileId.
+    pub fn find(&self, fid: FileId) -> Option<&Open>
+        ensures found { option_map (λ one. one.now) result ≡ find (has_id fid.0) self.now }
+        ensures in_order { AreInOrder self.now }
+    {
+        self.by_id.get(&fid)
+    }
+
+    /// Takes the open of this FileId out, if there is one.
+    pub fn take(&mut self, fid: FileId) -> Option<Open>
+        ensures taken { result ≡ find (has_id fid.0) self.old }
+        ensures one_less { IfSome result (λ one. IsOneMore one self.new self.old) }
+        ensures left { self.new ≡ without (has_id fid.0) self.old }
+    {
+        match self.by_id.remove(&fid) {
+            Some(one) => {
+                self.left.remove(one.owner(), fid);
+                Some(one)
+            }
+            None => None,
+        }
+    }
+
+    /// The FileIds of the opens that are closed, where these are the leases.
+    ///
+    /// # Errors
+    ///
+    /// `Memory` where there is none left for the list.
+    pub fn closed(
+        &self,
+        alloc: Global,
+        closing: &Closing,
+        leases: &Summaries,
+    ) -> Result<Vec<FileId>, Memory>
+        requires { Agrees leases.now self.now }
+        ensures ids { IfOk result (λ ids. map (λ file_id. file_id.0) ids.items
+            ≡ map (λ one. one.file_id) (filter (closes closing.now (lease_in leases.now)) self.now)) }
+        ensures in_order { AreInOrder self.now }
+    {
+        match closing {
+            Closing::Named(fid) => self.closed_at(alloc, *fid, closing, leases),
+            Closing::LeftBehind(fid) => self.closed_at(alloc, *fid, closing, leases),
+            Closing::LeftOf(key) => self.left_of(alloc, *key, leases),
+            Closing::Of(_) | Closing::LostBy(_) => self.closed_among(alloc, closing, leases),
+        }
+    }
+
+    // The FileIds of the opens of the key that wait for its client.
+    fn left_of(&self, alloc: Global, key: Key, leases: &Summaries) -> Result<Vec<FileId>, Memory>
+        requires { Agrees leases.now self.now }
+        ensures ids { IfOk result (λ ids. map (λ file_id. file_id.0) ids.items
+            ≡ map (λ one. one.file_id) (filter (is_left_open key) self.now)) }
+        ensures in_order { AreInOrder self.now }
+    {
+        // The invariant, which says what is in the sets, is known of what is looked at.
+        let _ = &self.left;
+        match leases.home(key) {
+            Some(file) => {
+                let ids = self.left_on(alloc, key, file)?;
+                Ok(ids)
+            }
+            None => Ok(Vec::new(alloc)),
+        }
+    }
+
+    // The same, of the opens that its client left on the file.
+    fn left_on(&self, alloc: Global, key: Key, file: FileNo) -> Result<Vec<FileId>, Memory>
+        ensures ids { IfOk result (λ ids. map (λ file_id. file_id.0) ids.items
+            ≡ map (λ one. one.file_id) (filter (has_key key) (filter (is_left_by key.client file.0) self.now))) }
+        ensures in_order { AreInOrder self.now }
+    {
+        let client = key.client;
+        match self.left.at(Owner { client, file }) {
+            Some(left) => {
+                let ids = self.with_key(alloc, key, left)?;
+                Ok(ids)
+            }
+            None => Ok(Vec::new(alloc)),
+        }
+    }
+
+    // Those of the FileIds whose opens have the key.
+    fn with_key(
+        &self,
+        alloc: Global,
+        key: Key,
+        left: &BTreeSet<FileId>,
+    ) -> Result<Vec<FileId>, Memory>
+        ensures { IfOk result (λ ids. ids.items ≡ filter (has_key_in self.now key) left.now.keys) }
+    {
+        let mut ids = Vec::new(alloc);
+        for fid in left {
+            if self.is_of_key(*fid, key) {
+                ids.push(*fid)?;
+            }
+        }
+        Ok(ids)
+    }
+
+    // Whether the open of this FileId has the key.
+    fn is_of_key(&self, fid: FileId, key: Key) -> bool
+        ensures { result ≡ has_key_in self.now key fid }
+    {
+        match self.find(fid) {
+            Some(one) => one.has_key(key),
+            None => false,
+        }
+    }
+
+    // The same, where only the open of this FileId can be closed.
+    fn closed_at(
+        &self,
+        alloc: Global,
+        fid: FileId,
+        closing: &Closing,
+        leases: &Summaries,
+    ) -> Result<Vec<FileId>, Memory>
+        requires { (one : ModelOpen) → closes closing.now (lease_in leases.now) one ≡ true → has_id fid.0 one ≡ true }
+        ensures ids { IfOk result (λ ids. map (λ file_id. file_id.0) ids.items
+            ≡ map (λ one. one.file_id) (filter (closes closing.now (lease_in leases.now)) self.now)) }
+        ensures in_order { AreInOrder self.now }
+    {
+        let mut ids = Vec::new(alloc);
+        match self.find(fid) {
+            Some(one) => {
+                if !closing.closes(leases, one) {
+                    return Ok(ids);
+                }
+                ids.push(fid)?;
+                Ok(ids)
+            }
+            None => Ok(ids),
+        }
+    }
+
+    // The same, by a look at all opens.
+    fn closed_among(
+        &self,
+        alloc: Global,
+        closing: &Closing,
+        leases: &Summaries,
+    ) -> Result<Vec<FileId>, Memory>
+        ensures ids { IfOk result (λ ids. map (λ file_id. file_id.0) ids.items
+            ≡ map (λ one. one.file_id) (filter (closes closing.now (lease_in leases.now)) self.now)) }
+        ensures in_order { AreInOrder self.now }
+    {
+        let mut ids = Vec::new(alloc);
+        for one in self.by_id.values() {
+            if closing.closes(leases, one) {
+                ids.push(one.file_id)?;
+            }
+        }
+        Ok(ids)
+    }
+
+    /// The first of the client's opens on the file that wait for it.
+    pub fn first_left_by(&self, client: ClientNo, file: FileNo) -> Option<FileId>
+        ensures { option_map (λ file_id. file_id.0) result
+            ≡ option_map (λ one. one.file_id) (find (is_left_by client.0 file.0) self.now) }
+    {
+        match self.left.at(Owner { client, file }) {
+            Some(left) => {
+                match left.first() {
+                    Some(fid) => Some(*fid),
+                    None => None,
+                }
+            }
+            None => None,
+        }
+    }
+
+    /// The FileIds of the client's opens.
+    ///
+    /// # Errors
+    ///
+    /// `Memory` where there is none left for the list.
+    pub fn of_client(&self, alloc: Global, client: ClientNo) -> Result<Vec<FileId>, Memory>
+        ensures ids { IfOk result (λ ids. map (λ file_id. file_id.0) ids.items
+            ≡ map (λ one. one.file_id) (filter (is_of client.0) self.now)) }
+        ensures in_order { AreInOrder self.now }
+    {
+        let mut ids = Vec::new(alloc);
+        for one in self.by_id.values() {
+            if one.client == client {
+                ids.push(one.file_id)?;
+            }
+        }
+        Ok(ids)
+    }
+
+    /// The open of this FileId is no longer connected.
+    ///
+    /// # Errors
+    ///
+    /// `Memory` where there is none left for the list of those that wait.
+    pub fn disconnect(&mut self, alloc: Global, fid: FileId) -> Result<(), Memory>
+        ensures { OnOk result (self.new ≡ map (disconnected_at fid.0) self.old) }
+    {
+        match self.by_id.get(&fid) {
+            Some(one) => {
+                let owner = one.owner();
+                self.left.insert(alloc, owner, fid)?;
+                set_connected(&mut self.by_id, fid, false);
+                Ok(())
+            }
+            None => Ok(()),
+        }
+    }
+
+    /// The open of this FileId is connected again.
+    pub fn connect_again(&mut self, fid: FileId)
+        ensures { self.new ≡ map (connected_again fid.0) self.old }
+    {
+        match self.by_id.get(&fid) {
+            Some(one) => {
+                let owner = one.owner();
+                self.left.remove(owner, fid);
+                set_connected(&mut self.by_id, fid, true);
+            }
+            None => {}
+        }
+    }
+}
+
+// The open of this FileId is connected, or isn't.
+fn set_connected(by_id: &mut BTreeMap<FileId, Open>, fid: FileId, connected: bool)
+    requires filed { AreFiled by_id.old.entries }
+    requires in_order { AreInOrder (values_of by_id.old.entries) }
+    ensures still_filed { AreFiled by_id.new.entries }
+    ensures still_in_order { AreInOrder (values_of by_id.new.entries) }
+    ensures opens { values_of by_id.new.entries ≡ map (connected_at fid.0 connected) (values_of by_id.old.entries) }
+{
+    match by_id.get_mut(&fid) {
+        Some(one) => one.set_connected(connected),
+        None => {}
+    }
+}

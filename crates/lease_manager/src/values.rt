@@ -1,0 +1,11 @@
+//! What a manager keeps, is asked and decides.
+
+pub mod closing;
+pub mod decision;
+pub mod key;
+pub mod lease;
+pub mod number;
+pub mod open;
+pub mod out;
+pub mod request;
+pub mod want;

@@ -1,0 +1,33 @@
+ghost use Rattle.std.specs.Prelude.{◌≡◌};
+ghost use Rattle.lease_model.specs.server.State.{is_breaking, no_lease};
+ghost use Rattle.lease_manager.specs.Leases.{lease_of};
+
+use lease_state::LeaseState;
+
+/// A lease (MS-SMB2 3.3.1.12): its state and, while it is breaking, the state that it is broken to.
+#[derive(Clone, Copy, Debug)]
+pub struct Lease {
+    /// What it holds.
+    pub state: LeaseState,
+    /// While a break waits for its acknowledgment: what it is to hold.
+    pub broken_to: Option<LeaseState>,
+}
+
+impl Lease {
+    /// What a key without an open has.
+    pub(crate) fn none() -> Lease
+        ensures { lease_of result ≡ no_lease }
+    {
+        Lease {
+            state: LeaseState::NONE,
+            broken_to: None,
+        }
+    }
+
+    /// Whether a break of the lease waits for its acknowledgment.
+    pub fn is_breaking(self) -> bool
+        ensures { result ≡ is_breaking (lease_of self) }
+    {
+        self.broken_to.is_some()
+    }
+}

@@ -1,0 +1,186 @@
+ghost use Rattle.std.specs.Prelude.{◌≡◌};
+ghost use Rattle.lease_model.specs.server.State.{has_key, has_own_key};
+ghost use Rattle.lease_model.specs.server.Attempt.{is_left_open};
+ghost use Rattle.lease_model.specs.server.Calls.{is_left_behind};
+ghost use Rattle.lease_model.specs.server.Findings.{awaits};
+ghost use Rattle.lease_model.specs.server.Naming.{key_of_open};
+ghost use Rattle.lease_manager.specs.Closing.{outlives_under};
+ghost use Rattle.lease_manager.specs.Leases.{lease_of};
+ghost use Rattle.lease_manager.specs.Listing.{open_of};
+ghost use Rattle.lease_manager.specs.Looks.{is_connected_as};
+
+use crate::tables::left_opens::Owner;
+use crate::values::key::Key;
+use crate::values::lease::Lease;
+use crate::values::number::{ClientNo, FileNo};
+use lease_state::{Access, FileId, LeaseKey, Share};
+use std::marker::Model;
+
+/// An open of a file (MS-SMB2 3.3.1.10). A durable open outlives its connection, and is then there
+/// but not connected.
+#[derive(Debug, Drop)]
+pub struct Open {
+    pub file_id: FileId,
+    pub client: ClientNo,
+    pub file: FileNo,
+    /// `None` for an open without an RqLs context, which counts as a key of its own (profile).
+    pub lease_key: Option<LeaseKey>,
+    pub access: Access,
+    pub share: Share,
+    pub durable: bool,
+    pub connected: bool,
+}
+
+/// An open, as a host lists it (MS-SMB2 3.3.1.10).
+#[derive(Clone, Copy, Debug, PartialEq, Eq)]
+pub struct ListedOpen {
+    /// Its FileId.
+    pub file_id: FileId,
+    /// Its client.
+    pub client: ClientNo,
+    /// Its file.
+    pub file: FileNo,
+    /// Its lease key; `None` for an open that was asked for without one.
+    pub lease_key: Option<LeaseKey>,
+    /// What it may do.
+    pub access: Access,
+    /// What it lets others do.
+    pub share: Share,
+    /// It outlives its client's connection as long as its lease holds `HANDLE_CACHING`.
+    pub durable: bool,
+    /// Its client is connected. An open whose client isn't waits to be connected again.
+    pub connected: bool,
+}
+
+impl Model for Open {
+    ghost use Rattle.std.specs.Option.{option_map};
+    ghost use Rattle.lease_model.specs.server.State as model;
+
+    ghost Value = { model.Open };
+
+    ghost view = { λ one. record {
+      file_id = one.file_id.0;
+      client = one.client.0;
+      file = one.file.0;
+      lease_key = option_map (λ key. key.0) one.lease_key;
+      access = one.access;
+      share = one.share;
+      durable = one.durable;
+      connected = one.connected;
+    } };
+}
+
+impl Open {
+    /// Whether the open has this key.
+    pub fn has_key(&self, key: Key) -> bool
+        ensures { result ≡ has_key key self.now }
+    {
+        match self.lease_key {
+            Some(bytes) => key.client == self.client && key.bytes == bytes,
+            None => false,
+        }
+    }
+
+    /// Whether the open has the key, if this is one.
+    pub fn has_own_key(&self, own: Option<Key>) -> bool
+        ensures { result ≡ has_own_key own self.now }
+    {
+        match own {
+            Some(key) => self.has_key(key),
+            None => false,
+        }
+    }
+
+    /// As a host lists it.
+    pub fn listed(&self) -> ListedOpen
+        ensures { open_of result ≡ self.now }
+    {
+        ListedOpen {
+            file_id: self.file_id,
+            client: self.client,
+            file: self.file,
+            lease_key: self.lease_key,
+            access: self.access,
+            share: self.share,
+            durable: self.durable,
+            connected: self.connected,
+        }
+    }
+
+    /// Its client and its file.
+    pub fn owner(&self) -> Owner
+        ensures client { result.client.0 ≡ self.now.client }
+        ensures file { result.file.0 ≡ self.now.file }
+    {
+        Owner {
+            client: self.client,
+            file: self.file,
+        }
+    }
+
+    /// The key of the open; `None` for an open without an RqLs context.
+    pub fn key(&self) -> Option<Key>
+        ensures { result ≡ key_of_open self.now }
+    {
+        match self.lease_key {
+            Some(bytes) => Some(Key {
+                client: self.client,
+                bytes,
+            }),
+            None => None,
+        }
+    }
+
+    /// Whether the open is the client's connected open of this FileId.
+    pub fn is_connected_as(&self, client: ClientNo, fid: FileId) -> bool
+        ensures { result ≡ is_connected_as client.0 fid.0 self.now }
+    {
+        self.file_id == fid && self.client == client && self.connected
+    }
+
+    /// Whether a reconnect of this client under this key may name the open (MS-SMB2 3.3.5.9.7).
+    #[tactic(auto)]
+    pub fn awaits(&self, client: ClientNo, file: FileNo, own: Option<Key>, fid: FileId) -> bool
+        ensures { result ≡ awaits client.0 file.0 own fid.0 self.now }
+    {
+        match own {
+            Some(key) => {
+                self.file_id == fid
+                    && !self.connected
+                    && self.client == client
+                    && self.file == file
+                    && self.has_key(key)
+            }
+            None => false,
+        }
+    }
+
+    /// Whether the open has the key and its client is away.
+    pub fn is_left_open(&self, key: Key) -> bool
+        ensures { result ≡ is_left_open key self.now }
+    {
+        self.has_key(key) && !self.connected
+    }
+
+    /// Whether the open has this FileId and its client is away.
+    pub fn is_left_behind(&self, fid: FileId) -> bool
+        ensures { result ≡ is_left_behind fid.0 self.now }
+    {
+        self.file_id == fid && !self.connected
+    }
+
+    /// Whether the open, which stands under this lease, outlives its client's connection (profile;
+    /// MS-SMB2 3.3.7.1).
+    pub fn outlives_connection(&self, lease: Lease) -> bool
+        ensures { result ≡ outlives_under (lease_of lease) self.now }
+    {
+        self.durable && lease.state.caches_handles() && !lease.is_breaking()
+    }
+
+    /// The open's client is there, or is away.
+    pub fn set_connected(&mut self, connected: bool)
+        ensures { self.new ≡ record self.old { connected = connected } }
+    {
+        self.connected = connected;
+    }
+}

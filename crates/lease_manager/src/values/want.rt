@@ -1,0 +1,73 @@
+ghost use Rattle.std.specs.Prelude.{◌≡◌};
+ghost use Rattle.lease_state.specs.State.{state_of};
+ghost use Rattle.lease_manager.specs.Wanted.{needs_lease};
+ghost use Rattle.lease_manager.specs.Wishes.{lowered_for};
+
+use crate::tables::summaries::LeaseRecord;
+use crate::values::key::Key;
+use crate::values::number::FileNo;
+use lease_state::{Access, LeaseState, Share};
+use std::marker::Model;
+
+/// What a request wants of the leases of other keys on its file (profile, except for handles:
+/// MS-SMB2 3.3.4.7).
+#[derive(Clone, Copy, Debug)]
+pub enum Wish {
+    /// Opens that conflict with this access and share are to give up their handles.
+    NoHandles { access: Access, share: Share },
+    /// Writes are no longer to be cached.
+    NoWrites,
+    /// Nothing is to be cached any longer.
+    Nothing,
+}
+
+impl Wish {
+    /// What a state is lowered to.
+    pub fn lowered(self, state: LeaseState) -> LeaseState
+        ensures { state_of result ≡ lowered_for self (state_of state) }
+    {
+        match self {
+            Wish::NoHandles { .. } => state.without_handle(),
+            Wish::NoWrites => state.without_write(),
+            Wish::Nothing => LeaseState::NONE,
+        }
+    }
+
+    /// Whether a lease, which this is known of, holds what is wished to be given up.
+    pub fn needs(self, known: &LeaseRecord) -> bool
+        ensures { result ≡ needs_lease self known.now }
+    {
+        let state = known.lease.state;
+        match self {
+            Wish::NoHandles { access, share } => {
+                known.tally.conflicts(access, share) && state.caches_handles()
+            }
+            Wish::NoWrites => state.caches_writes(),
+            Wish::Nothing => state.holds_any(),
+        }
+    }
+}
+
+/// A wish of a request under this key, or under none, for its file.
+#[derive(Debug, Drop)]
+pub struct Demand {
+    pub wish: Wish,
+    pub own: Option<Key>,
+    pub file: FileNo,
+}
+
+/// A lease to be broken, and the state that it is to be lowered to.
+#[derive(Debug, Drop)]
+pub struct Want {
+    pub key: Key,
+    pub lowered: LeaseState,
+}
+
+impl Model for Want {
+    ghost use Rattle.lease_state.specs.State.{state_of};
+    ghost use Rattle.lease_model.specs.server.Wants as model;
+
+    ghost Value = { model.Want };
+
+    ghost view = { λ want. record { key = want.key; lowered = state_of want.lowered } };
+}
