@@ -1,34 +1,8 @@
-pub mod Agreeing
-pub mod Alike
-pub mod Arriving
-pub mod Asking
-pub mod Breaking
-pub mod Counted
-pub mod Demanding
-pub mod Expiring
-pub mod FilePlaces
-pub mod Filing
-pub mod Hindering
-pub mod Homing
-pub mod Joining
-pub mod Kept
-pub mod KeyOrder
-pub mod LeftOpens
-pub mod Losing
-pub mod Mapping
-pub mod NewTables
-pub mod OneFile
-pub mod Ordering
-pub mod Owners
-pub mod Passing
-pub mod Places
-pub mod Recording
-pub mod Rounds
-pub mod Sending
-pub mod Settled
-pub mod Standing
-pub mod StillWaiting
-pub mod Summing
-pub mod Tabling
-pub mod Tallies
-pub mod Wanting
+mod Asking
+mod Calling
+mod Carrying
+mod Fresh
+mod Kept
+mod Maps
+mod Numbering
+mod Sending

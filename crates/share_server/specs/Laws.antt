@@ -7,17 +7,17 @@ use Rattle.lease_model.specs.values.Keys.{Key}
 use Rattle.lease_model.specs.values.LeaseStates.{same_state}
 use Rattle.lease_state.specs.Access.{conflict}
 use Rattle.lease_state.specs.State.{State, is_state_within}
-use Rattle.share_server.specs.Table.{Table, lease_at, server_of}
+use Rattle.share_server.specs.Table.{Table, server_of}
 
 -- Where a key's lease caches writes, each open on a file that the key has an open on has that key.
 abbrev pub HasOneWriter : Table → Type 0
-HasOneWriter server = (key : Key) (one other : Open) → (lease_at server.leases key).state.write ≡ true
-    → Among one server.opens → has_key key one ≡ true
-    → Among other server.opens → other.file ≡ one.file → has_key key other ≡ true
+HasOneWriter server = (key : Key) (one other : Open) → ((server_of server).leases key).state.write ≡ true
+    → Among one (server_of server).opens → has_key key one ≡ true
+    → Among other (server_of server).opens → other.file ≡ one.file → has_key key other ≡ true
 
 -- Two opens on a file don't conflict: the access of each is within the share of the other.
 abbrev pub HasNoConflict : Table → Type 0
-HasNoConflict server = (one other : Open) → Among one server.opens → Among other server.opens
+HasNoConflict server = (one other : Open) → Among one (server_of server).opens → Among other (server_of server).opens
     → other.file ≡ one.file → other.file_id ≢ one.file_id
     → conflict one.access one.share other.access other.share ≡ false
 
@@ -29,7 +29,7 @@ pub record Lasts (one : Open) (lease : Lease) : Type 0 where
 
 -- An open that isn't connected is durable, and its lease holds H and isn't breaking.
 abbrev pub KeepsWhatLasts : Table → Type 0
-KeepsWhatLasts server = (one : Open) → Among one server.opens → one.connected ≡ false
+KeepsWhatLasts server = (one : Open) → Among one (server_of server).opens → one.connected ≡ false
     → Lasts one (lease_of_open (server_of server) one)
 
 -- a part of the state, and less
@@ -39,5 +39,5 @@ pub record IsLess (lowered : State) (state : State) : Type 0 where
 
 -- A state that a lease is broken to is a proper part of its state.
 abbrev pub BreaksToLess : Table → Type 0
-BreaksToLess server = (key : Key) (lowered : State) → (lease_at server.leases key).broken_to ≡ Some lowered
-    → IsLess lowered (lease_at server.leases key).state
+BreaksToLess server = (key : Key) (lowered : State) → ((server_of server).leases key).broken_to ≡ Some lowered
+    → IsLess lowered ((server_of server).leases key).state

@@ -1,10 +1,5 @@
 -- What calls give out, as the definitions see it and as it is written.
-use Rattle.std.specs.Prelude.{◌≡◌, Bool}
-use Rattle.std.specs.Option.{option_map}
-use Rattle.lease_state.specs.State.{state_of}
-use Rattle.lease_state.specs.declared.key.LeaseKey.{LeaseKey}
-use Rattle.lease_state.specs.declared.state.LeaseState.{LeaseState}
-use Rattle.lease_wire.specs.declared.create.CreateAnswer as wire
+use Rattle.std.specs.Prelude.{◌≡◌}
 use Rattle.lease_model.specs.messages.FromBytes.{reply_of}
 use Rattle.lease_model.specs.messages.Replies as model
 use Rattle.lease_model.specs.messages.ToBytes.{reply_written}
@@ -26,10 +21,3 @@ out_of (code.TheVariants.Changed file client number patch) = model.Out.Changed f
 -- it is written as what is found in it
 abbrev pub IsWritten : code.Out → Type 0
 IsWritten out = out_written (out_of out) ≡ out
-
--- what a create is told
-abbrev pub lease_told : LeaseKey × LeaseState × Bool → model.LeaseGiven
-lease_told lease = record { key = lease.0.0; state = state_of lease.1; in_progress = lease.2 }
-
-abbrev pub answer_told : wire.CreateAnswer → model.CreateAnswer
-answer_told answer = record { lease = option_map lease_told answer.lease; durable = answer.durable }

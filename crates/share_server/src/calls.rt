@@ -1,121 +1,302 @@
 ghost use Rattle.std.specs.Prelude.{◌≡◌, [], true, false, IsOk, OnOk};
 ghost use Rattle.std.specs.List.{list_any};
-ghost use Rattle.lease_model.specs.messages.FromBytes.{request_of};
+ghost use Rattle.std.specs.Option.{option_map};
+ghost use Rattle.lease_manager.specs.Outs.{decisions};
+ghost use Rattle.lease_manager.specs.Requests.{lease_asked};
+ghost use Rattle.lease_manager.specs.Table.{server_of};
+ghost use Rattle.lease_model.specs.messages.FromBytes.{acknowledged_in, ask_found, request_of};
+ghost use Rattle.lease_model.specs.messages.Requests as model;
 ghost use Rattle.lease_model.specs.server.Calls as rules;
-ghost use Rattle.lease_model.specs.server.Passes.{all_passes};
-ghost use Rattle.lease_model.specs.server.Progress.{opens_dropped, begun};
-ghost use Rattle.lease_model.specs.server.State.{has_key, is_breaking};
-ghost use Rattle.share_server.specs.Outs.{progress_of};
-ghost use Rattle.share_server.specs.Table.{server_of};
+ghost use Rattle.lease_model.specs.server.Calls.{is_left_behind};
+ghost use Rattle.lease_model.specs.server.Naming.{key_of};
+ghost use Rattle.lease_model.specs.server.State.{is_breaking};
+ghost use Rattle.lease_wire.specs.Gathering.{value_of};
+ghost use Rattle.lease_wire.specs.declared.create.Direction.{Direction};
+ghost use Rattle.manager_model.specs.Hosting.{call_of};
+ghost use Rattle.share_server.specs.Calling.{IsUnderWay};
+ghost use Rattle.share_server.specs.Requests.{file_request_of};
+ghost use Rattle.share_server.specs.Table.{IsCalled, IsServer, table_of};
 
+use crate::host::Host;
 use crate::outs::Outs;
-use crate::requests::arrival::arrive;
-use crate::requests::passes::try_all;
-use crate::tables::Tables;
-use crate::values::closing::Closing;
-use crate::values::key::Key;
-use lease_state::{ClientNo, FileId, Memory, Request};
+use crate::values::number::client_no;
+use crate::values::request::FileRequest;
+use lease_laws::{bytes_laws, laws_of_servers};
+use lease_manager::{CreateAsk, Decision, Manager, Tag};
+use lease_state::{
+    Access, Bytes, ClientNo, FileId, FileNo, LeaseKey, LeaseState, Memory, Request, Share, Status,
+};
+use lease_wire::{Acknowledgment, read_create};
+use manager_model::{law_of_answers, law_of_hosts};
 
 /// A client connects.
-#[tactic(auto, unfolding(lease_model::specs::server::Calls::join))]
-pub fn join(tables: &mut Tables, client: ClientNo) -> Result<(), Memory>
-    ensures step { OnOk result (progress_of tables.new [] ≡ rules.join (server_of tables.old) client.0) }
-    ensures idle { (server_of tables.old).present client.0 ≡ true → IsOk result }
+pub fn join(
+    manager: &mut Manager,
+    host: &mut Host,
+    outs: &mut Outs,
+    client: ClientNo,
+) -> Result<(), Memory>
+    requires given { outs.old ≡ [] }
+    requires server { IsServer (table_of manager.old host.old) }
+    ensures step { OnOk result (IsCalled (table_of manager.old host.old) (rules.Call.Join client.0)
+        (table_of manager.new host.new) outs.new) }
+    ensures idle { (server_of manager.old).present client.0 ≡ true → IsOk result }
 {
-    if !tables.is_present(client) {
-        tables.join(client)?;
+    if !manager.is_connected(client_no(client)) {
+        manager.join(client_no(client))?;
+        settle(manager, host, &[], outs)?;
     }
     Ok(())
 }
 
 /// A request of a client comes.
-#[tactic(auto, unfolding(lease_model::specs::server::Calls::receive))]
 pub fn receive(
-    tables: &mut Tables,
+    manager: &mut Manager,
+    host: &mut Host,
+    told: &mut Vec<Decision>,
     outs: &mut Outs,
     client: ClientNo,
     request: Request,
 ) -> Result<(), Memory>
-    requires { outs.old ≡ [] }
-    ensures step { OnOk result (progress_of tables.new outs.new
-        ≡ rules.receive (server_of tables.old) client.0 (request_of request)) }
-    ensures idle { (server_of tables.old).present client.0 ≡ false → IsOk result }
+    requires given { outs.old ≡ [] }
+    requires server { IsServer (table_of manager.old host.old) }
+    ensures step { OnOk result (IsCalled (table_of manager.old host.old) (rules.Call.Receive client.0 (request_of request))
+        (table_of manager.new host.new) outs.new) }
+    ensures idle { (server_of manager.old).present client.0 ≡ false → IsOk result }
 {
-    if tables.is_present(client) {
-        arrive(tables, outs, client, request)?;
+    if manager.is_connected(client_no(client)) {
+        arrive(manager, host, told, outs, client, request)?;
     }
     Ok(())
+}
+
+// A request of a connected client comes.
+fn arrive(
+    manager: &mut Manager,
+    host: &mut Host,
+    told: &mut Vec<Decision>,
+    outs: &mut Outs,
+    client: ClientNo,
+    request: Request,
+) -> Result<(), Memory>
+    requires given { outs.old ≡ [] }
+    requires server { IsServer (table_of manager.old host.old) }
+    requires present { (server_of manager.old).present client.0 ≡ true }
+    ensures { OnOk result (IsCalled (table_of manager.old host.old) (rules.Call.Receive client.0 (request_of request))
+        (table_of manager.new host.new) outs.new) }
+{
+    match request {
+        Request::Create {
+            file,
+            access,
+            share,
+            contexts,
+        } => create(
+            manager, host, told, outs, client, file, access, share, contexts,
+        ),
+        Request::Read { fid } => ask(manager, host, told, outs, client, FileRequest::Read { fid }),
+        Request::Write { fid, number, patch } => {
+            ask(
+                manager,
+                host,
+                told,
+                outs,
+                client,
+                FileRequest::Write { fid, number, patch },
+            )
+        }
+        Request::Close { fid } => ask(
+            manager,
+            host,
+            told,
+            outs,
+            client,
+            FileRequest::Close { fid },
+        ),
+        Request::Ack(bytes) => acknowledge(manager, host, told, outs, client, &bytes),
+    }
+}
+
+// A create comes, whose contexts are read.
+fn create(
+    manager: &mut Manager,
+    host: &mut Host,
+    told: &mut Vec<Decision>,
+    outs: &mut Outs,
+    client: ClientNo,
+    file: FileNo,
+    access: Access,
+    share: Share,
+    contexts: Bytes,
+) -> Result<(), Memory>
+    requires given { outs.old ≡ [] }
+    requires server { IsServer (table_of manager.old host.old) }
+    requires present { (server_of manager.old).present client.0 ≡ true }
+    ensures { OnOk result (IsCalled (table_of manager.old host.old) (rules.Call.Receive client.0 (model.Request.OnFile
+        (model.FileRequest.Create file.0 access share (ask_found (value_of Direction.Request contexts)))))
+        (table_of manager.new host.new) outs.new) }
+{
+    match read_create(contexts.as_slice()) {
+        Ok(given) => {
+            let request = FileRequest::Create {
+                file,
+                access,
+                share,
+                ask: CreateAsk {
+                    lease: given.lease,
+                    durable: given.durable,
+                    reconnect: given.reconnect,
+                },
+            };
+            ask(manager, host, told, outs, client, request)?;
+            Ok(())
+        }
+        Err(_) => {
+            outs.refuse_create(client, file, Status::InvalidParameter)?;
+            Ok(())
+        }
+    }
+}
+
+// The manager is asked under a new tag.
+fn ask(
+    manager: &mut Manager,
+    host: &mut Host,
+    told: &mut Vec<Decision>,
+    outs: &mut Outs,
+    client: ClientNo,
+    request: FileRequest,
+) -> Result<(), Memory>
+    requires given { outs.old ≡ [] }
+    requires server { IsServer (table_of manager.old host.old) }
+    ensures { OnOk result (IsCalled (table_of manager.old host.old)
+        (rules.Call.Receive client.0 (model.Request.OnFile (file_request_of request))) (table_of manager.new host.new) outs.new) }
+{
+    let asked = request.ask();
+    let tag = host.ask(request)?;
+    manager.ask(client_no(client), Tag(tag), asked, told)?;
+    settle(manager, host, told, outs)?;
+    Ok(())
+}
+
+// An acknowledgment comes, and is read.
+fn acknowledge(
+    manager: &mut Manager,
+    host: &mut Host,
+    told: &mut Vec<Decision>,
+    outs: &mut Outs,
+    client: ClientNo,
+    bytes: &[u8],
+) -> Result<(), Memory>
+    requires given { outs.old ≡ [] }
+    requires server { IsServer (table_of manager.old host.old) }
+    ensures { OnOk result (IsCalled (table_of manager.old host.old)
+        (rules.Call.Receive client.0 (model.Request.Acknowledge (acknowledged_in bytes.now))) (table_of manager.new host.new) outs.new) }
+{
+    match acknowledged(bytes) {
+        Some((key, state)) => {
+            manager.acknowledge(client_no(client), key, state, told)?;
+            settle(manager, host, told, outs)?;
+            Ok(())
+        }
+        None => {
+            manager.acknowledge_malformed(client_no(client), told)?;
+            settle(manager, host, told, outs)?;
+            Ok(())
+        }
+    }
+}
+
+// What is acknowledged by these bytes (MS-SMB2 2.2.24.2).
+fn acknowledged(bytes: &[u8]) -> Option<(LeaseKey, LeaseState)>
+    ensures { option_map lease_asked result ≡ acknowledged_in bytes.now }
+{
+    bytes_laws();
+    match Acknowledgment::decode(bytes) {
+        Ok((given, _)) => Some((given.key, given.state)),
+        Err(_) => None,
+    }
 }
 
 /// A client's connection is lost.
-#[tactic(auto, using(lease_laws::proofs::server::cases::Calls::cuts_nothing))]
-pub fn cut(tables: &mut Tables, outs: &mut Outs, client: ClientNo) -> Result<(), Memory>
-    requires { outs.old ≡ [] }
-    ensures step { OnOk result (progress_of tables.new outs.new ≡ rules.cut (server_of tables.old) client.0) }
-    ensures idle { (server_of tables.old).present client.0 ≡ false → IsOk result }
+pub fn cut(
+    manager: &mut Manager,
+    host: &mut Host,
+    told: &mut Vec<Decision>,
+    outs: &mut Outs,
+    client: ClientNo,
+) -> Result<(), Memory>
+    requires given { outs.old ≡ [] }
+    requires server { IsServer (table_of manager.old host.old) }
+    ensures step { OnOk result (IsCalled (table_of manager.old host.old) (rules.Call.Cut client.0)
+        (table_of manager.new host.new) outs.new) }
+    ensures idle { (server_of manager.old).present client.0 ≡ false → IsOk result }
 {
-    if tables.is_present(client) {
-        lose(tables, client)?;
-        try_all(tables, outs)?;
+    if manager.is_connected(client_no(client)) {
+        manager.cut(client_no(client), told)?;
+        settle(manager, host, told, outs)?;
     }
-    Ok(())
-}
-
-// The client's opens that don't outlive its connection are closed, the others disconnected, and the
-// connection and its held requests are forgotten.
-fn lose(tables: &mut Tables, client: ClientNo) -> Result<(), Memory>
-    ensures { OnOk result (progress_of tables.new [] ≡ rules.client_forgotten client.0 (rules.opens_disconnected client.0
-        (opens_dropped (rules.is_lost (server_of tables.old) client.0) (begun (server_of tables.old))))) }
-{
-    tables.close(Closing::LostBy(client))?;
-    tables.disconnect(client)?;
-    tables.forget(client);
     Ok(())
 }
 
 /// The timer of a lease break runs out.
-#[tactic(auto, unfolding(lease_model::specs::server::Calls::expire))]
-pub fn expire(tables: &mut Tables, outs: &mut Outs, key: Key) -> Result<(), Memory>
-    requires { outs.old ≡ [] }
-    ensures step { OnOk result (progress_of tables.new outs.new ≡ rules.expire (server_of tables.old) key) }
-    ensures idle { is_breaking ((server_of tables.old).leases key) ≡ false → IsOk result }
+pub fn expire(
+    manager: &mut Manager,
+    host: &mut Host,
+    told: &mut Vec<Decision>,
+    outs: &mut Outs,
+    client: ClientNo,
+    key: LeaseKey,
+) -> Result<(), Memory>
+    requires given { outs.old ≡ [] }
+    requires server { IsServer (table_of manager.old host.old) }
+    ensures step { OnOk result (IsCalled (table_of manager.old host.old) (rules.Call.Expire (key_of client.0 key.0))
+        (table_of manager.new host.new) outs.new) }
+    ensures idle { is_breaking ((server_of manager.old).leases (key_of client.0 key.0)) ≡ false → IsOk result }
 {
-    if tables.lease(key).is_breaking() {
-        end_lease(tables, key)?;
-        try_all(tables, outs)?;
+    if manager.is_breaking(client_no(client), key) {
+        manager.expire(client_no(client), key, told)?;
+        settle(manager, host, told, outs)?;
     }
-    Ok(())
-}
-
-// All opens of the lease are closed, and the key is expired.
-fn end_lease(tables: &mut Tables, key: Key) -> Result<(), Memory>
-    ensures { OnOk result (progress_of tables.new []
-        ≡ rules.key_expired key (opens_dropped (has_key key) (begun (server_of tables.old)))) }
-{
-    tables.close(Closing::Of(key))?;
-    tables.expire(key)?;
     Ok(())
 }
 
 /// The timer of a durable open runs out.
-#[tactic(auto, unfolding(lease_model::specs::server::Calls::scavenge))]
-pub fn scavenge(tables: &mut Tables, outs: &mut Outs, fid: FileId) -> Result<(), Memory>
-    requires { outs.old ≡ [] }
-    ensures step { OnOk result (progress_of tables.new outs.new ≡ rules.scavenge (server_of tables.old) fid.0) }
-    ensures idle { list_any (rules.is_left_behind fid.0) (server_of tables.old).opens ≡ false → IsOk result }
+pub fn scavenge(
+    manager: &mut Manager,
+    host: &mut Host,
+    told: &mut Vec<Decision>,
+    outs: &mut Outs,
+    fid: FileId,
+) -> Result<(), Memory>
+    requires given { outs.old ≡ [] }
+    requires server { IsServer (table_of manager.old host.old) }
+    ensures step { OnOk result (IsCalled (table_of manager.old host.old) (rules.Call.Scavenge fid.0)
+        (table_of manager.new host.new) outs.new) }
+    ensures idle { list_any (is_left_behind fid.0) (server_of manager.old).opens ≡ false → IsOk result }
 {
-    if tables.has_left_behind(fid) {
-        end_open(tables, fid)?;
-        try_all(tables, outs)?;
+    if manager.has_left_behind(fid) {
+        manager.scavenge(fid, told)?;
+        settle(manager, host, told, outs)?;
     }
     Ok(())
 }
 
-// The open that was left behind is closed.
-fn end_open(tables: &mut Tables, fid: FileId) -> Result<(), Memory>
-    ensures { OnOk result (progress_of tables.new []
-        ≡ opens_dropped (rules.is_left_behind fid.0) (begun (server_of tables.old))) }
+// Carries out what the manager decided of what came.
+fn settle(
+    manager: &Manager,
+    host: &mut Host,
+    told: &[Decision],
+    outs: &mut Outs,
+) -> Result<(), Memory>
+    requires given { outs.old ≡ [] }
+    requires way { IsUnderWay manager.now (decisions told.now) host.old }
+    ensures { OnOk result ((way : IsUnderWay manager.now (decisions told.now) host.old)
+        → IsCalled way.old (call_of way.coming) (table_of manager.now host.new) outs.new) }
 {
-    tables.close(Closing::LeftBehind(fid))?;
+    law_of_hosts();
+    law_of_answers();
+    laws_of_servers();
+    host.settle(manager, told, outs)?;
     Ok(())
 }

@@ -29,11 +29,14 @@
 //! ```
 #![tactic(auto)]
 
+mod asked;
 mod calls;
+mod files;
+mod handles;
+mod host;
 mod outs;
 mod requests;
 mod server;
-mod tables;
 mod values;
 
 pub use server::Server;

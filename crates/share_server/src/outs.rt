@@ -2,19 +2,20 @@ ghost use Rattle.std.specs.Prelude.{◌≡◌, ◌++◌, [], ◌∷◌, map, len
 ghost use Rattle.lease_model.specs.messages.FromBytes.{reply_of};
 ghost use Rattle.lease_model.specs.messages.Replies as model;
 ghost use Rattle.lease_model.specs.messages.ToBytes.{reply_written};
-ghost use Rattle.lease_model.specs.server.Progress.{break_notice, refusal_of};
+ghost use Rattle.lease_manager.specs.Outs.{answer_told, notice_of};
+ghost use Rattle.lease_model.specs.server.Progress.{refusal_of};
 ghost use Rattle.lease_state.specs.State.{state_of};
 ghost use Rattle.share_server.specs.Requests.{file_request_of};
-ghost use Rattle.share_server.specs.Written.{out_of, out_written, answer_told, IsWritten};
+ghost use Rattle.share_server.specs.Written.{out_of, out_written, IsWritten};
 
-use crate::values::key::Key;
 use crate::values::out::Out;
 use crate::values::request::FileRequest;
 use lease_laws::bytes_laws;
+use lease_manager::{BreakNotice, CreateAnswer};
 use lease_state::{
     Bytes, ClientNo, FileId, FileNo, LeaseKey, LeaseState, Memory, Patch, Reply, Status,
 };
-use lease_wire::{BreakResponse, CreateAnswer, Notification, write_create_reply};
+use lease_wire::{BreakResponse, Notification, write_create_reply};
 use std::alloc::Global;
 use std::marker::Model;
 
@@ -158,37 +159,34 @@ impl Outs {
     }
 
     /// A break of the lease is acknowledged, and it has this state.
-    pub fn ack_done(&mut self, key: Key, state: LeaseState) -> Result<(), Memory>
-        ensures { OnOk result (self.new ≡ self.old ++ model.Out.Sent key.client
-            (model.Reply.AckDone (Some (record { key = key.bytes; state = state_of state }))) ∷ []) }
+    pub fn ack_done(
+        &mut self,
+        client: ClientNo,
+        key: LeaseKey,
+        state: LeaseState,
+    ) -> Result<(), Memory>
+        ensures { OnOk result (self.new ≡ self.old ++ model.Out.Sent client.0
+            (model.Reply.AckDone (Some (record { key = key.0; state = state_of state }))) ∷ []) }
     {
         bytes_laws();
-        let response = BreakResponse {
-            key: key.bytes,
-            state,
-        };
-        self.send(key.client, Reply::AckDone(response.encode()))?;
+        let response = BreakResponse { key, state };
+        self.send(client, Reply::AckDone(response.encode()))?;
         Ok(())
     }
 
-    /// The client is sent the break of its lease, from this state to that.
-    pub fn lease_broken(
-        &mut self,
-        key: Key,
-        current: LeaseState,
-        lowered: LeaseState,
-    ) -> Result<(), Memory>
+    /// The client is sent the notice of a break.
+    pub fn lease_broken(&mut self, client: ClientNo, given: BreakNotice) -> Result<(), Memory>
         ensures { OnOk result (self.new ≡ self.old
-            ++ model.Out.Sent key.client (break_notice key (state_of current) (state_of lowered)) ∷ []) }
+            ++ model.Out.Sent client.0 (model.Reply.Break (Some (notice_of given))) ∷ []) }
     {
         bytes_laws();
         let notice = Notification {
-            ack_required: current.needs_ack(),
-            key: key.bytes,
-            current,
-            new: lowered,
+            ack_required: given.ack_required,
+            key: given.key,
+            current: given.current,
+            new: given.lowered,
         };
-        self.send(key.client, Reply::Break(notice.encode()))?;
+        self.send(client, Reply::Break(notice.encode()))?;
         Ok(())
     }
 
@@ -198,15 +196,19 @@ impl Outs {
         client: ClientNo,
         file: FileNo,
         fid: FileId,
-        answer: &CreateAnswer,
+        given: CreateAnswer,
     ) -> Result<(), Memory>
         ensures { OnOk result (self.new ≡ self.old
-            ++ model.Out.Sent client.0 (model.Reply.Created file.0 fid.0 (Some (answer_told answer.now))) ∷ []) }
+            ++ model.Out.Sent client.0 (model.Reply.Created file.0 fid.0 (Some (answer_told given))) ∷ []) }
     {
         bytes_laws();
-        full_key(answer);
-        let mut text = Vec::new(*self.items.allocator());
-        write_create_reply(answer, &mut text)?;
+        let answer = lease_wire::CreateAnswer {
+            lease: given.lease,
+            durable: given.durable,
+        };
+        full_key(&answer);
+        let mut text = Vec::new(self.alloc());
+        write_create_reply(&answer, &mut text)?;
         let contexts = Bytes::new(text);
         self.send(
             client,
@@ -216,6 +218,16 @@ impl Outs {
                 contexts,
             },
         )
+    }
+
+    /// The allocator of the list.
+    pub fn alloc(&self) -> Global {
+        *self.items.allocator()
+    }
+
+    /// What was given out, in order.
+    pub fn items(&self) -> &[Out] {
+        self.items.as_slice()
     }
 
     /// The list. Allocates nothing.
@@ -228,7 +240,7 @@ impl Outs {
 }
 
 // The key in a reply has 16 bytes.
-fn full_key(answer: &CreateAnswer)
+fn full_key(answer: &lease_wire::CreateAnswer)
     ensures { IfSome answer.now.lease (λ lease. length lease.0.0 ≡ 16) }
 {
     if let Some(lease) = answer.lease {

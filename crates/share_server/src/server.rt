@@ -1,4 +1,4 @@
-ghost use Rattle.std.specs.Prelude.{◌≡◌, [], true, false, IfOk, IsOk, OnErr, OnOk};
+ghost use Rattle.std.specs.Prelude.{◌≡◌, [], length, true, false, IfOk, IsOk, OnErr, OnOk};
 ghost use Rattle.std.specs.List.{list_any};
 ghost use Rattle.std.specs.Option.{option_map};
 ghost use Rattle.lease_state.specs.State.{state_of};
@@ -10,14 +10,17 @@ ghost use Rattle.lease_model.specs.server.Queries as queries;
 ghost use Rattle.lease_model.specs.server.State.{new_server, new_server_under};
 ghost use Rattle.share_server.specs.Laws.{HasOneWriter, HasNoConflict, KeepsWhatLasts, BreaksToLess};
 ghost use Rattle.share_server.specs.Outs.{IsAfter};
-ghost use Rattle.share_server.specs.Table.{server_of};
+ghost use Rattle.lease_manager.specs.Table as table;
+ghost use Rattle.manager_model.specs.Hosting.{fresh_manager};
+ghost use Rattle.share_server.specs.Table.{IsServer, server_of, table_of};
 
 use crate::calls;
+use crate::host::Host;
 use crate::outs::Outs;
-use crate::tables::Tables;
-use crate::values::key::Key;
+use crate::values::number::{client_no, file_no};
 use crate::values::out::Out;
 use lease_laws::laws_of_servers;
+use lease_manager::{Decision, Manager};
 use lease_state::{
     ClientNo, Content, FileId, FileNo, LeaseKey, LeaseState, Memory, Request, Rules,
 };
@@ -29,18 +32,20 @@ use std::mem;
 /// the requests that wait for a break. Every server keeps the laws of leases and of opens.
 #[derive(Debug, Drop)]
 pub struct Server {
-    tables: Tables,
+    manager: Manager,
+    host: Host,
+    /// The memory of a list of decisions.
+    told: Vec<Decision>,
 }
 
 impl Model for Server {
-    ghost use Rattle.lease_laws.specs.server.Laws.{IsSound};
     ghost use Rattle.share_server.specs.Table as table;
 
     ghost Value = { table.Table };
 
-    ghost view = { λ server. server.tables };
+    ghost view = { λ server. table.table_of server.manager server.host };
 
-    ghost invariant = { λ server. IsSound (table.server_of server.tables) };
+    ghost invariant = { λ server. table.IsServer (table.table_of server.manager server.host) };
 }
 
 impl Server {
@@ -65,15 +70,24 @@ impl Server {
         ensures { IfOk result (λ server. server_of server ≡ new_server_under rules files.items) }
     {
         laws_of_servers();
-        let tables = Tables::new(alloc, rules, files)?;
-        Ok(Server { tables })
+        let host = Host::new(alloc, files);
+        Ok(Server {
+            manager: manager_of(alloc, rules, &host),
+            host,
+            told: Vec::new(alloc),
+        })
+    }
+
+    // The allocator of the server.
+    fn alloc(&self) -> Global {
+        *self.told.allocator()
     }
 
     /// The rules that the server was given.
     pub fn rules(&self) -> Rules
         ensures { result ≡ (server_of self.now).rules }
     {
-        self.tables.rules()
+        self.manager.rules()
     }
 
     /// A client connects (MS-SMB2 3.3.5.1). The keys of its leases whose timer ran out may be
@@ -88,7 +102,7 @@ impl Server {
         ensures idle { (server_of self).present client.0 ≡ true → IsOk result }
     {
         let mut server = self;
-        let mut outs = Vec::new(server.tables.alloc());
+        let mut outs = Vec::new(server.alloc());
         server.join_in_place(client, &mut outs)?;
         Ok((server, outs))
     }
@@ -105,13 +119,16 @@ impl Server {
         ensures idle { (server_of self.old).present client.0 ≡ true → IsOk result }
         ensures forgotten { OnErr result (server_of self.new ≡ new_server_under (server_of self.old).rules []) }
     {
-        laws_of_servers();
-        let kept = self.tables.rules();
-        outs.clear();
-        match calls::join(&mut self.tables, client) {
-            Ok(()) => Ok(()),
+        let kept = self.manager.rules();
+        let alloc = self.alloc();
+        let mut given = Outs::over(taken_out(outs));
+        match calls::join(&mut self.manager, &mut self.host, &mut given, client) {
+            Ok(()) => {
+                *outs = given.into_vec();
+                Ok(())
+            }
             Err(fault) => {
-                self.tables.forget_all(kept);
+                forget(&mut self.manager, &mut self.host, alloc, kept);
                 Err(fault)
             }
         }
@@ -134,7 +151,7 @@ impl Server {
         ensures idle { (server_of self).present client.0 ≡ false → IsOk result }
     {
         let mut server = self;
-        let mut outs = Vec::new(server.tables.alloc());
+        let mut outs = Vec::new(server.alloc());
         server.receive_in_place(client, request, &mut outs)?;
         Ok((server, outs))
     }
@@ -157,16 +174,23 @@ impl Server {
         ensures idle { (server_of self.old).present client.0 ≡ false → IsOk result }
         ensures forgotten { OnErr result (server_of self.new ≡ new_server_under (server_of self.old).rules []) }
     {
-        laws_of_servers();
-        let kept = self.tables.rules();
+        let kept = self.manager.rules();
+        let alloc = self.alloc();
         let mut given = Outs::over(taken_out(outs));
-        match calls::receive(&mut self.tables, &mut given, client, request) {
+        match calls::receive(
+            &mut self.manager,
+            &mut self.host,
+            &mut self.told,
+            &mut given,
+            client,
+            request,
+        ) {
             Ok(()) => {
                 *outs = given.into_vec();
                 Ok(())
             }
             Err(fault) => {
-                self.tables.forget_all(kept);
+                forget(&mut self.manager, &mut self.host, alloc, kept);
                 Err(fault)
             }
         }
@@ -185,7 +209,7 @@ impl Server {
         ensures idle { (server_of self).present client.0 ≡ false → IsOk result }
     {
         let mut server = self;
-        let mut outs = Vec::new(server.tables.alloc());
+        let mut outs = Vec::new(server.alloc());
         server.cut_in_place(client, &mut outs)?;
         Ok((server, outs))
     }
@@ -202,16 +226,22 @@ impl Server {
         ensures idle { (server_of self.old).present client.0 ≡ false → IsOk result }
         ensures forgotten { OnErr result (server_of self.new ≡ new_server_under (server_of self.old).rules []) }
     {
-        laws_of_servers();
-        let kept = self.tables.rules();
+        let kept = self.manager.rules();
+        let alloc = self.alloc();
         let mut given = Outs::over(taken_out(outs));
-        match calls::cut(&mut self.tables, &mut given, client) {
+        match calls::cut(
+            &mut self.manager,
+            &mut self.host,
+            &mut self.told,
+            &mut given,
+            client,
+        ) {
             Ok(()) => {
                 *outs = given.into_vec();
                 Ok(())
             }
             Err(fault) => {
-                self.tables.forget_all(kept);
+                forget(&mut self.manager, &mut self.host, alloc, kept);
                 Err(fault)
             }
         }
@@ -231,7 +261,7 @@ impl Server {
         ensures idle { queries.breaking (server_of self) (key_of client.0 key.0) ≡ false → IsOk result }
     {
         let mut server = self;
-        let mut outs = Vec::new(server.tables.alloc());
+        let mut outs = Vec::new(server.alloc());
         server.expire_in_place(client, key, &mut outs)?;
         Ok((server, outs))
     }
@@ -254,16 +284,23 @@ impl Server {
         ensures idle { queries.breaking (server_of self.old) (key_of client.0 key.0) ≡ false → IsOk result }
         ensures forgotten { OnErr result (server_of self.new ≡ new_server_under (server_of self.old).rules []) }
     {
-        laws_of_servers();
-        let kept = self.tables.rules();
+        let kept = self.manager.rules();
+        let alloc = self.alloc();
         let mut given = Outs::over(taken_out(outs));
-        match calls::expire(&mut self.tables, &mut given, Key { client, bytes: key }) {
+        match calls::expire(
+            &mut self.manager,
+            &mut self.host,
+            &mut self.told,
+            &mut given,
+            client,
+            key,
+        ) {
             Ok(()) => {
                 *outs = given.into_vec();
                 Ok(())
             }
             Err(fault) => {
-                self.tables.forget_all(kept);
+                forget(&mut self.manager, &mut self.host, alloc, kept);
                 Err(fault)
             }
         }
@@ -281,7 +318,7 @@ impl Server {
         ensures idle { list_any (rules.is_left_behind fid.0) (server_of self).opens ≡ false → IsOk result }
     {
         let mut server = self;
-        let mut outs = Vec::new(server.tables.alloc());
+        let mut outs = Vec::new(server.alloc());
         server.scavenge_in_place(fid, &mut outs)?;
         Ok((server, outs))
     }
@@ -298,16 +335,22 @@ impl Server {
         ensures idle { list_any (rules.is_left_behind fid.0) (server_of self.old).opens ≡ false → IsOk result }
         ensures forgotten { OnErr result (server_of self.new ≡ new_server_under (server_of self.old).rules []) }
     {
-        laws_of_servers();
-        let kept = self.tables.rules();
+        let kept = self.manager.rules();
+        let alloc = self.alloc();
         let mut given = Outs::over(taken_out(outs));
-        match calls::scavenge(&mut self.tables, &mut given, fid) {
+        match calls::scavenge(
+            &mut self.manager,
+            &mut self.host,
+            &mut self.told,
+            &mut given,
+            fid,
+        ) {
             Ok(()) => {
                 *outs = given.into_vec();
                 Ok(())
             }
             Err(fault) => {
-                self.tables.forget_all(kept);
+                forget(&mut self.manager, &mut self.host, alloc, kept);
                 Err(fault)
             }
         }
@@ -323,7 +366,7 @@ impl Server {
         ensures lasting { KeepsWhatLasts self.now }
         ensures broken_to { BreaksToLess self.now }
     {
-        let _tables = &self.tables;
+        let _manager = &self.manager;
     }
 
     /// What the server may grant (profile): the granted form of the wanted state, without
@@ -339,21 +382,22 @@ impl Server {
         ensures { state_of result ≡ grants.allowed (server_of self.now)
             (key_under client.0 (option_map (λ bytes. bytes.0) key)) file.0 (state_of want) }
     {
-        self.tables.allowed(own_key(client, key), file, want)
+        self.manager
+            .allowed(client_no(client), key, file_no(file), want)
     }
 
     /// Whether the client is connected (MS-SMB2 3.3.1.7, ConnectionList).
     pub fn is_connected(&self, client: ClientNo) -> bool
         ensures { result ≡ (server_of self.now).present client.0 }
     {
-        self.tables.is_present(client)
+        self.manager.is_connected(client_no(client))
     }
 
     /// Whether an open of this FileId waits for its client to connect again (MS-SMB2 3.3.1.10, IsDurable).
     pub fn has_left_behind(&self, fid: FileId) -> bool
         ensures { result ≡ list_any (rules.is_left_behind fid.0) (server_of self.now).opens }
     {
-        self.tables.has_left_behind(fid)
+        self.manager.has_left_behind(fid)
     }
 
     /// Whether a break of the client's lease of this key waits for its acknowledgment (MS-SMB2
@@ -361,7 +405,7 @@ impl Server {
     pub fn breaking(&self, client: ClientNo, key: LeaseKey) -> bool
         ensures { result ≡ queries.breaking (server_of self.now) (key_of client.0 key.0) }
     {
-        self.tables.lease(Key { client, bytes: key }).is_breaking()
+        self.manager.is_breaking(client_no(client), key)
     }
 
     /// The FileId of the client's oldest durable open on the file that waits to be connected again
@@ -369,22 +413,36 @@ impl Server {
     pub fn kept(&self, client: ClientNo, file: FileNo) -> Option<FileId>
         ensures { option_map (λ file_id. file_id.0) result ≡ queries.kept (server_of self.now) client.0 file.0 }
     {
-        self.tables.kept(client, file)
+        self.manager.kept(client_no(client), file_no(file))
     }
 
     /// The bytes of a file; `None` where the server has no file of this number.
     pub fn content(&self, file: FileNo) -> Option<&[u8]>
         ensures { option_map (λ bytes. bytes.now) result ≡ queries.content (server_of self.now) file.0 }
     {
-        self.tables.content(file)
+        if file_no(file).is_file(self.manager.files()) {
+            Some(self.host.bytes(file))
+        } else {
+            None
+        }
     }
 }
 
-// The key of a request, from its client and its RqLs context.
-fn own_key(client: ClientNo, bytes: Option<LeaseKey>) -> Option<Key>
-    ensures { result ≡ key_under client.0 (option_map (λ bytes. bytes.0) bytes) }
+// A manager of the host's files, where nothing is open. Allocates nothing.
+fn manager_of(alloc: Global, rules: Rules, host: &Host) -> Manager
+    ensures { table.manager_of result ≡ fresh_manager rules (length host.now.contents) }
 {
-    bytes.map(|bytes| Key { client, bytes })
+    Manager::with_files(alloc, rules, lease_manager::FileNo(u64::from(host.count())))
+}
+
+// All is forgotten but the rules, which are these. Allocates nothing.
+fn forget(manager: &mut Manager, host: &mut Host, alloc: Global, rules: Rules)
+    ensures server { server_of (table_of manager.new host.new) ≡ new_server_under rules [] }
+    ensures is { IsServer (table_of manager.new host.new) }
+{
+    laws_of_servers();
+    *host = Host::new(alloc, Vec::new(alloc));
+    *manager = manager_of(alloc, rules, host);
 }
 
 // Takes a list out of its place, where an empty one stays. Allocates nothing.

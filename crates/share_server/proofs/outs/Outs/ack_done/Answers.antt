@@ -10,4 +10,4 @@ send-requires c = ap AckDone
 pub returns : goal.returns
 returns c =
     let found = acknowledgment_found c.encode.result _ c.bytes_laws.ensures.acknowledgment c.encode.ensures.layout in
-    rw (← c.key.view_is) (rw found at c.in_ok-send.ensures)
+    rw found at c.in_ok-send.ensures

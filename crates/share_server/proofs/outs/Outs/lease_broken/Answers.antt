@@ -10,4 +10,4 @@ send-requires c =
 pub returns : goal.returns
 returns c =
     let found = notice_found c.encode.result _ c.bytes_laws.ensures.notification c.encode.ensures.layout in
-    rw (← c.key.view_is, ← c.needs_ack.ensures) (rw found at c.in_ok-send.ensures)
+    rw found at c.in_ok-send.ensures

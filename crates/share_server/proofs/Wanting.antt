@@ -1,9 +1,0 @@
--- The wants of the keys whose leases are wanted.
-use Rattle.lease_laws.proofs.Words.{◌≡◌, FileNo, Key, Option, Server, arith, filter, keys_of, map}
-use Rattle.share_server.specs.Wishes.{is_demanded, wants_for, want_of}
-use Rattle.share_server.specs.declared.values.want.Wish.{Wish}
-
-pub wants_are : (wish : Wish) (server : Server) (own : Option Key) (file : FileNo) → map (want_of wish server)
-    (keys_of (filter (is_demanded (record { wish = wish; own = own; file = file }) server) server.opens))
-    ≡ wants_for wish server own file.0
-wants_are wish server own file = grind arith

@@ -1,7 +1,0 @@
-use Rattle.lease_laws.proofs.Words.{◌++◌, ◌≡◌, filter}
-use Rattle.share_server.specs.LeftOpens.{has_key_in}
-use Rattle.share_server.proofs.tables.opens.Opens.with_key.Given as goal
-
-abbrev pub invariant-loop-fid : goal.invariant-loop-fid
-invariant-loop-fid l =
-    l.ids.items ++ filter (has_key_in l.self l.key) l.fid-iterator ≡ filter (has_key_in l.self l.key) l.left.keys

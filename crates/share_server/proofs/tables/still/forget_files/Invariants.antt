@@ -1,7 +1,0 @@
-use Rattle.lease_laws.proofs.Words.{map, take}
-use Rattle.share_server.specs.Kept.{is_one_of}
-use Rattle.share_server.specs.StillWaiting.{HaveForgotten}
-use Rattle.share_server.proofs.tables.still.forget_files.Given as goal
-
-abbrev pub invariant-loop-id : goal.invariant-loop-id
-invariant-loop-id l = HaveForgotten (is_one_of (map (λ id. id.0) (take l.id-index l.ids))) l.opens l.fn.waiting l.waiting

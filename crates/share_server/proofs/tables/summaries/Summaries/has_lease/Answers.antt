@@ -1,6 +1,0 @@
-use Rattle.lease_laws.proofs.Words.{◌∙◌}
-use Rattle.share_server.proofs.Asking.{is_known}
-use Rattle.share_server.proofs.tables.summaries.Summaries.has_lease.Goals as goal
-
-pub returns : goal.returns
-returns c = λ server stand. c.contains_key.ensures ∙ is_known c.args.key server.opens _ (stand.agree.records c.args.key)

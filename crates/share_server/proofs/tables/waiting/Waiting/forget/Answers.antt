@@ -1,6 +1,0 @@
-use Rattle.lease_laws.proofs.Words.{None}
-use Rattle.share_server.proofs.StillWaiting.{count_changed}
-use Rattle.share_server.proofs.tables.waiting.Waiting.forget.Goals as goal
-
-pub returns : goal.returns
-returns c = count_changed c.args.self.now (record { counts = c.remove.new.self }) c.args.file None c.remove.ensures.updates

@@ -1,5 +1,0 @@
-use Rattle.share_server.proofs.Counted.{none_in}
-use Rattle.share_server.proofs.tables.waiting.Waiting.is_empty.Goals as goal
-
-pub returns : goal.returns
-returns c = λ yes file. none_in c.args.self.now file (c.is_empty.ensures.0 yes)
