@@ -80,8 +80,9 @@ fn join(capture: &mut Capture, client: u32) -> Result<(), Memory> {
     capture.take(client, Note::TreeGiven(given))
 }
 
-fn name_of_open(client: u32, turn: u32) -> OpenName {
+fn name_of_open(id: u64, client: u32, turn: u32) -> OpenName {
     OpenName {
+        id,
         session: u64::from(client),
         file_id: Smb2FileId {
             persistent: u64::from(turn),
@@ -112,16 +113,18 @@ fn give_up(capture: &mut Capture, client: u32, file: u32) -> Result<(), Memory> 
         epoch: 0,
     };
     capture.take(client, Note::Break(breaks))?;
+    let id = capture.count;
     let keeps = KeyLevel {
+        id,
         key,
         level: Level::Nothing,
     };
     capture.take(client, Note::Acknowledge(keeps))?;
-    capture.take(client, Note::Accepted(key))
+    capture.take(client, Note::Done(id))
 }
 
 fn grant(capture: &mut Capture, turn: u32, client: u32, file: u32) -> Result<(), Memory> {
-    let name = name_of_open(client, turn);
+    let name = name_of_open(0, client, turn);
     let lease = LeaseGiven {
         key: key_of(client, file),
         level: Level::Writes,
@@ -140,15 +143,17 @@ fn grant(capture: &mut Capture, turn: u32, client: u32, file: u32) -> Result<(),
 
 fn use_open(capture: &mut Capture, turn: u32, client: u32) -> Result<(), Memory> {
     for _use in 0..USES {
-        capture.take(client, Note::OnOpen(name_of_open(client, turn)))?;
-        capture.take(client, Note::Answered(0))?;
+        let id = capture.count;
+        capture.take(client, Note::OnOpen(name_of_open(id, client, turn)))?;
+        capture.take(client, Note::Done(id))?;
     }
     Ok(())
 }
 
 fn close(capture: &mut Capture, turn: u32, client: u32) -> Result<(), Memory> {
-    capture.take(client, Note::Close(name_of_open(client, turn)))?;
-    capture.take(client, Note::Answered(0))
+    let id = capture.count;
+    capture.take(client, Note::Close(name_of_open(id, client, turn)))?;
+    capture.take(client, Note::Done(id))
 }
 
 // A client opens a file and uses it, and closes what it opened before.

@@ -21,14 +21,15 @@ agree chains verdict.TooMany other one two = tt
 agree chains verdict.Contradictory verdict.TooMany one two = tt
 agree chains verdict.Contradictory verdict.Contradictory one two = tt
 agree chains verdict.Contradictory (verdict.Clean steps) one two = one (reverse steps.items) two.0
-agree chains verdict.Contradictory (verdict.Unsafe position) one two = one two.placed.0 two.placed.1
+agree chains verdict.Contradictory (verdict.Unsafe charge) one two = one two.unsafe.placed.0 two.unsafe.placed.1
 agree chains (verdict.Clean steps) verdict.TooMany one two = tt
 agree chains (verdict.Clean steps) verdict.Contradictory one two = two (reverse steps.items) one.0
 agree chains (verdict.Clean steps) (verdict.Clean others) one two = tt
-agree chains (verdict.Clean steps) (verdict.Unsafe position) one two =
-    two.unclean (reverse steps.items) one.0 (clean-up_to chains position (reverse steps.items) one.1)
-agree chains (verdict.Unsafe position) verdict.TooMany one two = tt
-agree chains (verdict.Unsafe position) verdict.Contradictory one two = two one.placed.0 one.placed.1
-agree chains (verdict.Unsafe position) (verdict.Clean steps) one two =
-    one.unclean (reverse steps.items) two.0 (clean-up_to chains position (reverse steps.items) two.1)
-agree chains (verdict.Unsafe position) (verdict.Unsafe other) one two = same-position chains position other one two
+agree chains (verdict.Clean steps) (verdict.Unsafe charge) one two =
+    two.unsafe.unclean (reverse steps.items) one.0 (clean-up_to chains charge.position (reverse steps.items) one.1)
+agree chains (verdict.Unsafe charge) verdict.TooMany one two = tt
+agree chains (verdict.Unsafe charge) verdict.Contradictory one two = two one.unsafe.placed.0 one.unsafe.placed.1
+agree chains (verdict.Unsafe charge) (verdict.Clean steps) one two =
+    one.unsafe.unclean (reverse steps.items) two.0 (clean-up_to chains charge.position (reverse steps.items) two.1)
+agree chains (verdict.Unsafe charge) (verdict.Unsafe other) one two =
+    same-position chains charge.position other.position one.unsafe two.unsafe

@@ -328,7 +328,7 @@ next_step chains past feasible one =
 -- ---- to the end
 
 -- how many changes are left of a chain
-abbrev left_of : List Chain → List Step → ℕ → ℕ
+abbrev pub left_of : List Chain → List Step → ℕ → ℕ
 left_of chains past i = width chains i - reached past i
 
 pub record Completed (chains : List Chain) (position : ℕ) (past : List Step) : Type 0 where
@@ -336,13 +336,13 @@ pub record Completed (chains : List Chain) (position : ℕ) (past : List Step) :
   pub placed : IsPlacement chains whole
   pub clean : (earlier : ℕ) → earlier < position → IsCleanUpTo chains earlier past → IsCleanUpTo chains earlier whole
 
-waits-after : (chains : List Chain) (step : Step) (past : List Step) → MayTake chains (reached past step.chain) step
+pub waits-after : (chains : List Chain) (step : Step) (past : List Step) → MayTake chains (reached past step.chain) step
     → CanWait chains step.position past → CanWait chains step.position (step ∷ past)
 waits-after chains step past may waits i k change last from at has =
     let far = reached-passed chains step past may i
     in waits i k change last (omega (arith, far, from)) at has
 
-less_left : (chains : List Chain) (step : Step) (past : List Step) → MayTake chains (reached past step.chain) step
+pub less_left : (chains : List Chain) (step : Step) (past : List Step) → MayTake chains (reached past step.chain) step
     → step.chain < length chains → step.change < width chains step.chain
     → total (left_of chains (step ∷ past)) (length chains) < total (left_of chains past) (length chains)
 less_left chains step past may inside within =

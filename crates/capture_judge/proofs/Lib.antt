@@ -1,10 +1,13 @@
 pub mod Agreeing
 pub mod Calm
+pub mod Charges
 pub mod Completing
 pub mod Covering
+pub mod Dues
 pub mod Feasible
 pub mod Filtered
 pub mod Going
+pub mod Heights
 pub mod Keeping
 pub mod Late
 pub mod Orders

@@ -1,15 +1,16 @@
 -- How the search stands at its start, after a position, and at its end.
 use Rattle.std.proofs.Common.{◌≡◌, ◌≢◌, ◌+◌, ◌<◌, ◌≤◌, inl, inr, ℕ, zero, suc, List, ◌∷◌, [], Some, None, refl, sym, ap, ◌∙◌}
-use Rattle.std.proofs.Common.{arith, subst, slice_get, slice_index, length, Bool, not, replicate}
-use Rattle.std.specs.List.{filter}
+use Rattle.std.proofs.Common.{arith, subst, slice_get, slice_index, length, Bool, true, false, not, ◌&&◌, replicate, reverse}
+use Rattle.std.specs.List.{filter, list_all}
 use Rattle.std.specs.List.Sorted.{IsStrictlyIncreasing}
-use Rattle.std.proofs.lemmas.Bool.{cases_eq, cases_lt, not-true, not_from_false}
+use Rattle.std.proofs.lemmas.Bool.{cases_eq, cases_lt, cases_Bool, and_parts, not-true, not_from_false}
 use Rattle.std.proofs.lemmas.List.{get_or_default, length-replicate}
 use Rattle.std.proofs.lemmas.List.Kept.{AllPairs-from_increasing}
 use Rattle.std.proofs.lemmas.Option.{same_Some, slice_get_within}
-use Rattle.capture_judge.specs.Placing.{reached, IsPlacement, IsClean, IsCleanUpTo}
+use Rattle.capture_judge.specs.Placing.{reached, IsPlacement, IsClean, IsCleanUpTo, IsCleanBefore}
 use Rattle.capture_judge.specs.Beginnings.{IsBeginning, CanWait}
-use Rattle.capture_judge.specs.Verdicts.{IsUnsafe}
+use Rattle.capture_judge.specs.Verdicts.{IsUnsafe, IsCharged}
+use Rattle.capture_judge.specs.Charges.{IsCharge}
 use Rattle.capture_judge.specs.Searching.{AreFeasible, IncludesAll, is_late, Leads, IsKept, IsSearch, Closed, StartsAlone}
 use Rattle.capture_judge.specs.Searching.{IsBefore, Stands}
 use Rattle.capture_judge.proofs.Completing.{chain_of, completed}
@@ -20,6 +21,7 @@ use Rattle.capture_judge.proofs.Late.{waits-of}
 use Rattle.capture_judge.proofs.Orders.{ordered_of, placement_of, up_to, up_to-begins, up_to-can_wait}
 use Rattle.capture_judge.proofs.Places.{element-at}
 use Rattle.capture_judge.specs.declared.values.Chain.{Chain}
+use Rattle.capture_judge.specs.declared.values.Charge.{Charge}
 use Rattle.capture_judge.specs.declared.values.Step.{Step}
 use Rattle.capture_judge.specs.declared.ways.Way.{Way}
 use Rattle.capture_judge.specs.declared.ways.Ways.{Ways}
@@ -181,11 +183,36 @@ pub clean-up_to : (chains : List Chain) (position : ℕ) (past : List Step) → 
 clean-up_to chains position [] clean = tt
 clean-up_to chains position (step ∷ past) clean = ((λ within. clean.0), clean-up_to chains position past clean.1)
 
-pub unsafe-at : (chains : List Chain) (positions : List ℕ) (next position : ℕ) (old mid new : Ways) → AreFeasible chains
+-- all ways that there are have left out something
+pub all-late : (chains : List Chain) (position : ℕ) (ways : List Way)
+    → list_all (λ (way : Way). is_late position way.came.items 0 chains) ways ≡ true
+    → filter (on_time chains position) ways ≡ []
+all-late chains position [] late = refl
+all-late chains position (way ∷ ways) late =
+    let both = and_parts (is_late position way.came.items 0 chains)
+    (list_all (λ (one : Way). is_late position one.came.items 0 chains) ways) late
+    in let rest = all-late chains position ways both.1
+    in rw both.0 rest
+
+else-false : (a b : Bool) → a ≡ true → a && b ≡ false → b ≡ false
+else-false a b is none = rw is at none
+
+pub one-on_time : (chains : List Chain) (position : ℕ) (ways : List Way)
+    → list_all (λ (way : Way). is_late position way.came.items 0 chains) ways ≡ false
+    → 0 < length (filter (on_time chains position) ways)
+one-on_time chains position [] none = cc
+one-on_time chains position (way ∷ ways) none = elim (cases_Bool (is_late position way.came.items 0 chains))
+    as (λ _. 0 < length (filter (on_time chains position) (way ∷ ways))) [
+      | inl late ↦ let rest = one-on_time chains position ways (else-false (is_late position way.came.items 0 chains)
+          (list_all (λ (one : Way). is_late position one.came.items 0 chains) ways) late none) in rw late rest
+      | inr time ↦ rw time (omega arith)
+    ]
+
+pub unsafe-at : (chains : List Chain) (positions : List ℕ) (next position : ℕ) (old mid : Ways) → AreFeasible chains
     → IsStrictlyIncreasing positions → next < length positions → position ≡ slice_index positions next
     → Stands chains positions next old → Closed chains position old mid
-    → new.ways.items ≡ filter (on_time chains position) mid.ways.items → length new.ways.items ≡ 0 → IsUnsafe chains position
-unsafe-at chains positions next position old mid new feasible increasing inside is stands closed ways empty =
+    → filter (on_time chains position) mid.ways.items ≡ [] → IsUnsafe chains position
+unsafe-at chains positions next position old mid feasible increasing inside is stands closed empty =
     let none = none_between chains positions next position old stands increasing inside is
     in let low = stands.later next (omega arith) inside
     in let first = element-at old.ways.items 0 stands.some
@@ -201,13 +228,29 @@ unsafe-at chains positions next position old mid new feasible increasing inside 
           (up_to position past) begins.steps begins.clean (before-of position (up_to position past) begins.within)
           (up_to-can_wait chains position past placement)
           in let place = slice_get_within (filter (on_time chains position) mid.ways.items) one.0 one.1 one.2
-          in let size = ap length ways in omega (arith, place, size, empty);
+          in let size = ap length empty in omega (arith, place, size);
       first = λ earlier before. (
         whole.whole,
         whole.placed,
         whole.clean earlier before (clean-up_to chains earlier kept.past kept.is-way.clean),
       );
     }
+
+-- a search that stands has a way, and keeps it while it grows
+pub has-way : (chains : List Chain) (positions : List ℕ) (next position : ℕ) (old mid : Ways) → Stands chains positions next old
+    → Closed chains position old mid → 0 < length mid.ways.items
+has-way chains positions next position old mid stands closed =
+    let first = element-at old.ways.items 0 stands.some
+    in slice_get_within mid.ways.items 0 first.0 (closed.grows 0 first.0 first.1)
+
+pub charged-at : (chains : List Chain) (position : ℕ) (charge : Charge) → IsUnsafe chains position
+    → IsCharge chains position charge
+    → IsCharged chains charge
+charged-at chains position charge unsafe is = record {
+  unsafe = subst (IsUnsafe chains) (sym is.position-is) unsafe;
+  placed = is.placed;
+  clean = subst (λ n. IsCleanBefore chains n (reverse charge.steps.items)) (sym is.position-is) is.clean;
+}
 
 -- at the end nothing is left that must happen
 pub clean-at : (chains : List Chain) (positions : List ℕ) (next : ℕ) (search : Ways) → length positions ≤ next

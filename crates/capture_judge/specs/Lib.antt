@@ -1,4 +1,6 @@
 pub mod Beginnings
+pub mod Charges
+pub mod Levels
 pub mod Placing
 pub mod Searching
 pub mod Verdicts

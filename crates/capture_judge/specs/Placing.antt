@@ -89,3 +89,9 @@ abbrev pub IsCleanUpTo : List Chain → ℕ → List Step → Type 0
 IsCleanUpTo chains position [] = ⊤
 IsCleanUpTo chains position (step ∷ past) =
     (step.position ≤ position → IsCalm chains (step ∷ past)) × IsCleanUpTo chains position past
+
+-- after each step before a position no two clients clash
+abbrev pub IsCleanBefore : List Chain → ℕ → List Step → Type 0
+IsCleanBefore chains position [] = ⊤
+IsCleanBefore chains position (step ∷ past) =
+    (step.position < position → IsCalm chains (step ∷ past)) × IsCleanBefore chains position past

@@ -1,7 +1,7 @@
 -- Worked examples: chains, and what is right of them.
 use Rattle.std.specs.Prelude.{◌≡◌, ℕ, List, ◌∷◌, [], Some, None, map}
 use Rattle.capture_judge.specs.Placing.{IsPlacement, IsClean}
-use Rattle.capture_judge.specs.Verdicts.{IsVerdict}
+use Rattle.capture_judge.specs.Verdicts.{IsUnsafe, IsVerdict}
 use Rattle.capture_judge.specs.declared.values.Level.{Level}
 use Rattle.capture_judge.specs.declared.values.Level.TheVariants.{Nothing, Something, Writes}
 use Rattle.capture_judge.specs.declared.values.Change.{Change}
@@ -39,7 +39,7 @@ abbrev pub hurried : List (ℕ × List Change)
 hurried = (1, certain Writes 1 3 ∷ certain Writes 1 1 ∷ []) ∷ (2, certain Something 1 1 ∷ certain Nothing 3 3 ∷ []) ∷ []
 
 abbrev pub HurriedIsUnsafe : Type 0
-HurriedIsUnsafe = (chains : List Chain) → map shown chains ≡ hurried → IsVerdict chains (verdict.Unsafe 1)
+HurriedIsUnsafe = (chains : List Chain) → map shown chains ≡ hurried → IsUnsafe chains 1
 
 -- The doubtful change can't have happened before 6, and the one behind it may have happened without it.
 abbrev pub left_out : List (ℕ × List Change)

@@ -24,10 +24,10 @@ pub fn judge_placing(alloc: Global, chains: &[Chain]) -> Result<Placing, Memory>
         if !ways.close(chains, *position)? {
             return Ok(Placing::TooMany);
         }
-        ways.drop_late(chains, *position);
-        if ways.ways.is_empty() {
-            return Ok(Placing::Unsafe(*position));
+        if ways.are_late(chains, *position) {
+            return Ok(Placing::Unsafe(ways.charge(alloc, chains, *position)?));
         }
+        ways.drop_late(chains, *position);
     }
     Ok(Placing::Clean(ways.steps_to(alloc, 0)?))
 }

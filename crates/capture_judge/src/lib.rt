@@ -7,7 +7,7 @@
 //! let reader = [certain(Level::Something, 1, 1), certain(Level::Nothing, 3, 3)];
 //! let writer = Chain { client: 1, changes: Vec::from_slice(alloc, &writer)? };
 //! let reader = Chain { client: 2, changes: Vec::from_slice(alloc, &reader)? };
-//! assert!(matches!(judge_placing(alloc, &[writer, reader])?, Placing::Unsafe(1)));
+//! assert!(matches!(judge_placing(alloc, &[writer, reader])?, Placing::Unsafe(Charge { position: 1, .. })));
 //! ```
 //!
 //! Each verdict is exact, by its contract. A charge, `Placing::Unsafe`, is said only where every placement of the changes within
@@ -15,15 +15,18 @@
 #![tactic(auto)]
 
 mod bounds;
+mod charging;
 mod judging;
 mod laws;
+mod levels;
 mod values;
 mod ways;
 mod worked;
 
 pub use judging::judge_placing;
 pub use laws::verdicts_agree;
-pub use values::{Chain, Change, Level, Placing, Step};
+pub use levels::levels_after;
+pub use values::{Chain, Change, Charge, Level, Placing, Step};
 pub use ways::WAY_LIMIT;
 pub use worked::{
     contradictions_have_no_placement, doubts_are_in_favor, later_changes_hurry_earlier_ones,
@@ -76,7 +79,7 @@ mod tests {
     // The position of the charge, where there is one.
     fn charged_position(placing: &Placing) -> Option<u64> {
         match placing {
-            Placing::Unsafe(position) => Some(*position),
+            Placing::Unsafe(charge) => Some(charge.position),
             _ => None,
         }
     }

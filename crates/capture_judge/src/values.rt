@@ -41,6 +41,15 @@ pub struct Step {
     pub change: usize,
 }
 
+/// A charge: two clients clash, however the changes are placed.
+#[derive(Debug, Drop)]
+pub struct Charge {
+    /// The first position such that two clients clash after a step at it or before it, however the changes are placed.
+    pub position: u64,
+    /// Steps that place the changes; no two clients clash after any of them that is before the position.
+    pub steps: Vec<Step>,
+}
+
 /// What is said of chains.
 #[derive(Debug, Drop)]
 pub enum Placing {
@@ -48,8 +57,8 @@ pub enum Placing {
     Contradictory,
     /// These steps place them, and no two clients clash after any of them.
     Clean(Vec<Step>),
-    /// However they are placed, two clients clash after a step at this position or before it, which is the first such one.
-    Unsafe(u64),
+    /// However they are placed, two clients clash.
+    Unsafe(Charge),
     /// There are too many ways to place them, and nothing is known.
     TooMany,
 }

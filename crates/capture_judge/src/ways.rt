@@ -1,17 +1,19 @@
 ghost use Rattle.std.specs.Prelude.{◌≡◌, ◌<◌, ◌+◌, ◌^◌, ℕ, List, Some, not, length, reverse, slice_get, slice_index};
 ghost use Rattle.std.specs.Prelude.{drop, IfOk, IfSome, IsTrue, MatchBool};
-ghost use Rattle.std.specs.List.{filter};
+ghost use Rattle.std.specs.List.{filter, list_all};
+ghost use Rattle.capture_judge.specs.Charges.{IsCharge};
 ghost use Rattle.capture_judge.specs.declared.values.Chain.{Chain};
 ghost use Rattle.capture_judge.specs.declared.values.Step.{Step};
 ghost use Rattle.capture_judge.specs.Placing.{height};
 ghost use Rattle.capture_judge.specs.Beginnings.{IsCrowded};
-ghost use Rattle.capture_judge.specs.Searching.{is_late, level_in, IsApart, IsSearch, Leads, MayPass, Took, Closed};
+ghost use Rattle.capture_judge.specs.Searching.{AreFeasible, is_late, level_in, IsApart, IsSearch, Leads, MayPass, Took, Closed};
 ghost use Rattle.capture_judge.specs.Searching.{after, Admits, Has, IsStart, StartsAlone, MayKeep, Keeps};
 ghost use Rattle.capture_judge.specs.Searching.{IsFall, TakesFall, Went, Worth, may_go_on};
 ghost use Rattle.capture_judge.specs.declared.ways.Way.{Way};
 
 use crate::bounds::is_overdue;
-use crate::values::{Chain, Change, Level, Step};
+use crate::charging::charge_after;
+use crate::values::{Chain, Change, Charge, Level, Step};
 use lease_state::Memory;
 use std::alloc::Global;
 
@@ -331,6 +333,13 @@ impl Ways {
         Ok(true)
     }
 
+    // Whether each way has left out a change that must have happened by now.
+    pub(crate) fn are_late(&self, chains: &[Chain], position: u64) -> bool
+        ensures { result ≡ list_all (λ way. is_late position way.came.items 0 chains.now) self.now.ways.items }
+    {
+        self.ways.iter().all(|way| way.is_late(chains, position))
+    }
+
     pub(crate) fn drop_late(&mut self, chains: &[Chain], position: u64)
         ensures ways { self.new.ways.items
             ≡ filter (λ way. not (is_late position way.came.items 0 chains.now)) self.old.ways.items }
@@ -356,5 +365,23 @@ impl Ways {
         }
         turn_around(&mut steps);
         Ok(steps)
+    }
+
+    // The charge at a position, with the steps that led to the way that was found last, and after them all that must follow.
+    pub(crate) fn charge(
+        &self,
+        alloc: Global,
+        chains: &[Chain],
+        position: u64,
+    ) -> Result<Charge, Memory>
+        requires search { IsSearch chains.now position self.now }
+        requires some { 0 < length self.now.ways.items }
+        requires feasible { AreFeasible chains.now }
+        ensures { IfOk result (IsCharge chains.now position) }
+    {
+        let last = self.ways.len() - 1;
+        let steps = self.steps_to(alloc, last)?;
+        let came = Vec::from_slice(alloc, self.ways[last].came.as_slice())?;
+        charge_after(chains, position, came, steps)
     }
 }

@@ -1,3 +1,4 @@
+pub mod Remaining
 pub mod Lengths
 pub mod Taking
 pub mod Taken

@@ -1,5 +1,5 @@
 -- The file that a verdict is of.
-use Rattle.std.proofs.Common.{◌≡◌, ◌≢◌, inl, inr, ℕ, Bool, true, false, ◌||◌, if◌then◌else◌, List, [], ◌∷◌, refl}
+use Rattle.std.proofs.Common.{◌≡◌, ◌≢◌, inl, inr, ℕ, Bool, true, false, ◌||◌, if◌then◌else◌, List, [], ◌∷◌, refl, reverse}
 use Rattle.std.specs.List.{AllZip, list_any}
 use Rattle.capture_judge.specs.Placing.{IsPlacement, IsClean}
 use Rattle.capture_judge.specs.Verdicts.{IsUnsafe}
@@ -11,6 +11,7 @@ use Rattle.capture_walk.specs.declared.note.Seen.{Seen}
 use Rattle.capture_texts.specs.Captures.{moments}
 use Rattle.capture_texts.specs.Laws.{IsAmong, UnsafeIsOfAFile, SafeIsOfAFile}
 use Rattle.capture_texts.specs.Reports.{IsFound, IsJudged, is_unsafe, is_safe}
+use Rattle.capture_texts.specs.declared.finding.Belief.{Belief}
 use Rattle.capture_texts.specs.declared.finding.CaptureVerdict.TheVariants as verdict
 use Rattle.capture_texts.specs.declared.finding.FileFinding.{FileFinding}
 use Rattle.capture_texts.specs.declared.finding.Judged.{Judged}
@@ -58,22 +59,22 @@ passes test past seen (file ∷ files) (finding ∷ findings) all some =
 
 -- ---- what is decided of it
 
-charge : (known : List Moment) (chains : List Chain) (decided : Judged) → is_unsafe decided ≡ true
-    → IsJudged known chains decided → (position : ℕ) × IsUnsafe chains position
-charge known chains judged.NoClient is judged = absurd (cc is)
-charge known chains judged.Safe is judged = absurd (cc is)
-charge known chains (judged.Unsafe moment) is judged = (judged.0, judged.1)
-charge known chains judged.Contradictory is judged = absurd (cc is)
-charge known chains judged.TooMany is judged = absurd (cc is)
+charge : (known : List Moment) (chains : List Chain) (beliefs : List Belief) (decided : Judged) → is_unsafe decided ≡ true
+    → IsJudged known chains beliefs decided → (position : ℕ) × IsUnsafe chains position
+charge known chains beliefs judged.NoClient is judged = absurd (cc is)
+charge known chains beliefs judged.Safe is judged = absurd (cc is)
+charge known chains beliefs (judged.Unsafe moment) is judged = (judged.0, judged.1)
+charge known chains beliefs judged.Contradictory is judged = absurd (cc is)
+charge known chains beliefs judged.TooMany is judged = absurd (cc is)
 
-clean : (known : List Moment) (chains : List Chain) (decided : Judged) → is_safe decided ≡ true
-    → IsJudged known chains decided
+clean : (known : List Moment) (chains : List Chain) (beliefs : List Belief) (decided : Judged) → is_safe decided ≡ true
+    → IsJudged known chains beliefs decided
     → (chains ≢ []) × (steps : List Step) × IsPlacement chains steps × IsClean chains steps
-clean known chains judged.NoClient is judged = absurd (cc is)
-clean known chains judged.Safe is judged = judged
-clean known chains (judged.Unsafe moment) is judged = absurd (cc is)
-clean known chains judged.Contradictory is judged = absurd (cc is)
-clean known chains judged.TooMany is judged = absurd (cc is)
+clean known chains beliefs judged.NoClient is judged = absurd (cc is)
+clean known chains beliefs judged.Safe is judged = (judged.0, reverse judged.1, judged.2.placed, judged.3)
+clean known chains beliefs (judged.Unsafe moment) is judged = absurd (cc is)
+clean known chains beliefs judged.Contradictory is judged = absurd (cc is)
+clean known chains beliefs judged.TooMany is judged = absurd (cc is)
 
 -- ---- the verdict
 
@@ -94,7 +95,7 @@ unsafe_of_a_file at past report is said =
     let some = first_said (list_any (λ one. is_unsafe one.judged) report.files.items)
     (list_any (λ one. is_safe one.judged) report.files.items) said in
     let one = passes is_unsafe past is.seen (files_in (events is.seen)) report.files.items is.files some in
-    let charged = charge (moments past) one.found.chains one.finding.judged one.passed one.found.judged_is in (
+    let charged = charge (moments past) one.found.chains one.finding.beliefs.items one.finding.judged one.passed one.found.judged_is in (
       one.file,
       one.found.chains,
       charged.0,
@@ -107,7 +108,7 @@ safe_of_a_file at past report is said =
     let some = second_said (list_any (λ one. is_unsafe one.judged) report.files.items)
     (list_any (λ one. is_safe one.judged) report.files.items) said in
     let one = passes is_safe past is.seen (files_in (events is.seen)) report.files.items is.files some in
-    let cleared = clean (moments past) one.found.chains one.finding.judged one.passed one.found.judged_is in (
+    let cleared = clean (moments past) one.found.chains one.finding.beliefs.items one.finding.judged one.passed one.found.judged_is in (
       one.file,
       one.found.chains,
       cleared.1,

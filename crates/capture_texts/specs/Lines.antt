@@ -5,6 +5,7 @@ use Rattle.std.specs.List.{list_all}
 use Rattle.lease_texts.specs.Fields.{number_in, bytes_in}
 use Rattle.lease_texts.specs.Kinds.{Taking, and_then, one, whole}
 use Rattle.lease_texts.specs.Pieces.{fields_of}
+use Rattle.capture_texts.specs.Names.{names_said}
 use Rattle.capture_texts.specs.declared.line.Side.{Side}
 use Rattle.capture_texts.specs.declared.line.Side.TheVariants as side
 use Rattle.capture_texts.specs.declared.line.Moment.{Moment}
@@ -76,8 +77,8 @@ said_taken kind words =
     else if bytes_eq kind (codes "end") then Some (said.End, words)
     else None
 
-abbrev pub moment_at : ℕ → List ℕ → Moment
-moment_at packet time = record { packet = packet; time = time }
+abbrev pub moment_at : ℕ → List ℕ → Said → Moment
+moment_at packet time said = record { packet = packet; time = time; messages = names_said said }
 
 abbrev pub line_at : Moment → ℕ → Said → Line
 line_at moment connection said = record { moment = moment; connection = connection; said = said }
@@ -88,7 +89,7 @@ line_taken [] = None
 line_taken (kind ∷ words) =
     and_then (one number_in words) (λ packet words. and_then (one_time words) (λ time words.
     and_then (one number_in words) (λ connection words. and_then (said_taken kind words) (λ said words.
-    Some (line_at (moment_at packet time) connection said, words)))))
+    Some (line_at (moment_at packet time said) connection said, words)))))
 
 -- what a line says that isn't passed over
 unfoldable pub line_in : List ℕ → Option Line

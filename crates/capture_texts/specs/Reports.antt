@@ -1,14 +1,16 @@
 -- What is said of a capture: of each file what is decided of it, and of the whole a verdict. Lines, and messages that are seen,
 -- have the newest one first.
 use Rattle.std.specs.Prelude.{◌≡◌, ◌≢◌, ◌-◌, ◌/◌, ℕ, nat_lt, Bool, true, false, if◌then◌else◌, ◌==◌, List, [], ◌∷◌, length}
-use Rattle.std.specs.Prelude.{map, filter, Option, None, slice_get}
+use Rattle.std.specs.Prelude.{map, filter, reverse, Option, Some, None, slice_get}
 use Rattle.std.specs.List.{list_any, AllZip}
 use Rattle.std.specs.Option.{option_map}
 use Rattle.capture_judge.specs.Beginnings.{IsCrowded}
-use Rattle.capture_judge.specs.Placing.{IsPlacement, IsClean}
+use Rattle.capture_judge.specs.Levels.{AreLevels}
+use Rattle.capture_judge.specs.Placing.{IsPlacement, IsClean, IsCleanBefore}
 use Rattle.capture_judge.specs.Verdicts.{IsUnsafe}
 use Rattle.capture_judge.specs.Worked.{shown}
 use Rattle.capture_judge.specs.declared.values.Chain.{Chain}
+use Rattle.capture_judge.specs.declared.values.Level.{Level}
 use Rattle.capture_judge.specs.declared.values.Step.{Step}
 use Rattle.capture_walk.specs.Chains.{chains_on, files_in}
 use Rattle.capture_walk.specs.Events.{events}
@@ -20,6 +22,7 @@ use Rattle.capture_walk.specs.declared.event.Misnumbered.{Misnumbered}
 use Rattle.capture_walk.specs.declared.note.Seen.{Seen}
 use Rattle.capture_texts.specs.Captures.{Shows, moments, has_frame}
 use Rattle.capture_texts.specs.Servers.{servers, address_of}
+use Rattle.capture_texts.specs.declared.finding.Belief.{Belief}
 use Rattle.capture_texts.specs.declared.finding.CaptureVerdict.{CaptureVerdict}
 use Rattle.capture_texts.specs.declared.finding.CaptureVerdict.TheVariants as verdict
 use Rattle.capture_texts.specs.declared.finding.ClientFinding.{ClientFinding}
@@ -40,13 +43,39 @@ use Rattle.capture_texts.specs.declared.line.Side.{Side}
 abbrev pub moment_at : ℕ → List Moment → Option Moment
 moment_at position known = slice_get known ((position - 1) / 2)
 
-abbrev pub IsJudged : List Moment → List Chain → Judged → Type 0
-IsJudged known chains judged.NoClient = chains ≡ []
-IsJudged known chains judged.Safe = (chains ≢ []) × (steps : List Step) × IsPlacement chains steps × IsClean chains steps
-IsJudged known chains (judged.Unsafe moment) =
+-- the moment of a position, if it isn't that before all lines
+abbrev pub moment_since : ℕ → List Moment → Option Moment
+moment_since position known = if position == 0 then None else moment_at position known
+
+-- The belief is where the step is, and of the client of its chain.
+pub record IsBelief (known : List Moment) (chains : List Chain) (step : Step) (belief : Belief) : Type 0 where
+  pub client-is : (chain : Chain) → slice_get chains step.chain ≡ Some chain → belief.client ≡ chain.client
+  pub position-is : belief.position ≡ step.position
+  pub moment-is : belief.moment ≡ moment_since step.position known
+
+abbrev pub level_believed : Belief → Level
+level_believed belief = belief.level
+
+-- One for each step, in their order, with what its client caches after it.
+pub record AreBeliefs (known : List Moment) (chains : List Chain) (steps : List Step) (beliefs : List Belief) : Type 0 where
+  pub each : AllZip (IsBelief known chains) steps beliefs
+  pub levels : AreLevels chains (reverse steps) (reverse (map level_believed beliefs))
+
+-- These steps place the changes of a file, and lead to the beliefs.
+pub record IsStory (known : List Moment) (chains : List Chain) (beliefs : List Belief) (steps : List Step) : Type 0 where
+  pub placed : IsPlacement chains (reverse steps)
+  pub told : AreBeliefs known chains steps beliefs
+
+abbrev pub IsJudged : List Moment → List Chain → List Belief → Judged → Type 0
+IsJudged known chains beliefs judged.NoClient = (chains ≡ []) × (beliefs ≡ [])
+IsJudged known chains beliefs judged.Safe =
+    (chains ≢ []) × (steps : List Step) × IsStory known chains beliefs steps × IsClean chains (reverse steps)
+IsJudged known chains beliefs (judged.Unsafe moment) =
     (position : ℕ) × IsUnsafe chains position × (moment ≡ moment_at position known)
-IsJudged known chains judged.Contradictory = (steps : List Step) → IsPlacement chains steps → ⊥
-IsJudged known chains judged.TooMany = IsCrowded chains
+    × (steps : List Step) × IsStory known chains beliefs steps × IsCleanBefore chains position (reverse steps)
+IsJudged known chains beliefs judged.Contradictory =
+    ((steps : List Step) → IsPlacement chains steps → ⊥) × (beliefs ≡ [])
+IsJudged known chains beliefs judged.TooMany = IsCrowded chains × (beliefs ≡ [])
 
 -- ---- files
 
@@ -69,7 +98,7 @@ pub record IsFound (past : List Line) (seen : List Seen) (file : ℕ) (finding :
   pub place_is : finding.place ≡ option_map (place_named (servers past)) (place_of_life file (lives seen))
   pub chains : List Chain
   pub shows : map shown chains ≡ chains_on file (events seen)
-  pub judged_is : IsJudged (moments past) chains finding.judged
+  pub judged_is : IsJudged (moments past) chains finding.beliefs.items finding.judged
   pub clients_are : map number_named finding.clients.items ≡ map chain_client chains
 
 -- one for each file, in their order
@@ -96,10 +125,6 @@ losses_behind found (_ ∷ later) = losses_behind found later
 
 abbrev pub losses : List Event → List Loss
 losses events = losses_behind [] events
-
--- the moment of a position, if it isn't that before all lines
-abbrev pub moment_since : ℕ → List Moment → Option Moment
-moment_since position known = if position == 0 then None else moment_at position known
 
 pub record IsClientFound (known : List Moment) (loss : Loss) (finding : ClientFinding) : Type 0 where
   pub client_is : finding.client.number ≡ loss.client

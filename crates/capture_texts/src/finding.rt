@@ -3,6 +3,7 @@ ghost use Rattle.std.specs.List.{list_any};
 ghost use Rattle.capture_texts.specs.Reports.{is_unsafe, is_safe, verdict_of};
 
 use crate::line::Moment;
+use capture_judge::Level;
 use capture_walk::NotJudged;
 use lease_state::Bytes;
 
@@ -41,6 +42,19 @@ pub enum Judged {
     TooMany,
 }
 
+/// What a client caches of a file after a change of one of its leases.
+#[derive(Debug, Drop)]
+pub struct Belief {
+    /// The number of the client, as its `ClientName` has it.
+    pub client: u64,
+    /// What it caches, whichever of its leases lets it.
+    pub level: Level,
+    /// Where the change is among the lines: a number that grows with time.
+    pub position: u64,
+    /// The moment of the line; none where it is before all lines.
+    pub moment: Option<Moment>,
+}
+
 /// What is found of a file on which leases are granted.
 #[derive(Debug, Drop)]
 pub struct FileFinding {
@@ -50,6 +64,9 @@ pub struct FileFinding {
     pub judged: Judged,
     /// The clients that are judged, if only up to some moment: one for each lease.
     pub clients: Vec<ClientName>,
+    /// What they cache, change by change, in an order that fits the capture: one by which the file is safe, where it is, and
+    /// where it is unsafe one by which it is up to then. Nothing where it isn't judged.
+    pub beliefs: Vec<Belief>,
 }
 
 /// A client that isn't judged from some moment on.

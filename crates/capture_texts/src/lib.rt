@@ -19,6 +19,7 @@ mod connections;
 mod finding;
 mod laws;
 mod line;
+mod names;
 mod reading;
 mod report;
 mod servers;
@@ -28,10 +29,11 @@ mod whole;
 
 pub use capture::Capture;
 pub use finding::{
-    CaptureVerdict, ClientFinding, ClientName, Counts, EpochFinding, FileFinding, FilePlace,
-    Judged, Report,
+    Belief, CaptureVerdict, ClientFinding, ClientName, Counts, EpochFinding, FileFinding,
+    FilePlace, Judged, Report,
 };
 pub use laws::verdicts_are_of_files;
 pub use lease_texts::{LineFault, TextFault};
 pub use line::{Moment, Side};
+pub use names::{MessageName, MessageNames, MessagePart};
 pub use whole::read_capture;

@@ -2,6 +2,7 @@ ghost use Rattle.std.specs.Prelude.{◌≡◌, ◌+◌, ◌*◌, ◌<◌, ◌≤
 ghost use Rattle.capture_texts.specs.Lines.{is_frame};
 ghost use Rattle.capture_texts.specs.Positions.{is_near, is_taken, position};
 
+use crate::names::MessageNames;
 use lease_state::{Bytes, Memory};
 
 /// A side of a connection.
@@ -49,6 +50,8 @@ pub struct Moment {
     pub packet: u64,
     /// The time in seconds, in the digits of the line.
     pub time: Bytes,
+    /// The names of its messages, as far as they can be read.
+    pub messages: MessageNames,
 }
 
 impl Moment {
@@ -63,6 +66,7 @@ impl Moment {
         Ok(Moment {
             packet: self.packet,
             time: self.time.try_copy()?,
+            messages: self.messages.try_copy()?,
         })
     }
 }

@@ -5,6 +5,7 @@ ghost use Rattle.capture_texts.specs.Lines.{is_digit, is_fraction, is_time, one_
 ghost use Rattle.capture_texts.specs.Lines.{frame_taken, said_taken, line_taken, line_in};
 
 use crate::line::{FrameSaid, Line, Moment, Said, Side};
+use crate::names::names_said;
 use lease_state::Bytes;
 use lease_texts::{Fields, LineFault, is};
 use std::alloc::Global;
@@ -103,8 +104,13 @@ fn read_fields(alloc: Global, fields: &mut Fields<'_>) -> Result<Line, LineFault
     let time = read_time(alloc, fields)?;
     let connection = fields.number()?;
     let said = read_said(alloc, kind, fields)?;
+    let messages = names_said(alloc, &said)?;
     Ok(Line {
-        moment: Moment { packet, time },
+        moment: Moment {
+            packet,
+            time,
+            messages,
+        },
         connection,
         said,
     })

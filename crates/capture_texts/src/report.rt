@@ -1,7 +1,7 @@
 ghost use Rattle.std.specs.Prelude.{◌≡◌, List, IfOk, OnOk, map, filter, length};
 ghost use Rattle.std.specs.List.{position};
 ghost use Rattle.capture_texts.specs.Captures.{Knows, HasSeen, moment_kept, is_frame_kept, is_unread};
-ghost use Rattle.capture_texts.specs.Reports.{IsReport, IsFound, AreFound, IsJudged, moment_at, moment_since};
+ghost use Rattle.capture_texts.specs.Reports.{IsReport, IsFound, AreFound, IsBelief, AreBeliefs, IsJudged, moment_at, moment_since};
 ghost use Rattle.capture_texts.specs.Reports.{losses, with_loss, greater, is_of, IsClientFound, AreClientsFound};
 ghost use Rattle.capture_texts.specs.Reports.{epochs, IsEpochFound, AreEpochsFound, place_named, number_named, chain_client};
 ghost use Rattle.capture_texts.specs.declared.line.Line.{Line};
@@ -12,10 +12,10 @@ ghost use Rattle.capture_walk.specs.declared.note.Seen.{Seen};
 
 use crate::capture::{Capture, Kept};
 use crate::finding::{
-    ClientFinding, ClientName, Counts, EpochFinding, FileFinding, FilePlace, Judged, Report,
+    Belief, ClientFinding, ClientName, Counts, EpochFinding, FileFinding, FilePlace, Judged, Report,
 };
 use crate::line::Moment;
-use capture_judge::{Chain, Placing, judge_placing};
+use capture_judge::{Chain, Level, Placing, Step, judge_placing, levels_after};
 use capture_walk::{Event, Loss, Misnumbered, Place, chains_on, files_in};
 use lease_state::{Bytes, Memory};
 use std::alloc::Global;
@@ -36,21 +36,6 @@ fn moment_at(position: u64, kept: &[Kept]) -> Result<Option<Moment>, Memory>
     }
 }
 
-// What is decided of a file, by its chains.
-fn judge(alloc: Global, chains: &[Chain], kept: &[Kept]) -> Result<Judged, Memory>
-    ensures { IfOk result (λ judged. IsJudged (map moment_kept kept.now) chains.now judged) }
-{
-    if chains.is_empty() {
-        return Ok(Judged::NoClient);
-    }
-    match judge_placing(alloc, chains)? {
-        Placing::Contradictory => Ok(Judged::Contradictory),
-        Placing::Clean(_) => Ok(Judged::Safe),
-        Placing::Unsafe(position) => Ok(Judged::Unsafe(moment_at(position, kept)?)),
-        Placing::TooMany => Ok(Judged::TooMany),
-    }
-}
-
 // The moment of a position, if it isn't that before all lines.
 fn moment_since(position: u64, kept: &[Kept]) -> Result<Option<Moment>, Memory>
     ensures { IfOk result (λ moment. moment ≡ moment_since position (map moment_kept kept.now)) }
@@ -59,6 +44,61 @@ fn moment_since(position: u64, kept: &[Kept]) -> Result<Option<Moment>, Memory>
         return Ok(None);
     }
     moment_at(position, kept)
+}
+
+// What a step's client caches after it.
+fn belief_at(chains: &[Chain], step: Step, level: Level, kept: &[Kept]) -> Result<Belief, Memory>
+    ensures is { IfOk result (IsBelief (map moment_kept kept.now) chains.now step) }
+    ensures level { IfOk result (λ belief. belief.level ≡ level) }
+{
+    let client = match chains.get(step.chain) {
+        Some(chain) => chain.client,
+        None => 0,
+    };
+    Ok(Belief {
+        client,
+        level,
+        position: step.position,
+        moment: moment_since(step.position, kept)?,
+    })
+}
+
+// What clients cache, step by step.
+fn beliefs_by(
+    alloc: Global,
+    chains: &[Chain],
+    steps: &[Step],
+    kept: &[Kept],
+) -> Result<Vec<Belief>, Memory>
+    ensures { IfOk result (λ beliefs. AreBeliefs (map moment_kept kept.now) chains.now steps.now beliefs.items) }
+{
+    let levels = levels_after(alloc, chains, steps)?;
+    let mut beliefs = Vec::new(alloc);
+    for (index, step) in steps.iter().enumerate() {
+        beliefs.push(belief_at(chains, *step, levels[index], kept)?)?;
+    }
+    Ok(beliefs)
+}
+
+// What is decided of a file, by its chains, and what its clients cache.
+fn judge(alloc: Global, chains: &[Chain], kept: &[Kept]) -> Result<(Judged, Vec<Belief>), Memory>
+    ensures { IfOk result (λ told. IsJudged (map moment_kept kept.now) chains.now told.1.items told.0) }
+{
+    if chains.is_empty() {
+        return Ok((Judged::NoClient, Vec::new(alloc)));
+    }
+    match judge_placing(alloc, chains)? {
+        Placing::Contradictory => Ok((Judged::Contradictory, Vec::new(alloc))),
+        Placing::Clean(steps) => Ok((
+            Judged::Safe,
+            beliefs_by(alloc, chains, steps.as_slice(), kept)?,
+        )),
+        Placing::Unsafe(charge) => {
+            let beliefs = beliefs_by(alloc, chains, charge.steps.as_slice(), kept)?;
+            Ok((Judged::Unsafe(moment_at(charge.position, kept)?), beliefs))
+        }
+        Placing::TooMany => Ok((Judged::TooMany, Vec::new(alloc))),
+    }
 }
 
 // The place of the loss of a client.
@@ -162,11 +202,13 @@ impl Capture {
             Some(place) => Some(self.file_place(alloc, place)?),
             None => None,
         };
+        let (judged, beliefs) = judge(alloc, &chains, &self.kept)?;
         Ok(FileFinding {
             file,
             place,
-            judged: judge(alloc, &chains, &self.kept)?,
+            judged,
             clients: self.clients_of(alloc, &chains)?,
+            beliefs,
         })
     }
 

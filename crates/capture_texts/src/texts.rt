@@ -4,8 +4,10 @@ use crate::finding::{
     CaptureVerdict, ClientFinding, ClientName, Counts, EpochFinding, FileFinding, FilePlace, Judged,
 };
 use crate::line::Moment;
+use crate::names::{MessageName, MessagePart};
 use byteorder::{ByteOrder, LittleEndian};
 use capture_walk::NotJudged;
+use capture_wire::Command;
 use lease_state::Bytes;
 use std::fmt::{self, Write};
 
@@ -60,6 +62,43 @@ impl fmt::Display for Moment {
     fn fmt<W: fmt::Write>(&self, f: &mut fmt::Formatter<W>) -> fmt::Result {
         write!(f, "packet {} at ", self.packet)?;
         write_word(f, &self.time)
+    }
+}
+
+// The name of a command, as MS-SMB2 2.2.1 has it.
+fn command_word(command: Command) -> &'static str {
+    match command {
+        Command::Negotiate => "NEGOTIATE",
+        Command::SessionSetup => "SESSION_SETUP",
+        Command::Logoff => "LOGOFF",
+        Command::TreeConnect => "TREE_CONNECT",
+        Command::TreeDisconnect => "TREE_DISCONNECT",
+        Command::Create => "CREATE",
+        Command::Close => "CLOSE",
+        Command::Flush => "FLUSH",
+        Command::Read => "READ",
+        Command::Write => "WRITE",
+        Command::Lock => "LOCK",
+        Command::Ioctl => "IOCTL",
+        Command::Cancel => "CANCEL",
+        Command::Echo => "ECHO",
+        Command::QueryDirectory => "QUERY_DIRECTORY",
+        Command::ChangeNotify => "CHANGE_NOTIFY",
+        Command::QueryInfo => "QUERY_INFO",
+        Command::SetInfo => "SET_INFO",
+        Command::OplockBreak => "OPLOCK_BREAK",
+        Command::Unknown => "unknown",
+    }
+}
+
+impl fmt::Display for MessageName {
+    fn fmt<W: fmt::Write>(&self, f: &mut fmt::Formatter<W>) -> fmt::Result {
+        f.write_str(command_word(self.command))?;
+        f.write_str(match self.part {
+            MessagePart::Request => " request",
+            MessagePart::Response => " response",
+            MessagePart::Notification => " notification",
+        })
     }
 }
 

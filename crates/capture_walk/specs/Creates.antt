@@ -1,7 +1,10 @@
 -- CREATE requests that aren't answered for good. Messages that are called past have the newest one first, and so has the table.
-use Rattle.std.specs.Prelude.{◌≡◌, ℕ, ◌==◌, ◌&&◌, Bool, not, if◌then◌else◌, List, [], ◌∷◌, Option, Some, None}
-use Rattle.capture_walk.specs.Notes.{create_asked, answered, leaves}
+use Rattle.std.specs.Prelude.{◌≡◌, ℕ, ◌==◌, ◌&&◌, Bool, true, false, not, unwrap_or, bytes_eq, if◌then◌else◌, List, [], ◌∷◌, Option, Some, None}
+use Rattle.std.specs.Option.{option_map}
+use Rattle.capture_walk.specs.Notes.{create_asked, create_given, answered, leaves}
+use Rattle.capture_walk.specs.declared.note.Note.{Note}
 use Rattle.capture_walk.specs.declared.note.CreateAsked.{CreateAsked}
+use Rattle.capture_walk.specs.declared.note.CreateGiven.{CreateGiven}
 use Rattle.capture_walk.specs.declared.note.Seen.{Seen}
 use Rattle.capture_walk.specs.declared.creates.Create.{Create}
 use Rattle.capture_walk.specs.declared.creates.Creates.{Creates}
@@ -19,7 +22,36 @@ create_of seen asked = record {
   key = asked.key;
   unnamed = asked.unnamed;
   closes = asked.closes;
+  remade = false;
 }
+
+-- another file was made under its name
+abbrev pub with_remade : Create → Create
+with_remade one = record {
+  connection = one.connection;
+  id = one.id;
+  position = one.position;
+  tree = one.tree;
+  name = one.name;
+  key = one.key;
+  unnamed = one.unnamed;
+  closes = one.closes;
+  remade = true;
+}
+
+-- the name under which a CREATE response says that a file was made, by its request
+abbrev pub name_made : Option CreateGiven → Option Create → Option (List ℕ)
+name_made (Some given) (Some create) = if given.is_new then Some create.name else None
+name_made given create = None
+
+-- The answer to a request is on its way while a file is made under its name, on whichever share.
+abbrev pub remade_after : Option (List ℕ) → Create → Create
+remade_after None one = one
+remade_after (Some name) one = if bytes_eq one.name name then with_remade one else one
+
+-- the MessageId of the request that a message answers, if it answers one
+abbrev pub answer_id : Note → ℕ
+answer_id note = unwrap_or (answered note) 0
 
 abbrev pub asked_after : ℕ → ℕ → Seen → Option CreateAsked → Option Create → Option Create
 asked_after connection id seen (Some asked) before =
@@ -41,7 +73,9 @@ pending connection id [] = None
 pending connection id (seen ∷ past) =
     asked_after connection id seen (create_asked seen.note)
     (left_after connection seen
-    (answered_after connection id seen.connection (answered seen.note) (pending connection id past)))
+    (answered_after connection id seen.connection (answered seen.note)
+    (option_map (remade_after (name_made (create_given seen.note) (pending seen.connection (answer_id seen.note) past)))
+    (pending connection id past))))
 
 -- ---- the table
 

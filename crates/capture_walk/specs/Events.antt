@@ -4,17 +4,19 @@ use Rattle.std.specs.Prelude.{◌∷◌, ◌++◌, Option, Some, None, bytes_eq}
 use Rattle.std.specs.Option.{option_map}
 use Rattle.std.specs.List.{list_any, flat_map}
 use Rattle.capture_wire.specs.declared.field.Smb2FileId.{Smb2FileId}
+use Rattle.capture_walk.specs.Notes.{answered, is_done}
 use Rattle.capture_walk.specs.Clients.{KnowsClients, client_of}
 use Rattle.capture_walk.specs.Sides.{KnowsSides, missing_since}
 use Rattle.capture_walk.specs.Trees.{KnowsTrees}
 use Rattle.capture_walk.specs.Creates.{KnowsCreates}
 use Rattle.capture_walk.specs.Renames.{KnowsRenames}
-use Rattle.capture_walk.specs.Files.{KnowsFiles}
+use Rattle.capture_walk.specs.Files.{KnowsFiles, remade}
 use Rattle.capture_walk.specs.Opens.{opens, made, ends, is_named}
 use Rattle.capture_walk.specs.Chains.{is_same}
 use Rattle.capture_walk.specs.declared.note.Note.{Note}
 use Rattle.capture_walk.specs.declared.note.Note.TheVariants as note
 use Rattle.capture_walk.specs.declared.note.BreakNote.{BreakNote}
+use Rattle.capture_walk.specs.declared.note.KeyLevel.{KeyLevel}
 use Rattle.capture_walk.specs.declared.note.LeaseGiven.{LeaseGiven}
 use Rattle.capture_walk.specs.declared.note.Seen.{Seen}
 use Rattle.capture_walk.specs.declared.event.Lease.{Lease}
@@ -22,6 +24,7 @@ use Rattle.capture_walk.specs.declared.event.Sent.{Sent}
 use Rattle.capture_walk.specs.declared.event.Grant.{Grant}
 use Rattle.capture_walk.specs.declared.event.Break.{Break}
 use Rattle.capture_walk.specs.declared.event.Said.{Said}
+use Rattle.capture_walk.specs.declared.event.Remade.{Remade}
 use Rattle.capture_walk.specs.declared.event.Event.{Event}
 use Rattle.capture_walk.specs.declared.event.Event.TheVariants as event
 use Rattle.capture_walk.specs.declared.event.NotJudged.TheVariants as reason
@@ -36,6 +39,13 @@ abbrev pub is_under : ℕ → List ℕ → Option Lease → Bool
 is_under client key None = false
 is_under client key (Some lease) = lease.client == client && bytes_eq lease.key.0 key
 
+-- the last open of a client with a lease under a key
+abbrev pub open_under : Option ℕ → List ℕ → List Open → Option Open
+open_under None key held = None
+open_under (Some client) key [] = None
+open_under (Some client) key (one ∷ held) =
+    if is_under client key one.lease then Some one else open_under (Some client) key held
+
 -- the lease that a client holds under a key
 abbrev pub lease_under : Option ℕ → List ℕ → List Open → Option Lease
 lease_under None key held = None
@@ -48,6 +58,47 @@ abbrev pub open_named : ℕ → ℕ → Smb2FileId → List Open → Option Open
 open_named server session file_id [] = None
 open_named server session file_id (one ∷ held) =
     if is_named server session file_id one then Some one else open_named server session file_id held
+
+-- ---- requests and their answers
+
+abbrev pub lease_of : Option Open → Option Lease
+lease_of None = None
+lease_of (Some one) = one.lease
+
+abbrev pub number_of : Option Open → ℕ
+number_of None = 0
+number_of (Some one) = one.number
+
+-- a request with a MessageId, by the open that it is about, if it is about one
+abbrev pub asked_of : Seen → ℕ → Option Open → Event
+asked_of seen id one = event.Asked (record {
+  lease = lease_of one;
+  opened = number_of one;
+  connection = seen.connection;
+  id = id;
+  position = seen.latest;
+})
+
+abbrev pub asked_by : Note → Seen → Option ℕ → List Open → List Event
+asked_by (note.OnOpen name) seen client held =
+    asked_of seen name.id (open_named seen.server name.session name.file_id held) ∷ []
+asked_by (note.Close name) seen client held =
+    asked_of seen name.id (open_named seen.server name.session name.file_id held) ∷ []
+asked_by (note.Acknowledge given) seen client held = asked_of seen given.id (open_under client given.key.0 held) ∷ []
+asked_by (note.CreateAsked asked) seen client held = asked_of seen asked.id None ∷ []
+asked_by (note.TreeAsked asked) seen client held = asked_of seen asked.id None ∷ []
+asked_by (note.RenameAsked id) seen client held = asked_of seen id None ∷ []
+asked_by (note.Asked id) seen client held = asked_of seen id None ∷ []
+asked_by _ seen client held = []
+
+abbrev pub answer_by : Seen → Option ℕ → List Event
+answer_by seen None = []
+answer_by seen (Some id) = event.Answered (record {
+  connection = seen.connection;
+  id = id;
+  done = is_done seen.note;
+  position = seen.latest;
+}) ∷ []
 
 -- ---- leases that end
 
@@ -66,8 +117,12 @@ ended_lease seen held (Some lease) =
     if list_any (keeps seen lease) held then []
     else event.Ended (record { lease = lease; first = seen.earliest; last = seen.latest }) ∷ []
 
+abbrev pub closed : ℕ → Option Lease → List Event
+closed number None = []
+closed number (Some lease) = event.Closed (record { opened = number }) ∷ []
+
 abbrev pub ended_by : Seen → List Open → Open → List Event
-ended_by seen held one = if ends seen one then ended_lease seen held one.lease else []
+ended_by seen held one = if ends seen one then closed one.number one.lease ++ ended_lease seen held one.lease else []
 
 abbrev pub ended : Seen → List Open → List Event
 ended seen held = flat_map (ended_by seen held) held
@@ -269,15 +324,19 @@ taken_break seen None = []
 taken_break seen (Some sent) =
     event.Taken (record { connection = sent.connection; number = sent.number; last = seen.latest }) ∷ []
 
-abbrev pub acknowledged : Seen → Level → Option Lease → List Event → List Event
-acknowledged seen level None before = []
-acknowledged seen level (Some lease) before =
-    event.Acknowledged (record { lease = lease; level = level; last = seen.latest })
-    ∷ taken_break seen (last_break lease None before)
+abbrev pub acknowledged_of : Seen → KeyLevel → Lease → Event
+acknowledged_of seen given lease = event.Acknowledged (record {
+  lease = lease;
+  level = given.level;
+  connection = seen.connection;
+  id = given.id;
+  last = seen.latest;
+})
 
-abbrev pub accepted : Seen → Option Lease → List Event
-accepted seen None = []
-accepted seen (Some lease) = event.Accepted (record { lease = lease; position = seen.latest }) ∷ []
+abbrev pub acknowledged : Seen → KeyLevel → Option Lease → List Event → List Event
+acknowledged seen given None before = []
+acknowledged seen given (Some lease) before =
+    acknowledged_of seen given lease ∷ taken_break seen (last_break lease None before)
 
 -- by what it is, its connection's client, the open that it makes, from where on something is missing if it is a gap, and the
 -- opens and the events before it
@@ -288,12 +347,20 @@ told_by (note.OnOpen name) seen client one since held before =
 told_by (note.Close name) seen client one since held before =
     proof_of seen (open_named seen.server name.session name.file_id held)
 told_by (note.Acknowledge given) seen client one since held before =
-    acknowledged seen given.level (lease_under client given.key.0 held) before
-told_by (note.Accepted key) seen client one since held before = accepted seen (lease_under client key.0 held)
+    acknowledged seen given (lease_under client given.key.0 held) before
 told_by (note.Break break) seen client one since held before = broken seen break client held before
 told_by note.Gap seen client one since held before = lost_of seen client since held
 told_by note.Taken seen client one since held before = all_taken seen ∷ []
 told_by _ seen client one since held before = []
+
+-- a request, or the answer to one
+abbrev pub heard : Seen → Option ℕ → List Open → List Event
+heard seen client held = asked_by seen.note seen client held ++ answer_by seen (answered seen.note)
+
+-- a file that is made in the place of another one
+abbrev pub told_remade : Option Remade → List Event
+told_remade None = []
+told_remade (Some one) = event.Remade one ∷ []
 
 -- ---- all events
 
@@ -307,7 +374,9 @@ with_told seen past before =
 -- in the order of the capture
 abbrev pub events : List Seen → List Event
 events [] = []
-events (seen ∷ past) = with_told seen past (events past ++ ended seen (opens past))
+events (seen ∷ past) = with_told seen past
+    (((events past ++ heard seen (client_of seen.connection past) (opens past)) ++ ended seen (opens past))
+    ++ told_remade (remade seen past))
 
 -- The walk knows what these messages show.
 pub record Knows (past : List Seen) (walk : Walk) : Type 0 where

@@ -1,6 +1,6 @@
 -- Files: each of a server, a share's path, a name and one life. Messages that are called past have the newest one first, and so
 -- has the table.
-use Rattle.std.specs.Prelude.{◌≡◌, ℕ, ◌==◌, ◌&&◌, Bool, true, false, if◌then◌else◌, List, [], ◌∷◌, ◌++◌, Option, Some, None}
+use Rattle.std.specs.Prelude.{◌≡◌, ℕ, ◌==◌, ◌&&◌, ◌||◌, not, Bool, true, false, if◌then◌else◌, List, [], ◌∷◌, ◌++◌, Option, Some, None}
 use Rattle.std.specs.Prelude.{unwrap_or, bytes_eq}
 use Rattle.capture_walk.specs.Notes.{create_given}
 use Rattle.capture_walk.specs.Renames.{is_change}
@@ -9,6 +9,7 @@ use Rattle.capture_walk.specs.Creates.{pending}
 use Rattle.capture_walk.specs.declared.note.CreateGiven.{CreateGiven}
 use Rattle.capture_walk.specs.declared.note.Seen.{Seen}
 use Rattle.capture_walk.specs.declared.creates.Create.{Create}
+use Rattle.capture_walk.specs.declared.event.Remade.{Remade}
 use Rattle.capture_walk.specs.declared.files.Named.{Named}
 use Rattle.capture_walk.specs.declared.files.Files.{Files}
 use Rattle.capture_walk.specs.declared.files.Place as declared
@@ -31,12 +32,17 @@ place_of_named one = record { server = one.server; path = one.path; name = one.n
 
 -- ---- by looking back
 
+-- The file isn't the one that has the name, or another one was made under its name while its answer was on its way: then it may
+-- be either, unless this CREATE made it.
+abbrev pub is_unnamed : Create → Bool → Bool
+is_unnamed create is_new = create.unnamed || (create.remade && not is_new)
+
 -- the place that a CREATE names, where its request and its tree connect were seen
-abbrev pub place_by : ℕ → Option Create → Option (List ℕ) → Option Place
-place_by server None path = None
-place_by server (Some create) None = None
-place_by server (Some create) (Some path) =
-    if create.unnamed then None else Some (record { server = server; path = path; name = create.name })
+abbrev pub place_by : ℕ → Option Create → Bool → Option (List ℕ) → Option Place
+place_by server None is_new path = None
+place_by server (Some create) is_new None = None
+place_by server (Some create) is_new (Some path) =
+    if is_unnamed create is_new then None else Some (record { server = server; path = path; name = create.name })
 
 abbrev pub create_path : ℕ → ℕ → Option Create → List Seen → Option (List ℕ)
 create_path server session None past = None
@@ -45,7 +51,7 @@ create_path server session (Some create) past = path_of server session create.tr
 -- the place of the file that a CREATE response is of
 abbrev pub place_given : Seen → CreateGiven → List Seen → Option Place
 place_given seen given past =
-    place_by seen.server (pending seen.connection given.id past)
+    place_by seen.server (pending seen.connection given.id past) given.is_new
     (create_path seen.server given.session (pending seen.connection given.id past) past)
 
 -- the file that a CREATE opens, by the message's number: the one that has its name, or one whose life begins with it
@@ -68,6 +74,24 @@ file_after place seen past None before = if is_change seen past then None else b
 abbrev pub file_of : Place → List Seen → Option ℕ
 file_of place [] = None
 file_of place (seen ∷ past) = file_after place seen past (create_given seen.note) (file_of place past)
+
+-- What a CREATE response says was made in the place of another file, which isn't known to be opened by its name from where the
+-- request was: the answers to others that come between may be of either.
+abbrev pub remade_in : Bool → Option Create → Option ℕ → Option Remade
+remade_in true (Some create) (Some file) = Some (record { file = file; since = create.position })
+remade_in is_new create file = None
+
+abbrev pub file_in_place : Option Place → List Seen → Option ℕ
+file_in_place None past = None
+file_in_place (Some place) past = file_of place past
+
+abbrev pub remade_by : Seen → Option CreateGiven → List Seen → Option Remade
+remade_by seen None past = None
+remade_by seen (Some given) past =
+    remade_in given.is_new (pending seen.connection given.id past) (file_in_place (place_given seen given past) past)
+
+abbrev pub remade : Seen → List Seen → Option Remade
+remade seen past = remade_by seen (create_given seen.note) past
 
 -- the life that begins where a CREATE opens a file at a place, if one does
 abbrev pub life_at : Place → Bool → ℕ → Option ℕ → List Named

@@ -31,8 +31,15 @@ create_given _ = None
 -- the MessageId of the request that it answers for good, if that may be a CREATE
 abbrev pub answered : Note → Option ℕ
 answered (note.CreateGiven given) = Some given.id
+answered (note.Done id) = Some id
 answered (note.Answered id) = Some id
 answered _ = None
+
+-- the server did what it asks
+abbrev pub is_done : Note → Bool
+is_done (note.CreateGiven given) = true
+is_done (note.Done id) = true
+is_done _ = false
 
 abbrev pub rename_asked : Note → Option ℕ
 rename_asked (note.RenameAsked id) = Some id
@@ -66,7 +73,7 @@ is_request _ = false
 abbrev pub is_answer : Note → Bool
 is_answer (note.TreeGiven given) = true
 is_answer (note.CreateGiven given) = true
+is_answer (note.Done id) = true
 is_answer (note.Answered id) = true
-is_answer (note.Accepted key) = true
 is_answer (note.Break break) = true
 is_answer _ = false

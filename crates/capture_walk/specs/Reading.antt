@@ -99,15 +99,15 @@ abbrev pub changes_names : SetInfoRequest → Bool
 changes_names asked =
     asked.info_type == 1 && ((asked.class == 10 || asked.class == 11) || (asked.class == 65 || asked.class == 72))
 
-abbrev pub on_open : Ids → Named → Note
-on_open ids (named.Open file_id) = note.OnOpen (record { session = ids.session; file_id = file_id })
-on_open ids named.Unclear = note.Gap
-on_open ids _ = note.Other
+abbrev pub on_open : ℕ → Ids → Named → Note
+on_open id ids (named.Open file_id) = note.OnOpen (record { id = id; session = ids.session; file_id = file_id })
+on_open id ids named.Unclear = note.Gap
+on_open id ids _ = note.Other
 
-abbrev pub close : Ids → Named → Note
-close ids (named.Open file_id) = note.Close (record { session = ids.session; file_id = file_id })
-close ids named.Unclear = note.Gap
-close ids _ = note.Other
+abbrev pub close : ℕ → Ids → Named → Note
+close id ids (named.Open file_id) = note.Close (record { id = id; session = ids.session; file_id = file_id })
+close id ids named.Unclear = note.Gap
+close id ids _ = note.Other
 
 abbrev pub leave_tree : Ids → TreeOrAsync → Note
 leave_tree ids (TreeId tree) = note.LeaveTree (record { session = ids.session; tree = tree })
@@ -137,15 +137,15 @@ request_note header (request.TreeConnect asked) ids closes =
 request_note header request.TreeDisconnect ids closes = leave_tree ids ids.tree
 request_note header (request.Create asked contexts) ids closes =
     create_asked header.message_id closes asked contexts ids.tree
-request_note header (request.Close asked) ids closes = close ids ids.file
+request_note header (request.Close asked) ids closes = close header.message_id ids ids.file
 request_note header (request.SetInfo asked) ids closes =
-    if changes_names asked then note.RenameAsked header.message_id else on_open ids ids.file
-request_note header (request.Read asked) ids closes = on_open ids ids.file
-request_note header (request.Write asked) ids closes = on_open ids ids.file
-request_note header (request.OnOpen file_id) ids closes = on_open ids ids.file
+    if changes_names asked then note.RenameAsked header.message_id else on_open header.message_id ids ids.file
+request_note header (request.Read asked) ids closes = on_open header.message_id ids ids.file
+request_note header (request.Write asked) ids closes = on_open header.message_id ids ids.file
+request_note header (request.OnOpen file_id) ids closes = on_open header.message_id ids ids.file
 request_note header (request.Acknowledge given) ids closes =
-    note.Acknowledge (record { key = given.key; level = level_in given.state })
-request_note header request.Other ids closes = note.Other
+    note.Acknowledge (record { id = header.message_id; key = given.key; level = level_in given.state })
+request_note header request.Other ids closes = note.Asked header.message_id
 
 -- ---- what responses tell
 
@@ -174,6 +174,7 @@ abbrev pub other_note : Header → Note
 other_note header =
     if header.status == 259 then note.Other
     else if header.command == 3 && header.status == 0 then tree_note header header.tree_or_async
+    else if header.status == 0 then note.Done header.message_id
     else note.Answered header.message_id
 
 abbrev pub response_note : Header → Response → Note
@@ -191,7 +192,7 @@ response_note header (response.Break notification new_epoch) = note.Break (recor
   acknowledged = notification.ack_required;
   epoch = new_epoch;
 })
-response_note header (response.Accepted accepted) = note.Accepted accepted.key
+response_note header (response.Accepted accepted) = note.Done header.message_id
 response_note header response.Other = other_note header
 
 abbrev pub content_note : Header → Content → Ids → Bool → Note

@@ -1,11 +1,13 @@
-ghost use Rattle.std.specs.Prelude.{◌≡◌, false, ◌≤◌, ◌+◌, ◌++◌, [], None, length, drop, map, filter, OnOk, IfOk};
+ghost use Rattle.std.specs.Prelude.{◌≡◌, true, false, ◌&&◌, ◌≤◌, ◌+◌, ◌++◌, [], None, length, drop, map, filter, OnOk, IfOk};
 ghost use Rattle.std.specs.List.{list_any};
 ghost use Rattle.capture_judge.specs.Worked.{shown};
-ghost use Rattle.capture_walk.specs.Chains.{taken, acknowledgment, is_accepted, changes_by_break, changes, changes_by};
+ghost use Rattle.capture_walk.specs.Chains.{answer, taken, is_accepted, acknowledgment, is_for, is_use, is_own, shows};
+ghost use Rattle.capture_walk.specs.Chains.{cuts, shown_before, last_shown};
+ghost use Rattle.capture_walk.specs.Chains.{sure_by, kept_until, changes_by_grant, changes_by_break, changes, changes_by};
 ghost use Rattle.capture_walk.specs.Chains.{doubt, earliest, lost_since, is_before, is_known, cut_off, known_changes};
 ghost use Rattle.capture_walk.specs.Chains.{leases_on, chains_on, files_in, is_file, is_same, chain_by, chain_of};
 
-use crate::event::{Acknowledged, Break, Event, Lease, Sent};
+use crate::event::{Acknowledged, Asked, Break, Event, Grant, Lease, Sent};
 use capture_judge::{Chain, Change, Level};
 use lease_state::Memory;
 use std::alloc::Global;
@@ -17,10 +19,12 @@ fn is_before(since: u64, event: &Event) -> bool
         Event::Granted(grant) => grant.sent.position <= since,
         Event::Broken(broken) => broken.sent.position <= since,
         Event::Acknowledged(given) => given.last <= since,
-        Event::Accepted(accepted) => accepted.position <= since,
+        Event::Asked(one) => one.position <= since,
+        Event::Answered(one) => one.position <= since,
+        Event::Closed(_) => true,
         Event::Ended(end) => end.last <= since,
         Event::Taken(proof) => proof.last <= since,
-        Event::Stray(_) | Event::Misnumbered(_) | Event::Lost(_) => false,
+        Event::Stray(_) | Event::Misnumbered(_) | Event::Lost(_) | Event::Remade(_) => false,
     }
 }
 
@@ -51,14 +55,22 @@ fn taken(sent: Sent, later: &[Event], since: Option<u64>) -> Option<u64>
     None
 }
 
-// The acknowledgment of a break of a lease.
-fn acknowledgment(lease: Lease, later: &[Event], since: Option<u64>) -> Option<Acknowledged>
-    ensures { result ≡ acknowledgment lease (filter (is_known since) later.now) }
+// Whether the server did what a request asks, where it answers it before the next break of a lease.
+fn answer(
+    lease: Lease,
+    connection: u64,
+    id: u64,
+    later: &[Event],
+    since: Option<u64>,
+) -> Option<bool>
+    ensures { result ≡ answer lease connection id (filter (is_known since) later.now) }
 {
     for event in later {
         match event {
             _ if !is_known(since, event) => {}
-            Event::Acknowledged(given) if given.lease.is(lease) => return Some(*given),
+            Event::Answered(one) if one.connection == connection && one.id == id => {
+                return Some(one.done);
+            }
             Event::Broken(broken) if broken.lease.is(lease) => return None,
             _ => {}
         }
@@ -66,34 +78,116 @@ fn acknowledgment(lease: Lease, later: &[Event], since: Option<u64>) -> Option<A
     None
 }
 
-// Whether the server accepts the acknowledgment of a break of a lease.
-fn is_accepted(lease: Lease, later: &[Event], since: Option<u64>) -> bool
-    ensures { result ≡ is_accepted lease false (filter (is_known since) later.now) }
+fn is_accepted(lease: Lease, given: &Acknowledged, later: &[Event], since: Option<u64>) -> bool
+    ensures { result ≡ is_accepted lease given.now (filter (is_known since) later.now) }
 {
-    let mut is_given = false;
-    for event in later {
+    given.lease.is(lease)
+        && answer(lease, given.connection, given.id, later, since).unwrap_or(false)
+}
+
+// The acknowledgment of a break of a lease that the server accepts.
+fn acknowledgment(lease: Lease, later: &[Event], since: Option<u64>) -> Option<Acknowledged>
+    ensures { result ≡ acknowledgment lease (filter (is_known since) later.now) }
+{
+    for (index, event) in later.iter().enumerate() {
         match event {
             _ if !is_known(since, event) => {}
-            Event::Acknowledged(given) if given.lease.is(lease) => {
-                if is_given {
-                    return false;
-                }
-                is_given = true;
+            Event::Acknowledged(given) if is_accepted(lease, given, &later[index + 1..], since) => {
+                return Some(*given);
             }
-            Event::Accepted(accepted) => {
-                if is_given && accepted.lease.is(lease) {
-                    return true;
-                }
+            Event::Broken(broken) if broken.lease.is(lease) => return None,
+            _ => {}
+        }
+    }
+    None
+}
+
+fn is_for(lease: Lease, other: Option<Lease>) -> bool
+    ensures { result ≡ is_for lease other }
+{
+    match other {
+        Some(other) => other.is(lease),
+        None => false,
+    }
+}
+
+// Whether the request is about the lease, by an open that was made with the message of this number, or before it.
+fn is_use(lease: Lease, number: u64, one: &Asked) -> bool
+    ensures { result ≡ is_use lease number one.now }
+{
+    is_for(lease, one.lease) && one.opened <= number
+}
+
+// Whether it is about the open that was made with that message.
+fn is_own(lease: Lease, number: u64, one: &Asked) -> bool
+    ensures { result ≡ is_own lease number one.now }
+{
+    is_for(lease, one.lease) && one.opened == number
+}
+
+// Whether the request shows the lease, where the open that was made with the message is known to be there or not.
+fn shows(
+    lease: Lease,
+    sent: Sent,
+    is_live: bool,
+    one: &Asked,
+    later: &[Event],
+    since: Option<u64>,
+) -> bool
+    ensures { result ≡ shows lease sent is_live one.now (filter (is_known since) later.now) }
+{
+    if is_use(lease, sent.number, one) {
+        return answer(lease, one.connection, one.id, later, since).unwrap_or(false);
+    }
+    is_live
+        && one.connection == sent.connection
+        && answer(lease, one.connection, one.id, later, since).is_some()
+}
+
+// Whether nothing of the lease is sure from the break on.
+fn cuts(lease: Lease, broken: &Break, later: &[Event], since: Option<u64>) -> bool
+    ensures { result ≡ cuts lease broken.now (filter (is_known since) later.now) }
+{
+    broken.lease.is(lease)
+        && match acknowledgment(lease, later, since) {
+            Some(_) => false,
+            None => broken.acknowledged,
+        }
+}
+
+fn shown_before(broken: &Break, found: Option<Asked>) -> Option<Asked>
+    ensures { result ≡ shown_before broken.now found }
+{
+    let one = found?;
+    if one.connection == broken.sent.connection {
+        Some(one)
+    } else {
+        None
+    }
+}
+
+// The last request that shows a lease after a message of the server.
+fn last_shown(lease: Lease, sent: Sent, later: &[Event], since: Option<u64>) -> Option<Asked>
+    ensures { result ≡ last_shown lease sent false None (filter (is_known since) later.now) }
+{
+    let mut is_live = false;
+    let mut found: Option<Asked> = None;
+    for (index, event) in later.iter().enumerate() {
+        match event {
+            _ if !is_known(since, event) => {}
+            Event::Asked(one) if shows(lease, sent, is_live, one, &later[index + 1..], since) => {
+                is_live = is_live || is_own(lease, sent.number, one);
+                found = Some(*one);
             }
-            Event::Broken(broken) => {
-                if broken.lease.is(lease) {
-                    return false;
-                }
+            Event::Closed(one) => is_live = is_live && one.opened != sent.number,
+            Event::Ended(end) if end.lease.is(lease) => return found,
+            Event::Broken(broken) if cuts(lease, broken, &later[index + 1..], since) => {
+                return shown_before(broken, found);
             }
             _ => {}
         }
     }
-    false
+    found
 }
 
 // From a position on the client may have lost its lease.
@@ -108,6 +202,49 @@ fn push_doubt(changes: &mut Vec<Change>, is_doubtful: bool, position: u64) -> Re
         })?;
     }
     Ok(())
+}
+
+fn sure_by(last: Option<u64>, shown: Option<Asked>) -> Option<u64>
+    ensures { result ≡ sure_by last shown }
+{
+    let (last, shown) = (last?, shown?);
+    if last <= shown.position {
+        Some(last)
+    } else {
+        None
+    }
+}
+
+// What a grant gives, where these events come after it.
+fn push_granted(
+    changes: &mut Vec<Change>,
+    grant: &Grant,
+    later: &[Event],
+    since: Option<u64>,
+) -> Result<(), Memory>
+    ensures { OnOk result (changes.new.items ≡ changes.old.items ++ changes_by_grant grant.now
+        (taken grant.now.sent (filter (is_known since) later.now))
+        (last_shown grant.now.lease grant.now.sent false None (filter (is_known since) later.now))) }
+{
+    let shown = last_shown(grant.lease, grant.sent, later, since);
+    changes.push(Change {
+        level: grant.level,
+        first: grant.sent.position,
+        last: sure_by(taken(grant.sent, later, since), shown),
+    })?;
+    match shown {
+        Some(one) => push_doubt(changes, true, one.position),
+        None => Ok(()),
+    }
+}
+
+fn kept_until(last: u64, shown: Option<Asked>) -> u64
+    ensures { result ≡ kept_until last shown }
+{
+    match shown {
+        Some(one) if last < one.position => one.position,
+        _ => last,
+    }
 }
 
 // What a break leaves, where these events come after it.
@@ -129,16 +266,17 @@ fn push_broken(
                 first,
                 last: Some(given.last),
             })?;
-            let is_doubtful = broken.acknowledged && !is_accepted(broken.lease, later, since);
-            push_doubt(changes, is_doubtful, first)
+            let shown = last_shown(broken.lease, broken.sent, later, since);
+            push_doubt(changes, true, kept_until(given.last, shown))
         }
+        None if broken.acknowledged => Ok(()),
         None => {
             changes.push(Change {
                 level: broken.level,
                 first,
                 last: taken(broken.sent, later, since),
             })?;
-            push_doubt(changes, broken.acknowledged, first)
+            Ok(())
         }
     }
 }
@@ -155,11 +293,9 @@ fn push_changes(
         (changes.new.items ≡ changes.old.items ++ changes_by lease event.now (filter (is_known since) later.now)) }
 {
     match event {
-        Event::Granted(grant) if grant.lease.is(lease) => changes.push(Change {
-            level: grant.level,
-            first: grant.sent.position,
-            last: taken(grant.sent, later, since),
-        })?,
+        Event::Granted(grant) if grant.lease.is(lease) => push_granted(
+            changes, grant, later, since,
+        )?,
         Event::Broken(broken) if broken.lease.is(lease) => push_broken(
             changes, broken, later, since,
         )?,
@@ -201,16 +337,20 @@ fn earliest(found: Option<u64>, since: u64) -> u64
     }
 }
 
-// From which position on something of a client may be missing.
-fn lost_since(client: u64, events: &[Event]) -> Option<u64>
-    ensures { result ≡ lost_since client None events.now }
+// From which position on something of a lease's client may be missing, or its file may be another one.
+fn lost_since(lease: Lease, events: &[Event]) -> Option<u64>
+    ensures { result ≡ lost_since lease None events.now }
 {
     let mut found: Option<u64> = None;
     for event in events {
-        if let Event::Lost(loss) = event {
-            if loss.client == client {
+        match event {
+            Event::Lost(loss) if loss.client == lease.client => {
                 found = Some(earliest(found, loss.since));
             }
+            Event::Remade(one) if one.file == lease.file => {
+                found = Some(earliest(found, one.since));
+            }
+            _ => {}
         }
     }
     found
@@ -229,9 +369,9 @@ fn cut_off(since: Option<u64>, changes: &mut Vec<Change>) -> Result<(), Memory>
 // The changes of a lease up to where something of its client may be missing.
 fn known_changes(alloc: Global, lease: Lease, events: &[Event]) -> Result<Vec<Change>, Memory>
     ensures { IfOk result (λ found. found.items
-        ≡ known_changes lease events.now (lost_since lease.client None events.now)) }
+        ≡ known_changes lease events.now (lost_since lease None events.now)) }
 {
-    let since = lost_since(lease.client, events);
+    let since = lost_since(lease, events);
     let mut changes = changes_of(alloc, lease, events, since)?;
     cut_off(since, &mut changes)?;
     Ok(changes)

@@ -1,7 +1,8 @@
-ghost use Rattle.std.specs.Prelude.{◌≡◌, ◌∷◌, [], ℕ, List, filter, OnOk};
+ghost use Rattle.std.specs.Prelude.{◌≡◌, ◌∷◌, [], ℕ, List, Some, filter, map, OnOk, IfOk};
 ghost use Rattle.std.specs.Option.{option_map};
 ghost use Rattle.capture_walk.specs.Creates.{create_in, is_kept, is_of_another, left_after, pending, answered_after, KnowsCreates};
-ghost use Rattle.capture_walk.specs.Notes.{answered};
+ghost use Rattle.capture_walk.specs.Creates.{remade_after, name_made, answer_id};
+ghost use Rattle.capture_walk.specs.Notes.{answered, create_given};
 ghost use Rattle.capture_walk.specs.declared.note.Seen.{Seen};
 
 use crate::note::Seen;
@@ -20,6 +21,19 @@ pub(crate) struct Create {
     pub(crate) key: Option<LeaseKey>,
     pub(crate) unnamed: bool,
     pub(crate) closes: bool,
+    // A file was made under its name since.
+    pub(crate) remade: bool,
+}
+
+impl Create {
+    // A file is made under the name.
+    fn mark(&mut self, name: &[u8])
+        ensures { self.new ≡ remade_after (Some name.now) self.old }
+    {
+        if self.name.as_slice() == name {
+            self.remade = true;
+        }
+    }
 }
 
 /// The CREATE requests that aren't answered for good.
@@ -60,9 +74,9 @@ impl Creates {
 
     #[tactic(auto, using(crate::proofs::Removal::create_in_kept))]
     fn note_answer(&mut self, seen: &Seen<'_>)
-        ensures { (past : List Seen) → KnowsCreates past self.old → (connection id : ℕ)
-            → create_in connection id self.new.pending.items
-            ≡ answered_after connection id seen.now.connection (answered seen.now.note) (pending connection id past) }
+        ensures { (connection id : ℕ) → create_in connection id self.new.pending.items
+            ≡ answered_after connection id seen.now.connection (answered seen.now.note)
+            (create_in connection id self.old.pending.items) }
     {
         if let Some(id) = seen.note.answered() {
             self.remove(seen.connection, id);
@@ -86,10 +100,49 @@ impl Creates {
         }
     }
 
+    // The name that the request has.
+    fn name_of(&self, connection: u64, id: u64) -> Result<Option<Bytes>, Memory>
+        ensures { IfOk result (λ name. name ≡ option_map (λ create. create.name) (create_in connection id self.now.pending.items)) }
+    {
+        match self.pending(connection, id) {
+            Some(create) => Ok(Some(create.name.try_copy()?)),
+            None => Ok(None),
+        }
+    }
+
+    // A file is made under the name.
+    fn mark(&mut self, name: &[u8])
+        ensures { self.new.pending.items ≡ map (remade_after (Some name.now)) self.old.pending.items }
+    {
+        for one in self.pending.iter_mut() {
+            one.mark(name);
+        }
+    }
+
+    #[tactic(auto, using(crate::proofs::Removal::create_in_marked))]
+    fn note_made(&mut self, seen: &Seen<'_>) -> Result<(), Memory>
+        ensures { OnOk result ((past : List Seen) → KnowsCreates past self.old → (connection id : ℕ)
+            → create_in connection id self.new.pending.items
+            ≡ option_map (remade_after (name_made (create_given seen.now.note)
+            (pending seen.now.connection (answer_id seen.now.note) past))) (pending connection id past)) }
+    {
+        let Some(given) = seen.note.create_given() else {
+            return Ok(());
+        };
+        if !given.is_new {
+            return Ok(());
+        }
+        if let Some(name) = self.name_of(seen.connection, given.id)? {
+            self.mark(name.as_slice());
+        }
+        Ok(())
+    }
+
     /// Takes note of the next message.
     pub(crate) fn note(&mut self, seen: &Seen<'_>) -> Result<(), Memory>
         ensures { OnOk result ((past : List Seen) → KnowsCreates past self.old → KnowsCreates (seen.now ∷ past) self.new) }
     {
+        self.note_made(seen)?;
         self.note_answer(seen);
         self.note_leaving(seen);
         let Some(asked) = seen.note.create_asked() else {
@@ -105,6 +158,7 @@ impl Creates {
             key: asked.key,
             unnamed: asked.unnamed,
             closes: asked.closes,
+            remade: false,
         };
         self.pending.insert(0, create)?;
         Ok(())

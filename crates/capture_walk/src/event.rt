@@ -101,6 +101,10 @@ pub struct Acknowledged {
     pub lease: Lease,
     /// What the client says that it keeps.
     pub level: Level,
+    /// Its connection.
+    pub connection: u64,
+    /// Its MessageId.
+    pub id: u64,
     /// The last position at which the client sent it.
     pub last: u64,
 }
@@ -169,12 +173,46 @@ pub struct Loss {
     pub reason: NotJudged,
 }
 
-/// The server accepted the acknowledgment of a break.
+/// A request.
 #[derive(Clone, Copy, Debug, PartialEq, Eq)]
-pub struct Accepted {
-    pub lease: Lease,
-    /// Where the capture has that.
+pub struct Asked {
+    /// The lease that it is about, where it names an open under one by its FileId, or acknowledges a break.
+    pub lease: Option<Lease>,
+    /// The number of the message that made that open, or for an acknowledgment the last one under the lease; 0 where there is none.
+    pub opened: u64,
+    pub connection: u64,
+    /// Its MessageId.
+    pub id: u64,
+    /// The last position at which the client sent it, before which the server can't have taken it.
     pub position: u64,
+}
+
+/// A response that answers a request for good.
+#[derive(Clone, Copy, Debug, PartialEq, Eq)]
+pub struct Answered {
+    pub connection: u64,
+    /// The request's MessageId.
+    pub id: u64,
+    /// The server did what the request asks.
+    pub done: bool,
+    /// Where the capture has the response.
+    pub position: u64,
+}
+
+/// The end of an open under a lease.
+#[derive(Clone, Copy, Debug, PartialEq, Eq)]
+pub struct Closed {
+    /// The number of the message that made the open.
+    pub opened: u64,
+}
+
+/// A CREATE makes a file in the place of another one.
+#[derive(Clone, Copy, Debug, PartialEq, Eq)]
+pub struct Remade {
+    /// The number of the other one.
+    pub file: u64,
+    /// The last position of the request, from which on what is opened by the name may be either.
+    pub since: u64,
 }
 
 /// What a message of a capture shows of leases.
@@ -183,7 +221,9 @@ pub enum Event {
     Granted(Grant),
     Broken(Break),
     Acknowledged(Acknowledged),
-    Accepted(Accepted),
+    Asked(Asked),
+    Answered(Answered),
+    Closed(Closed),
     Ended(End),
     Taken(Proof),
     /// A break is of no lease that is known.
@@ -192,4 +232,6 @@ pub enum Event {
     Misnumbered(Misnumbered),
     /// A client isn't judged any more.
     Lost(Loss),
+    /// Nor is a file.
+    Remade(Remade),
 }

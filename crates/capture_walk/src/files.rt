@@ -62,8 +62,8 @@ impl Files {
         }
     }
 
-    // The file at a place.
-    fn find(&self, place: Place<'_>) -> Option<u64>
+    /// The file at a place.
+    pub(crate) fn find(&self, place: Place<'_>) -> Option<u64>
         ensures { result ≡ file_in (place_view place.entry) self.now.named.items }
     {
         for one in &self.named {

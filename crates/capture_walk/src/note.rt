@@ -63,9 +63,11 @@ pub struct CreateGiven {
     pub lease: Option<LeaseGiven>,
 }
 
-/// An open, as requests name it.
+/// A request about an open, with what names it.
 #[derive(Clone, Copy, Debug, PartialEq, Eq)]
 pub struct OpenName {
+    /// The request's MessageId.
+    pub id: u64,
     pub session: u64,
     pub file_id: Smb2FileId,
 }
@@ -77,9 +79,11 @@ pub struct TreeName {
     pub tree: u32,
 }
 
-/// What is said of a lease under a key.
+/// What an acknowledgment says of the lease under a key.
 #[derive(Clone, Copy, Debug, PartialEq, Eq)]
 pub struct KeyLevel {
+    /// Its MessageId.
+    pub id: u64,
     pub key: LeaseKey,
     pub level: Level,
 }
@@ -105,6 +109,8 @@ pub enum Note<'a> {
     TreeGiven(TreeGiven),
     CreateAsked(CreateAsked<'a>),
     CreateGiven(CreateGiven),
+    /// Any other response of STATUS_SUCCESS, by its MessageId: the server did what the request asks.
+    Done(u64),
     /// Any other response but an interim one, by its MessageId.
     Answered(u64),
     /// A request that is about an open, and doesn't close it.
@@ -117,8 +123,6 @@ pub enum Note<'a> {
     LeaveTree(TreeName),
     /// An acknowledgment of a lease break, with what the client keeps.
     Acknowledge(KeyLevel),
-    /// A response that accepts an acknowledgment of a lease under the key.
-    Accepted(LeaseKey),
     Break(BreakNote),
     /// A request, by its MessageId, by which names of the server's files may come to lead to other files.
     RenameAsked(u64),
@@ -129,6 +133,8 @@ pub enum Note<'a> {
     Taken,
     /// The connection ends.
     End,
+    /// Any other request, by its MessageId.
+    Asked(u64),
     Other,
 }
 
@@ -184,9 +190,16 @@ impl<'a> Note<'a> {
     {
         match self {
             Note::CreateGiven(given) => Some(given.id),
-            Note::Answered(id) => Some(id),
+            Note::Done(id) | Note::Answered(id) => Some(id),
             _ => None,
         }
+    }
+
+    // Whether the server did what a request asks.
+    pub(crate) fn is_done(self) -> bool
+        ensures { result ≡ notes.is_done self.entry }
+    {
+        matches!(self, Note::CreateGiven(_) | Note::Done(_))
     }
 
     // Whether it is a client's message that says something.
@@ -215,8 +228,8 @@ impl<'a> Note<'a> {
             self,
             Note::TreeGiven(_)
                 | Note::CreateGiven(_)
+                | Note::Done(_)
                 | Note::Answered(_)
-                | Note::Accepted(_)
                 | Note::Break(_)
         )
     }

@@ -97,18 +97,19 @@ fn open_of(seen: &Seen<'_>, given: CreateGiven, create: &Create, lease: Option<L
     }
 }
 
-// The place that a CREATE names.
-fn place_of<'a>(
+/// The place that a CREATE names, by its request and the response to it.
+pub(crate) fn place_of<'a>(
     seen: &Seen<'_>,
-    session: u64,
+    given: CreateGiven,
     create: &'a Create,
     trees: &'a Trees,
 ) -> Option<Place<'a>>
     ensures { (past : List Seen) → KnowsTrees past trees.now → option_map place_view result
-        ≡ place_by seen.now.server (Some create.now) (path_of seen.now.server session create.now.tree past) }
+        ≡ place_by seen.now.server (Some create.now) given.is_new
+        (path_of seen.now.server given.session create.now.tree past) }
 {
-    let path = trees.path_of(seen.server, session, create.tree)?;
-    if create.unnamed {
+    let path = trees.path_of(seen.server, given.session, create.tree)?;
+    if create.unnamed || (create.remade && !given.is_new) {
         return None;
     }
     Some(Place {
@@ -140,7 +141,7 @@ pub(crate) fn open_given(
     let Some(create) = creates.pending(seen.connection, given.id) else {
         return Ok(None);
     };
-    let Some(place) = place_of(seen, given.session, create, trees) else {
+    let Some(place) = place_of(seen, given, create, trees) else {
         return Ok(None);
     };
     let file = files.open(place, given.is_new, seen.number)?;

@@ -164,11 +164,12 @@ fn changes_names(asked: &SetInfoRequest<'_>) -> bool
         && ((asked.class == 10 || asked.class == 11) || (asked.class == 65 || asked.class == 72))
 }
 
-fn on_open<'a>(ids: Ids) -> Note<'a>
-    ensures { result ≡ reading.on_open ids ids.file }
+fn on_open<'a>(id: u64, ids: Ids) -> Note<'a>
+    ensures { result ≡ reading.on_open id ids ids.file }
 {
     match ids.file {
         Named::Open(file_id) => Note::OnOpen(OpenName {
+            id,
             session: ids.session,
             file_id,
         }),
@@ -177,11 +178,12 @@ fn on_open<'a>(ids: Ids) -> Note<'a>
     }
 }
 
-fn close<'a>(ids: Ids) -> Note<'a>
-    ensures { result ≡ reading.close ids ids.file }
+fn close<'a>(id: u64, ids: Ids) -> Note<'a>
+    ensures { result ≡ reading.close id ids ids.file }
 {
     match ids.file {
         Named::Open(file_id) => Note::Close(OpenName {
+            id,
             session: ids.session,
             file_id,
         }),
@@ -246,16 +248,17 @@ fn request_note<'a>(header: &Header, request: &Request<'a>, ids: Ids, closes: bo
         Request::Create(asked, contexts) => {
             create_asked(header.message_id, closes, asked, contexts, ids.tree)
         }
-        Request::Close(_) => close(ids),
+        Request::Close(_) => close(header.message_id, ids),
         Request::SetInfo(asked) if changes_names(asked) => Note::RenameAsked(header.message_id),
         Request::SetInfo(_) | Request::Read(_) | Request::Write(_) | Request::OnOpen(_) => {
-            on_open(ids)
+            on_open(header.message_id, ids)
         }
         Request::Acknowledge(given) => Note::Acknowledge(KeyLevel {
+            id: header.message_id,
             key: given.key,
             level: level_of(given.state),
         }),
-        Request::Other => Note::Other,
+        Request::Other => Note::Asked(header.message_id),
     }
 }
 
@@ -309,6 +312,9 @@ fn other_note<'a>(header: &Header) -> Note<'a>
     if header.command == TREE_CONNECT && header.status == 0 {
         return tree_note(header);
     }
+    if header.status == 0 {
+        return Note::Done(header.message_id);
+    }
     Note::Answered(header.message_id)
 }
 
@@ -330,7 +336,7 @@ fn response_note<'a>(header: &Header, response: &Response) -> Note<'a>
             acknowledged: notification.ack_required,
             epoch: *new_epoch,
         }),
-        Response::Accepted(accepted) => Note::Accepted(accepted.key),
+        Response::Accepted(_) => Note::Done(header.message_id),
         Response::Other => other_note(header),
     }
 }

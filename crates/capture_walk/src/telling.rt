@@ -1,18 +1,18 @@
 ghost use Rattle.std.specs.Prelude.{◌≡◌, Some, None, ◌++◌, ◌∷◌, [], if◌then◌else◌, OnOk};
 ghost use Rattle.std.specs.List.{list_any, flat_map};
 ghost use Rattle.std.specs.Option.{option_map};
-ghost use Rattle.capture_walk.specs.Events.{lease_under, open_named, keeps, ended_by, ended, proof_of, sent_at};
+ghost use Rattle.capture_walk.specs.Events.{open_under, lease_under, open_named, keeps, ended_by, ended, proof_of, sent_at};
 ghost use Rattle.capture_walk.specs.Events.{is_elsewhere, disputed, last_break, taken_break};
 ghost use Rattle.capture_walk.specs.Events.{last_said, without_epoch, is_newer, is_same_level, is_in_order, shows_order};
 ghost use Rattle.capture_walk.specs.Events.{has_order, follows_on, misnumbered, ordered, new_epoch, grant_of, break_of};
 ghost use Rattle.capture_walk.specs.Events.{dispute, is_stray_of, strayed, stray};
 ghost use Rattle.capture_walk.specs.Events.{granted_lease, granted_of, lost_under, broken_of, broken, lost_of, lost_at, missing};
-ghost use Rattle.capture_walk.specs.Events.{acknowledged, accepted, told_by, is_under, is_of, all_taken};
+ghost use Rattle.capture_walk.specs.Events.{acknowledged, closed, asked_of, asked_by, answer_by, heard, told_remade, told_by, is_under, is_of, all_taken};
 ghost use Rattle.capture_walk.specs.declared.event.Event.TheVariants as event;
 
 use crate::event::{
-    Accepted, Acknowledged, Break, End, Event, Grant, Lease, Loss, Misnumbered, NotJudged, Proof,
-    Said, Sent, Stray,
+    Acknowledged, Answered, Asked, Break, Closed, End, Event, Grant, Lease, Loss, Misnumbered,
+    NotJudged, Proof, Remade, Said, Sent, Stray,
 };
 use crate::note::{BreakNote, KeyLevel, LeaseGiven, Note, OpenName, Seen};
 use crate::opens::Open;
@@ -26,6 +26,19 @@ fn is_under(lease: Option<Lease>, client: u64, key: LeaseKey) -> bool
         Some(lease) => lease.client == client && lease.key.0.as_slice() == key.0.as_slice(),
         None => false,
     }
+}
+
+// The last open of a client with a lease under a key.
+fn open_under(opens: &[Open], client: Option<u64>, key: LeaseKey) -> Option<Open>
+    ensures { result ≡ open_under client key.0 opens.now }
+{
+    let client = client?;
+    for one in opens {
+        if is_under(one.lease, client, key) {
+            return Some(*one);
+        }
+    }
+    None
 }
 
 // The lease that a client holds under a key.
@@ -62,6 +75,72 @@ fn is_of(lease: Lease, other: Option<Lease>) -> bool
     }
 }
 
+// A request, by the open that it is about, if it is about one.
+fn push_asked_of(
+    events: &mut Vec<Event>,
+    seen: &Seen<'_>,
+    id: u64,
+    one: Option<Open>,
+) -> Result<(), Memory>
+    ensures { OnOk result (events.new.items ≡ events.old.items ++ asked_of seen.now id one ∷ []) }
+{
+    let (lease, opened) = match one {
+        Some(one) => (one.lease, one.number),
+        None => (None, 0),
+    };
+    events.push(Event::Asked(Asked {
+        lease,
+        opened,
+        connection: seen.connection,
+        id,
+        position: seen.latest,
+    }))?;
+    Ok(())
+}
+
+fn push_asked(
+    events: &mut Vec<Event>,
+    seen: &Seen<'_>,
+    client: Option<u64>,
+    opens: &[Open],
+) -> Result<(), Memory>
+    ensures { OnOk result (events.new.items ≡ events.old.items ++ asked_by seen.now.note seen.now client opens.now) }
+{
+    match seen.note {
+        Note::OnOpen(name) | Note::Close(name) => {
+            push_asked_of(events, seen, name.id, open_named(opens, seen.server, name))
+        }
+        Note::Acknowledge(given) => {
+            push_asked_of(events, seen, given.id, open_under(opens, client, given.key))
+        }
+        Note::CreateAsked(asked) => push_asked_of(events, seen, asked.id, None),
+        Note::TreeAsked(asked) => push_asked_of(events, seen, asked.id, None),
+        Note::RenameAsked(id) | Note::Asked(id) => push_asked_of(events, seen, id, None),
+        _ => Ok(()),
+    }
+}
+
+/// The request that the message is, or the answer to one.
+pub(crate) fn push_heard(
+    events: &mut Vec<Event>,
+    seen: &Seen<'_>,
+    client: Option<u64>,
+    opens: &[Open],
+) -> Result<(), Memory>
+    ensures { OnOk result (events.new.items ≡ events.old.items ++ heard seen.now client opens.now) }
+{
+    push_asked(events, seen, client, opens)?;
+    if let Some(id) = seen.note.answered() {
+        events.push(Event::Answered(Answered {
+            connection: seen.connection,
+            id,
+            done: seen.note.is_done(),
+            position: seen.latest,
+        }))?;
+    }
+    Ok(())
+}
+
 // Whether an open under the lease is left after a message.
 fn is_kept(seen: &Seen<'_>, opens: &[Open], lease: Lease) -> bool
     ensures { result ≡ list_any (keeps seen.now lease) opens.now }
@@ -86,6 +165,7 @@ fn push_ended_lease(
     let Some(lease) = one.lease else {
         return Ok(());
     };
+    events.push(Event::Closed(Closed { opened: one.number }))?;
     if !is_kept(seen, opens, lease) {
         events.push(Event::Ended(End {
             lease,
@@ -508,7 +588,7 @@ fn push_acknowledged(
     lease: Option<Lease>,
 ) -> Result<(), Memory>
     ensures { OnOk result (events.new.items
-        ≡ events.old.items ++ acknowledged seen.now given.level lease events.old.items) }
+        ≡ events.old.items ++ acknowledged seen.now given lease events.old.items) }
 {
     let Some(lease) = lease else {
         return Ok(());
@@ -517,25 +597,11 @@ fn push_acknowledged(
     events.push(Event::Acknowledged(Acknowledged {
         lease,
         level: given.level,
+        connection: seen.connection,
+        id: given.id,
         last: seen.latest,
     }))?;
     push_taken_break(events, seen, sent)
-}
-
-fn push_accepted(
-    events: &mut Vec<Event>,
-    seen: &Seen<'_>,
-    lease: Option<Lease>,
-) -> Result<(), Memory>
-    ensures { OnOk result (events.new.items ≡ events.old.items ++ accepted seen.now lease) }
-{
-    if let Some(lease) = lease {
-        events.push(Event::Accepted(Accepted {
-            lease,
-            position: seen.latest,
-        }))?;
-    }
-    Ok(())
 }
 
 fn missing(client: u64, since: u64) -> Event
@@ -604,6 +670,16 @@ fn push_all_taken(events: &mut Vec<Event>, seen: &Seen<'_>) -> Result<(), Memory
     Ok(())
 }
 
+/// A file is made in the place of another one.
+pub(crate) fn push_remade(events: &mut Vec<Event>, remade: Option<Remade>) -> Result<(), Memory>
+    ensures { OnOk result (events.new.items ≡ events.old.items ++ told_remade remade) }
+{
+    if let Some(one) = remade {
+        events.push(Event::Remade(one))?;
+    }
+    Ok(())
+}
+
 /// What a message shows besides, by the client of its connection, the open that it makes, from where on something is missing if
 /// it is a gap, and the opens before it.
 pub(crate) fn push_told(
@@ -625,7 +701,6 @@ pub(crate) fn push_told(
         Note::Acknowledge(given) => {
             push_acknowledged(events, seen, given, lease_under(opens, client, given.key))
         }
-        Note::Accepted(key) => push_accepted(events, seen, lease_under(opens, client, key)),
         Note::Break(one) => push_broken(events, seen, one, client, opens),
         Note::Gap => push_lost(events, seen, client, since, opens),
         Note::Taken => push_all_taken(events, seen),

@@ -1,5 +1,5 @@
 ghost use Rattle.std.specs.Prelude.{◌≡◌, ◌∷◌, [], List, Some, None, OnOk, IfOk, filter, option_to_list, ◌++◌};
-ghost use Rattle.capture_walk.specs.Files.{KnowsFiles, lives, place_of_life, place_view};
+ghost use Rattle.capture_walk.specs.Files.{KnowsFiles, lives, place_of_life, place_view, remade};
 ghost use Rattle.std.specs.Option.{option_map};
 ghost use Rattle.capture_walk.specs.Opens.{is_left, made};
 ghost use Rattle.capture_walk.specs.Events.{Knows, HasSameButFiles, HasOpens, events};
@@ -7,13 +7,13 @@ ghost use Rattle.capture_walk.specs.declared.note.Seen.{Seen};
 
 use crate::clients::Clients;
 use crate::creates::Creates;
-use crate::event::Event;
+use crate::event::{Event, Remade};
 use crate::files::{Files, Place};
 use crate::note::Seen;
-use crate::opens::{Open, open_given};
+use crate::opens::{Open, open_given, place_of};
 use crate::renames::Renames;
 use crate::sides::Sides;
-use crate::telling::{push_ended, push_told};
+use crate::telling::{push_ended, push_heard, push_remade, push_told};
 use crate::trees::Trees;
 use lease_state::Memory;
 use std::alloc::Global;
@@ -47,6 +47,22 @@ impl Walk {
             opens: Vec::new(alloc),
             events: Vec::new(alloc),
         }
+    }
+
+    // In the place of which file the message shows another one to be made, if it does.
+    fn remade(&self, seen: &Seen<'_>) -> Option<Remade>
+        ensures { (past : List Seen) → Knows past self.now → result ≡ remade seen.now past }
+    {
+        let given = seen.note.create_given()?;
+        if !given.is_new {
+            return None;
+        }
+        let create = self.creates.pending(seen.connection, given.id)?;
+        let place = place_of(seen, given, create, &self.trees)?;
+        Some(Remade {
+            file: self.files.find(place)?,
+            since: create.position,
+        })
     }
 
     // What the message opens, if it is a CREATE response; and which files have which names after it.
@@ -96,9 +112,12 @@ impl Walk {
     pub fn take(&mut self, seen: &Seen<'_>) -> Result<(), Memory>
         ensures { OnOk result ((past : List Seen) → Knows past self.old → Knows (seen.now ∷ past) self.new) }
     {
+        let remade = self.remade(seen);
         let made = self.name_files(seen)?;
-        push_ended(&mut self.events, seen, &self.opens)?;
         let client = self.clients.of(seen.connection);
+        push_heard(&mut self.events, seen, client, &self.opens)?;
+        push_ended(&mut self.events, seen, &self.opens)?;
+        push_remade(&mut self.events, remade)?;
         let since = self.sides.missing_since(seen.connection);
         push_told(&mut self.events, seen, client, made, since, &self.opens)?;
         self.change_opens(seen, made)?;

@@ -2,6 +2,7 @@ mod capture_lines;
 mod captures;
 mod contents;
 mod messages;
+mod records_of_captures;
 mod requests;
 mod walks;
 

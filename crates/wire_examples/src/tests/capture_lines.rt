@@ -17,9 +17,19 @@ fn message(
     id: u8,
     body: &[&[u8]],
 ) -> Result<Vec<u8>, Fail> {
+    message_before(alloc, 0, (command, response, id), body)
+}
+
+// The same in a compound, with the next message so many bytes after its header's start.
+fn message_before(
+    alloc: Global,
+    next: u8,
+    (command, response, id): (u8, bool, u8),
+    body: &[&[u8]],
+) -> Result<Vec<u8>, Fail> {
     let mut bytes = Vec::from_slice(alloc, b"\xfeSMB\x40\0\0\0\0\0\0\0")?;
     bytes.extend_from_slice(&[command, 0, 0, 0, u8::from(response), 0, 0, 0])?;
-    bytes.extend_from_slice(&[0, 0, 0, 0, id, 0, 0, 0, 0, 0, 0, 0])?;
+    bytes.extend_from_slice(&[next, 0, 0, 0, id, 0, 0, 0, 0, 0, 0, 0])?;
     bytes.extend_from_slice(b"\0\0\0\0\x07\0\0\0\x01\0\0\0\0\0\0\0")?;
     bytes.extend_from_slice(&[0; 16])?;
     for part in body {
@@ -114,7 +124,16 @@ fn read(alloc: Global, connection: u8) -> Result<Vec<u8>, Fail> {
     )
 }
 
-fn close(alloc: Global, connection: u8) -> Result<Vec<u8>, Fail> {
+// A READ and an ECHO in one frame.
+pub(super) fn read_and_echo(alloc: Global, connection: u8) -> Result<Vec<u8>, Fail> {
+    let head = b"\x31\0\x50\0\0\x02\0\0\0\0\0\0\0\0\0\0";
+    let read = [head.as_slice(), &file_id(connection), &[0; 24]];
+    let mut bytes = message_before(alloc, 120, (8, false, 3), &read)?;
+    bytes.extend_from_slice(&message(alloc, 13, false, 4, &[b"\x04\0\0\0"])?)?;
+    Ok(bytes)
+}
+
+pub(super) fn close(alloc: Global, connection: u8) -> Result<Vec<u8>, Fail> {
     message(
         alloc,
         6,
@@ -125,7 +144,12 @@ fn close(alloc: Global, connection: u8) -> Result<Vec<u8>, Fail> {
 }
 
 // A client connects and asks for a lease, which is granted: five lines from a number on.
-fn ask(capture: &mut Capture, alloc: Global, packet: u64, connection: u8) -> Result<(), Fail> {
+pub(super) fn ask(
+    capture: &mut Capture,
+    alloc: Global,
+    packet: u64,
+    connection: u8,
+) -> Result<(), Fail> {
     let messages = [
         ("from-client", negotiate(alloc, connection)?),
         ("from-client", tree_connect(alloc)?),
@@ -143,7 +167,7 @@ fn ask(capture: &mut Capture, alloc: Global, packet: u64, connection: u8) -> Res
 }
 
 // A client sends this, and its host has acknowledged so many frames.
-fn send(
+pub(super) fn send(
     capture: &mut Capture,
     alloc: Global,
     (packet, connection, acknowledged): (u64, u8, u8),
@@ -159,6 +183,45 @@ fn send(
     )?;
     capture.take_line(line.as_bytes())?;
     Ok(())
+}
+
+// The server does what a request with this MessageId asks.
+pub(super) fn answer(
+    capture: &mut Capture,
+    alloc: Global,
+    (packet, connection): (u64, u8),
+    (command, id): (u8, u8),
+) -> Result<(), Fail> {
+    let bytes = message(alloc, command, true, id, &[])?;
+    let line = frame(alloc, packet, connection, "from-server", 0, &bytes)?;
+    capture.take_line(line.as_bytes())?;
+    Ok(())
+}
+
+// A client reads what it opened, and the server answers: two lines from a number on.
+pub(super) fn use_open(
+    capture: &mut Capture,
+    alloc: Global,
+    packet: u64,
+    connection: u8,
+) -> Result<(), Fail> {
+    let bytes = read(alloc, connection)?;
+    send(capture, alloc, (packet, connection, 0), &bytes)?;
+    answer(
+        capture,
+        alloc,
+        (packet.saturating_add(1), connection),
+        (8, 3),
+    )
+}
+
+// Two clients with RW at once: both read by it, and then the first one does once more.
+pub(super) fn ask_at_once(capture: &mut Capture, alloc: Global) -> Result<(), Fail> {
+    ask(capture, alloc, 11, 1)?;
+    use_open(capture, alloc, 16, 1)?;
+    ask(capture, alloc, 21, 2)?;
+    use_open(capture, alloc, 26, 2)?;
+    use_open(capture, alloc, 28, 1)
 }
 
 // What is decided of the only file.
@@ -182,23 +245,22 @@ fn charged_packet(report: &Report) -> Option<u64> {
 fn a_lease_beside_a_writers_is_unsafe_at_its_packet(rt: HostRuntime) -> Result<(), Fail> {
     let alloc = rt.alloc();
     let mut capture = Capture::new(alloc, Side::Server);
-    ask(&mut capture, alloc, 11, 1)?;
-    send(&mut capture, alloc, (16, 1, 0), &read(alloc, 1)?)?;
-    ask(&mut capture, alloc, 21, 2)?;
-    send(&mut capture, alloc, (26, 2, 0), &read(alloc, 2)?)?;
+    ask_at_once(&mut capture, alloc)?;
     let report = capture.report(alloc)?;
     assert_eq!(&rt; report.verdict(), CaptureVerdict::Unsafe);
     assert_eq!(&rt; charged_packet(&report), Some(26));
     Ok(())
 }
 
-// Both have it at 30 at the latest, where the capture is made at their ends: no READ has to show it.
+// Both have it at 30 at the latest, where the capture is made at their ends: the READs after that show that it was there still.
 #[test]
 fn a_client_takes_a_lease_at_its_packet(rt: HostRuntime) -> Result<(), Fail> {
     let alloc = rt.alloc();
     let mut capture = Capture::new(alloc, Side::Client);
     ask(&mut capture, alloc, 11, 1)?;
     ask(&mut capture, alloc, 26, 2)?;
+    use_open(&mut capture, alloc, 31, 1)?;
+    use_open(&mut capture, alloc, 33, 2)?;
     let report = capture.report(alloc)?;
     assert_eq!(&rt; charged_packet(&report), Some(30));
     Ok(())
@@ -209,30 +271,30 @@ fn a_client_takes_a_lease_at_its_packet(rt: HostRuntime) -> Result<(), Fail> {
 fn closed_late(alloc: Global, acknowledged: u8) -> Result<Report, Fail> {
     let mut capture = Capture::new(alloc, Side::Server);
     ask(&mut capture, alloc, 11, 1)?;
+    use_open(&mut capture, alloc, 16, 1)?;
     ask(&mut capture, alloc, 21, 2)?;
-    send(&mut capture, alloc, (26, 2, 2), &read(alloc, 2)?)?;
-    let answer = message(alloc, 8, true, 3, &[])?;
-    let line = frame(alloc, 27, 1, "from-server", 0, &answer)?;
-    capture.take_line(line.as_bytes())?;
+    use_open(&mut capture, alloc, 26, 2)?;
+    answer(&mut capture, alloc, (28, 1), (8, 9))?;
     send(
         &mut capture,
         alloc,
-        (28, 1, acknowledged),
+        (29, 1, acknowledged),
         &close(alloc, 1)?,
     )?;
+    answer(&mut capture, alloc, (30, 1), (6, 4))?;
     Ok(capture.report(alloc)?)
 }
 
 #[test]
 fn a_close_may_have_been_sent_before_it_came(rt: HostRuntime) -> Result<(), Fail> {
-    let report = closed_late(rt.alloc(), 2)?;
+    let report = closed_late(rt.alloc(), 3)?;
     assert_eq!(&rt; report.verdict(), CaptureVerdict::Safe);
     Ok(())
 }
 
 #[test]
 fn a_close_was_sent_after_what_its_host_acknowledged(rt: HostRuntime) -> Result<(), Fail> {
-    let report = closed_late(rt.alloc(), 3)?;
+    let report = closed_late(rt.alloc(), 4)?;
     assert_eq!(&rt; report.verdict(), CaptureVerdict::Unsafe);
     Ok(())
 }
@@ -422,10 +484,7 @@ fn findings_are_lines_of_words(rt: HostRuntime) -> Result<(), Fail> {
     let alloc = rt.alloc();
     let mut capture = Capture::new(alloc, Side::Server);
     send(&mut capture, alloc, (10, 3, 0), b"\xfdSMB")?;
-    ask(&mut capture, alloc, 11, 1)?;
-    send(&mut capture, alloc, (16, 1, 0), &read(alloc, 1)?)?;
-    ask(&mut capture, alloc, 21, 2)?;
-    send(&mut capture, alloc, (26, 2, 0), &read(alloc, 2)?)?;
+    ask_at_once(&mut capture, alloc)?;
     let report = capture.report(alloc)?;
     for finding in &report.files {
         let text = format!(in alloc; "{finding}")?;
@@ -436,7 +495,7 @@ fn findings_are_lines_of_words(rt: HostRuntime) -> Result<(), Fail> {
     let text = format!(in alloc; "{}: {}", report.counts, report.verdict())?;
     assert_eq!(&rt;
         text.as_str(),
-        "3 connections, 13 frames, 1 of them unreadable: unsafe"
+        "3 connections, 17 frames, 1 of them unreadable: unsafe"
     );
     Ok(())
 }

@@ -1,9 +1,9 @@
 // Captures of two clients, as the notes of their messages, and what they show of leases.
 use crate::tests::KEY;
-use capture_judge::{Change, Level, Placing, judge_placing};
+use capture_judge::{Change, Charge, Level, Placing, judge_placing};
 use capture_walk::{
-    BreakNote, CreateAsked, CreateGiven, Event, Frame, FrameFault, KeyLevel, LeaseGiven, Loss,
-    NotJudged, Note, OpenName, Seen, TreeAsked, TreeGiven, Walk, chains_on, closed_behind,
+    Asked, BreakNote, CreateAsked, CreateGiven, Event, Frame, FrameFault, KeyLevel, LeaseGiven,
+    Loss, NotJudged, Note, OpenName, Seen, TreeAsked, TreeGiven, Walk, chains_on, closed_behind,
     files_in, ids_of, level_of, note_of, read_frame,
 };
 use capture_wire::{Guid, Smb2FileId};
@@ -19,8 +19,9 @@ fn key(connection: u8) -> LeaseKey {
     key
 }
 
-fn open_name(connection: u8) -> OpenName {
+fn open_name(id: u64, connection: u8) -> OpenName {
     OpenName {
+        id,
         session: u64::from(connection),
         file_id: Smb2FileId {
             persistent: u64::from(connection),
@@ -33,7 +34,7 @@ fn open_name(connection: u8) -> OpenName {
 fn seen<'a>(number: u64, connection: u8, note: Note<'a>) -> Seen<'a> {
     let position = number.saturating_mul(2);
     let at = match note {
-        Note::TreeGiven(_) | Note::CreateGiven(_) | Note::Break(_) | Note::Accepted(_) => position,
+        Note::TreeGiven(_) | Note::CreateGiven(_) | Note::Break(_) | Note::Done(_) => position,
         _ => position.saturating_sub(1),
     };
     Seen {
@@ -95,7 +96,7 @@ fn grant_numbered(
     level: Level,
     epoch: Option<u16>,
 ) -> Result<(), Memory> {
-    let name = open_name(connection);
+    let name = open_name(0, connection);
     let lease = LeaseGiven {
         key: key(connection),
         level,
@@ -113,8 +114,39 @@ fn grant_numbered(
 }
 
 // The client uses what it opened, so that it has the lease.
+fn ask_by_open(walk: &mut Walk, number: u64, connection: u8) -> Result<(), Memory> {
+    walk.take(&seen(
+        number,
+        connection,
+        Note::OnOpen(open_name(number, connection)),
+    ))
+}
+
+// The server does what a request asks that had the number as its MessageId.
+fn answer(walk: &mut Walk, number: u64, connection: u8, id: u64) -> Result<(), Memory> {
+    walk.take(&seen(number, connection, Note::Done(id)))
+}
+
+// The client uses what it opened, and the server does what it asks: two messages from a number on.
 fn use_open(walk: &mut Walk, number: u64, connection: u8) -> Result<(), Memory> {
-    walk.take(&seen(number, connection, Note::OnOpen(open_name(connection))))
+    ask_by_open(walk, number, connection)?;
+    answer(walk, number.saturating_add(1), connection, number)
+}
+
+fn certain(level: Level, first: u64, last: u64) -> Change {
+    Change {
+        level,
+        first,
+        last: Some(last),
+    }
+}
+
+fn possible(level: Level, first: u64) -> Change {
+    Change {
+        level,
+        first,
+        last: None,
+    }
 }
 
 // The changes of the only lease on a file.
@@ -126,7 +158,8 @@ fn only_chain(alloc: Global, walk: &Walk, file: u64) -> Result<Option<Vec<Change
     Ok(chains.pop().map(|chain| chain.changes))
 }
 
-// A file that one client writes and another reads, without a break between: both have their leases by 23.
+// A file that one client writes and another reads, without a break between: both have their leases by 25, and the server does what
+// both ask after that.
 #[test]
 fn a_lease_beside_a_writers_is_unsafe(rt: HostRuntime) -> Result<(), Fail> {
     let alloc = rt.alloc();
@@ -134,15 +167,16 @@ fn a_lease_beside_a_writers_is_unsafe(rt: HostRuntime) -> Result<(), Fail> {
     ask(&mut walk, 1, 1, b"f\0")?;
     grant(&mut walk, 5, 1, Level::Writes)?;
     use_open(&mut walk, 6, 1)?;
-    ask(&mut walk, 7, 2, b"f\0")?;
-    grant(&mut walk, 11, 2, Level::Something)?;
-    use_open(&mut walk, 12, 2)?;
+    ask(&mut walk, 8, 2, b"f\0")?;
+    grant(&mut walk, 12, 2, Level::Something)?;
+    use_open(&mut walk, 13, 2)?;
+    use_open(&mut walk, 15, 1)?;
     assert_eq!(&rt; files_in(alloc, walk.events())?.as_slice(), [5].as_slice());
     let name = walk.place_of(5).map(|place| place.name);
     assert_eq!(&rt; name, Some(b"f\0".as_slice()));
     let chains = chains_on(alloc, 5, walk.events())?;
     let placing = judge_placing(alloc, &chains)?;
-    assert!(&rt; matches!(placing, Placing::Unsafe(23)));
+    assert!(&rt; matches!(placing, Placing::Unsafe(Charge { position: 25, .. })));
     Ok(())
 }
 
@@ -170,28 +204,19 @@ fn a_break_makes_room(rt: HostRuntime) -> Result<(), Fail> {
     ask(&mut walk, 1, 1, b"f\0")?;
     grant(&mut walk, 5, 1, Level::Writes)?;
     use_open(&mut walk, 6, 1)?;
-    ask(&mut walk, 7, 2, b"f\0")?;
-    let breaks = BreakNote {
-        key: key(1),
-        level: Level::Something,
-        acknowledged: true,
-        epoch: 0,
-    };
-    walk.take(&seen(11, 1, Note::Break(breaks)))?;
-    let keeps = KeyLevel {
-        key: key(1),
-        level: Level::Something,
-    };
-    walk.take(&seen(12, 1, Note::Acknowledge(keeps)))?;
-    walk.take(&seen(13, 1, Note::Accepted(key(1))))?;
-    grant(&mut walk, 14, 2, Level::Something)?;
-    use_open(&mut walk, 15, 2)?;
+    ask(&mut walk, 8, 2, b"f\0")?;
+    walk.take(&seen(12, 1, break_to(Level::Something, 0)))?;
+    walk.take(&seen(13, 1, keeps(13, Level::Something)))?;
+    answer(&mut walk, 14, 1, 13)?;
+    grant(&mut walk, 15, 2, Level::Something)?;
+    use_open(&mut walk, 16, 2)?;
+    use_open(&mut walk, 18, 1)?;
     let chains = chains_on(alloc, 5, walk.events())?;
     assert!(&rt; matches!(judge_placing(alloc, &chains)?, Placing::Clean(_)));
     Ok(())
 }
 
-// The grant counts from 10 on, and up to the use at 11; the CLOSE at 13 ends it.
+// The grant counts from 10 on, and up to the use at 11; the CLOSE at 15 ends it, and shows that the open was there until then.
 #[test]
 fn the_last_close_ends_a_lease(rt: HostRuntime) -> Result<(), Fail> {
     let alloc = rt.alloc();
@@ -199,48 +224,29 @@ fn the_last_close_ends_a_lease(rt: HostRuntime) -> Result<(), Fail> {
     ask(&mut walk, 1, 1, b"f\0")?;
     grant(&mut walk, 5, 1, Level::Writes)?;
     use_open(&mut walk, 6, 1)?;
-    walk.take(&seen(7, 1, Note::Close(open_name(1))))?;
+    walk.take(&seen(8, 1, Note::Close(open_name(8, 1))))?;
+    answer(&mut walk, 9, 1, 8)?;
     let wanted = [
-        Change {
-            level: Level::Writes,
-            first: 10,
-            last: Some(11),
-        },
-        Change {
-            level: Level::Nothing,
-            first: 13,
-            last: Some(13),
-        },
+        certain(Level::Writes, 10, 11),
+        possible(Level::Nothing, 15),
+        certain(Level::Nothing, 15, 15),
     ];
     let changes = only_chain(alloc, &walk, 5)?;
     assert!(&rt; changes.is_some_and(|changes| changes.as_slice() == wanted.as_slice()));
     Ok(())
 }
 
-// A break that nobody acknowledges: the client may have lost its lease since.
+// A break that nobody acknowledges: the lease may be lost since the last request that the server did before it, at 11.
 #[test]
 fn a_break_that_is_not_acknowledged_is_a_doubt(rt: HostRuntime) -> Result<(), Fail> {
     let alloc = rt.alloc();
     let mut walk = Walk::new(alloc);
     ask(&mut walk, 1, 1, b"f\0")?;
     grant(&mut walk, 5, 1, Level::Writes)?;
-    let breaks = BreakNote {
-        key: key(1),
-        level: Level::Something,
-        acknowledged: true,
-        epoch: 0,
-    };
-    walk.take(&seen(6, 1, Note::Break(breaks)))?;
-    let last = |level, first| Change {
-        level,
-        first,
-        last: None,
-    };
-    let wanted = [
-        last(Level::Writes, 10),
-        last(Level::Something, 12),
-        last(Level::Nothing, 12),
-    ];
+    use_open(&mut walk, 6, 1)?;
+    walk.take(&seen(8, 1, break_to(Level::Something, 0)))?;
+    use_open(&mut walk, 9, 1)?;
+    let wanted = [certain(Level::Writes, 10, 11), possible(Level::Nothing, 11)];
     let changes = only_chain(alloc, &walk, 5)?;
     assert!(&rt; changes.is_some_and(|changes| changes.as_slice() == wanted.as_slice()));
     Ok(())
@@ -267,12 +273,7 @@ fn gaps_and_renames_are_not_judged(rt: HostRuntime) -> Result<(), Fail> {
         reason: NotJudged::Missing,
     };
     assert_eq!(&rt; walk.events().last(), Some(&Event::Lost(loss)));
-    let change = |level| Change {
-        level,
-        first: 10,
-        last: None,
-    };
-    let wanted = [change(Level::Writes), change(Level::Nothing)];
+    let wanted = [possible(Level::Writes, 10), possible(Level::Nothing, 10)];
     let changes = only_chain(alloc, &walk, 5)?;
     assert!(&rt; changes.is_some_and(|changes| changes.as_slice() == wanted.as_slice()));
     Ok(())
@@ -333,7 +334,14 @@ fn frames_are_taken_whole(rt: HostRuntime) -> Result<(), Fail> {
         latest: 1,
     };
     walk.take_frame(&frame, &messages)?;
-    assert_eq!(&rt; walk.events().len(), 0);
+    let asked = Asked {
+        lease: None,
+        opened: 0,
+        connection: 1,
+        id: 0,
+        position: 1,
+    };
+    assert_eq!(&rt; walk.events(), [Event::Asked(asked)].as_slice());
     assert!(&rt; walk.place_of(1).is_none());
     let cut = Vec::from_slice(alloc, b"\xfeSMB\x40")?;
     let short = FrameFault::Header(WireFault::Short(0));
@@ -341,34 +349,38 @@ fn frames_are_taken_whole(rt: HostRuntime) -> Result<(), Fail> {
     Ok(())
 }
 
-// The grant at 10 isn't used, but the break behind it is acknowledged at 13, though not accepted.
+// The grant at 10 isn't used, but the break that follows it is acknowledged at 13, and that is accepted. Before it is accepted
+// nothing is sure.
 #[test]
 fn an_acknowledgment_shows_what_was_taken(rt: HostRuntime) -> Result<(), Fail> {
     let alloc = rt.alloc();
     let mut walk = Walk::new(alloc);
     ask(&mut walk, 1, 1, b"f\0")?;
     grant(&mut walk, 5, 1, Level::Writes)?;
-    let breaks = BreakNote {
-        key: key(1),
-        level: Level::Something,
-        acknowledged: true,
-        epoch: 0,
-    };
-    walk.take(&seen(6, 1, Note::Break(breaks)))?;
-    let keeps = KeyLevel {
-        key: key(1),
-        level: Level::Something,
-    };
-    walk.take(&seen(7, 1, Note::Acknowledge(keeps)))?;
-    let change = |level, first, last| Change { level, first, last };
+    walk.take(&seen(6, 1, break_to(Level::Something, 0)))?;
+    walk.take(&seen(7, 1, keeps(7, Level::Something)))?;
+    let changes = only_chain(alloc, &walk, 5)?;
+    let wanted = [possible(Level::Writes, 10)];
+    assert!(&rt; changes.is_some_and(|changes| changes.as_slice() == wanted.as_slice()));
+    answer(&mut walk, 8, 1, 7)?;
     let wanted = [
-        change(Level::Writes, 10, Some(13)),
-        change(Level::Something, 12, Some(13)),
-        change(Level::Nothing, 12, None),
+        certain(Level::Writes, 10, 13),
+        possible(Level::Nothing, 13),
+        certain(Level::Something, 12, 13),
+        possible(Level::Nothing, 13),
     ];
     let changes = only_chain(alloc, &walk, 5)?;
     assert!(&rt; changes.is_some_and(|changes| changes.as_slice() == wanted.as_slice()));
     Ok(())
+}
+
+// The first client's acknowledgment of a break.
+fn keeps<'a>(id: u64, level: Level) -> Note<'a> {
+    Note::Acknowledge(KeyLevel {
+        id,
+        key: key(1),
+        level,
+    })
 }
 
 // A break of the first client's lease.
@@ -431,7 +443,7 @@ fn an_epoch_that_does_not_follow_on_is_shown(rt: HostRuntime) -> Result<(), Fail
     Ok(())
 }
 
-// At a capture made at the client, the grant at 10 was taken where the capture has it.
+// At a capture made at the client, the grant at 10 was taken where the capture has it. It is sure once it is shown to be there.
 #[test]
 fn a_client_takes_what_its_capture_has(rt: HostRuntime) -> Result<(), Fail> {
     let alloc = rt.alloc();
@@ -441,18 +453,15 @@ fn a_client_takes_what_its_capture_has(rt: HostRuntime) -> Result<(), Fail> {
     let mut taken = seen(5, 1, Note::Taken);
     taken.latest = 10;
     walk.take(&taken)?;
-    let wanted = [Change {
-        level: Level::Writes,
-        first: 10,
-        last: Some(10),
-    }];
+    use_open(&mut walk, 6, 1)?;
+    let wanted = [certain(Level::Writes, 10, 10), possible(Level::Nothing, 11)];
     let changes = only_chain(alloc, &walk, 5)?;
     assert!(&rt; changes.is_some_and(|changes| changes.as_slice() == wanted.as_slice()));
     Ok(())
 }
 
-// The client sent its last request before the gap at 11: the grant at 10 was taken by then. What the capture has of the break
-// at 14 and its acknowledgment comes after what may be missing.
+// The client sent its last request before the gap at 15: the grant at 10 was taken by 11. What the capture has of the break
+// at 18 and its acknowledgment comes after what may be missing.
 #[test]
 fn a_gap_cuts_chains_off(rt: HostRuntime) -> Result<(), Fail> {
     let alloc = rt.alloc();
@@ -460,18 +469,15 @@ fn a_gap_cuts_chains_off(rt: HostRuntime) -> Result<(), Fail> {
     ask(&mut walk, 1, 1, b"f\0")?;
     grant(&mut walk, 5, 1, Level::Writes)?;
     use_open(&mut walk, 6, 1)?;
-    walk.take(&seen(7, 1, break_to(Level::Something, 0)))?;
-    walk.take(&seen(8, 1, Note::Gap))?;
-    let keeps = KeyLevel {
-        key: key(1),
-        level: Level::Something,
-    };
-    walk.take(&seen(9, 1, Note::Acknowledge(keeps)))?;
-    walk.take(&seen(10, 1, Note::Accepted(key(1))))?;
-    let change = |level, first, last| Change { level, first, last };
+    ask_by_open(&mut walk, 8, 1)?;
+    walk.take(&seen(9, 1, break_to(Level::Something, 0)))?;
+    walk.take(&seen(10, 1, Note::Gap))?;
+    walk.take(&seen(11, 1, keeps(11, Level::Something)))?;
+    answer(&mut walk, 12, 1, 11)?;
     let wanted = [
-        change(Level::Writes, 10, Some(11)),
-        change(Level::Nothing, 11, None),
+        certain(Level::Writes, 10, 11),
+        possible(Level::Nothing, 11),
+        possible(Level::Nothing, 15),
     ];
     let changes = only_chain(alloc, &walk, 5)?;
     assert!(&rt; changes.is_some_and(|changes| changes.as_slice() == wanted.as_slice()));

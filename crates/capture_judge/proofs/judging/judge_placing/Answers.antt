@@ -1,12 +1,14 @@
-use Rattle.std.proofs.Common.{refl, sym, ◌∙◌, subst, arith, slice_index}
+use Rattle.std.proofs.Common.{refl, sym, ◌∙◌, ◌<◌, List, subst, arith, length, slice_index}
 use Rattle.std.specs.List.Sorted.{IsStrictlyIncreasing}
-use Rattle.std.proofs.lemmas.Bool.{MatchBool-at_true, eqb-true, eqb-false}
+use Rattle.std.proofs.lemmas.Bool.{MatchBool-at_true}
 use Rattle.capture_judge.specs.Placing.{IsPlacement, IsClean}
 use Rattle.capture_judge.specs.Searching.{IncludesAll}
 use Rattle.capture_judge.proofs.Covering.{search_at}
 use Rattle.capture_judge.proofs.Feasible.{no_placement}
 use Rattle.capture_judge.proofs.Places.{element-at}
-use Rattle.capture_judge.proofs.Standing.{stands-start, none_between, stands-next, unsafe-at, clean-at}
+use Rattle.capture_judge.proofs.Standing.{stands-start, none_between, stands-next, unsafe-at, clean-at, all-late, one-on_time}
+use Rattle.capture_judge.proofs.Standing.{has-way, charged-at}
+use Rattle.capture_judge.specs.declared.ways.Way.{Way}
 use Rattle.capture_judge.proofs.judging.judge_placing.Goals as goal
 
 pub returns-then-not-are_feasible : goal.returns-then-not-are_feasible
@@ -27,26 +29,38 @@ close-requires c =
     (slice_index c.deref-position-items.result.now c.loop-position.position-index) c.loop-position.ways
     c.loop-position.invariant rises c.loop-position-test.true refl)
 
+pub charge-requires-clause-some : goal.charge-requires-clause-some
+charge-requires-clause-some c =
+    has-way c.args.chains.now c.deref-position-items.result.now c.loop-position.position-index
+    (slice_index c.deref-position-items.result.now c.loop-position.position-index) c.loop-position.ways c.close.new.self
+    c.loop-position.invariant (MatchBool-at_true _ _ c.if-not-branch.false c.in_ok-close.ensures)
+
+pub charge-requires-clause-search : goal.charge-requires-clause-search
+charge-requires-clause-search c = (MatchBool-at_true _ _ c.if-not-branch.false c.in_ok-close.ensures).search
+
 pub loop-position-preserved : goal.loop-position-preserved
 loop-position-preserved c =
     let rises = subst IsStrictlyIncreasing (sym c.deref-position-items.ensures.value) c.in_ok-positions.ensures.rises
-    in let size = c.drop_late.new.self.ways.ok.0
-    in let some = eqb-false c.drop_late.new.self.ways.len 0 (sym c.is_empty.ensures ∙ c.if-is_empty.false)
+    in let some = one-on_time c.args.chains.now (slice_index c.deref-position-items.result.now c.loop-position.position-index)
+    c.close.new.self.ways.items (sym c.are_late.ensures ∙ c.if-are_late.false)
     in stands-next c.args.chains.now c.deref-position-items.result.now c.loop-position.position-index
     (slice_index c.deref-position-items.result.now c.loop-position.position-index) c.loop-position.ways c.close.new.self
     c.drop_late.new.self c.if-not-are_feasible.ensures rises c.loop-position-test.true refl c.loop-position.invariant
     (MatchBool-at_true _ _ c.if-not-branch.false c.in_ok-close.ensures) c.drop_late.ensures.ways c.drop_late.ensures.trail
-    (omega (arith, size, some))
+    (subst (λ (ways : List Way). 0 < length ways) (sym c.drop_late.ensures.ways) some)
 
-pub returns-then-is_empty : goal.returns-then-is_empty
-returns-then-is_empty c =
+pub returns-then-are_late : goal.returns-then-are_late
+returns-then-are_late c =
     let rises = subst IsStrictlyIncreasing (sym c.deref-position-items.ensures.value) c.in_ok-positions.ensures.rises
-    in let size = c.drop_late.new.self.ways.ok.0
-    in let none = eqb-true c.drop_late.new.self.ways.len 0 (sym c.is_empty.ensures ∙ c.if-is_empty.true)
-    in unsafe-at c.args.chains.now c.deref-position-items.result.now c.loop-position.position-index
+    in let none = all-late c.args.chains.now (slice_index c.deref-position-items.result.now c.loop-position.position-index)
+    c.close.new.self.ways.items (sym c.are_late.ensures ∙ c.if-are_late.true)
+    in charged-at c.args.chains.now (slice_index c.deref-position-items.result.now c.loop-position.position-index)
+    c.in_ok-charge.field-0
+    (unsafe-at c.args.chains.now c.deref-position-items.result.now c.loop-position.position-index
     (slice_index c.deref-position-items.result.now c.loop-position.position-index) c.loop-position.ways c.close.new.self
-    c.drop_late.new.self c.if-not-are_feasible.ensures rises c.loop-position-test.true refl c.loop-position.invariant
-    (MatchBool-at_true _ _ c.if-not-branch.false c.in_ok-close.ensures) c.drop_late.ensures.ways (omega (arith, size, none))
+    c.if-not-are_feasible.ensures rises c.loop-position-test.true refl c.loop-position.invariant
+    (MatchBool-at_true _ _ c.if-not-branch.false c.in_ok-close.ensures) none)
+    c.in_ok-charge.ensures
 
 pub steps_to-requires-clause-leads : goal.steps_to-requires-clause-leads
 steps_to-requires-clause-leads c = λ way at.

@@ -3,7 +3,7 @@ use Rattle.capture_walk.specs.Chains.{acknowledgment, is_known}
 use Rattle.capture_walk.proofs.chains.acknowledgment.Given as goal
 
 -- what is left gives the whole
-abbrev pub invariant-loop-event : goal.invariant-loop-event
-invariant-loop-event l =
-    acknowledgment l.lease (filter (is_known l.since) (drop l.event-index l.later))
+abbrev pub invariant-loop-index : goal.invariant-loop-index
+invariant-loop-index l =
+    acknowledgment l.lease (filter (is_known l.since) (drop l.index l.later))
     ≡ acknowledgment l.lease (filter (is_known l.since) l.later)
