@@ -109,7 +109,7 @@ may_end_unread (task.Replay name telling rules) path file failed is fails = inr 
 may_end_unread (task.Judge name) path file failed is fails = inl (inr (inl fails))
 may_end_unread (task.Explain name) path file failed is fails = inr (inl fails)
 may_end_unread (task.Draw name) path file failed is fails = inr (inl fails)
-may_end_unread (task.Capture name side) path file failed is fails = inr (inl fails)
+may_end_unread (task.Capture name side form) path file failed is fails = inr (inl fails)
 may_end_unread task.Version path file failed is fails = let no : ⊥ = cc in absurd no
 
 pub unopened : (asked : Task) (path : List ℕ) (old faults told : Option (List ℕ)) (refusal full : Refusal)

@@ -1,6 +1,6 @@
 -- What words ask for, from what clap says of them.
-use Rattle.lease_laws.proofs.Words.{◌∙◌, ◌≡◌, ◌≢◌, ◌⊎◌, Err, IfOk, List, Ok, Result, [], ap, inl, inr, refl, subst}
-use Rattle.lease_laws.proofs.Words.{Option, Some, sym, true}
+use Rattle.lease_laws.proofs.Words.{◌∙◌, ◌≡◌, ◌≢◌, ◌≤◌, ◌⊎◌, Err, IfOk, List, Ok, Result, [], ap, arith, inl, inr, refl, subst}
+use Rattle.lease_laws.proofs.Words.{Option, Some, sym, true, ℕ}
 use Rattle.std.proofs.Common.{String, Global}
 use Rattle.clap.specs.Words.{App, Text, fault_of, is_simple, is_simple_and_free, kind_of, subcommand_of, subcommand_rows_of}
 use Rattle.clap.specs.Words.{FailsBy, HasMatchesOf, IsAmong, Row}
@@ -8,7 +8,9 @@ use Rattle.clap.specs.declared.error.Error.{Error}
 use Rattle.clap.specs.declared.error.kind.ErrorKind.{ErrorKind}
 use Rattle.clap.specs.declared.error.kind.ErrorKind.TheVariants as error
 use Rattle.clap.specs.declared.parser.matches.ArgMatches.{ArgMatches}
-use Rattle.leasecheck.specs.CommandLine.{AsksFor, Parsers, Errs, Parses, IsUsageOf, Request, leasecheck_app, requested_by}
+use Rattle.leasecheck.specs.CommandLine.{AreRefused, AsksFor, Parsers, Errs, Parses, IsUsageOf, Request, TellsUsage, leasecheck_app}
+use Rattle.leasecheck.specs.CommandLine.{requested_by}
+use Rattle.leasecheck.specs.declared.tasks.Usage.{Usage}
 use Rattle.leasecheck.specs.declared.tasks.Usage.TheVariants as usage
 
 is_simple_app : (parsers : Parsers) → is_simple (leasecheck_app parsers) ≡ true
@@ -37,10 +39,18 @@ help_told words fault text is (inl memory) = let c : ⊥ = cc in absurd c
 help_told words fault text is (inr told) =
     (told.0, subst (λ (k : ErrorKind). IsAmong k (fault_of (leasecheck_app told.0) words)) is told.1)
 
-pub refusal_told : (words : List Text) (fault : ErrorKind) (text : String Global) → fault ≢ error.OutOfMemory → Errs words fault
-    → IsUsageOf words (usage.Refused text)
-refusal_told words fault text not (inl memory) = absurd (not memory)
-refusal_told words fault text not (inr told) = (fault, told.0, told.1)
+pub refusal_told : (words : List Text) (fault : ErrorKind) (text : String Global) → fault ≢ error.OutOfMemory
+    → fault ≢ error.DisplayHelp → fault ≢ error.DisplayVersion → Errs words fault → IsUsageOf words (usage.Refused text)
+refusal_told words fault text not no-help no-version (inl memory) = absurd (not memory)
+refusal_told words fault text not no-help no-version (inr told) = (fault, no-help, no-version, told)
+
+-- the status is 2 where the words are refused alone
+pub refused_by : (words : List Text) (told : Usage) (old new : Option (List ℕ)) (status : ℕ) → IsUsageOf words told
+    → TellsUsage told old new status → status ≡ 2 → AreRefused words
+refused_by words (usage.Help text) old new status is tells ended =
+    absurd (omega (arith, subst (λ (n : ℕ). n ≤ 1) ended tells.0))
+refused_by words (usage.Refused text) old new status is tells ended = is
+refused_by words usage.Memory old new status is tells ended = absurd (omega (arith, sym tells ∙ ended))
 
 pub version_asked : (words : List Text) (fault : ErrorKind) → fault ≡ error.DisplayVersion → Errs words fault
     → AsksFor words Request.Version

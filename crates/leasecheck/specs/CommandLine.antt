@@ -1,6 +1,6 @@
 -- Which words ask for what. By which words an argument is meant, and which words are refused, is said by clap's own definitions;
 -- the command that they speak of stands here, and what is asked for by what they find.
-use Rattle.std.specs.Prelude.{◌≡◌, ◌≤◌, ◌⊎◌, ⊤, ℕ, Bool, true, false, List, [], ◌∷◌, map, codes, bytes_eq, if◌then◌else◌, Option}
+use Rattle.std.specs.Prelude.{◌≡◌, ◌≢◌, ◌≤◌, ◌⊎◌, ⊤, ℕ, Bool, true, false, List, [], ◌∷◌, map, codes, bytes_eq, if◌then◌else◌, Option}
 use Rattle.std.specs.Prelude.{Some, None, option_and_then, option_map, Result, MatchResult}
 use Rattle.std.specs.Borrow.{Bor}
 use Rattle.std.specs.Io.KnownBytes.{Appends}
@@ -21,6 +21,8 @@ use Rattle.lease_state.specs.declared.rules.Rules.{Rules}
 use Rattle.lease_texts.specs.Fields.{rules_in}
 use Rattle.leasecheck.specs.declared.tasks.Asked.{Asked}
 use Rattle.leasecheck.specs.declared.tasks.Asked.TheVariants as asked
+use Rattle.leasecheck.specs.declared.tasks.CaptureForm.{CaptureForm}
+use Rattle.leasecheck.specs.declared.tasks.CaptureForm.TheVariants as form
 use Rattle.leasecheck.specs.declared.tasks.Kind.{Kind}
 use Rattle.leasecheck.specs.declared.tasks.Kind.TheVariants as kind
 use Rattle.leasecheck.specs.declared.tasks.Task.TheVariants as task
@@ -89,7 +91,8 @@ abbrev pub side_rule : ValueParser → Rule
 side_rule sides = record (new_rule (codes "SIDE")) { long = Some (codes "at"); parser = Some sides }
 
 abbrev pub capture_app : ValueParser → App
-capture_app sides = with_rule (with_rule (new_app (codes "capture")) (needed (codes "FILE"))) (side_rule sides)
+capture_app sides = with_rule
+    (with_rule (with_rule (new_app (codes "capture")) (needed (codes "FILE"))) (side_rule sides)) (flag (codes "record"))
 
 -- a version, no command `help`, and a command has to be named
 abbrev pub with_settings : Shape → Shape
@@ -116,7 +119,7 @@ pub data Request : Type 0 where
   Judge : (path : Text) → Request
   Explain : (path : Text) → Request
   Draw : (path : Text) → Request
-  Capture : (path : Text) (side : Side) → Request
+  Capture : (path : Text) (side : Side) (form : CaptureForm) → Request
   Version : Request
   Clients : Request
   Server : Request
@@ -128,7 +131,7 @@ request_of (asked.Task (task.Replay path telling rules)) = Replay (string_bytes 
 request_of (asked.Task (task.Judge path)) = Judge (string_bytes path)
 request_of (asked.Task (task.Explain path)) = Explain (string_bytes path)
 request_of (asked.Task (task.Draw path)) = Draw (string_bytes path)
-request_of (asked.Task (task.Capture path side)) = Capture (string_bytes path) side
+request_of (asked.Task (task.Capture path side form)) = Capture (string_bytes path) side form
 request_of (asked.Task task.Version) = Version
 request_of asked.Clients = Clients
 request_of asked.Server = Server
@@ -177,9 +180,13 @@ abbrev pub side_asked : Option Text → Option Side
 side_asked (Some name) = side_named name
 side_asked None = Some side.Server
 
-abbrev pub captured : Option Side → Option Text → Option Request
-captured (Some side) path = option_map (λ path. Capture path side) path
-captured None path = None
+abbrev pub form_of : Bool → CaptureForm
+form_of true = form.Record
+form_of false = form.Findings
+
+abbrev pub captured : CaptureForm → Option Side → Option Text → Option Request
+captured form (Some side) path = option_map (λ path. Capture path side form) path
+captured form None path = None
 
 -- by the name of a command and what was found of its arguments
 unfoldable pub requested : Text → List Row → Option Request
@@ -195,7 +202,8 @@ requested name rows =
     then judged (is_given (first_of (codes "explain") rows)) (first_of (codes "FILE") rows)
     else if bytes_eq name (codes "draw") then option_map Draw (first_of (codes "FILE") rows)
     else if bytes_eq name (codes "capture")
-    then captured (side_asked (first_of (codes "SIDE") rows)) (first_of (codes "FILE") rows)
+    then captured (form_of (is_given (first_of (codes "record") rows))) (side_asked (first_of (codes "SIDE") rows))
+    (first_of (codes "FILE") rows)
     else if bytes_eq name (codes "client") then Some Clients
     else if bytes_eq name (codes "server") then Some Server
     else None
@@ -228,16 +236,23 @@ AsksFor words request = ((request ≡ Version)
     ⊎ ((parsers : Parsers) × (fault_of (leasecheck_app parsers) words ≡ [])
     × (requested_by (subcommand_of (leasecheck_app parsers) words) ≡ Some request))
 
--- Help is told where the words ask for it; they are refused where they have another fault.
+-- they have a fault of this kind
+abbrev pub HaveFault : List Text → ErrorKind → Type 0
+HaveFault words fault = (parsers : Parsers) × IsAmong fault (fault_of (leasecheck_app parsers) words)
+
+-- They are refused: they have a fault, which asks neither for help nor for the version.
+abbrev pub AreRefused : List Text → Type 0
+AreRefused words =
+    (fault : ErrorKind) × (fault ≢ error.DisplayHelp) × (fault ≢ error.DisplayVersion) × HaveFault words fault
+
+-- Help is told where the words ask for it.
 abbrev pub IsUsageOf : List Text → Usage → Type 0
-IsUsageOf words (usage.Help text) =
-    (parsers : Parsers) × IsAmong error.DisplayHelp (fault_of (leasecheck_app parsers) words)
-IsUsageOf words (usage.Refused text) = (fault : ErrorKind) × (parsers : Parsers)
-    × IsAmong fault (fault_of (leasecheck_app parsers) words)
-IsUsageOf words (usage.Memory text) = ⊤
+IsUsageOf words (usage.Help text) = HaveFault words error.DisplayHelp
+IsUsageOf words (usage.Refused text) = AreRefused words
+IsUsageOf words usage.Memory = ⊤
 
 -- what is told, and the exit status: help is told whole, or the status is 1
 abbrev pub TellsUsage : Usage → Option (List ℕ) → Option (List ℕ) → ℕ → Type 0
 TellsUsage (usage.Help text) old new status = (status ≤ 1) × (status ≡ 0 → Appends old new (string_bytes text))
 TellsUsage (usage.Refused text) old new status = status ≡ 2
-TellsUsage (usage.Memory text) old new status = status ≡ 2
+TellsUsage usage.Memory old new status = status ≡ 1

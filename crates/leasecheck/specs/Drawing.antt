@@ -21,12 +21,14 @@ use Rattle.lease_facts.specs.Setups.{event_of}
 use Rattle.lease_world.specs.declared.passage.Passage.{Passage}
 use Rattle.lease_world.specs.world.Passages.{passage_meant, passages_told_under}
 use Rattle.record_pictures.specs.Captions.{captions, seen_mark}
+use Rattle.record_pictures.specs.Remarks.{said_of, words_of}
 use Rattle.record_pictures.specs.Requests.{requests_drawn, seen_request}
 use Rattle.record_pictures.specs.Svg.{picture_text}
 use Rattle.record_pictures.specs.declared.picture.Picture.{Picture}
 use Rattle.record_pictures.specs.declared.fault.PictureFault.{PictureFault}
 use Rattle.record_pictures.specs.declared.fault.PictureFault.TheVariants as fault
 use Rattle.lease_state.specs.Rules.{profile_rules}
+use Rattle.leasecheck.specs.Comments.{comments}
 use Rattle.leasecheck.specs.Replayed.{record_of, run_refusal, setup_of, verdict_line}
 use Rattle.leasecheck.specs.SetupRemarks.{too_many_line}
 use Rattle.leasecheck.specs.declared.failure.Failure.{Failure}
@@ -35,10 +37,10 @@ use Rattle.leasecheck.specs.declared.refusal.Refusal.{Refusal}
 
 -- ---- what is drawn
 
--- A picture of facts has one mark for each of them, in their order, with the fact in words. The marks of the facts that make the
--- record bad say so, and below the marks stands what `judge --explain` says. Where it is known what became of the requests of
--- clients, there is a mark for each of these.
-pub record IsDrawn (placed : Placed) (passages : List Passage) (text : List ℕ) : Type 0 where
+-- A picture of facts has one mark for each of them, in their order, with the fact in words, and beside them what comments say
+-- of them. The marks of the facts that make the record bad say so, and below the marks stands what `judge --explain` says. Where it
+-- is known what became of the requests of clients, there is a mark for each of these.
+pub record IsDrawn (placed : Placed) (said : List (List ℕ)) (passages : List Passage) (text : List ℕ) : Type 0 where
   pub verdict : Verdict
   pub reason : Option Reason
   pub extent : Extent
@@ -48,6 +50,7 @@ pub record IsDrawn (placed : Placed) (passages : List Passage) (text : List ℕ)
   pub judged : IsExtent placed.facts.items verdict extent
   pub marks : map seen_mark picture.marks.items ≡ captions (bad_places verdict reason) 1 placed.facts.items
   pub requests : map seen_request picture.requests.items ≡ requests_drawn passages
+  pub remarks : map words_of picture.remarks.items ≡ said_of (length placed.facts.items) said
   pub notes : string_bytes picture.notes
       ≡ verdict_line verdict ++ (bad_lines placed (bad_place verdict) reason ++ extent_lines extent)
   pub text_is : text ≡ picture_text picture
@@ -61,11 +64,13 @@ abbrev pub ArePassagesOf : Draft → List Passage → Type 0
 ArePassagesOf draft passages =
     map passage_meant passages ≡ passages_told_under profile_rules (setup_of draft) (map event_of draft.events)
 
--- The text is the picture of the record that the file is, or else of the run of the schedule that it is, with its requests.
+-- The text is the picture of the record that the file is, with its comments, or else of the run of the schedule that it is, with
+-- its requests.
 abbrev pub Draws : List ℕ → List ℕ → Type 0
-Draws file text = (placed : Placed) × (passages : List Passage) × IsDrawn placed passages text
-    × ((IsPlaced file placed × (passages ≡ [])) ⊎ ((draft : Draft) × (schedule_in file ≡ Ok draft) × IsRunOf draft placed
-    × ArePassagesOf draft passages))
+Draws file text = (placed : Placed) × (passages : List Passage)
+    × ((IsPlaced file placed × (passages ≡ []) × IsDrawn placed (comments file) passages text)
+    ⊎ ((draft : Draft) × (schedule_in file ≡ Ok draft) × IsRunOf draft placed × ArePassagesOf draft passages
+    × IsDrawn placed [] passages text))
 
 -- ---- why there is no picture
 

@@ -14,6 +14,7 @@ pub mod Idle
 pub mod Replayed
 pub mod Judging
 pub mod Explaining
+pub mod Comments
 pub mod Drawing
 pub mod Capturing
 pub mod Printed

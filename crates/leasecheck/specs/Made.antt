@@ -51,7 +51,7 @@ IsGiven (task.Replay path telling rules) file given = given ≡ file
 IsGiven (task.Judge path) file given = given ≡ file
 IsGiven (task.Explain path) file given = given ≡ file
 IsGiven (task.Draw path) file given = given ≡ file
-IsGiven (task.Capture path side) file given = given ≡ file
+IsGiven (task.Capture path side form) file given = given ≡ file
 IsGiven task.Version file given = ⊤
 
 -- What a task has printed whose file has these bytes, or how it ends.

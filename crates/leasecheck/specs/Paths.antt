@@ -16,5 +16,5 @@ path_of (Replay path telling rules) = Some (string_bytes path)
 path_of (Judge path) = Some (string_bytes path)
 path_of (Explain path) = Some (string_bytes path)
 path_of (Draw path) = Some (string_bytes path)
-path_of (Capture path side) = Some (string_bytes path)
+path_of (Capture path side form) = Some (string_bytes path)
 path_of Version = None

@@ -7,7 +7,7 @@ use Rattle.capture_texts.specs.Verdicts.{IsVerdictOnCapture}
 use Rattle.capture_texts.specs.declared.finding.CaptureVerdict.{CaptureVerdict}
 use Rattle.capture_texts.specs.declared.line.Side.{Side}
 use Rattle.leasecheck.specs.Arguments.{Gives}
-use Rattle.leasecheck.specs.Capturing.{capture_line, capture_status}
+use Rattle.leasecheck.specs.Capturing.{capture_line, capture_status, TellsRecord}
 use Rattle.lease_world.specs.declared.verdict.Verdict.{Verdict}
 use Rattle.leasecheck.specs.Drawing.{Draws}
 use Rattle.leasecheck.specs.Shown.{Shows}
@@ -15,6 +15,8 @@ use Rattle.leasecheck.specs.Explaining.{ExplainsVerdict}
 use Rattle.leasecheck.specs.Judging.{IsVerdictOn}
 use Rattle.leasecheck.specs.Known.{OfBytes}
 use Rattle.leasecheck.specs.Replayed.{Replays, verdict_line, status_of}
+use Rattle.leasecheck.specs.declared.tasks.CaptureForm.{CaptureForm}
+use Rattle.leasecheck.specs.declared.tasks.CaptureForm.TheVariants as form
 use Rattle.leasecheck.specs.declared.tasks.Task.{Task}
 use Rattle.leasecheck.specs.declared.tasks.Task.TheVariants.{Ack, Show, Replay, Judge, Explain, Draw, Capture, Version}
 
@@ -32,11 +34,12 @@ abbrev pub TellsReason : List ℕ → List ℕ → ℕ → Type 0
 TellsReason bytes text status = (verdict : Verdict) × (explanation : List ℕ) × (text ≡ verdict_line verdict ++ explanation)
     × (status ≡ status_of verdict) × ExplainsVerdict bytes verdict explanation
 
--- The text tells the verdict on a capture, and then what is found in it, of which nothing is said here; and the status is that of the
--- verdict.
-abbrev pub TellsCapture : Side → List ℕ → List ℕ → ℕ → Type 0
-TellsCapture side bytes text status = (verdict : CaptureVerdict) × (findings : List ℕ)
+-- The text tells the verdict on a capture, and then what is found in it, of which nothing is said here; or the record of it, with the
+-- same as remarks. The status is that of the verdict.
+abbrev pub TellsCapture : CaptureForm → Side → List ℕ → List ℕ → ℕ → Type 0
+TellsCapture form.Findings side bytes text status = (verdict : CaptureVerdict) × (findings : List ℕ)
     × (text ≡ capture_line verdict ++ findings) × (status ≡ capture_status verdict) × IsVerdictOnCapture side bytes verdict
+TellsCapture form.Record side bytes text status = TellsRecord side bytes text status
 
 -- The text is what the task prints, and the status how it ends, where its file has these bytes.
 abbrev pub IsTextOf : Task → List ℕ → List ℕ → ℕ → Type 0
@@ -48,7 +51,7 @@ IsTextOf (Replay path telling rules) file text status = (status ≡ 0) × Replay
 IsTextOf (Judge path) file text status = TellsVerdict file text status
 IsTextOf (Explain path) file text status = TellsReason file text status
 IsTextOf (Draw path) file text status = (status ≡ 0) × Draws file text
-IsTextOf (Capture path side) file text status = TellsCapture side file text status
+IsTextOf (Capture path side form) file text status = TellsCapture form side file text status
 IsTextOf Version file text status = (status ≡ 0) × (text ≡ version_text)
 
 -- a writer whose bytes are known before and after has got what the task prints where its file has these bytes

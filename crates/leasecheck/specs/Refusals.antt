@@ -91,7 +91,7 @@ refusal_of (task.Replay path telling rules) file = replay_refusal file
 refusal_of (task.Judge path) file = line_refusal (record_in file)
 refusal_of (task.Explain path) file = line_refusal (record_in file)
 refusal_of (task.Draw path) file = draw_refusal file
-refusal_of (task.Capture path side) file = line_refusal (capture_in file)
+refusal_of (task.Capture path side form) file = line_refusal (capture_in file)
 refusal_of task.Version file = None
 
 -- It is refused whatever bytes its reader may have.
@@ -124,7 +124,7 @@ MayEnd (task.Replay path telling rules) file failure = MayEndReading (replay_ref
 MayEnd (task.Judge path) file failure = MayEndJudging file failure
 MayEnd (task.Explain path) file failure = MayEndReading (line_refusal (record_in file)) failure
 MayEnd (task.Draw path) file failure = MayEndReading (draw_refusal file) failure
-MayEnd (task.Capture path side) file failure = MayEndReading (line_refusal (capture_in file)) failure
+MayEnd (task.Capture path side form) file failure = MayEndReading (line_refusal (capture_in file)) failure
 MayEnd task.Version file failure = failure ≡ Memory
 
 -- a writer whose bytes are known has got a beginning of a text

@@ -117,7 +117,7 @@ IsRemark (task.Replay path telling rules) file failure line = schedule_remark fi
 IsRemark (task.Judge path) file failure line = record_remark file failure ≡ Some line
 IsRemark (task.Explain path) file failure line = record_remark file failure ≡ Some line
 IsRemark (task.Draw path) file failure line = IsDrawRemark file failure line
-IsRemark (task.Capture path side) file failure line = IsCaptureRemark failure line
+IsRemark (task.Capture path side form) file failure line = IsCaptureRemark failure line
 IsRemark task.Version file failure line = ⊥
 
 -- A refusal has no second line, or this one.

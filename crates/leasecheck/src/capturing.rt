@@ -1,15 +1,16 @@
-ghost use Rattle.std.specs.Prelude.{◌≡◌, ◌⊎◌, ◌++◌, ℕ, List, None, Some, IfOk, IfErr, OnOk};
+ghost use Rattle.std.specs.Prelude.{◌≡◌, ◌⊎◌, ◌++◌, ◌∷◌, [], ℕ, List, None, Some, codes, IfOk, IfErr, OnOk};
 ghost use Rattle.std.specs.String.{string_bytes};
 ghost use Rattle.capture_texts.specs.Captures.{IsReadFrom, capture_in};
 ghost use Rattle.capture_texts.specs.Verdicts.{IsVerdictOnCapture};
-ghost use Rattle.leasecheck.specs.Capturing.{capture_line, capture_status};
+ghost use Rattle.leasecheck.specs.Capturing.{TellsRecord, capture_line, capture_status, lines_printed};
 ghost use Rattle.leasecheck.specs.Refusals.{line_refusal};
 ghost use Rattle.leasecheck.specs.Remarks.{IsCaptureRemark, Says};
 
 use crate::failure::Failure;
 use crate::refusal::Refusal;
+use capture_records::{RecordLine, notes_of, record_of};
 use capture_texts::{Capture, CaptureVerdict, Report, Side, read_capture};
-use lease_texts::TextFault;
+use lease_texts::{TextFault, push_fact};
 use std::alloc::{AllocError, Global};
 use std::fmt::Write as _;
 
@@ -93,6 +94,55 @@ pub fn capture_text(
     push_verdict(&mut told, verdict)?;
     let findings = findings_of(alloc, &report)?;
     told.push_str(findings.as_str())?;
+    Ok((told, verdict))
+}
+
+fn push_lines(text: &mut String, lines: &[RecordLine]) -> Result<(), AllocError>
+    ensures { OnOk result (string_bytes text.new ≡ string_bytes text.old ++ lines_printed lines.now) }
+{
+    for line in lines {
+        match line {
+            RecordLine::Fact(fact) => push_fact(text, fact)?,
+            RecordLine::Remark(remark) => push_remark(text, remark.as_str())?,
+        }
+    }
+    Ok(())
+}
+
+fn push_remark(text: &mut String, remark: &str) -> Result<(), AllocError>
+    ensures { OnOk result (string_bytes text.new ≡ string_bytes text.old ++ codes "# " ++ remark.now ++ 10 ∷ []) }
+{
+    text.push_str("# ")?;
+    text.push_str(remark)?;
+    text.push_str("\n")
+}
+
+/// The record that `leasecheck capture --record` prints for a capture that was made at this side of its connections: what the
+/// clients cached, with remarks; then as remarks the verdict, and what is found.
+///
+/// # Errors
+///
+/// `Line` with the number of the first line that is refused, and what is said of that, and `Memory` where there is none left.
+pub fn capture_record(
+    alloc: Global,
+    side: Side,
+    text: &[u8],
+) -> Result<(String, CaptureVerdict), Refusal>
+    ensures told { IfOk result (λ answer. TellsRecord side text.now (string_bytes answer.0) (capture_status answer.1)) }
+    ensures accepted { OnOk result (line_refusal (capture_in text.now) ≡ None) }
+    ensures refused { IfErr result (λ told. (told.failure ≡ Failure.Memory)
+        ⊎ (line_refusal (capture_in text.now) ≡ Some told.failure)) }
+    ensures said { IfErr result (λ told. Says told IsCaptureRemark) }
+{
+    let report = capture_of(alloc, side, text)?.report(alloc)?;
+    let verdict = report.verdict();
+    let lines = record_of(alloc, &report)?;
+    let notes = notes_of(alloc, &report)?;
+    let mut told = String::new(alloc);
+    push_lines(&mut told, &lines)?;
+    told.push_str("# ")?;
+    push_verdict(&mut told, verdict)?;
+    push_lines(&mut told, &notes)?;
     Ok((told, verdict))
 }
 

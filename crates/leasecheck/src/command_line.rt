@@ -1,18 +1,19 @@
-ghost use Rattle.std.specs.Prelude.{◌≡◌, List, codes, false, map, IfErr, IfOk, option_and_then, option_map};
+ghost use Rattle.std.specs.Prelude.{◌≡◌, ◌≢◌, List, codes, false, map, IfErr, IfOk, option_and_then, option_map};
 ghost use Rattle.std.specs.String.{string_bytes};
 ghost use Rattle.clap.specs.Words.{Text, first_of, found_of, kind_of, new_app, rows_of, rule_of, shape_of, subcommand_rows_of};
 ghost use Rattle.clap.specs.Words.{app_of};
 ghost use Rattle.clap.specs.declared.builder.command.Command.TheViews.{out-Command as fields_of};
 ghost use Rattle.clap.specs.declared.builder.value_parser.ValueParser.{ValueParser};
+ghost use Rattle.clap.specs.declared.error.kind.ErrorKind.TheVariants as kind;
 ghost use Rattle.leasecheck.specs.CommandLine.{Request, Errs, Parsers, TakesWords, Parses, AsksFor, IsUsageOf, needed, flag};
 ghost use Rattle.leasecheck.specs.CommandLine.{kind_rule, kind_words, rules_rule, rules_words, rules_asked};
 ghost use Rattle.leasecheck.specs.CommandLine.{ack_app, show_app, replay_app, judge_app, draw_app, bare_app, leasecheck_app};
 ghost use Rattle.leasecheck.specs.CommandLine.{kind_named, telling_of, is_given, judged, replayed, requested, requested_by};
 ghost use Rattle.leasecheck.specs.CommandLine.{request_of, all_words, shown};
-ghost use Rattle.leasecheck.specs.CommandLine.{capture_app, captured, side_asked, side_named, side_rule, side_words};
+ghost use Rattle.leasecheck.specs.CommandLine.{capture_app, captured, form_of, side_asked, side_named, side_rule, side_words};
 
 use crate::help;
-use crate::tasks::{Asked, Kind, Task, Telling, Usage, VERSION};
+use crate::tasks::{Asked, CaptureForm, Kind, Task, Telling, Usage, VERSION};
 use capture_texts::Side;
 use clap::error::ErrorKind;
 use clap::{Arg, ArgAction, ArgMatches, Command, Error};
@@ -169,6 +170,18 @@ fn side_argument<'a>(alloc: Global) -> Arg<'a>
     )
 }
 
+fn record_argument<'a>(alloc: Global) -> Arg<'a>
+    ensures rule { rule_of result ≡ flag (codes "record") }
+    ensures own { result.global ≡ false }
+{
+    Arg::new(alloc, "record")
+        .long("record")
+        .action(ArgAction::SetTrue)
+        .help(
+            "Prints what the clients cached as a record, and the verdict and the findings as comment lines after it",
+        )
+}
+
 fn capture_command<'a>(alloc: Global) -> Result<Command<'a>, AllocError>
     ensures { IfOk result (λ command. (sides : ValueParser) × TakesWords side_words sides × (app_of command ≡ capture_app sides)
         × ((fields_of command).has_globals ≡ false)) }
@@ -177,7 +190,8 @@ fn capture_command<'a>(alloc: Global) -> Result<Command<'a>, AllocError>
     let file = file_argument(alloc, "The capture, as lines; - is standard input");
     command(alloc, "capture", about, help::CAPTURE, help::CAPTURE_END)
         .arg(file)?
-        .arg(side_argument(alloc))
+        .arg(side_argument(alloc))?
+        .arg(record_argument(alloc))
 }
 
 fn client_command<'a>(alloc: Global) -> Command<'a>
@@ -256,21 +270,16 @@ fn with_name<'a>(alloc: Global, words: &[&'a str]) -> Result<Vec<&'a str>, Alloc
     Ok(all)
 }
 
-// There is no memory to say why.
-fn untold(alloc: Global) -> Usage
-    ensures { (words : List Text) → IsUsageOf words result }
-{
-    Usage::Memory(String::new(alloc))
-}
-
+// What is told of an error that doesn't ask for the version.
 fn usage_of(alloc: Global, error: &Error) -> Usage
+    requires { kind_of error.now ≢ kind.DisplayVersion }
     ensures { (words : List Text) → Errs words (kind_of error.now) → IsUsageOf words result }
 {
     let Ok(text) = format!(in alloc; "{error}") else {
-        return untold(alloc);
+        return Usage::Memory;
     };
     match error.kind() {
-        ErrorKind::OutOfMemory => Usage::Memory(text),
+        ErrorKind::OutOfMemory => Usage::Memory,
         ErrorKind::DisplayHelp => Usage::Help(text),
         _ => Usage::Refused(text),
     }
@@ -423,16 +432,28 @@ fn draw_asked(alloc: Global, given: &ArgMatches) -> Result<Option<Asked>, AllocE
     }
 }
 
+fn form_of(given: &ArgMatches) -> CaptureForm
+    ensures { result ≡ form_of (is_given (first_of (codes "record") (rows_of (found_of given.now)))) }
+{
+    if is_given(given, "record") {
+        CaptureForm::Record
+    } else {
+        CaptureForm::Findings
+    }
+}
+
 fn capture_asked(alloc: Global, given: &ArgMatches) -> Result<Option<Asked>, AllocError>
     ensures { IfOk result (λ found. option_map request_of found
-        ≡ captured (side_asked (first_of (codes "SIDE") (rows_of (found_of given.now))))
+        ≡ captured (form_of (is_given (first_of (codes "record") (rows_of (found_of given.now)))))
+        (side_asked (first_of (codes "SIDE") (rows_of (found_of given.now))))
         (first_of (codes "FILE") (rows_of (found_of given.now)))) }
 {
+    let form = form_of(given);
     let Some(side) = side_given(given) else {
         return Ok(None);
     };
     match owned(alloc, given, "FILE")? {
-        Some(path) => Ok(Some(Asked::Task(Task::Capture(path, side)))),
+        Some(path) => Ok(Some(Asked::Task(Task::Capture(path, side, form)))),
         None => Ok(None),
     }
 }
@@ -481,7 +502,7 @@ pub fn asked(alloc: Global, words: &[&str]) -> Result<Asked, Usage>
     ensures usage { IfErr result (λ usage. IsUsageOf (all_words (map (λ word. word.now) words.now)) usage) }
 {
     let Ok(all) = with_name(alloc, words) else {
-        return Err(untold(alloc));
+        return Err(Usage::Memory);
     };
     let matches = match parse(alloc, all.as_slice()) {
         Ok(matches) => matches,
@@ -492,6 +513,6 @@ pub fn asked(alloc: Global, words: &[&str]) -> Result<Asked, Usage>
     };
     match found_in(alloc, &matches) {
         Ok(Some(asked)) => Ok(asked),
-        _ => Err(untold(alloc)),
+        _ => Err(Usage::Memory),
     }
 }

@@ -1,4 +1,4 @@
-ghost use Rattle.std.specs.Prelude.{◌≡◌, ◌⊎◌, ◌++◌, ℕ, List, map, length, Some, None, Ok, Err, MatchResult, IfOk, IfErr, OnOk};
+ghost use Rattle.std.specs.Prelude.{◌≡◌, ◌⊎◌, ◌++◌, ℕ, List, [], map, length, Some, None, Ok, Err, MatchResult, IfOk, IfErr, OnOk};
 ghost use Rattle.std.specs.Prelude.{IfSome};
 ghost use Rattle.std.specs.String.{string_bytes};
 ghost use Rattle.lease_facts.specs.Facts.{fact_of};
@@ -15,13 +15,14 @@ ghost use Rattle.leasecheck.specs.Remarks.{Says, IsDrawRemark, record_remark, ru
 ghost use Rattle.lease_state.specs.Rules.{profile_rules};
 ghost use Rattle.leasecheck.specs.Replayed.{RefusesRun, record_of, verdict_line};
 
+use crate::comments::comments_of;
 use crate::explaining::placed_of;
 use crate::failure::Failure;
 use crate::judging::push_verdict;
 use crate::refusal::Refusal;
 use crate::replaying::not_run;
 use lease_reasons::{Extent, Reason, explain, extent_of};
-use lease_state::{Reply, Rules};
+use lease_state::{Bytes, Reply, Rules};
 use lease_texts::{Schedule, TextFault, read_schedule};
 use lease_world::{Passage, Told, Verdict, judge, run_explained_under};
 use reason_texts::{Placed, bad_places, push_reasoned};
@@ -53,14 +54,16 @@ fn text_of(alloc: Global, picture: &Picture) -> Result<String, AllocError>
     Ok(text)
 }
 
-// The picture of facts, with the messages that they speak of and what became of requests where these are known.
+// The picture of facts, with what comments say of them, the messages that they speak of and what became of requests, where these
+// are known.
 fn drawn(
     alloc: Global,
     placed: &Placed,
+    said: &[Bytes],
     messages: &[Reply],
     passages: &[Passage],
 ) -> Result<String, Refusal>
-    ensures drawn { IfOk result (λ text. IsDrawn placed.now passages.now (string_bytes text)) }
+    ensures drawn { IfOk result (λ text. IsDrawn placed.now said.now passages.now (string_bytes text)) }
     ensures refused { MatchResult result (λ _. too_many_facts (length placed.now.facts.items) ≡ None)
         (λ told. (told.failure ≡ Failure.Memory) ⊎ (too_many_facts (length placed.now.facts.items) ≡ Some told.failure)) }
     ensures said { IfErr result (λ told. Says told (λ failure line. (failure ≡ Failure.Picture)
@@ -75,7 +78,15 @@ fn drawn(
     let extent = extent_of(alloc, facts, &verdict)?;
     let notes = notes_of(alloc, placed, &verdict, &reason, &extent)?;
     let bad = bad_places(alloc, &verdict, &reason)?;
-    match picture_of(alloc, facts, bad.as_slice(), notes, messages, passages) {
+    match picture_of(
+        alloc,
+        facts,
+        bad.as_slice(),
+        notes,
+        said,
+        messages,
+        passages,
+    ) {
         Ok(picture) => Ok(text_of(alloc, &picture)?),
         Err(fault) => Err(Refusal::of_picture(alloc, fault, facts.len())),
     }
@@ -119,7 +130,7 @@ fn ran(alloc: Global, schedule: &Schedule) -> Result<Played, Refusal>
 // The picture of the run of a schedule.
 fn run_drawn(alloc: Global, schedule: &Schedule) -> Result<String, Refusal>
     ensures drawn { IfOk result (λ text. (placed : Placed) × (passages : List code_passage.Passage)
-        × IsDrawn placed passages (string_bytes text)
+        × IsDrawn placed [] passages (string_bytes text)
         × IsRunOf (draft_of schedule.now) placed × ArePassagesOf (draft_of schedule.now) passages) }
     ensures refused { MatchResult result (λ _. run_facts_refusal (Ok (draft_of schedule.now)) ≡ None)
         (λ told. (told.failure ≡ Failure.Memory) ⊎ (run_facts_refusal (Ok (draft_of schedule.now)) ≡ Some told.failure)) }
@@ -128,7 +139,7 @@ fn run_drawn(alloc: Global, schedule: &Schedule) -> Result<String, Refusal>
 {
     let played = ran(alloc, schedule)?;
     let (messages, passages) = (played.messages.as_slice(), played.passages.as_slice());
-    let text = drawn(alloc, &played.placed, messages, passages)?;
+    let text = drawn(alloc, &played.placed, &[], messages, passages)?;
     Ok(text)
 }
 
@@ -178,7 +189,8 @@ pub fn draw_text(alloc: Global, text: &[u8]) -> Result<String, Refusal>
 {
     match placed_of(alloc, text) {
         Ok(placed) => {
-            let drawn = drawn(alloc, &placed, &[], &[])?;
+            let said = comments_of(alloc, text)?;
+            let drawn = drawn(alloc, &placed, said.as_slice(), &[], &[])?;
             Ok(drawn)
         }
         Err(refusal) => match refusal.failure {

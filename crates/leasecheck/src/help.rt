@@ -124,7 +124,8 @@ Each client has a lane, and so has the server, in the middle. Each fact has a
 mark: messages are arrows, beliefs are bars to the left of a client's line, and
 a client without a connection has no solid line. The facts that make a record
 unsafe or malformed are red, and below the marks is what 'judge --explain'
-says. A schedule is run first, and its messages say what is in them.";
+says. What a comment line says of the fact after it stands beside the lanes. A
+schedule is run first, and its messages say what is in them.";
 
 pub(crate) const DRAW_END: &str = "Example:
   $ leasecheck draw examples/shared.txt > shared.svg
@@ -146,8 +147,11 @@ pub(crate) const CAPTURE: &str =
 is said only where in every order that fits the capture two clients cache a file
 of which one caches writes; 'safe' where there is an order in which none do. Then
 it prints a line for each file on which leases were granted, one for each client
-that isn't judged, and how much was read. drive/capture in the project's
-repository makes such lines of a file that tshark reads.";
+that isn't judged, and how much was read. With --record it prints a record, of
+what the clients cached of the unsafe files or else of the safe ones, with a
+comment line before each fact that names its packet; and the verdict and the rest
+as comment lines after it. drive/capture in the project's repository makes such
+lines of a file that tshark reads.";
 
 pub(crate) const CAPTURE_END: &str = "Example:
   $ printf 'end 1 0.5 1\\n' | leasecheck capture -

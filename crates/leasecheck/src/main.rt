@@ -15,6 +15,7 @@
 
 mod capturing;
 mod command_line;
+mod comments;
 mod conversing;
 mod drawing;
 mod explaining;

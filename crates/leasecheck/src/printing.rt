@@ -21,7 +21,7 @@ ghost use Rattle.leasecheck.specs.Shown.{Shows};
 ghost use Rattle.leasecheck.specs.WireRemarks.{bare_remark, shown_remark};
 ghost use Rattle.leasecheck.specs.declared.tasks.Kind.TheVariants as kind;
 
-use crate::capturing::capture_text;
+use crate::capturing::{capture_record, capture_text};
 use crate::drawing::draw_text;
 use crate::explaining::explain_text;
 use crate::failure::Failure;
@@ -30,7 +30,7 @@ use crate::reading::read_all;
 use crate::recording::{Record, write_record};
 use crate::refusal::Refusal;
 use crate::replaying::replay;
-use crate::tasks::{Kind, Task, Telling, VERSION, file_named};
+use crate::tasks::{CaptureForm, Kind, Task, Telling, VERSION, file_named};
 use crate::wire::{ack_lines, render};
 use crate::{capturing, hexadecimal};
 use arrayvec::ArrayString;
@@ -108,7 +108,7 @@ fn given_to<I: Read>(alloc: Global, task: &Task, input: &mut I) -> Result<Vec<u8
         | Task::Judge(_)
         | Task::Explain(_)
         | Task::Draw(_)
-        | Task::Capture(_, _) => {
+        | Task::Capture(_, _, _) => {
             let bytes = read_all(alloc, input)?;
             Ok(bytes)
         }
@@ -172,12 +172,15 @@ fn drawn(alloc: Global, file: &[u8]) -> Result<Made, Refusal>
 }
 
 // The verdict on a capture, and what is found in it.
-fn captured(alloc: Global, side: Side, text: &[u8]) -> Result<Made, Refusal>
-    ensures answers { Answers (TellsCapture side text.now) (line_refusal (capture_in text.now))
+fn captured(alloc: Global, side: Side, form: CaptureForm, text: &[u8]) -> Result<Made, Refusal>
+    ensures answers { Answers (TellsCapture form side text.now) (line_refusal (capture_in text.now))
         (MayEndReading (line_refusal (capture_in text.now))) IsCaptureRemark result }
     ensures record { IfOk result (λ made. is_record made ≡ false) }
 {
-    let (text, verdict) = capture_text(alloc, side, text)?;
+    let (text, verdict) = match form {
+        CaptureForm::Findings => capture_text(alloc, side, text)?,
+        CaptureForm::Record => capture_record(alloc, side, text)?,
+    };
     let status = capturing::status_of(verdict);
     Ok(Made::Text(Printed { text, status }))
 }
@@ -197,7 +200,7 @@ fn made_of(alloc: Global, task: &Task, given: &[u8]) -> Result<Made, Refusal>
         }
         Task::Explain(_) => explained(alloc, given),
         Task::Draw(_) => drawn(alloc, given),
-        Task::Capture(_, side) => captured(alloc, *side, given),
+        Task::Capture(_, side, form) => captured(alloc, *side, *form, given),
         Task::Version => Ok(Made::Text(done(String::from_str(alloc, VERSION)?))),
     }
 }

@@ -3,7 +3,7 @@ ghost use Rattle.std.specs.String.{string_bytes};
 ghost use Rattle.std.specs.Io.KnownBytes.{Appends, Keeps};
 ghost use Rattle.lease_lines.specs.Machines.{reasons, transcript};
 ghost use Rattle.lease_lines.specs.Tables.{machines_of};
-ghost use Rattle.leasecheck.specs.CommandLine.{TellsUsage, all_words};
+ghost use Rattle.leasecheck.specs.CommandLine.{AreRefused, TellsUsage, all_words};
 ghost use Rattle.leasecheck.specs.Printed.{PrintsOf};
 ghost use Rattle.leasecheck.specs.Refusals.{EndsOf};
 ghost use Rattle.leasecheck.specs.Running.{Does};
@@ -33,21 +33,26 @@ fn views<'a>(alloc: Global, words: &'a [String]) -> Result<Vec<&'a str>, AllocEr
     Ok(views)
 }
 
-// Help goes to `out`, with status 1 where it can't be written; why there is no task goes to `faults`.
+// Help goes to `out`, with status 1 where it can't be written; why there is no task goes to `faults`, with status 1 where that is
+// want of memory.
 fn tell_usage<O: Write, F: Write>(usage: &Usage, out: &mut O, faults: &mut F) -> u8
     ensures told { TellsUsage usage.now (O.contents out.old) (O.contents out.new) result }
     ensures status { result ≤ 2 }
     ensures kept { result ≡ 2 → Keeps (O.contents out.old) (O.contents out.new) }
-    ensures silent { result ≢ 2 → Keeps (F.contents faults.old) (F.contents faults.new) }
+    ensures silent { result ≡ 0 → Keeps (F.contents faults.old) (F.contents faults.new) }
 {
     match usage {
         Usage::Help(text) => match out.write_all(text.as_bytes()) {
             Ok(()) => 0,
             Err(_) => 1,
         },
-        Usage::Refused(text) | Usage::Memory(text) => {
+        Usage::Refused(text) => {
             let _ = faults.write_all(text.as_bytes());
             REFUSED
+        }
+        Usage::Memory => {
+            let _ = tell_failure(Failure::Memory, faults);
+            1
         }
     }
 }
@@ -128,6 +133,7 @@ pub fn run_words<R: Files + Input + AllocGlobal, O: Write, F: Write>(
 ) -> u8
     ensures status { result ≤ 4 }
     ensures refused { result ≡ 2 → Keeps (O.contents out.old) (O.contents out.new) }
+    ensures faulty { IfOk given (λ words. result ≡ 2 → AreRefused (all_words (map string_bytes words.items))) }
     ensures unread { IsErr given → result ≡ 2 }
     ensures done { IfOk given (λ words. result ≢ 1 → result ≢ 2
         → Does (all_words (map string_bytes words.items)) (O.contents out.old) (O.contents out.new) (F.contents faults.old)
@@ -141,7 +147,7 @@ pub fn run_words<R: Files + Input + AllocGlobal, O: Write, F: Write>(
         return REFUSED;
     };
     let Ok(words) = views(rt.alloc(), owned.as_slice()) else {
-        let _ = writeln!(faults, "fault memory");
+        let _ = tell_failure(Failure::Memory, faults);
         return 1;
     };
     match asked(rt.alloc(), words.as_slice()) {

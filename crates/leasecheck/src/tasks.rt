@@ -28,6 +28,15 @@ pub struct Telling {
     pub idle: bool,
 }
 
+/// How it is printed what is found in a capture.
+#[derive(Clone, Copy, Debug, PartialEq, Eq)]
+pub enum CaptureForm {
+    /// The verdict, and a line for each finding.
+    Findings,
+    /// The record of what the clients cached, and after it the same as comment lines.
+    Record,
+}
+
 /// What a command line asks for.
 #[derive(Debug, PartialEq, Eq, Drop)]
 pub enum Task {
@@ -44,8 +53,9 @@ pub enum Task {
     Explain(String),
     /// The picture of the record in this file, or of the run of the schedule in it.
     Draw(String),
-    /// What the capture in this file shows of leases, and the verdict on it. It was made at this side of its connections.
-    Capture(String, Side),
+    /// What the capture in this file shows of leases, and the verdict on it, in this form. It was made at this side of its
+    /// connections.
+    Capture(String, Side, CaptureForm),
     /// The version of the program.
     Version,
 }
@@ -85,7 +95,7 @@ impl Task {
             | Task::Judge(path)
             | Task::Explain(path)
             | Task::Draw(path)
-            | Task::Capture(path, _) => Some(path.as_str()),
+            | Task::Capture(path, _, _) => Some(path.as_str()),
         }
     }
 }
@@ -97,6 +107,6 @@ pub enum Usage {
     Help(String),
     /// The command line is refused; this goes to standard error.
     Refused(String),
-    /// There was no memory to read the command line; this goes to standard error.
-    Memory(String),
+    /// There was no memory to read the command line, or for what is said of it.
+    Memory,
 }

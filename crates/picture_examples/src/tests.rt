@@ -1,10 +1,10 @@
 use lease_reasons::{Messages, explain, extent_of};
-use lease_state::{ClientNo, FileId, Request};
+use lease_state::{Bytes, ClientNo, FileId, Request};
 use lease_world::judge;
 use reason_texts::{bad_places, push_explanation, push_fact_words, push_reasoned, read_placed};
 use record_pictures::{
-    Caption, ClientFact, FactKind, Look, Mark, Passage, Picture, PictureFault, Point, Shape, Size,
-    picture_of, push_picture,
+    Caption, ClientFact, FactKind, Look, Mark, Passage, Picture, PictureFault, Point, Remark,
+    Shape, Size, picture_of, push_picture,
 };
 use std::test::Fail;
 
@@ -28,6 +28,10 @@ fn words_are_escaped(rt: HostRuntime) -> Result<(), Fail> {
         },
         shapes: vec![in alloc; words]?,
     };
+    let remark = Remark {
+        at: Point { x: 5, y: 6 },
+        words: Bytes::new(Vec::from_slice(alloc, b"<packet 7>\x80")?),
+    };
     let picture = Picture {
         size: Size {
             width: 10,
@@ -36,6 +40,7 @@ fn words_are_escaped(rt: HostRuntime) -> Result<(), Fail> {
         lanes: Vec::new(alloc),
         marks: vec![in alloc; mark]?,
         requests: Vec::new(alloc),
+        remarks: vec![in alloc; remark]?,
         notes: String::from_str(alloc, "safe\n")?,
         notes_at: 7,
     };
@@ -46,6 +51,7 @@ fn words_are_escaped(rt: HostRuntime) -> Result<(), Fail> {
     let end = "<rect class='paper' width='100%' height='100%'/>\n\
         <g id='fact-1' class='sent bad'><title>a&#xfffd;b</title>\n\
         <text class='label' x='3' y='4'>&lt;1 &amp; 2&gt;</text>\n</g>\n\
+        <text class='remark' x='5' y='6'>&lt;packet 7&gt;&#xfffd;</text>\n\
         <text class='notes' x='8' y='7'>\n<tspan x='8' dy='18'>safe</tspan>\n</text>\n</svg>\n";
     assert!(rt; text.as_str().starts_with(begin));
     assert!(rt; text.as_str().ends_with(end));
@@ -69,7 +75,7 @@ fn a_bad_fact_is_marked(rt: HostRuntime) -> Result<(), Fail> {
         once.as_str().starts_with("line 6: client 1 learns that its write 1 is done\nrule 4: ")
     );
     assert_eq!(rt; once.as_str(), again.as_str());
-    let picture = picture_of(alloc, facts, bad.as_slice(), once, &[], &[])?;
+    let picture = picture_of(alloc, facts, bad.as_slice(), once, &[], &[], &[])?;
     assert_eq!(rt; picture.marks.len(), 5);
     assert_eq!(rt; picture.marks[4].caption.kind, FactKind::Settled);
     assert!(rt; picture.marks[4].caption.is_bad);
@@ -125,6 +131,7 @@ fn requests_are_drawn(rt: HostRuntime) -> Result<(), Fail> {
         &[],
         String::new(alloc),
         &[],
+        &[],
         passages.as_slice(),
     )?;
     let [read, close] = picture.requests.as_slice() else {
@@ -165,6 +172,7 @@ fn more_facts_than_a_picture_has(rt: HostRuntime) -> Result<(), Fail> {
         String::new(alloc),
         &[],
         &[],
+        &[],
     );
     assert!(rt; matches!(answer, Err(PictureFault::TooMany)));
     Ok(())
@@ -175,7 +183,7 @@ fn lanes_stand_by_their_numbers_around_the_server(rt: HostRuntime) -> Result<(),
     let alloc = rt.alloc();
     let placed = read_placed(alloc, b"joined 255\njoined 2\njoined 1\n")?;
     let notes = String::from_str(alloc, "one\ntwo\n")?;
-    let picture = picture_of(alloc, placed.facts.as_slice(), &[], notes, &[], &[])?;
+    let picture = picture_of(alloc, placed.facts.as_slice(), &[], notes, &[], &[], &[])?;
     assert_eq!(rt;
         picture.size,
         Size {
@@ -190,5 +198,31 @@ fn lanes_stand_by_their_numbers_around_the_server(rt: HostRuntime) -> Result<(),
     assert!(rt; drawn.contains("<text class='heading' x='420' y='40'>client 2</text>"));
     assert!(rt; drawn.contains("<text class='heading' x='720' y='40'>server</text>"));
     assert!(rt; drawn.contains("<text class='heading' x='1020' y='40'>client 255</text>"));
+    Ok(())
+}
+
+// The third and the fifth fact have no row of remarks: one is empty, and there is none for the other.
+#[test]
+fn remarks_stand_beside_their_facts(rt: HostRuntime) -> Result<(), Fail> {
+    let alloc = rt.alloc();
+    let placed = read_placed(alloc, RECORD)?;
+    let mut remarks = Vec::new(alloc);
+    for words in [b"one".as_slice(), b"two", b"", b"four"] {
+        remarks.push(Bytes::new(Vec::from_slice(alloc, words)?))?;
+    }
+    let picture = picture_of(
+        alloc,
+        placed.facts.as_slice(),
+        &[],
+        String::new(alloc),
+        remarks.as_slice(),
+        &[],
+        &[],
+    )?;
+    let drawn = picture.remarks.as_slice();
+    let places = drawn.iter().map(|remark| (remark.at.x, remark.at.y));
+    assert!(rt; places.eq([(720, 80), (720, 104), (720, 152)]));
+    assert!(rt; drawn.iter().map(|remark| remark.words.len()).eq([3, 3, 4]));
+    assert_eq!(rt; picture.size.width, 1500);
     Ok(())
 }

@@ -3,4 +3,5 @@ pub mod Labels
 pub mod Lanes
 pub mod Places
 pub mod Requests
+pub mod Remarks
 pub mod Svg

@@ -8,6 +8,7 @@ use Rattle.lease_texts.specs.Pieces.{lines_of}
 use Rattle.record_pictures.specs.declared.picture.Caption.{Caption}
 use Rattle.record_pictures.specs.declared.picture.Mark.{Mark}
 use Rattle.record_pictures.specs.declared.picture.Picture.{Picture}
+use Rattle.record_pictures.specs.declared.picture.Remark.{Remark}
 use Rattle.record_pictures.specs.declared.picture.RequestMark.{RequestMark}
 use Rattle.record_pictures.specs.declared.shape.Look.{Look}
 use Rattle.record_pictures.specs.declared.shape.Look.TheVariants as look
@@ -29,6 +30,7 @@ look_word look.Connection = codes "connection"
 look_word look.Row = codes "row"
 look_word look.Number = codes "number"
 look_word look.Label = codes "label"
+look_word look.Remark = codes "remark"
 look_word look.Way = codes "way"
 look_word look.Message = codes "message"
 look_word look.WriteCaching = codes "writecaching"
@@ -99,6 +101,10 @@ request_text mark =
     ++ (flat_map escaped (string_bytes mark.words)
     ++ (codes "</title>" ++ ((10 ∷ []) ++ body_text mark.shapes.items)))
 
+-- what is said of a fact
+unfoldable pub remark_text : Remark → List ℕ
+remark_text remark = words_begin look.Remark remark.at ++ (flat_map escaped remark.words ++ (codes "</text>" ++ (10 ∷ [])))
+
 unfoldable pub note_begin : List ℕ
 note_begin = codes "<tspan x='8' dy='18'>"
 
@@ -120,7 +126,7 @@ size_text size =
 unfoldable pub style_text : List ℕ
 style_text =
     codes "<style>text {font: 12px sans-serif; paint-order: stroke; stroke: #fff; stroke-width: 3px}" ++ ((10 ∷ [])
-    ++ (codes ".heading {font-size: 15px; font-weight: bold} .number {fill: #777} .paper {fill: #fff}"
+    ++ (codes ".heading {font-size: 15px; font-weight: bold} .number, .remark {fill: #777} .paper {fill: #fff}"
     ++ (codes " .row {fill: #e53935; fill-opacity: 0.2}" ++ ((10 ∷ [])
     ++ (codes ".bad text {fill: #b00020; font-weight: bold} .bad circle {stroke: #b00020; stroke-width: 3}" ++ ((10 ∷ [])
     ++ (codes ".lane {stroke: #ccc; stroke-dasharray: 2 4} .connection {stroke: #333; stroke-width: 2}" ++ ((10 ∷ [])
@@ -133,9 +139,14 @@ style_text =
     ++ (codes "<path d='M0,0 L9,4 L0,8 z' fill='#1565c0'/></marker></defs><rect class='paper' width='100%' height='100%'/>"
     ++ ((10 ∷ [])))))))))))))))))))
 
--- a picture: the lanes, then a group for each fact and for each request, then the notes
+-- a group for each fact and for each request, then what is said of facts
+unfoldable pub told_text : Picture → List ℕ
+told_text picture =
+    flat_map mark_text picture.marks.items
+    ++ (flat_map request_text picture.requests.items ++ flat_map remark_text picture.remarks.items)
+
+-- a picture: the lanes, then what is told, then the notes
 abbrev pub picture_text : Picture → List ℕ
 picture_text picture =
     size_text picture.size ++ (style_text ++ (flat_map shape_text picture.lanes.items
-    ++ (flat_map mark_text picture.marks.items ++ (flat_map request_text picture.requests.items
-    ++ (notes_text picture ++ (codes "</svg>" ++ (10 ∷ [])))))))
+    ++ (told_text picture ++ (notes_text picture ++ (codes "</svg>" ++ (10 ∷ []))))))

@@ -6,6 +6,7 @@ ghost use Rattle.record_pictures.specs.Captions.{captions, caption_of, seen_mark
 ghost use Rattle.record_pictures.specs.Lanes.{client_name, clients_of, left_of_server, line_count, name_at, name_in, names_over};
 ghost use Rattle.record_pictures.specs.Lanes.{page_height, page_size, size_for};
 ghost use Rattle.record_pictures.specs.Places.{spot};
+ghost use Rattle.record_pictures.specs.Remarks.{said_of, widened, words_of};
 ghost use Rattle.record_pictures.specs.Requests.{asked_from, requests_drawn, seen_request};
 ghost use Rattle.record_pictures.specs.declared.fault.PictureFault.TheVariants as fault;
 ghost use Rattle.record_pictures.specs.declared.shape.Shape.TheVariants as shape;
@@ -15,11 +16,12 @@ use crate::fault::PictureFault;
 use crate::lanes::{Lanes, down, line_of, spot};
 use crate::marks::{Sheet, shapes_of};
 use crate::picture::{Mark, Picture};
+use crate::remarks::{remarks_on, widened};
 use crate::requests::{count_sent, request_marks};
 use crate::rows::Rows;
 use crate::shape::{Look, Point, Shape, Size};
 use lease_facts::Fact;
-use lease_state::{ClientNo, Memory, Reply};
+use lease_state::{Bytes, ClientNo, Memory, Reply};
 use lease_world::Passage;
 use std::alloc::{AllocError, Global};
 
@@ -240,16 +242,18 @@ fn laid_out(
     facts: &[Fact],
     bad: &[usize],
     notes: String,
+    remarks: &[Bytes],
     messages: &[Reply],
     passages: &[Passage],
 ) -> Result<Picture, Memory>
     requires facts { length facts.now ≤ 5000 }
     requires requests { length (asked_from 1 passages.now) ≤ 5000 }
     ensures lanes { IfOk result (λ picture. flat_map name_in picture.lanes.items ≡ names_over (clients_of facts.now)) }
-    ensures size { IfOk result (λ picture. picture.size
-        ≡ size_for facts.now (length (asked_from 1 passages.now)) (string_bytes notes)) }
+    ensures size { IfOk result (λ picture. picture.size ≡ widened (said_of (length facts.now) remarks.now)
+        (size_for facts.now (length (asked_from 1 passages.now)) (string_bytes notes))) }
     ensures marks { IfOk result (λ picture. map seen_mark picture.marks.items ≡ captions bad.now 1 facts.now) }
     ensures requests { IfOk result (λ picture. map seen_request picture.requests.items ≡ asked_from 1 passages.now) }
+    ensures remarks { IfOk result (λ picture. map words_of picture.remarks.items ≡ said_of (length facts.now) remarks.now) }
     ensures notes { IfOk result (λ picture. string_bytes picture.notes ≡ string_bytes notes) }
 {
     let lanes = Lanes::of(alloc, facts)?;
@@ -261,24 +265,29 @@ fn laid_out(
     };
     let marks = marks_of(alloc, &sheet, bad, messages)?;
     let requests = request_marks(alloc, &lanes, rows.count(), passages)?;
+    let remarks = remarks_on(alloc, &lanes, &rows, facts.len(), remarks)?;
     let notes_at = down(rows.count(), 48);
+    let size = size_of(&lanes, notes_at, notes.as_str());
     Ok(Picture {
-        size: size_of(&lanes, notes_at, notes.as_str()),
+        size: widened(size, remarks.as_slice()),
         lanes: lanes_of(alloc, &sheet)?,
         marks,
         requests,
+        remarks,
         notes,
         notes_at,
     })
 }
 
 /// The picture of these facts, with `notes` below it, lines that are each ended by a line feed.
-/// `bad` are the places, from 1, of the facts that make the record bad. `messages` are those that
-/// the facts report as sent and taken, in their order; there may be fewer. `passages` are what
-/// became of the requests of clients; of more than [`MOST_REQUESTS`] none is drawn. There is a lane
-/// for the server and for each client that a fact names, by their numbers, with the server in the
-/// middle. The picture is as wide as its lanes, at least 1,020 pixels, and as high as its rows and
-/// the lines of its notes.
+/// `bad` are the places, from 1, of the facts that make the record bad. `remarks` say something of
+/// the facts, one of each, in their order; of a fact whose remark is empty nothing is said, and there
+/// may be fewer. `messages` are those that the facts report as sent and taken, in their order; there
+/// may be fewer. `passages` are what became of the requests of clients; of more than
+/// [`MOST_REQUESTS`] none is drawn. There is a lane for the server and for each client that a fact
+/// names, by their numbers, with the server in the middle. The picture is as wide as its lanes, at
+/// least 1,020 pixels, and 480 more where a remark stands, and as high as its rows and the lines of
+/// its notes.
 ///
 /// # Errors
 ///
@@ -288,14 +297,16 @@ pub fn picture_of(
     facts: &[Fact],
     bad: &[usize],
     notes: String,
+    remarks: &[Bytes],
     messages: &[Reply],
     passages: &[Passage],
 ) -> Result<Picture, PictureFault>
     ensures lanes { IfOk result (λ picture. flat_map name_in picture.lanes.items ≡ names_over (clients_of facts.now)) }
-    ensures size { IfOk result (λ picture. picture.size
-        ≡ size_for facts.now (length (requests_drawn passages.now)) (string_bytes notes)) }
+    ensures size { IfOk result (λ picture. picture.size ≡ widened (said_of (length facts.now) remarks.now)
+        (size_for facts.now (length (requests_drawn passages.now)) (string_bytes notes))) }
     ensures marks { IfOk result (λ picture. map seen_mark picture.marks.items ≡ captions bad.now 1 facts.now) }
     ensures requests { IfOk result (λ picture. map seen_request picture.requests.items ≡ requests_drawn passages.now) }
+    ensures remarks { IfOk result (λ picture. map words_of picture.remarks.items ≡ said_of (length facts.now) remarks.now) }
     ensures notes { IfOk result (λ picture. string_bytes picture.notes ≡ string_bytes notes) }
     ensures refused { MatchResult result (λ _. length facts.now ≤ 5000)
         (λ given. (given ≡ fault.TooMany) × (5000 < length facts.now) ⊎ (given ≡ fault.Memory) × (length facts.now ≤ 5000)) }
@@ -303,7 +314,8 @@ pub fn picture_of(
     if facts.len() > MOST_FACTS {
         return Err(PictureFault::TooMany);
     }
-    match laid_out(alloc, facts, bad, notes, messages, drawn_among(passages)) {
+    let passages = drawn_among(passages);
+    match laid_out(alloc, facts, bad, notes, remarks, messages, passages) {
         Ok(picture) => Ok(picture),
         Err(Memory) => Err(PictureFault::Memory),
     }

@@ -1,5 +1,6 @@
-use crate::shape::{Shape, Size};
+use crate::shape::{Point, Shape, Size};
 use lease_facts::FactKind;
+use lease_state::Bytes;
 
 /// What a mark says of its fact.
 #[derive(Debug, Drop, PartialEq, Eq)]
@@ -30,6 +31,14 @@ pub struct RequestMark {
     pub shapes: Vec<Shape>,
 }
 
+/// What is said of a fact, to the right of the lanes.
+#[derive(Debug, Drop, PartialEq, Eq)]
+pub struct Remark {
+    /// Where the words begin.
+    pub at: Point,
+    pub words: Bytes,
+}
+
 /// A picture of a record.
 #[derive(Debug, Drop, PartialEq, Eq)]
 pub struct Picture {
@@ -40,6 +49,8 @@ pub struct Picture {
     pub marks: Vec<Mark>,
     /// A mark for each request, in their order.
     pub requests: Vec<RequestMark>,
+    /// What is said of some of the facts, in their order.
+    pub remarks: Vec<Remark>,
     /// What is said of the record below the marks, in lines.
     pub notes: String,
     /// How far down the notes begin, in pixels.

@@ -27,6 +27,8 @@ pub enum Look {
     Number,
     /// What a fact says, in a few words.
     Label,
+    /// What is said of a fact, to the right of the lanes.
+    Remark,
     /// The way of a message down the lane of its sender, from where it was sent to where it is taken.
     Way,
     /// A message, from its sender to the one that takes it.

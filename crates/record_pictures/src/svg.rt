@@ -5,9 +5,9 @@ ghost use Rattle.lease_texts.specs.Pieces.{lines_of};
 ghost use Rattle.record_pictures.specs.Svg.{escaped, look_word, line_text, rectangle_text, circle_text, words_begin, shape_text};
 ghost use Rattle.record_pictures.specs.Svg.{badness, body_text, caption_begin, caption_text, mark_text, note_begin};
 ghost use Rattle.record_pictures.specs.Svg.{note_text, notes_text};
-ghost use Rattle.record_pictures.specs.Svg.{size_text, style_text, picture_text, request_begin, request_text};
+ghost use Rattle.record_pictures.specs.Svg.{size_text, style_text, picture_text, remark_text, request_begin, request_text, told_text};
 
-use crate::picture::{Caption, Mark, Picture, RequestMark};
+use crate::picture::{Caption, Mark, Picture, Remark, RequestMark};
 use crate::shape::{Look, Point, Shape, Size};
 use lease_texts::first_line;
 use std::alloc::AllocError;
@@ -48,6 +48,7 @@ fn look_word(look: Look) -> &'static str
         Look::Row => "row",
         Look::Number => "number",
         Look::Label => "label",
+        Look::Remark => "remark",
         Look::Way => "way",
         Look::Message => "message",
         Look::WriteCaching => "writecaching",
@@ -212,6 +213,24 @@ fn push_request_marks(text: &mut String, marks: &[RequestMark]) -> Result<(), Al
     Ok(())
 }
 
+#[tactic(auto, unfolding(crate::specs::Svg::remark_text))]
+fn push_remark(text: &mut String, remark: &Remark) -> Result<(), AllocError>
+    ensures { OnOk result (string_bytes text.new ≡ string_bytes text.old ++ remark_text remark.now) }
+{
+    push_words_begin(text, Look::Remark, remark.at)?;
+    push_escaped(text, remark.words.as_slice())?;
+    text.push_str("</text>\n")
+}
+
+fn push_remarks(text: &mut String, remarks: &[Remark]) -> Result<(), AllocError>
+    ensures { OnOk result (string_bytes text.new ≡ string_bytes text.old ++ flat_map remark_text remarks.now) }
+{
+    for remark in remarks {
+        push_remark(text, remark)?;
+    }
+    Ok(())
+}
+
 #[tactic(auto, unfolding(crate::specs::Svg::note_begin))]
 fn push_note_begin(text: &mut String) -> Result<(), AllocError>
     ensures { OnOk result (string_bytes text.new ≡ string_bytes text.old ++ note_begin) }
@@ -270,7 +289,7 @@ fn push_style(text: &mut String) -> Result<(), AllocError>
         "<style>text {font: 12px sans-serif; paint-order: stroke; stroke: #fff; stroke-width: 3px}\n",
     )?;
     text.push_str(
-        ".heading {font-size: 15px; font-weight: bold} .number {fill: #777} .paper {fill: #fff}",
+        ".heading {font-size: 15px; font-weight: bold} .number, .remark {fill: #777} .paper {fill: #fff}",
     )?;
     text.push_str(" .row {fill: #e53935; fill-opacity: 0.2}\n")?;
     text.push_str(
@@ -294,6 +313,16 @@ fn push_style(text: &mut String) -> Result<(), AllocError>
     )
 }
 
+// What a picture tells: its marks, and what is said of facts.
+#[tactic(auto, unfolding(crate::specs::Svg::told_text))]
+fn push_told(text: &mut String, picture: &Picture) -> Result<(), AllocError>
+    ensures { OnOk result (string_bytes text.new ≡ string_bytes text.old ++ told_text picture.now) }
+{
+    push_marks(text, picture.marks.as_slice())?;
+    push_request_marks(text, picture.requests.as_slice())?;
+    push_remarks(text, picture.remarks.as_slice())
+}
+
 /// Adds a picture as an SVG document (profile): a group for each mark, with its request or its fact as title.
 pub fn push_picture(text: &mut String, picture: &Picture) -> Result<(), AllocError>
     ensures { OnOk result (string_bytes text.new ≡ string_bytes text.old ++ picture_text picture.now) }
@@ -301,8 +330,7 @@ pub fn push_picture(text: &mut String, picture: &Picture) -> Result<(), AllocErr
     push_size(text, picture.size)?;
     push_style(text)?;
     push_shapes(text, picture.lanes.as_slice())?;
-    push_marks(text, picture.marks.as_slice())?;
-    push_request_marks(text, picture.requests.as_slice())?;
+    push_told(text, picture)?;
     push_notes(text, picture)?;
     text.push_str("</svg>\n")
 }

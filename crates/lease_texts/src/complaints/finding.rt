@@ -1,4 +1,4 @@
-ghost use Rattle.std.specs.Prelude.{◌≡◌, ◌+◌, IfOk, MatchResult, is_some, true, false};
+ghost use Rattle.std.specs.Prelude.{◌≡◌, ◌+◌, IfOk, IfErr, MatchResult, is_some, true, false};
 ghost use Rattle.std.specs.Option.{option_map};
 ghost use Rattle.lease_texts.specs.Complaints as complaints;
 ghost use Rattle.lease_texts.specs.Complaints.{complaint_of, expected_of, table_of};
@@ -44,7 +44,9 @@ fn fields_behind(table: Table, word: &[u8]) -> Option<&'static [Field]>
 }
 
 fn is_read(read: Result<Bytes, LineFault>) -> Result<bool, LineFault>
-    ensures { IfOk result (λ fit. MatchResult read (λ _. fit ≡ true) (λ fault. (fault ≡ LineFault.Refused) × (fit ≡ false))) }
+    ensures fit { IfOk result
+        (λ fit. MatchResult read (λ _. fit ≡ true) (λ fault. (fault ≡ LineFault.Refused) × (fit ≡ false))) }
+    ensures memory { IfErr result (λ fault. fault ≡ LineFault.Memory) }
 {
     match read {
         Ok(_) => Ok(true),
@@ -55,7 +57,8 @@ fn is_read(read: Result<Bytes, LineFault>) -> Result<bool, LineFault>
 
 // Whether a word says a value of a field that takes one.
 fn does_say(alloc: Global, field: Field, word: &[u8]) -> Result<bool, LineFault>
-    ensures { IfOk result (λ fit. fit ≡ complaints.says field word.now) }
+    ensures fit { IfOk result (λ fit. fit ≡ complaints.says field word.now) }
+    ensures memory { IfErr result (λ fault. fault ≡ LineFault.Memory) }
 {
     match field {
         Field::Client | Field::File => Ok(ordinal_in(word).is_some()),
@@ -91,7 +94,8 @@ fn behind(
     word: &[u8],
     rest: &'static [Field],
 ) -> Result<Option<&'static [Field]>, LineFault>
-    ensures { IfOk result (λ more. option_map (λ fields. fields.now) more ≡ complaints.behind field word.now rest.now) }
+    ensures more { IfOk result (λ more. option_map (λ fields. fields.now) more ≡ complaints.behind field word.now rest.now) }
+    ensures memory { IfErr result (λ fault. fault ≡ LineFault.Memory) }
 {
     match field {
         Field::Request => Ok(fields_behind(request_table(), word)),
@@ -135,7 +139,8 @@ fn leaves<'a>(
     first: &'static [Field],
     words: &mut Fields<'a>,
 ) -> Result<Option<Complaint<'a>>, LineFault>
-    ensures { IfOk result (λ complaint. option_map complaint_of complaint ≡ complaints.leaves 2 first.now words.old) }
+    ensures complaint { IfOk result (λ complaint. option_map complaint_of complaint ≡ complaints.leaves 2 first.now words.old) }
+    ensures memory { IfErr result (λ fault. fault ≡ LineFault.Memory) }
 {
     let mut expected = first;
     for field in 2..u64::MAX {
@@ -163,7 +168,9 @@ pub fn complaint_about<'a>(
     table: Table,
     line: &'a [u8],
 ) -> Result<Option<Complaint<'a>>, LineFault>
-    ensures { IfOk result (λ complaint. option_map complaint_of complaint ≡ complaints.complaint (table_of table) line.now) }
+    ensures complaint { IfOk result (λ complaint. option_map complaint_of complaint
+        ≡ complaints.complaint (table_of table) line.now) }
+    ensures memory { IfErr result (λ fault. fault ≡ LineFault.Memory) }
 {
     let mut words = Fields::of(line);
     let Ok(word) = words.next() else {

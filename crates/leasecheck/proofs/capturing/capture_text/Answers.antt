@@ -12,11 +12,13 @@ returns-clause-told c =
           (c.in_ok-push_verdict.ensures ∙ ap (λ (text : List ℕ). text ++ capture_line c.verdict-verdict.result)
           c.new-told.ensures.bytes),
       record {
-        lines = read.lines;
         report = c.in_ok-report.report;
-        read = read.read;
-        reports = subst (λ (at : Side). IsReport at read.lines c.in_ok-report.report) read.at_is
-            (c.in_ok-report.ensures read.lines read.knows);
+        is = record {
+          lines = read.lines;
+          read = read.read;
+          reports = subst (λ (at : Side). IsReport at read.lines c.in_ok-report.report) read.at_is
+              (c.in_ok-report.ensures read.lines read.knows);
+        };
         verdict = c.verdict-verdict.ensures;
       },
     )

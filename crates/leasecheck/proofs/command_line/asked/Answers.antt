@@ -18,13 +18,7 @@ returns-in-Ok-Some-clause-asked c = task_asked (all_words (map (λ word. word.no
     (ap (map (λ word. word.now)) c.as_slice.ensures.value ∙ c.in-Ok.ensures) c.in-Ok-parse.ensures)
     (sym c.in-Ok-Some.ensures ∙ ap (option_map request_of) c.in-Ok-Some.field-0-is)
 
-pub returns-in_default-clause-usage : goal.returns-in_default-clause-usage
-returns-in_default-clause-usage c = c.untold.ensures (all_words (map (λ word. word.now) c.args.words.now))
-
 pub returns-in-Err-2-clause-usage : goal.returns-in-Err-2-clause-usage
 returns-in-Err-2-clause-usage c = c.usage_of.ensures (all_words (map (λ word. word.now) c.args.words.now))
     (subst (λ (words : List Text). Errs words (kind_of c.in-Err.error))
     (ap (map (λ word. word.now)) c.as_slice.ensures.value ∙ c.in-Ok.ensures) c.in-Err.ensures)
-
-pub returns-clause-usage : goal.returns-clause-usage
-returns-clause-usage c = c.untold-in_default-found_in.ensures (all_words (map (λ word. word.now) c.args.words.now))

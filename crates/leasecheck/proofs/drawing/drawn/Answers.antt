@@ -1,10 +1,11 @@
-use Rattle.lease_laws.proofs.Words.{◌∙◌, List, ℕ, ap, ap₂, map, subst}
+use Rattle.lease_laws.proofs.Words.{◌∙◌, List, ℕ, ap, ap₂, length, map, subst}
 use Rattle.lease_facts.specs.Facts.{fact_of}
 use Rattle.lease_facts.specs.declared.fact.Fact.{Fact}
 use Rattle.lease_model.specs.records.Verdict as model
 use Rattle.lease_reasons.specs.Extent.{IsExtent}
 use Rattle.lease_reasons.specs.Reasons.{Explains}
 use Rattle.record_pictures.specs.Captions.{captions}
+use Rattle.record_pictures.specs.Remarks.{said_of}
 use Rattle.leasecheck.proofs.drawing.drawn.Goals as goal
 
 pub returns-in-Ok-clause-drawn : goal.returns-in-Ok-clause-drawn
@@ -23,6 +24,8 @@ returns-in-Ok-clause-drawn c = record {
       ∙ ap₂ (λ (bad : List ℕ) (facts : List Fact). captions bad 1 facts) (c.as_slice.ensures.value ∙ c.in_ok-bad.ensures)
       c.as_slice-facts.ensures.value;
   requests = c.in-Ok.ensures.requests;
+  remarks = c.in-Ok.ensures.remarks
+      ∙ ap (λ (facts : List Fact). said_of (length facts) c.args.said.now) c.as_slice-facts.ensures.value;
   notes = c.in-Ok.ensures.notes ∙ c.in_ok-notes.ensures;
   text_is = c.in_ok-text_of-in-Ok.ensures;
 }

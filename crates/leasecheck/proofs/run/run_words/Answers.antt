@@ -3,6 +3,7 @@ use Rattle.std.proofs.Common.{Bor}
 use Rattle.clap.specs.Words.{Text}
 use Rattle.lease_lines.specs.Tables.{machines_of}
 use Rattle.leasecheck.specs.CommandLine.{AsksFor, IsUsageOf, Request, all_words, request_of}
+use Rattle.leasecheck.proofs.Words.{refused_by}
 use Rattle.leasecheck.specs.declared.tasks.Asked.{Asked}
 use Rattle.leasecheck.specs.declared.tasks.Asked.TheVariants as asked
 use Rattle.leasecheck.proofs.run.run_words.Goals as goal
@@ -12,17 +13,30 @@ none_of zero le ne = refl
 none_of (suc zero) le ne = absurd (ne refl)
 none_of (suc (suc n)) le ne = absurd (omega (arith, le))
 
+fine : (n : ℕ) → n ≤ 2 → n ≢ 1 → n ≢ 2 → n ≡ 0
+fine zero le one two = refl
+fine (suc zero) le one two = absurd (one refl)
+fine (suc (suc zero)) le one two = absurd (two refl)
+fine (suc (suc (suc n))) le one two = absurd (omega (arith, le))
+
+pub returns-in-Err-clause-faulty : goal.returns-in-Err-clause-faulty
+returns-in-Err-clause-faulty g c =
+    let same = ap (λ (ws : List (Bor Text)). all_words (map (λ word. word.now) ws)) c.as_slice-2.ensures.value
+    ∙ ap all_words (c.in-Ok-views.ensures ∙ ap (map string_bytes) c.as_slice.ensures.value) in
+    rw c.in-Ok.is (refused_by (all_words (map string_bytes c.in-Ok.owned.items)) c.in-Err.usage _ _ _
+    (subst (λ (ws : List Text). IsUsageOf ws c.in-Err.usage) same c.in-Err.ensures.usage) c.tell_usage.ensures.told)
+
 pub returns-in-Err-clause-done : goal.returns-in-Err-clause-done
 returns-in-Err-clause-done g c =
     let same = ap (λ (ws : List (Bor Text)). all_words (map (λ word. word.now) ws)) c.as_slice-2.ensures.value
     ∙ ap all_words (c.in-Ok-views.ensures ∙ ap (map string_bytes) c.as_slice.ensures.value) in
-    rw c.in-Ok.is (λ _ other. inr (inr (
+    rw c.in-Ok.is (λ not-failed not-refused. inr (inr (
       (
         c.in-Err.usage,
         subst (λ (ws : List Text). IsUsageOf ws c.in-Err.usage) same c.in-Err.ensures.usage,
         c.tell_usage.ensures.told,
       ),
-      c.tell_usage.ensures.silent other,
+      c.tell_usage.ensures.silent (fine c.tell_usage.result c.tell_usage.ensures.status not-failed not-refused),
     )))
 
 pub returns-in-Ok-Task-clause-done : goal.returns-in-Ok-Task-clause-done
