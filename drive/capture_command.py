@@ -1,27 +1,37 @@
-"""drive/capture: a record of a capture, and its verdict."""
+"""drive/capture: the verdict on a capture, as `leasecheck capture` gives it, and the record of it."""
 from __future__ import annotations
 
 import argparse
 import os
 import re
+import subprocess
 import sys
-from collections.abc import Sequence
+import tempfile
+from collections.abc import Iterable, Iterator, Sequence
+from typing import NamedTuple
 
-from smblease.program import Verdict, find_program, judge
+from smblease.faults import ToolFault
+from smblease.program import find_program
 
 from drive.capture_lines import lines_of
-from drive.capture_record import CaptureRecord, record_of, remark
 from drive.commands import NOTHING_JUDGED, NOT_DRIVEN, SAFE, UNSAFE, ended, write
 from drive.faults import DriveFault, Usage
-from drive.packets import SessionKey, read_capture
+from drive.packets import Capture, SessionKey, read_capture
 
-EPILOG = """The record is printed, and after it the verdict as a line `# safe`, `# unsafe PLACE RULE` or `# nothing judged`, a
-line that says how many connections were judged and why others weren't, and of an unsafe one the packets that show it, so that
-all of it is still a record. With --record it goes to a file, and the verdict and all other findings are printed. After
-each fact of a record a remark names the packet that shows it.
+EPILOG = """tshark reads the capture, and leasecheck capture judges it: the verdict is printed, safe, unsafe or nothing
+judged, then what is found of each file on which leases were granted, who isn't judged and why, and how much there was
+(docs/FORMATS.md, "Captures"). With --record the record goes to a file, which leasecheck judge and draw read: of the files
+that are unsafe, or else of those that are safe, what each client cached, with its packet in a comment line.
 
-Exit status: 0 some order that fits the capture is safe; 1 the capture can't be read, or there is no SMB2 in it; 2 the
-command line is refused; 3 it is unsafe: rule 1 is broken in every order that fits the capture; 4 nothing was judged."""
+Exit status: 0 some file is safe, and none is unsafe; 1 the capture can't be read, or there is no SMB2 in it; 2 the command
+line is refused; 3 a file is unsafe: the first rule is broken in every order that fits the capture; 4 of no file anything is
+decided."""
+VERDICTS = {"# safe": SAFE, "# unsafe": UNSAFE, "# nothing judged": NOTHING_JUDGED}
+
+
+class Said(NamedTuple):
+    status: int
+    text: str
 
 
 def session_key(text: str) -> SessionKey:
@@ -32,7 +42,7 @@ def session_key(text: str) -> SessionKey:
 
 
 def parser() -> argparse.ArgumentParser:
-    made = argparse.ArgumentParser(prog="drive/capture", description="Makes a record of a capture of SMB 2.1, and judges it.",
+    made = argparse.ArgumentParser(prog="drive/capture", description="Judges what a capture of SMB2 shows of leases.",
                                    epilog=EPILOG, formatter_class=argparse.RawDescriptionHelpFormatter)
     made.add_argument("capture", metavar="FILE", help="a capture that tshark reads, as pcapng")
     made.add_argument("--record", metavar="OUT", help="write the record there")
@@ -48,27 +58,33 @@ def parser() -> argparse.ArgumentParser:
     return made
 
 
-def verdict_word(record: CaptureRecord, verdict: Verdict) -> str:
-    return "nothing judged" if verdict.is_safe and record.judges_nothing else verdict.text
+def said_by(program: str, words: Sequence[str], lines: Iterable[str]) -> Said:
+    """What `leasecheck capture` says of a capture."""
+    with tempfile.TemporaryFile("w+", encoding="utf-8") as given:
+        given.writelines(f"{line}\n" for line in lines)
+        given.seek(0)
+        try:
+            had = subprocess.run([program, "capture", *words, "-"], stdin=given, capture_output=True, encoding="utf-8",
+                                 check=False)
+        except OSError as fault:
+            raise ToolFault(f"{program}: {fault.strerror}") from None
+    if had.returncode not in VERDICTS.values():
+        raise DriveFault(had.stderr.strip() or f"{program} ended with status {had.returncode}")
+    return Said(had.returncode, had.stdout)
 
 
-def beliefs_at(record: CaptureRecord, verdict: Verdict) -> list[str]:
-    """What is believed where the record is unsafe."""
-    return [] if verdict.rule is None else record.told_at(int(verdict.text.split(" ")[1]))
+def findings_in(record: str) -> Iterator[str]:
+    """The verdict and the findings that stand after the facts of a record."""
+    lines = record.splitlines()
+    place = max(place for place, line in enumerate(lines) if line in VERDICTS)
+    return (line[2:] for line in lines[place:])
 
 
-def text_of(record: CaptureRecord) -> str:
-    return "".join(f"{it}\n" for it in record.lines())
-
-
-def verdicts_of_sets(record: CaptureRecord, program: str) -> list[str]:
-    """A verdict for each set of clients that share files, where there are several. Its place is that in the set's facts."""
-    parts = record.sets()
-    lines: list[str] = []
-    for part in parts if len(parts) > 1 else []:
-        verdict = judge(program, text_of(part))
-        lines += [f"{part.head[0]}: {verdict_word(part, verdict)}", *beliefs_at(part, verdict)]
-    return lines
+def _read_up_to(capture: Capture) -> list[str]:
+    """What is said of a capture that can't be read to its end."""
+    if not capture.fault:
+        return []
+    return [f"the capture is read up to packet {capture.packets[-1].number} only: {capture.fault}"]
 
 
 def _judge(arguments: argparse.Namespace) -> int:
@@ -80,19 +96,14 @@ def _judge(arguments: argparse.Namespace) -> int:
     if arguments.lines:
         sys.stdout.writelines(f"{line}\n" for line in lines_of(capture))
         return NOT_DRIVEN if capture.fault else SAFE
-    record = record_of(capture, arguments.at == "client")
-    text = text_of(record)
-    verdict = judge(arguments.leasecheck, text)
-    word = verdict_word(record, verdict)
-    said = [word, record.judged, *beliefs_at(record, verdict), *verdicts_of_sets(record, arguments.leasecheck)]
+    words = ["--at", arguments.at, *(["--record"] if arguments.record else [])]
+    said = said_by(arguments.leasecheck, words, lines_of(capture))
     if arguments.record:
-        write(arguments.record, text.encode())
-        sys.stdout.write("".join(f"{remark(it)[2:]}\n" for it in (*said, *record.head, *record.notes)))
-    else:
-        sys.stdout.write(text + "".join(f"{remark(it)}\n" for it in said))
-    if verdict.rule is not None:
-        return UNSAFE
-    return {"safe": SAFE, "nothing judged": NOTHING_JUDGED}.get(word, NOT_DRIVEN)
+        write(arguments.record, said.text.encode())
+    told = findings_in(said.text) if arguments.record else said.text.splitlines()
+    # In one piece, so that a reader may go after the first line.
+    sys.stdout.write("".join(f"{line}\n" for line in (*told, *_read_up_to(capture))))
+    return said.status
 
 
 def main(words: Sequence[str] | None = None) -> int:

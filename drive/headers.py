@@ -1,4 +1,4 @@
-"""SMB2 messages of a capture, as far as their fixed parts go (2.2.1 and the parts named at each field)."""
+"""SMB2 messages, as far as their fixed parts go (2.2.1 and the parts named at each field)."""
 from __future__ import annotations
 
 from dataclasses import dataclass
@@ -96,14 +96,6 @@ class Message:
         return self.part(place, 16) if place else None
 
 
-@dataclass(frozen=True)
-class Span:
-    """Bytes at a place of a file."""
-
-    offset: int
-    data: bytes
-
-
 def tree_path(message: Message) -> str:
     return message.text(message.number(68, 2), message.number(70, 2))
 
@@ -111,51 +103,3 @@ def tree_path(message: Message) -> str:
 def create_name(message: Message) -> str:
     length = message.number(110, 2)
     return message.text(message.number(108, 2), length) if length else ""
-
-
-def contexts(message: Message) -> bytes:
-    """The create contexts of a CREATE request or response (2.2.13, 2.2.14)."""
-    place, fixed = (144, 152) if message.is_from_server else (112, 120)
-    start, length = message.number(place, 4), message.number(place + 4, 4)
-    if length and start < fixed:
-        raise Unreadable
-    return message.part(start, length) if length else b""
-
-
-def is_directory(request: Message, response: Message) -> bool:
-    return bool(request.number(104, 4) & 1 or response.number(120, 4) & 0x10)
-
-
-def was_made(response: Message) -> bool:
-    """Whether a CREATE made the file (CreateAction is FILE_CREATED)."""
-    return response.number(68, 4) == 2
-
-
-def written(request: Message) -> Span:
-    return Span(request.number(72, 8), request.part(request.number(66, 2), request.number(68, 4)))
-
-
-def read(request: Message, response: Message) -> Span:
-    return Span(request.number(72, 8), response.part(response.number(66, 1), response.number(68, 4)))
-
-
-def renamed(request: Message) -> str | None:
-    """The new name, where a SET_INFO asks for one (FileRenameInformation)."""
-    if (request.number(66, 1), request.number(67, 1)) != (1, 10):
-        return None
-    start = request.number(72, 2)
-    return request.text(start + 20, request.number(start + 16, 4))
-
-
-def server_guid(message: Message) -> bytes:
-    return message.part(72, 16)
-
-
-def binds(message: Message) -> bool:
-    """Whether a SESSION_SETUP request binds its connection to a session (SMB2_SESSION_FLAG_BINDING)."""
-    return bool(message.number(66, 1) & 1)
-
-
-def negotiated(message: Message) -> tuple[int, bytes]:
-    """The dialect of a response, or the ClientGuid of a request."""
-    return (message.number(68, 2), b"") if message.is_from_server else (0, message.part(76, 16))

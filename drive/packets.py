@@ -60,16 +60,6 @@ class Packet:
     is_gap: bool
     frames: tuple[bytes, ...]
 
-    @property
-    def messages(self) -> Iterator[bytes]:
-        """Each message by itself."""
-        for frame in self.frames:
-            yield from _parts(frame)
-
-    @property
-    def told(self) -> str:
-        return f"packet {self.number} at {self.time} s"
-
 
 @dataclass(frozen=True)
 class Capture:

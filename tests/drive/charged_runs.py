@@ -1,4 +1,4 @@
-"""Short captures of runs in which the server keeps the rules, that were charged nevertheless; some still are.
+"""Short captures of runs in which the server keeps the rules, that were charged nevertheless.
 
 Each comes with its twin, which wasn't: there what was wrong doesn't happen. The client at 10.0.0.1 is FIRST and that at
 10.0.0.2 SECOND, each with a key of its own for the one file.
@@ -13,7 +13,7 @@ from smblease import CreateAsk
 
 from tests.drive import hand_made
 from tests.drive.hand_made import H, R, W, lease, of_session
-from tests.drive.taps import CLIENT, SERVER, SIDES
+from tests.drive.taps import CLIENT, SERVER
 
 FIRST, SECOND, THIRD = 1, 2, 3
 ALL = R | W | H
@@ -176,6 +176,43 @@ def grant_and_break_wait(lines: Lines, twin: bool) -> None:
     lines.reads(FIRST, 10)
 
 
+def grants_and_break_wait(lines: Lines, twin: bool) -> None:
+    """It is granted the lease twice, for two opens, and takes nothing for so long."""
+    lines.asks_to_open(FIRST, 10)
+    lines.asks_to_open(FIRST, 11)
+    lines.asks_to_open(SECOND, 20)
+    if not twin:
+        lines.grants(SECOND, 20)
+        lines.reads(SECOND, 20)
+    lines.grants(FIRST, 10)
+    lines.grants(FIRST, 11)
+    lines.answers(FIRST, hand_made.notification(FIRST, ALL, R | W))
+    if twin:
+        lines.grants(SECOND, 20)
+        lines.reads(SECOND, 20)
+    lines.reads(FIRST, 10)
+    lines.reads(FIRST, 11)
+
+
+def acknowledged_too_early(lines: Lines, twin: bool) -> None:
+    """The client gives all up by an acknowledgment that it sends before the break comes, and which is accepted; then it sends the
+    one that the break asks for."""
+    lines.opens(FIRST, 10)
+    lines.asks_to_open(SECOND, 20)
+    if twin:
+        lines.answers(FIRST, hand_made.notification(FIRST, ALL, R | H))
+    lines.asks(FIRST, hand_made.acknowledgment(12, FIRST, 0))
+    if not twin:
+        lines.opens(SECOND, 20)
+        lines.answers(FIRST, hand_made.notification(FIRST, ALL, R | H))
+    lines.asks(FIRST, hand_made.acknowledgment(13, FIRST, R | H))
+    lines.answers(FIRST, hand_made.acknowledged(12, FIRST, 0))
+    lines.answers(FIRST, hand_made.acknowledged(13, FIRST, R | H, REFUSED))
+    if twin:
+        lines.opens(SECOND, 20)
+    lines.reads(FIRST, 10)
+
+
 def acknowledged_twice(lines: Lines, twin: bool) -> None:
     """The first acknowledgment is of too much, and is refused."""
     lines.opens(FIRST, 10)
@@ -224,6 +261,34 @@ def made_again(lines: Lines, twin: bool) -> None:
     lines.reads(FIRST, 10)
 
 
+def made_again_before_an_answer(lines: Lines, twin: bool) -> None:
+    """The second client opens the file before that is deleted; the third client makes it again, with a lease. The response to the
+    second one comes after that."""
+    lines.begins(THIRD)
+    lines.asks_to_open(SECOND, 20, R)
+    if twin:
+        lines.grants(SECOND, 20, R)
+        lines.reads(SECOND, 20)
+    lines.asks_to_open(THIRD, 30)
+    lines.answers(THIRD, hand_made.created(30, 30, lease(THIRD, ALL), action=2))
+    lines.reads(THIRD, 30)
+    if not twin:
+        lines.grants(SECOND, 20, R)
+        lines.reads(SECOND, 20)
+    lines.reads(THIRD, 30)
+
+
+def lost_while_it_asks(lines: Lines, twin: bool) -> None:
+    """The server has given its connection up, and the client doesn't know."""
+    lines.opens(FIRST, 10)
+    if twin:
+        lines.ends(FIRST)
+    lines.opens(SECOND, 20)
+    if not twin:
+        lines.asks(FIRST, hand_made.read(61, 10))
+    lines.reads(SECOND, 20)
+
+
 def lost_without_a_word(lines: Lines, twin: bool) -> None:
     lines.opens(FIRST, 10)
     if twin:
@@ -262,10 +327,9 @@ def connected_again(lines: Lines, twin: bool) -> None:
 
 
 class Charged(NamedTuple):
-    """A run, the sides at which it is charged, if any is left, and why it was."""
+    """A run, and why it was charged."""
 
     run: Callable[[Lines, bool], None]
-    sides: tuple[str, ...]
     why: str
 
     def text(self, twin: bool = False) -> str:
@@ -274,26 +338,26 @@ class Charged(NamedTuple):
         return lines.text()
 
 
-NOWHERE: tuple[str, ...] = ()
 AFTER = "an open was ended only by what the capture has after the response that makes it"
 ON_ITS_WAY = "at the client, what the server sent to one client may come after what it granted to another one since"
 CHARGED = (
-    Charged(opened_after_the_end, NOWHERE, f"{AFTER}: the end of its connection came before"),
-    Charged(opened_after_its_tree, NOWHERE, f"{AFTER}: TREE_DISCONNECT didn't wait for it"),
-    Charged(opened_after_its_session, NOWHERE, f"{AFTER}: LOGOFF didn't wait for it"),
-    Charged(opened_after_its_tree_and_again, NOWHERE, f"{AFTER}: and the open that stayed kept its lease"),
-    Charged(closed_before_it_is_opened, (CLIENT,), f"{AFTER}: the client guessed the FileId (Opens.antt, ends_by and made)"),
-    Charged(end_on_its_way, NOWHERE, f"{ON_ITS_WAY}: the end of its connection"),
-    Charged(break_on_its_way, (CLIENT,), f"{ON_ITS_WAY}: a break whose timer ran out (Chains.antt, changes_by_break)"),
-    Charged(grant_and_break_wait, SIDES,
-            "a grant and its break may leave the server after the timer of the break ran out (Chains.antt)"),
-    Charged(acknowledged_twice, NOWHERE, "the first acknowledgment counted, though it was refused"),
-    Charged(renamed_in_a_gap, NOWHERE, "a gap wasn't held to hide a request that changes names"),
-    Charged(renamed_at_another_address, NOWHERE, "a change of names counted only at the address where it is seen"),
-    Charged(made_again, SIDES,
-            "the response to a later CREATE may come before the one that makes the file (Files.antt, file_after)"),
-    Charged(session_ended_at_another_address, NOWHERE, "a session ended only at the address where it is"),
-    Charged(connected_again, NOWHERE, "an open that is connected again stayed in its old session too"),
-    Charged(lost_without_a_word, SIDES, "the first client's open is gone without a packet: its connection was given up, or the"
-                                        " server was asked to close it (3.3.4.17)"),
+    Charged(opened_after_the_end, f"{AFTER}: the end of its connection came before"),
+    Charged(opened_after_its_tree, f"{AFTER}: TREE_DISCONNECT didn't wait for it"),
+    Charged(opened_after_its_session, f"{AFTER}: LOGOFF didn't wait for it"),
+    Charged(opened_after_its_tree_and_again, f"{AFTER}: and the open that stayed kept its lease"),
+    Charged(closed_before_it_is_opened, f"{AFTER}: the client guessed the FileId"),
+    Charged(end_on_its_way, f"{ON_ITS_WAY}: the end of its connection"),
+    Charged(break_on_its_way, f"{ON_ITS_WAY}: a break whose timer ran out"),
+    Charged(grant_and_break_wait, "a grant and its break left the server after the timer of the break ran out"),
+    Charged(grants_and_break_wait, "so did an earlier grant of the lease"),
+    Charged(acknowledged_twice, "the first acknowledgment counted, though it was refused"),
+    Charged(acknowledged_too_early, "an acknowledgment was taken for accepted, though another one was"),
+    Charged(renamed_in_a_gap, "a gap wasn't held to hide a request that changes names"),
+    Charged(renamed_at_another_address, "a change of names counted only at the address where it is seen"),
+    Charged(made_again, "the response to a later CREATE came before the one that makes the file"),
+    Charged(made_again_before_an_answer, "the response to an earlier CREATE came after the one that makes the file"),
+    Charged(session_ended_at_another_address, "a session ended only at the address where it is"),
+    Charged(connected_again, "an open that is connected again stayed in its old session too"),
+    Charged(lost_without_a_word, "the first client's connection was given up without a packet"),
+    Charged(lost_while_it_asks, "it was, and the client went on asking"),
 )

@@ -10,36 +10,45 @@ from tests.drive.hand_made import H, Line, Made, R, W
 
 
 class Expected(NamedTuple):
-    """The rule that is broken with `--at client` and with `--at server`, and what has to stand in the record."""
+    """Whether the capture is unsafe with `--at client` and with `--at server`."""
 
-    at_client: int | None
-    at_server: int | None
-    said: tuple[str, ...] = ()
+    at_client: bool
+    at_server: bool
 
 
-SAFE = Expected(None, None)
+NOT_UNSAFE = Expected(False, False)
+
+
+def reads_still(line: Line) -> None:
+    """The client reads what it opened first: the server answers, so that the open is there still."""
+    line.asks(hand_made.read(5, 11))
+    line.answers(hand_made.read_done(5, b"abc"))
 
 
 def two_caches(made: Made) -> Expected:
     """A second client is granted reads beside a write cache, without a break."""
     line, other = Line(made, 50001), Line(made, 50002)
     line.begins(1)
-    first = line.opens(3, 11, 0xA1, R | W | H)
+    line.opens(3, 11, 0xA1, R | W | H)
     other.begins(2)
-    second = other.opens(3, 22, 0xB2, R | H)
-    line.asks(hand_made.read(5, 11))
-    return Expected(1, 1, (f"packet {first} ", f"packet {second} "))
+    other.opens(3, 22, 0xB2, R | H)
+    reads_still(line)
+    return Expected(True, True)
 
 
-def shares_after_a_break(line: Line, other: Line, name: str, acknowledgment: int) -> None:
-    """Opens the file for `other`, whose grant comes once `line` has given up its write cache by the request of that number."""
+def shares_after_a_break(line: Line, other: Line, name: str, number: int, acknowledgment: int, state: int = R | H) -> None:
+    """Opens the file for `other`, whose grant comes once `line` has given up its write cache by the request of that MessageId.
+    Then `line` reads what it has open with this number. So `other` may be granted no more than RH."""
     other.asks(hand_made.create(3, name, hand_made.lease(0xB2, R | W | H)))
     line.answers(hand_made.notification(0xA1, R | W | H, R | H))
     other.answers(hand_made.pending(3, 5))
     line.asks(hand_made.acknowledgment(acknowledgment, 0xA1, R | H))
     line.answers(hand_made.acknowledged(acknowledgment, 0xA1, R | H))
-    other.answers(hand_made.created(3, 22, hand_made.lease(0xB2, R | H)))
+    other.answers(hand_made.created(3, 22, hand_made.lease(0xB2, state)))
     other.asks(hand_made.read(4, 22))
+    other.answers(hand_made.read_done(4, b"abc"))
+    line.asks(hand_made.read(acknowledgment + 1, number))
+    line.answers(hand_made.read_done(acknowledgment + 1, b"abc"))
 
 
 def break_acknowledged(made: Made) -> Expected:
@@ -47,8 +56,8 @@ def break_acknowledged(made: Made) -> Expected:
     line.begins(1)
     line.opens(3, 11, 0xA1, R | W | H)
     other.begins(2)
-    shares_after_a_break(line, other, "f", acknowledgment=5)
-    return SAFE
+    shares_after_a_break(line, other, "f", number=11, acknowledgment=5)
+    return NOT_UNSAFE
 
 
 def break_not_acknowledged(made: Made) -> Expected:
@@ -57,9 +66,9 @@ def break_not_acknowledged(made: Made) -> Expected:
     line.begins(1)
     line.opens(3, 11, 0xA1, R | W | H)
     other.begins(2)
-    broken = line.answers(hand_made.notification(0xA1, R | W | H, R | H))
-    granted = other.opens(3, 22, 0xB2, R | H)
-    return Expected(None, None, (f"packet {granted} ", f"while the break of packet {broken} ", "never acknowledged"))
+    line.answers(hand_made.notification(0xA1, R | W | H, R | H))
+    other.opens(3, 22, 0xB2, R | H)
+    return NOT_UNSAFE
 
 
 def closes_that_cross(made: Made, had_grant: bool) -> Expected:
@@ -74,7 +83,7 @@ def closes_that_cross(made: Made, had_grant: bool) -> Expected:
     line.answers(hand_made.message(13, bytes(4), 9, answers=True))
     line.asks(hand_made.close(6, hand_made.file_id(11)), had=None if had_grant else had)
     line.answers(hand_made.closed(6))
-    return Expected(1, 1 if had_grant else None)
+    return Expected(True, had_grant)
 
 
 def close_in_a_compound(made: Made) -> Expected:
@@ -85,7 +94,7 @@ def close_in_a_compound(made: Made) -> Expected:
     line.answers(hand_made.compound([hand_made.created(3, 11, hand_made.lease(0xA1, R | W | H)), hand_made.closed(4)]))
     other.begins(2)
     other.opens(3, 22, 0xB2, R | W | H)
-    return SAFE
+    return NOT_UNSAFE
 
 
 def two_connections(made: Made) -> Expected:
@@ -97,8 +106,8 @@ def two_connections(made: Made) -> Expected:
     again.ends()
     other.begins(2)
     other.opens(3, 22, 0xB2, R | W | H)
-    line.asks(hand_made.read(5, 11))
-    return Expected(1, 1)
+    reads_still(line)
+    return Expected(True, True)
 
 
 def one_client_of_two(made: Made) -> Expected:
@@ -108,7 +117,17 @@ def one_client_of_two(made: Made) -> Expected:
     again.begins(1)
     line.opens(3, 11, 0xA1, R | W | H)
     again.opens(3, 12, 0xA1, R | W | H)
-    return SAFE
+    return NOT_UNSAFE
+
+
+def two_keys_of_one_client(made: Made) -> Expected:
+    """A client's leases under two keys don't clash with one another: no two clients cache the file."""
+    line = Line(made, 50001)
+    line.begins(1)
+    line.opens(3, 11, 0xA1, R | W | H)
+    line.opens(6, 12, 0xA2, R | W | H)
+    reads_still(line)
+    return NOT_UNSAFE
 
 
 def of_two_clients(made: Made, kind: str) -> Expected:
@@ -131,10 +150,11 @@ def of_two_clients(made: Made, kind: str) -> Expected:
     other.asks(hand_made.create(3, "f", hand_made.lease(0xB2, R | W | H)))
     other.answers(hand_made.created(3, 22, hand_made.lease(0xB2, R | W | H), action=2 if kind == "made again" else 1))
     other.asks(hand_made.read(4, 22))
-    said = {"before": "began before", "dialect": "dialect 3.0", "gap": "isn't judged from here on",
-            "cut": "isn't judged from here on", "encrypted": "encrypted"}.get(kind, "")
-    rule = 1 if kind == "whole" else None
-    return Expected(rule, rule, (said,))
+    other.answers(hand_made.read_done(4, b"abc"))
+    if kind in ("whole", "before", "dialect", "made again"):
+        reads_still(line)
+    is_unsafe = kind in ("whole", "dialect")
+    return Expected(is_unsafe, is_unsafe)
 
 
 def of_dialect_311(made: Made) -> Expected:
@@ -144,8 +164,8 @@ def of_dialect_311(made: Made) -> Expected:
     line.opens(3, 11, 0xA1, R | W | H, epoch=1)
     other.begins(2, 0x311)
     other.opens(3, 22, 0xB2, R | H, epoch=1)
-    line.asks(hand_made.read(5, 11))
-    return Expected(None, None, ("dialect 3.1.1",))
+    reads_still(line)
+    return Expected(True, True)
 
 
 def broken_elsewhere(made: Made, epochs: bool) -> Expected:
@@ -159,34 +179,21 @@ def broken_elsewhere(made: Made, epochs: bool) -> Expected:
     again.asks(hand_made.acknowledgment(3, 0xA1, R | H))
     again.answers(hand_made.acknowledged(3, 0xA1, R | H))
     other.opens(3, 22, 0xB2, R | W | H, epoch=1 if epochs else None)
-    line.asks(hand_made.read(5, 11))
-    return SAFE
+    reads_still(line)
+    return Expected(epochs, epochs)
 
 
-def also_reported(made: Made) -> Expected:
+def odd_breaks(made: Made) -> Expected:
+    """A grant of more than was asked for, a break to what isn't a part of the lease, an acknowledgment that is refused, and a
+    break that isn't acknowledged: none of that lets two clients cache what doesn't go together."""
     line = Line(made, 50001)
     line.begins(1)
-    granted = line.opens(3, 11, 0xA1, R | W | H, asked=R)
-    broken = line.answers(hand_made.notification(0xA1, R | H, R | W))
-    given = line.asks(hand_made.acknowledgment(5, 0xA1, 0))
-    refused = line.answers(hand_made.acknowledged(5, 0xA1, 0, hand_made.REFUSED))
-    again = line.answers(hand_made.notification(0xA1, R | W, R))
-    return Expected(None, None, (f"packet {granted} at 0.", "granted RWH of share\\f, and asked for R", f"packet {broken} at 0.",
-                        "a break from RH to RW, which isn't a part of it", f"packet {given} at 0.",
-                        "an acknowledgment of none", f"packet {refused} at 0.", "is refused, status c0000001",
-                                 f"packet {again} at 0.", "never acknowledged"))
-
-
-def writes(made: Made) -> Expected:
-    line = Line(made, 50001)
-    line.begins(1)
-    line.opens(3, 11, 0xA1, R | W | H)
-    line.asks(hand_made.write(5, 11, 1, b"XY"))
-    line.answers(hand_made.write_done(5, 2))
-    line.asks(hand_made.write(6, 11, 1048575, b"XY"))
-    line.answers(hand_made.write_done(6, 2))
-    return Expected(None, None, ("start 1 616263", "wrote 1 1 1 1 5859 through", "changed 1 1 1 1 5859",
-                                 "1 writes past the limit"))
+    line.opens(3, 11, 0xA1, R | W | H, asked=R)
+    line.answers(hand_made.notification(0xA1, R | H, R | W))
+    line.asks(hand_made.acknowledgment(5, 0xA1, 0))
+    line.answers(hand_made.acknowledged(5, 0xA1, 0, hand_made.REFUSED))
+    line.answers(hand_made.notification(0xA1, R | W, R))
+    return NOT_UNSAFE
 
 
 def two_servers(made: Made) -> Expected:
@@ -196,12 +203,12 @@ def two_servers(made: Made) -> Expected:
     line.opens(3, 11, 0xA1, R | W | H)
     other.begins(2)
     other.opens(3, 22, 0xB2, R | W | H)
-    line.asks(hand_made.read(5, 11))
-    return SAFE
+    reads_still(line)
+    return NOT_UNSAFE
 
 
 def server_at_two_addresses(made: Made) -> Expected:
-    """A lease that is seen at two addresses shows that they are one server's."""
+    """A lease that is seen at two addresses shows that they are one server's; but its files at each are taken for others."""
     line, again, other = Line(made, 50001), Line(made, 50002, host=2), Line(made, 50003, host=2)
     line.begins(1)
     line.opens(3, 11, 0xA1, R | W | H)
@@ -209,8 +216,8 @@ def server_at_two_addresses(made: Made) -> Expected:
     again.opens(3, 12, 0xA1, R | W | H)
     other.begins(2)
     other.opens(3, 22, 0xB2, R | W | H)
-    line.asks(hand_made.read(5, 11))
-    return Expected(1, 1)
+    reads_still(line)
+    return NOT_UNSAFE
 
 
 def acknowledged_elsewhere(made: Made) -> Expected:
@@ -228,10 +235,14 @@ def acknowledged_elsewhere(made: Made) -> Expected:
     again.answers(hand_made.created(5, 31, hand_made.lease(0xA2, R | W | H)))
     again.asks(hand_made.acknowledgment(6, 0xA1, R | H))
     other.opens(3, 22, 0xB2, R | W | H, name="g")
-    return Expected(1, None)
+    other.asks(hand_made.close(5, hand_made.file_id(22)))
+    other.answers(hand_made.closed(5))
+    again.asks(hand_made.read(7, 31))
+    again.answers(hand_made.read_done(7, b"abc"))
+    return Expected(True, False)
 
 
-def key_used_again(made: Made, kind: str) -> Expected:
+def key_used_again(made: Made, kind: str, state: int = R | H) -> Expected:
     """A lease under a key that another file had before, or its name had before it was made anew: the break is of the later."""
     line, other = Line(made, 50001), Line(made, 50002)
     line.begins(1)
@@ -242,9 +253,10 @@ def key_used_again(made: Made, kind: str) -> Expected:
     line.asks(hand_made.create(6, name, hand_made.lease(0xA1, R | W | H)))
     line.answers(hand_made.created(6, 12, hand_made.lease(0xA1, R | W | H), action))
     line.asks(hand_made.read(7, 12))
+    line.answers(hand_made.read_done(7, b"abc"))
     other.begins(2)
-    shares_after_a_break(line, other, name, acknowledgment=8)
-    return SAFE
+    shares_after_a_break(line, other, name, number=12, acknowledgment=8, state=state)
+    return Expected(bool(state & W), bool(state & W))
 
 
 def break_after_the_last_close(made: Made) -> Expected:
@@ -255,13 +267,13 @@ def break_after_the_last_close(made: Made) -> Expected:
     line.asks(hand_made.close(5, hand_made.file_id(11)))
     line.answers(hand_made.notification(0xA1, R | W | H, R | H))
     line.answers(hand_made.closed(5))
-    late = line.answers(hand_made.notification(0xA1, R | H, 0))
+    line.answers(hand_made.notification(0xA1, R | H, 0))
     line.asks(hand_made.create(6, "g"))
     line.answers(hand_made.created(6, 12))
     line.asks(hand_made.read(7, 12))
     other.begins(2)
     other.opens(3, 22, 0xB2, R | W | H)
-    return Expected(None, None, (f"packet {late} at", "under which the capture shows no lease"))
+    return NOT_UNSAFE
 
 
 SCENARIOS: dict[str, Callable[[Made], Expected]] = {
@@ -269,13 +281,15 @@ SCENARIOS: dict[str, Callable[[Made], Expected]] = {
     "a break that isn't acknowledged": break_not_acknowledged,
     "a close that crosses a grant": partial(closes_that_cross, had_grant=False),
     "a close that doesn't cross": partial(closes_that_cross, had_grant=True), "a close in a compound": close_in_a_compound,
-    "a client with two connections": two_connections, "two connections, one client": one_client_of_two,
+    "one client with two keys": two_keys_of_one_client, "a client with two connections": two_connections,
+    "two connections, one client": one_client_of_two,
     **{f"a key that {kind} had before": partial(key_used_again, kind=kind) for kind in ("another file", "the name")},
+    "a key that another file had before, and two caches": partial(key_used_again, kind="another file", state=R | W | H),
     "a break that is acknowledged elsewhere": acknowledged_elsewhere, "two servers": two_servers,
     "a server at two addresses": server_at_two_addresses, "two clients, dialect 3.1.1": of_dialect_311,
     **{f"a break over another connection, with{'' if epochs else 'out'} epochs": partial(broken_elsewhere, epochs=epochs)
        for epochs in (True, False)},
-    "a break after the last close": break_after_the_last_close, "also reported": also_reported, "writes": writes,
+    "a break after the last close": break_after_the_last_close, "odd breaks": odd_breaks,
     **{f"two clients, {kind}": partial(of_two_clients, kind=kind)
        for kind in ("whole", "before", "dialect", "gap", "cut", "encrypted", "rename", "made again")},
 }

@@ -8,7 +8,7 @@ from collections.abc import Callable
 from dataclasses import dataclass, field
 from typing import Any
 
-from smblease import Client
+from smblease import Client, LeaseState
 from smblease.outs import Out, Sent
 from smblease.replies import Break, Created, Reply
 from smblease.requests import AcknowledgeRequest, CreateRequest, Request
@@ -68,6 +68,14 @@ class Realm:
         self._asked = {NEGOTIATE: self._negotiate, SESSION_SETUP: self._session_setup, TREE_CONNECT: self._tree_connect}
 
     # ---- clients
+
+    def clashes(self) -> bool:
+        """Whether a client believes that it caches writes of a file, and another one that it caches the file."""
+        for file in range(1, self.files + 1):
+            caches = [it for it in (peer.machine.belief(file) for peer in self.peers.values()) if it]
+            if len(caches) > 1 and any(LeaseState.W in it for it in caches):
+                return True
+        return False
 
     def connects(self, client: int) -> None:
         connection = self._connected(client)

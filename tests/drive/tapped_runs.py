@@ -72,6 +72,8 @@ class Run:
         self._weights = {it: self._one_of((0.4, 1.0, 3.0)) for it in MOVES}
         self._wants, self._shares = self._one_of(WANTS), self._one_of(SHARES)
         self._length = self._one_of((100, 200, 300))
+        # whether what clients believed ever clashed
+        self.clashed = False
 
     def _one_of(self, items: Any) -> Any:
         return self._chance.choice(items)
@@ -111,6 +113,7 @@ class Run:
         if moves:
             weights = [self._weights[name] for name, _ in moves]
             self._chance.choices(moves, weights)[0][1]()
+            self.clashed = self.clashed or any(it.clashes() for it in self._realms.values())
 
     def _moves(self, one: Connection) -> Iterator[Move]:
         realm = self._realms[one.server]

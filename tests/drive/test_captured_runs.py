@@ -1,14 +1,15 @@
 """Captures that dumpcap makes on loopback.
 
-- While a schedule is driven on a private smbd: the record has the facts of the driver's own where both can know them, and the
-  same word on rule 1.
-- While some lease tests of smbtorture run: a verdict for each set of clients that share files."""
+- While a schedule is driven on a private smbd: clients believe nothing that they don't believe in the driver's own record,
+  as far as the first rule goes by it, and the word on that rule is the same.
+- While some lease tests of smbtorture run: a verdict for each file."""
 from __future__ import annotations
 
+import re
 import signal
 import subprocess
 import time
-from collections.abc import Iterator, Sequence
+from collections.abc import Iterable, Iterator, Sequence
 from contextlib import contextmanager
 from pathlib import Path
 
@@ -19,24 +20,19 @@ from smblease.schedules import Schedule
 
 from tests import needs
 from tests.drive.commands import PRIVATE_SMBD, ran
+from tests.drive.judging import SAFE, UNSAFE
 from tests.paths import EXAMPLE, TOP, name_of
 
 pytest.importorskip("impacket", reason=f"there is no package impacket; {needs.INSTALLS}")
 # pylint: disable=wrong-import-position
-from drive.capture_record import CaptureRecord, record_of  # noqa: E402
-from drive.packets import read_capture  # noqa: E402
 from drive.runner import Runner  # noqa: E402
 from drive.servers import PrivateServer  # noqa: E402
 
 pytestmark = [*PRIVATE_SMBD, needs.program("tshark"), needs.program("dumpcap")]
 TORTURES = ("request", "nobreakself", "upgrade3")
 TORTURES_311 = ("v2_epoch1", "v2_epoch2", "v2_complex2")
-# the rule that is broken
-DRIVEN = {EXAMPLE: None, TOP / "drive" / "found" / "lease_outlives_its_open.schedule": 1}
-
-
-def text_of(record: CaptureRecord) -> str:
-    return "".join(f"{it}\n" for it in record.lines())
+# whether what the clients believe breaks the first rule
+DRIVEN = {EXAMPLE: False, TOP / "drive" / "found" / "lease_outlives_its_open.schedule": True}
 
 
 @contextmanager
@@ -76,22 +72,22 @@ def tortured(server: PrivateServer, tests: Sequence[str], path: Path, protocol: 
     return on_port(path, place.port)
 
 
-def known(facts: list[str], others: int, at_client: bool) -> dict[str, list[str]]:
-    """What the wire and the driver know both: what the server did, in its order; links; and, at a client, what each believed. The
-    capture has clients before those of the schedule (`others`), and goes on to the end of their connections."""
-    found: dict[str, list[str]] = {}
-    for one in (fact.split(" ") for fact in facts):
-        place = {"opened": 2, "changed": 2, "believes": 1, "joined": 1, "dropped": 1}.get(one[0])
-        if place is None or int(one[place]) <= others:
-            continue
-        one[place] = str(int(one[place]) - others)
-        whose = "server" if place == 2 else f"{one[1]} {'believes' if one[0] == 'believes' else 'link'}"
-        if one[0] != "believes" or at_client:
-            found.setdefault(whose, []).append(" ".join(one))
-    for whose, its in found.items():
-        if whose.endswith("believes") and its[-1].endswith(" none") or whose.endswith("link") and its[-1].startswith("dropped"):
-            its.pop()
-    return found
+def stories(facts: Iterable[str]) -> list[list[str]]:
+    """What each client believes of each file, from its first belief to its last: writes, something else, or nothing."""
+    found: dict[tuple[str, str], list[str]] = {}
+    for words in (fact.split(" ") for fact in facts):
+        if words[0] == "believes":
+            level = "writes" if "W" in words[3] else "nothing" if words[3] == "none" else "something"
+            story = found.setdefault((words[1], words[2]), ["nothing"])
+            story += [level] if level != story[-1] else []
+    # (a capture goes on to the end of each connection)
+    return sorted(it[1:-1] if it[-1] == "nothing" else it[1:] for it in found.values())
+
+
+def is_part(story: list[str], whole: list[str]) -> bool:
+    """Whether one story is another, or that without some beliefs which nothing of the capture shows."""
+    left = iter(whole)
+    return all(it in left for it in story)
 
 
 @pytest.mark.parametrize("path", DRIVEN, ids=name_of)
@@ -105,29 +101,31 @@ def test_while_a_schedule_is_driven(path: Path, program: str, tmp_path: Path) ->
 
     with capturing(tmp_path / "one.pcapng"):
         outcome = Runner(program, server).run(Schedule.read(path.read_text(encoding="ascii")))
-    capture = read_capture(on_port(tmp_path / "one.pcapng", ports[0]), ports)
-    for at_client in (True, False):
-        record = record_of(capture, at_client)
-        facts = [record.text(fact) for fact in record.facts]
-        assert judge(program, text_of(record)).rule == DRIVEN[path]
-        assert known(facts, 1, at_client) == known(outcome.record.facts(), 0, at_client)
-
-
-@needs.program("smbtorture")
-def test_while_smbtorture_runs(program: str, tmp_path: Path) -> None:
-    """Each test has files of its own, and its clients one ClientGuid, so that none can break rule 1."""
-    path = tortured(PrivateServer(), TORTURES, tmp_path / "one.pcapng", "SMB2_10")
-    sets = record_of(read_capture(path, []), True).sets()
-    assert [judge(program, text_of(it)).text for it in sets] == ["safe"] * len(TORTURES)
-
-
-@needs.program("smbtorture")
-def test_while_smbtorture_runs_dialect_311(program: str, tmp_path: Path) -> None:
-    """As above, with leases of version 2; each test is one client to the server."""
-    path = tortured(PrivateServer(protocol="SMB3_11"), TORTURES_311, tmp_path / "one.pcapng", "SMB3_11")
-    lines = ran("capture", [path, "--lines"]).out
+    capture = on_port(tmp_path / "one.pcapng", ports[0])
+    record = tmp_path / "record"
     for side in ("client", "server"):
-        words = [program, "capture", "--at", side, "-"]
-        said = subprocess.run(words, input=lines, capture_output=True, text=True, check=False).stdout.splitlines()
-        found = {line.partition(": ")[0].rpartition("\\")[2] for line in said if line.startswith("file ") and ": safe, " in line}
-        assert (said[0], found) == ("safe", {f"lease_{name}.dat" for name in TORTURES_311})
+        had = ran("capture", [capture, "--at", side, "--port", *ports, "--record", record])
+        assert (had.status, had.faults) == (UNSAFE if DRIVEN[path] else SAFE, "")
+        text = record.read_text(encoding="utf-8")
+        assert (judge(program, text).rule == 1) == DRIVEN[path]
+        if side == "client":
+            driven = stories(outcome.record.facts())
+            assert [it for it in stories(text.splitlines()) if not any(is_part(it, other) for other in driven)] == []
+
+
+def verdicts_in(said: str) -> dict[str, str]:
+    """The verdict on each file, by its name."""
+    return {found.group(1): found.group(2) for found in re.finditer(r"^file .*\\([^\\]*): (\w+)", said, re.MULTILINE)}
+
+
+@needs.program("smbtorture")
+@pytest.mark.parametrize(("protocol", "tests"), [("SMB2_10", TORTURES), ("SMB3_11", TORTURES_311)], ids=["2.1", "3.1.1"])
+def test_while_smbtorture_runs(protocol: str, tests: Sequence[str], tmp_path: Path) -> None:
+    """Each test has files of its own, and its clients one ClientGuid, so that none can break rule 1. Leases of dialect 3.1.1
+    are of version 2."""
+    server = PrivateServer() if protocol == "SMB2_10" else PrivateServer(protocol=protocol)
+    path = tortured(server, tests, tmp_path / "one.pcapng", protocol)
+    for side in ("client", "server"):
+        had = ran("capture", [path, "--at", side])
+        assert (had.status, set(verdicts_in(had.out).values())) == (SAFE, {"safe"}), had.out
+        assert len(verdicts_in(had.out)) >= len(tests), had.out

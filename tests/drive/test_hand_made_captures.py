@@ -9,15 +9,11 @@ import pytest
 
 from smblease.program import judge
 
-from drive.capture_record import CaptureRecord, record_of
-from drive.capture_servers import servers_of
-from drive.packets import read_capture
 from tests import needs
 from tests.drive.commands import ran
-from tests.drive.hand_made import (H, Line, Made, R, W, acknowledged, acknowledgment, close, closed, create, created, file_id,
-                                   lease, negotiate, negotiated, notification, read,
-                                   read_done, session_set_up, session_setup, tree_connect, tree_connected, tree_path, write,
-                                   write_done)
+from tests.drive.hand_made import (H, Line, Made, R, W, create, created, lease, negotiate, negotiated, notification, read,
+                                   read_done, tree_connect, tree_connected, tree_path, write, write_done)
+from tests.drive.judging import NOTHING_JUDGED, SAFE, UNSAFE
 from tests.drive.scenarios import SCENARIOS
 from tests.paths import TOP
 
@@ -33,43 +29,26 @@ def file_of(made: Made, folder: Path) -> Path:
     return path
 
 
-def text_of(record: CaptureRecord) -> str:
-    return "".join(f"{it}\n" for it in record.lines())
-
-
-def has_its_time(remark: str) -> bool:
-    """Whether a remark begins with a packet and its time, which is that of a packet made by hand."""
-    found = re.match(r"packet (\d+) at (\d+\.\d+) s: ", remark)
-    return found is not None and round(float(found.group(2)) * 100) == int(found.group(1)) - 1
-
-
 @pytest.mark.parametrize("name", SCENARIOS)
-def test_scenario(name: str, program: str, tmp_path: Path) -> None:
+def test_record_of_a_scenario(name: str, program: str, tmp_path: Path) -> None:
+    """Its record is as safe as the capture; each belief has its packet, with that packet's time, and packets come in order."""
     made = Made()
     expected = SCENARIOS[name](made)
-    capture = read_capture(str(file_of(made, tmp_path)), [])
-    for side, rule in (("client", expected.at_client), ("server", expected.at_server)):
-        record = record_of(capture, side == "client")
-        text = text_of(record)
+    capture = file_of(made, tmp_path)
+    for side, is_unsafe in (("client", expected.at_client), ("server", expected.at_server)):
+        had = ran("capture", [capture, "--at", side, "--record", tmp_path / "record"])
+        text = (tmp_path / "record").read_text(encoding="utf-8")
         verdict = judge(program, text)
-        assert (verdict.rule, verdict.is_safe) == (rule, rule is None), f"--at {side}\n{text}"
-        assert [it for it in expected.said if it not in text] == [], f"--at {side}\n{text}"
-        assert [fact.told for fact in record.facts if not has_its_time(fact.told)] == []
+        assert (had.status == UNSAFE, verdict.rule, verdict.is_safe) == (is_unsafe, 1 if is_unsafe else None, not is_unsafe), text
+        lines = text.splitlines()
+        packets = [packet_of(remark) for remark, fact in zip(lines, lines[1:]) if fact.startswith("believes ")]
+        assert None not in packets and packets == sorted(it or 0 for it in packets), text
 
 
-def test_session_that_is_bound(tmp_path: Path) -> None:
-    """It shows that two addresses are one server's; a SessionId that two servers gave shows nothing."""
-    made = Made()
-    connections = ((1, 1, 7, False), (2, 1, 7, True), (3, 2, 9, False), (4, 3, 9, False))
-    for number, (host, guid, session, binds) in enumerate(connections):
-        line = Line(made, 50000 + number, host=host)
-        line.asks(negotiate(guid))
-        line.answers(negotiated(0x300))
-        line.asks(session_setup(session, binds))
-        line.answers(session_set_up(session))
-    servers = servers_of(read_capture(str(file_of(made, tmp_path)), []).packets)
-    assert servers[0] is servers[1]
-    assert len({servers[stream] for stream in (0, 2, 3)}) == 3
+def packet_of(remark: str) -> int | None:
+    """The packet that a remark names, where its time is that of a packet made by hand; then come its messages."""
+    found = re.fullmatch(r"# packet (\d+) at (\d+\.\d+)(?:, [A-Z_]+ (?:request|response|notification))*", remark)
+    return int(found.group(1)) if found and round(float(found.group(2)) * 100) == int(found.group(1)) - 1 else None
 
 
 def conflicting(dialect: int = 0x210, is_encrypted: bool = False) -> Made:
@@ -87,76 +66,47 @@ def conflicting(dialect: int = 0x210, is_encrypted: bool = False) -> Made:
     return made
 
 
-NOTHING = {
-    "encrypted": (conflicting(0x300, True).data(), "not judged: 2 (encrypted or compressed)"),
-    "dialect 3.1.1": (conflicting(0x311).data(), "not judged: 2 (dialect 3.1.1)"),
-    "packets of 128 bytes": (conflicting().data(128), "not judged: 2 (packets, or parts of them, aren't in the capture)"),
-}
+# each with how many clients are known
+NOTHING = {"encrypted": (conflicting(0x300, True).data(), 2), "packets of 128 bytes": (conflicting().data(128), 0)}
 
 
-@pytest.mark.parametrize(("data", "why"), NOTHING.values(), ids=NOTHING)
-def test_nothing_judged(data: bytes, why: str, tmp_path: Path) -> None:
-    """It isn't safe; the second line says why, and nothing is reported of what was left out."""
+@pytest.mark.parametrize(("data", "clients"), NOTHING.values(), ids=NOTHING)
+def test_nothing_judged(data: bytes, clients: int, program: str, tmp_path: Path) -> None:
+    """It isn't safe; it is said of each client that is known that it isn't judged, and the record is of nobody."""
     path = tmp_path / "one.pcap"
     path.write_bytes(data)
     had = ran("capture", [path, "--record", tmp_path / "record"])
-    first, second, *others = had.out.splitlines()
-    assert (had.status, first, second) == (4, "nothing judged", f"judged: 0 of 2 connections; {why}")
-    assert not [it for it in others if "break" in it or "lease of that client" in it], others
-    assert ran("capture", [path]).out.splitlines()[-2:] == ["# nothing judged", f"# {second}"]
+    first, *others = had.out.splitlines()
+    assert (had.status, first) == (NOTHING_JUDGED, "nothing judged")
+    lost = "client .*: not judged.*, something of it is missing or can't be read"
+    assert len([it for it in others if re.fullmatch(lost, it)]) == clients
+    text = (tmp_path / "record").read_text(encoding="utf-8")
+    assert [it for it in text.splitlines() if not it.startswith("# ")] == []
+    assert judge(program, text).is_safe
 
 
-def test_connections_that_are_judged(tmp_path: Path) -> None:
-    """What was left out beside connections that are judged is counted in the second line."""
+def test_clients_that_are_judged_in_part(tmp_path: Path) -> None:
+    """Two files are clean; of a third client something is missing from a packet on."""
     made = Made()
     for number, dialect in ((1, 0x210), (2, 0x302)):
         line = Line(made, 50000 + number)
         line.begins(number, dialect)
-        line.opens(3, number, number, R | W | H)
+        line.opens(3, number, number, R | W | H, name=f"f{number}")
     third = Line(made, 50003)
     third.begins(3)
     third.opens(3, 3, 3, R, name="g")
     third.misses(100)
     third.asks(read(5, 3))
-    had = ran("capture", [file_of(made, tmp_path), "--record", tmp_path / "record"])
-    first, second = had.out.splitlines()[:2]
-    assert (had.status, first) == (0, "safe")
-    assert second == "judged: 2 of 3 connections, 1 of them in part (packets, or parts of them, aren't in the capture); " \
-                     "not judged: 1 (dialect 3.0.2)"
-
-
-@pytest.mark.parametrize("others", [0, 1])
-def test_too_many_orders(others: int, tmp_path: Path) -> None:
-    """Two clients hold RWH of a file, and then thirteen readers of it are broken at once: it isn't judged, and that is said."""
-    made = Made()
-    lines = [Line(made, 50000 + number) for number in range(15 + others)]
-    for number, line in enumerate(lines, 1):
-        line.begins(number)
-    for number, line in enumerate(lines[:2], 1):
-        line.opens(3, number, number, R | W | H)
-    for number, line in enumerate(lines[:2], 1):
-        line.asks(close(6, file_id(number)))
-        line.answers(closed(6))
-    readers = list(enumerate(lines[2:15], 3))
-    for number, line in readers:
-        line.asks(create(3, "f", lease(number, R | H)))
-        line.answers(created(3, number, lease(number, R | H)))
-    for number, line in readers:
-        line.answers(notification(number, R | H, 0))
-    for number, line in readers:
-        line.asks(acknowledgment(5, number, 0))
-        line.answers(acknowledged(5, number, 0))
-    for line in lines[15:]:
-        line.opens(3, 99, 99, R | W | H, name="g")
-    had = ran("capture", [file_of(made, tmp_path), "--record", tmp_path / "record"])
-    first, second = had.out.splitlines()[:2]
-    assert (had.status, first) == ((0, "safe") if others else (4, "nothing judged"))
-    assert second == f"judged: {15 + others} of {15 + others} connections; not judged: 1 file (too many orders fit the capture)"
-    assert "share\\f isn't judged: too many orders fit the capture" in had.out
+    had = ran("capture", [file_of(made, tmp_path)])
+    first, *others = had.out.splitlines()
+    assert (had.status, first) == (SAFE, "safe")
+    assert len([it for it in others if it.startswith("file ") and ": safe, " in it]) == 3
+    lost = [it for it in others if it.startswith("client ")]
+    assert len(lost) == 1 and "127.0.0.1:50003: not judged after packet " in lost[0], others
 
 
 def test_texts_with_every_byte(program: str, tmp_path: Path) -> None:
-    """Names of files and shares, and create contexts, of which no byte breaks the record."""
+    """Names of files and shares, of which no byte breaks the record."""
     made = Made()
     line = Line(made, 50001)
     line.asks(negotiate(1))
@@ -165,30 +115,28 @@ def test_texts_with_every_byte(program: str, tmp_path: Path) -> None:
         low, high = bytes([number, 0x20]), bytes([0x20, number])
         line.asks(tree_connect(tree_path("share").encode("utf-16le") + low + high))
         line.answers(tree_connected())
-        contexts = lease(number, R)[:12] + bytes([number]) * 12 + lease(number, R)[24:]
-        line.asks(create(2 * number + 3, low + high + bytes([number]) * 2, contexts))
-        line.answers(created(2 * number + 3, number, contexts))
+        line.asks(create(2 * number + 3, low + high + bytes([number]) * 2, lease(number, R)))
+        line.answers(created(2 * number + 3, number, lease(number, R)))
         line.asks(read(2 * number + 4, number))
-    record = record_of(read_capture(str(file_of(made, tmp_path)), []), True)
-    text = text_of(record)
-    assert "can't be read: fault" in text
+    had = ran("capture", [file_of(made, tmp_path), "--at", "client", "--record", tmp_path / "record"])
+    assert (had.status, had.faults) == (SAFE, "")
+    text = (tmp_path / "record").read_text(encoding="utf-8")
     assert judge(program, text).is_safe
-    shapes = [it for it in text.splitlines() if not re.fullmatch(r"# [ -\U0010ffff]*|[a-z]+ [0-9a-zRWH -]+", it)]
-    assert shapes == []
-    assert text.count("\n") == len(text.splitlines()) == sum(1 for it in record.lines())
+    assert [it for it in text.split("\n") if it and not re.fullmatch(r"# [ -\U0010ffff]*|[a-z]+ [0-9a-zRWH -]*", it)] == []
+    assert text.count("\n") == len(text.splitlines())
 
 
 def test_contexts_that_cant_be_read(tmp_path: Path) -> None:
-    """The remark on them is one line, and the record is judged."""
+    """It is counted as a frame that can't be read, and its client isn't judged from there on."""
     made = Made()
     line = Line(made, 50001)
     line.begins(1)
     line.opens(3, 11, 1, R | W | H)
-    bad = line.asks(create(5, "g", bytes([8]) + lease(2, R)[1:]))
+    line.asks(create(5, "g", bytes([8]) + lease(2, R)[1:]))
     had = ran("capture", [file_of(made, tmp_path)])
-    assert (had.status, had.faults) == (0, "")
-    remark = rf"# packet {bad} at [0-9.]+ s: the contexts of a CREATE request can't be read: fault 3 BadNext at 0"
-    assert len([it for it in had.out.splitlines() if re.fullmatch(remark, it)]) == 1, had.out
+    assert (had.status, had.faults) == (SAFE, "")
+    assert had.out.splitlines()[-1].endswith(", 1 of them unreadable"), had.out
+    assert len([it for it in had.out.splitlines() if it.startswith("client 127.0.0.1:50001: not judged after ")]) == 1, had.out
 
 
 def test_name_of_a_file_that_was_cut(tmp_path: Path) -> None:
@@ -198,16 +146,16 @@ def test_name_of_a_file_that_was_cut(tmp_path: Path) -> None:
         path = folder + b"/" + name
         with open(path, "wb") as stream:
             stream.write(KEPT[:len(KEPT) - 7])
-        had = ran("capture", [os.fsdecode(path)])
-        assert (had.status, had.faults) == (3, ""), had
-        assert not [it for it in had.out.splitlines() if it.startswith("opened 9")]
+        had = ran("capture", [os.fsdecode(path), "--record", tmp_path / "record"])
+        assert (had.status, had.faults) == (UNSAFE, ""), had
+        assert not [it for it in (tmp_path / "record").read_text(encoding="utf-8").splitlines() if it.startswith("opened 9")]
 
 
 @pytest.mark.parametrize("length", [1, 1 << 17])
 @pytest.mark.parametrize("words", [[], ["--port", "4450"]], ids=["unnamed", "named"])
 def test_server_on_another_port(words: list[str], length: int, tmp_path: Path) -> None:
     """It is read as one on port 445 is, whether its port is named or not, also where a message has 128 KiB and more."""
-    records = []
+    said = []
     for port in (445, 4450):
         made = Made()
         line = Line(made, 50001, server=port)
@@ -218,13 +166,13 @@ def test_server_on_another_port(words: list[str], length: int, tmp_path: Path) -
         line.asks(read(6, 11))
         line.answers(read_done(6, bytes(length)))
         had = ran("capture", [file_of(made, tmp_path), *words])
-        assert (had.status, had.faults) == (0, "")
-        records.append(had.out)
-    assert records[0] == records[1]
-    assert f"changed 1 1 1 0 {'00' * length}\n" in records[0]
+        assert (had.status, had.faults) == (SAFE, "")
+        said.append(had.out.replace(f"127.0.0.1:{port} ", "SERVER "))
+    assert said[0] == said[1]
+    assert "1 connections, 12 frames, 0 of them unreadable" in said[0]
 
 
-def test_several_sets_of_clients(tmp_path: Path) -> None:
+def test_several_files(tmp_path: Path) -> None:
     made = Made()
     lines = [Line(made, 50000 + number) for number in range(4)]
     for number, line in enumerate(lines, 1):
@@ -232,10 +180,10 @@ def test_several_sets_of_clients(tmp_path: Path) -> None:
     for number, (line, name) in enumerate(zip(lines, ("f", "g", "f", "h")), 1):
         line.opens(3, number, number, R | W | H, name=name)
     lines[0].asks(read(5, 1))
-    out = ran("capture", [file_of(made, tmp_path)]).out.splitlines()
-    verdicts = [re.sub(r"unsafe \d+", "unsafe", line) for line in out if re.match("# clients? [0-9, ]+ with", line)]
-    assert verdicts == ["# clients 1, 3 with share\\f: unsafe 1", "# client 2 with share\\g: safe",
-                        "# client 4 with share\\h: safe"]
+    lines[0].answers(read_done(5, b"abc"))
+    had = ran("capture", [file_of(made, tmp_path)])
+    verdicts = {found.group(1): found.group(2) for found in re.finditer(r"\\share\\(\w): (\w+)", had.out)}
+    assert (had.status, verdicts) == (UNSAFE, {"f": "unsafe", "g": "safe", "h": "safe"})
 
 
 REFUSED = {
@@ -260,7 +208,7 @@ def test_refused(words: list[str], content: bytes | None, status: int, beginning
     assert "Traceback" not in had.faults
 
 
-@pytest.mark.parametrize(("length", "status"), [(5001, 4), (12345, 4), (len(KEPT) - 7, 3)])
+@pytest.mark.parametrize(("length", "status"), [(5001, NOTHING_JUDGED), (12345, NOTHING_JUDGED), (len(KEPT) - 7, UNSAFE)])
 def test_capture_that_was_cut(length: int, status: int, tmp_path: Path) -> None:
     """The first two are cut before anybody has a lease."""
     path = tmp_path / "one.pcapng"

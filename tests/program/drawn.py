@@ -71,12 +71,15 @@ def edge(row: int) -> int:
 
 
 class Picture:
-    def __init__(self, text: str, facts: Sequence[Fact], messages: Sequence[str] = (), asked: Sequence[Asked] = ()) -> None:
-        """`messages` are those of the facts `sent` and `took`, in their order, where they are known."""
+    def __init__(self, text: str, facts: Sequence[Fact], messages: Sequence[str] = (), asked: Sequence[Asked] = (),
+                 comments: Sequence[str] = ()) -> None:
+        """`messages` are those of the facts `sent` and `took`, in their order, where they are known; `comments` are those before
+        facts, one for each."""
         self.root = xml.fromstring(text)
         self.facts = facts
         self.messages = messages
         self.asked = asked
+        self.comments = comments
         groups = self.root.findall(f"{SVG}g")
         self.marks = [it for it in groups if it.get("class") != "request"]
         self.requests = [it for it in groups if it.get("class") == "request"]
@@ -116,9 +119,16 @@ class Picture:
             assert (count.text, number(count, "x"), number(count, "y")) == (str(place), 8, y + 4), place
         assert next(messages, None) is None
 
+    def look_at_comments(self) -> None:
+        """Each stands in the row of its fact, to the right of the lanes."""
+        left = 60 + 300 * (len(self.clients) + 1) + 60
+        said = [(left, edge(row) + 16, words) for row, words in zip(self.rows, self.comments) if words]
+        remarks = [it for it in self.root.findall(f"{SVG}text") if it.get("class") == "remark"]
+        assert [(number(it, "x"), number(it, "y"), it.text) for it in remarks] == said
+
     def look_at_size(self) -> None:
-        """The picture holds all lanes, rows and notes."""
-        width = max(60 + 300 * (len(self.clients) + 1) + 60, 1020)
+        """The picture holds all lanes, rows and notes, and comments have a column of their own."""
+        width = max(60 + 300 * (len(self.clients) + 1) + 60, 1020) + (480 if any(self.comments) else 0)
         height = edge(self.rows[-1]) + 48 + 18 * len(self.notes()) + 24
         assert (number(self.root, "width"), number(self.root, "height")) == (width, height)
         assert self.root.get("viewBox") == f"0 0 {width} {height}"
@@ -210,6 +220,7 @@ class Picture:
         assert self.notes() == explained.splitlines(), (self.notes(), explained)
         self.look_at_marks([lines[int(it)] for it in re.findall(r"^line ([0-9]+): ", explained, re.M)])
         self.look_at_labels()
+        self.look_at_comments()
         self.look_at_size()
         self.look_at_requests()
         self.look_at_arrows()

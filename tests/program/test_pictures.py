@@ -25,13 +25,21 @@ def ran(text: bytes, *words: str) -> Ended:
     return run([*words, "-"], text)
 
 
+def comments_of(lines: list[str]) -> list[str]:
+    """Of each fact what the line before it says, where that is a comment, with what can't be shown as it is shown."""
+    pairs = [(was, it) for was, it in zip(["", *lines], lines) if it and not it.startswith("#")]
+    said = [was[1:].removeprefix(" ") if was.startswith("#") else "" for was, _ in pairs]
+    return [re.sub("[^ -~]", "\ufffd", it) for it in said]
+
+
 def check_record(text: bytes) -> None:
     drawn, explained = ran(text, "draw"), ran(text, "judge", "--explain")
     if explained.status not in (0, 3) and explained.faults:
         assert drawn == Ended(1, b"", explained.faults)
         return
     assert (drawn.status, drawn.faults) == (0, b""), text
-    Picture(drawn.out.decode(), facts_of(text.decode("latin-1").splitlines())).look_at(explained.out.decode())
+    lines = text.decode("latin-1").split("\n")
+    Picture(drawn.out.decode(), facts_of(lines), comments=comments_of(lines)).look_at(explained.out.decode())
 
 
 @pytest.mark.parametrize("path", ALL_RECORDS, ids=name_of)
