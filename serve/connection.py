@@ -13,7 +13,7 @@ from serve.machine import Handling, Task
 from serve.opens import MachineClient
 from serve.packets import (LONGEST_FRAME, LONGEST_WITHOUT_SESSION, MOST_IN_FRAME, Answer, Credits, Frames, RequestMessage,
                            Response, framed, split_compound)
-from serve.request import WITHOUT_SESSION, WITHOUT_TREE, Request
+from serve.request import WITHOUT_SESSION, Request
 from serve.sessions import ANY_DIALECT, Session, negotiated
 from serve.status_error import StatusError
 
@@ -194,15 +194,13 @@ class Connection(asyncio.Protocol):
         if failed:
             raise StatusError(failed)
         message = request.message
-        handler = self.server.handlers.get(message.command)
-        if handler is None:
+        if message.command not in self.server.handlers:
             raise StatusError(Status.NOT_SUPPORTED)
         if len(self._pending) > MOST_PENDING:
             raise StatusError(Status.INSUFFICIENT_RESOURCES)
         if message.command not in WITHOUT_SESSION:
             request.session.check_signature(message)
-        if message.command not in WITHOUT_TREE:
-            request.require_tree()
+        handler = self.server.handler(request)
         message.check_size()
         handled = handler(request)
         return handled if isinstance(handled, Answer) else (yield from handled)

@@ -29,8 +29,6 @@ class Vanished(Exception):
 class Create(Handlers):
     def create(self, request: Request) -> Handling:
         wanted = read_parameters(request.message)
-        if request.tree.is_pipe:
-            raise StatusError(Status.OBJECT_NAME_NOT_FOUND)
         if wanted.ask.reconnect is not None:
             return (yield from self._reconnect(request, wanted))
         check(wanted)

@@ -25,11 +25,12 @@ from serve.namespace import Namespace, now
 from serve.opens import OWN_FILE_IDS, LeaseSeen, MachineClient, Open
 from serve.packets import Answer
 from serve.password_brake import PasswordBrake
+from serve.pipes import Pipes
 from serve.query_directory import QueryDirectory
 from serve.query_info import QueryInfo
 from serve.read_write_lock import ReadWriteLock
 from serve.record import Record
-from serve.request import Request
+from serve.request import WITHOUT_TREE, Request
 from serve.sessions import Session, Sessions
 from serve.set_info import SetInfo
 from serve.status_error import StatusError
@@ -71,6 +72,7 @@ class Server:  # pylint: disable=too-many-instance-attributes  # its parts find 
         self.tree_ids, self.async_ids, self.own_file_ids = (itertools.count(it + 1) for it in (0, 0, OWN_FILE_IDS))
         self.leases = Leases(self)
         self.forced_breaks = ForcedBreaks(self)
+        self.pipes = Pipes(self)
         sessions, transfers = Sessions(self), ReadWriteLock(self)
         self.handlers: dict[Command | None, Callable[[Request], Answer | Handling]] = {
             Command.NEGOTIATE: sessions.negotiate, Command.SESSION_SETUP: sessions.set_up, Command.LOGOFF: sessions.log_off,
@@ -82,6 +84,15 @@ class Server:  # pylint: disable=too-many-instance-attributes  # its parts find 
             Command.QUERY_DIRECTORY: QueryDirectory(self).query, Command.IOCTL: QueryInfo.control,
             Command.CHANGE_NOTIFY: QueryInfo.notify,
         }
+
+    def handler(self, request: Request) -> Callable[[Request], Answer | Handling]:
+        """What handles a request, whose command has a handler. One without the tree that it needs is refused."""
+        command = request.message.command
+        if command in WITHOUT_TREE or not request.tree.is_pipe:
+            return self.handlers[command]
+        if command not in self.pipes.handlers:
+            raise StatusError(Status.INVALID_DEVICE_REQUEST)
+        return self.pipes.handlers[command]
 
     # What the machine gives out
 

@@ -20,6 +20,7 @@ from serve.status_error import StatusError
 
 if TYPE_CHECKING:
     from serve.connection import Connection
+    from serve.pipes import Pipe
     from serve.server import Server
 
 DIALECT, ANY_DIALECT = 0x0210, 0x02FF
@@ -36,6 +37,7 @@ MOST_SESSIONS, MOST_TREES = 64, 256
 class Tree:
     identifier: int
     is_pipe: bool
+    pipes: dict[int, Pipe] = field(default_factory=dict)
 
 
 @dataclass(eq=False)
