@@ -11,7 +11,7 @@
 #   make dist                   does that, and puts them into dist/
 #   make clean                  removes what was built here; what is proved stays
 #
-# CC, CFLAGS and LDFLAGS are heeded where the shared library is linked. Nothing else is compiled or linked here.
+# Nothing is compiled or linked here: the kit's compiler has done that.
 
 PREFIX ?= /usr/local
 BINDIR ?= $(PREFIX)/bin
@@ -38,22 +38,15 @@ HEADERS := $(notdir $(wildcard include/*.h))
 PAGES := CHANGELOG.md COPYING.md SECURITY.md $(patsubst %,docs/%.md,BUILDING C FORMATS MODEL PROFILE PROOF PYTHON REAL_SERVERS SESSIONS)
 EXAMPLES := $(patsubst examples/%,%,$(wildcard examples/*.txt examples/c/*.c examples/python/*.py))
 
-all: $(OUT)/libsmblease.so
-
 # What was made from these sources stands in one folder, which tools/current prints, and is copied only where it changed. Each file is made beside
 # its place and then moved there, since programs that are started at once may each have it made.
-$(OUT)/libsmblease.a: FORCE
+all: FORCE
 	@mkdir -p $(OUT)
-	@found=$$(tools/current) && for file in libsmblease.a leasecheck; do \
-	    cmp -s "$$found/$$file" $(OUT)/$$file || { cp "$$found/$$file" $(OUT)/$$file.$$$$ && mv $(OUT)/$$file.$$$$ $(OUT)/$$file; } || exit 1; done
-
-$(OUT)/$(SHARED): $(OUT)/libsmblease.a include/smblease.map
-	$(CC) $(CFLAGS) -shared -Wl,-soname,$(SONAME) -Wl,--version-script=include/smblease.map -Wl,-z,defs -Wl,-z,noexecstack \
-	    -o $@.$$$$ -Wl,--whole-archive $(OUT)/libsmblease.a -Wl,--no-whole-archive $(LDFLAGS) && mv $@.$$$$ $@
-
-$(OUT)/libsmblease.so: $(OUT)/$(SHARED)
-	ln -s $(SHARED) $(OUT)/$(SONAME).$$$$ && mv -T $(OUT)/$(SONAME).$$$$ $(OUT)/$(SONAME)
-	ln -s $(SONAME) $@.$$$$ && mv -T $@.$$$$ $@
+	@found=$$(tools/current) && for made in leasecheck libsmblease.a $(SHARED); do \
+	    file=$$found/$$(echo $$made | sed 's/\.so\..*/.so/'); \
+	    cmp -s "$$file" $(OUT)/$$made || { cp "$$file" $(OUT)/$$made.$$$$ && mv $(OUT)/$$made.$$$$ $(OUT)/$$made; } || exit 1; done
+	@ln -s $(SHARED) $(OUT)/$(SONAME).$$$$ && mv -T $(OUT)/$(SONAME).$$$$ $(OUT)/$(SONAME)
+	@ln -s $(SONAME) $(OUT)/libsmblease.so.$$$$ && mv -T $(OUT)/libsmblease.so.$$$$ $(OUT)/libsmblease.so
 
 install: all
 	mkdir -p "$(DESTDIR)$(BINDIR)" "$(DESTDIR)$(LIBDIR)/pkgconfig" "$(DESTDIR)$(INCLUDEDIR)"
@@ -99,8 +92,8 @@ prove:
 dist: prove
 	mkdir -p $(DIST)
 	rm -f $(DIST)/*
-	cp out/proved/leasecheck out/proved/libsmblease.a out/proved/SOURCES $(DIST)/
-	cd $(DIST) && sha256sum leasecheck libsmblease.a > SHA256SUMS
+	cp out/proved/leasecheck out/proved/libsmblease.a out/proved/libsmblease.so out/proved/SOURCES $(DIST)/
+	cd $(DIST) && sha256sum leasecheck libsmblease.a libsmblease.so > SHA256SUMS
 
 clean:
 	rm -rf $(OUT)

@@ -3,7 +3,6 @@ from __future__ import annotations
 
 import ctypes
 import os
-import subprocess
 from typing import Any, Iterator
 
 from smblease import _functions
@@ -19,19 +18,12 @@ HERE = os.path.dirname(os.path.realpath(__file__))
 # What an installed package brings, and where the package stands in the repository.
 BROUGHT = os.path.join(HERE, "libsmblease.so")
 TOP = os.path.dirname(os.path.dirname(HERE))
-LINKED = os.path.join(TOP, "out", "c", "libsmblease.so")
-ARCHIVES = [os.path.join(TOP, folder, "libsmblease.a") for folder in ("dist/x86_64-linux", "out/proved")]
+MADE = [os.path.join(TOP, folder, "libsmblease.so") for folder in ("out/proved", "dist/x86_64-linux")]
 
 
-def _linked() -> str:
-    """The library of the repository, which `make` links from the archive where it isn't there or is older."""
-    made = [os.path.getmtime(it) for it in ARCHIVES if os.path.exists(it)]
-    if not os.path.exists(LINKED) or os.path.getmtime(LINKED) < max(made, default=0.0):
-        done = subprocess.run(["make", "--silent", "-C", TOP], stdout=subprocess.DEVNULL, check=False)
-        # (what is the same as before isn't linked again, and isn't to be asked for again either)
-        if done.returncode == 0:
-            os.utime(LINKED)
-    return LINKED
+def _made() -> list[str]:
+    """The libraries of the repository, the newest first."""
+    return sorted((it for it in MADE if os.path.exists(it)), key=os.path.getmtime, reverse=True)
 
 
 def _places() -> Iterator[str]:
@@ -42,7 +34,7 @@ def _places() -> Iterator[str]:
     if os.path.exists(BROUGHT):
         yield BROUGHT
     if os.path.exists(os.path.join(TOP, "include", "smblease.h")):
-        yield _linked()
+        yield from _made()
     yield SONAME
 
 

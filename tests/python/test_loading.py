@@ -5,7 +5,6 @@ import os
 import shutil
 import subprocess
 import sys
-from concurrent.futures import ThreadPoolExecutor
 from pathlib import Path
 from types import SimpleNamespace
 from typing import Any
@@ -16,6 +15,7 @@ from smblease import _library
 from tests.paths import TOP
 
 BUILT = f"{TOP}/out/c/libsmblease.so"
+PROVED, DIST = "out/proved", "dist/x86_64-linux"
 REMEDY = (" To have it, run `make install` or `pip install --no-build-isolation .` at the top of the repository, or set"
           " SMBLEASE_LIBRARY to the path of its libsmblease.so")
 
@@ -65,25 +65,31 @@ def test_a_library_that_the_package_brings(tmp_path: Path) -> None:
     assert loaded(tmp_path) == (0, str(tmp_path / "smblease/libsmblease.so"))
 
 
-def test_the_library_of_the_repository() -> None:
-    assert loaded() == (0, BUILT)
+def repository(folder: Path, *places: str) -> Path:
+    """The packages of a repository with the library at these places, of which each is newer than the one before."""
+    (folder / "include").mkdir(parents=True)
+    (folder / "include/smblease.h").touch()
+    shutil.copytree(TOP / "python", folder / "python")
+    for age, place in enumerate(reversed(places)):
+        made = folder / place / "libsmblease.so"
+        made.parent.mkdir(parents=True)
+        shutil.copy(BUILT, made)
+        os.utime(made, (2e9 - age, 2e9 - age))
+    return folder / "python"
 
 
-def test_a_library_that_several_programs_want_at_once(tmp_path: Path) -> None:
-    """In a fresh clone, whose path has a space, each of them has it linked, and finds a whole one."""
-    clone = tmp_path / "a clone"
-    clone.mkdir()
-    for name in ("python", "include", "tools", "dist", "crates", "Makefile", "crates.txt", "kit.txt"):
-        if (TOP / name).is_dir():
-            shutil.copytree(TOP / name, clone / name, ignore=shutil.ignore_patterns("out", "__pycache__"))
-        else:
-            shutil.copy2(TOP / name, clone / name)
-    # (where dist/ is older than the sources, what was proved here serves)
-    if (TOP / "out/proved").is_dir():
-        shutil.copytree(TOP / "out/proved", clone / "out/proved")
-    with ThreadPoolExecutor() as pool:
-        ended = list(pool.map(loaded, [clone / "python"] * 6))
-    assert ended == [(0, str(clone / "out/c/libsmblease.so"))] * 6
+@pytest.mark.parametrize("places", [[DIST], [PROVED], [DIST, PROVED], [PROVED, DIST]], ids="-".join)
+def test_the_library_of_a_repository(tmp_path: Path, places: list[str]) -> None:
+    """The newer one is taken of what was proved there and what it came with, wherever it stands; nothing is linked."""
+    packages = repository(tmp_path / "a clone", *places)
+    assert loaded(packages, PATH="/nowhere") == (0, str(packages.parent / places[-1] / "libsmblease.so"))
+
+
+def test_a_library_that_does_not_run_here(tmp_path: Path) -> None:
+    """The other one of the repository serves."""
+    packages = repository(tmp_path, PROVED, DIST)
+    (tmp_path / DIST / "libsmblease.so").write_bytes(b"no library")
+    assert loaded(packages) == (0, str(tmp_path / PROVED / "libsmblease.so"))
 
 
 @pytest.mark.parametrize("major, minor", [(0, 2), (0, 3)])
