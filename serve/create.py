@@ -190,11 +190,13 @@ class Create(Handlers):
     def _machine_client(self, request: Request, wanted: CreateParameters, node: Node) -> tuple[MachineClient, bytes]:
         """Who asks the machine, and with which contexts: an oplock is a lease under a key of its own."""
         has_lease = any(it.client is request.client and it.key for it in node.opens)
+        contexts = wanted.lease_contexts(any(it.has_oplock for it in node.opens))
         if wanted.level == NO_LEVEL and self._server.settings.is_apart and has_lease:
             who = f"an open of client {request.client.number} without a lease"
-            return self._server.borrow(request.connection, who), wanted.lease_contexts
-        if wanted.level in (LEASE, NO_LEVEL) or not self._server.clients.has_room_for_oplock:
-            return request.client, wanted.lease_contexts
+            return self._server.borrow(request.connection, who), contexts
+        has_handles = any(it.lease and LeaseState.H in it.lease.state and not it.has_oplock for it in node.opens)
+        if wanted.level in (LEASE, NO_LEVEL) or has_handles or not self._server.clients.has_room_for_oplock:
+            return request.client, contexts
         others = any(it.client and (it.is_connected or not self._may_write(it)) for it in node.opens)
         state = LeaseState.R if others else oplock_state(wanted.level)
         client = self._server.borrow(request.connection, f"an oplock of client {request.client.number}")
@@ -203,8 +205,7 @@ class Create(Handlers):
 
     @staticmethod
     def _may_write(opened: Open) -> bool:
-        lease = opened.client.leases.get(opened.key) if opened.client and opened.key else None
-        return bool(lease and LeaseState.W in lease.state)
+        return bool(opened.lease and LeaseState.W in opened.lease.state)
 
     def _granted(self, request: Request, wanted: CreateParameters, node: Node, client: MachineClient,
                  reply: Reply) -> tuple[Open, bytes]:

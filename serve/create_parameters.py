@@ -2,7 +2,7 @@
 from __future__ import annotations
 
 import itertools
-from dataclasses import dataclass
+from dataclasses import dataclass, replace
 from uuid import UUID
 
 from smblease import Access, CreateAsk, CreateRequest, Fault, LeaseState, Share, Status, each_context
@@ -21,6 +21,8 @@ SUPERSEDED, OPENED, CREATED, OVERWRITTEN = range(4)
 KEPT_ATTRIBUTES = 0x1 | 0x2 | 0x4 | 0x20 | 0x100 | 0x2000
 MOST_CONTEXTS = 32
 MOST_ACCESS, ON_DISK, ALLOCATION = b"MxAc", b"QFid", b"AlSi"
+# A client that knows durable handles of version 2 may send only that when it connects one of version 1 again.
+RECONNECT_2 = b"DH2C"
 RWH = LeaseState.of("RWH")
 OPLOCK_STATES = {NO_LEVEL: LeaseState.NONE, LEVEL_II: LeaseState.R, EXCLUSIVE: LeaseState.of("RW"), BATCH: RWH}
 
@@ -52,12 +54,14 @@ class CreateParameters:
     def empties(self) -> bool:
         return self.disposition in EMPTYING
 
-    @property
-    def lease_contexts(self) -> bytes:
-        """The contexts as they came, but for a lease that the level doesn't ask for."""
-        if self.level == LEASE or self.ask.key is None:
-            return self.contexts
-        return CreateAsk(durable=self.ask.durable, reconnect=self.ask.reconnect).write()
+    def lease_contexts(self, has_oplock: bool) -> bytes:
+        """The contexts as they came, but for a lease that the level doesn't ask for; and for handles, where another open has an
+        oplock."""
+        if self.level != LEASE and self.ask.key is not None:
+            return CreateAsk(durable=self.ask.durable, reconnect=self.ask.reconnect).write()
+        if has_oplock and LeaseState.H in self.ask.state:
+            return CreateAsk(self.ask.key, self.ask.state & ~LeaseState.H, self.ask.durable).write()
+        return self.contexts
 
     def machine_request(self, node: Node, contexts: bytes) -> CreateRequest:
         """Access and share as the machine has them. Who empties a file writes it; who holds a lease alone reads."""
@@ -76,6 +80,10 @@ def read_parameters(message: RequestMessage) -> CreateParameters:
         ask, others = CreateAsk.read(text), {it.name: it.data for it in contexts}
     except Fault as fault:
         raise StatusError(Status(fault.status)) from None
+    again = others.get(RECONNECT_2, b"")
+    if ask.reconnect is None and len(again) == 36:
+        ask = replace(ask, reconnect=int.from_bytes(again[:8], "little"))
+        text = ask.write()
     share, disposition, options = (message.number(HEADER + place, 4) for place in (32, 36, 40))
     return CreateParameters(path_of(create_name(message)), specific(message.number(HEADER + 24, 4)), share, disposition, options,
                             message.number(HEADER + 28, 4), message.number(HEADER + 3, 1), message.number(HEADER + 4, 4), text,

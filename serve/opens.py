@@ -93,6 +93,15 @@ class Open:  # pylint: disable=too-many-instance-attributes  # it has the state 
     def is_connected(self) -> bool:
         return self.connection is not None
 
+    @property
+    def lease(self) -> LeaseSeen | None:
+        """Its lease, or that by which the machine has its oplock."""
+        return self.client.leases.get(self.key) if self.client and self.key else None
+
+    @property
+    def has_oplock(self) -> bool:
+        return self.level in (LEVEL_II, EXCLUSIVE, BATCH)
+
 
 @dataclass(eq=False)
 class LeaseSeen:

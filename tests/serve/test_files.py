@@ -2,7 +2,7 @@
 from __future__ import annotations
 
 import pytest
-from smblease import Status
+from smblease import CreateAnswer, LeaseState, Status
 
 from drive.headers import Command, Message
 from serve.create_parameters import CREATE, DELETE_ON_CLOSE, OPEN, OVERWRITE, OVERWRITE_IF
@@ -99,6 +99,26 @@ def test_oplocks(served: ServerProcess, connect: Connect) -> None:
     assert (done.status, done.number(66, 1)) == (Status.SUCCESS, LEVEL_II)
     other.ask(write(done.number(128, 8)))
     assert one.receive().number(66, 1) == 0
+
+
+def test_an_oplock_beside_handles(served: ServerProcess, connect: Connect) -> None:
+    """There is none while a lease holds handles, and one of level II once it doesn't."""
+    one, other = connect(served), connect(served)
+    first = one.open(leased("file", KEY, "RH"))
+    assert other.ask(create("file", level=BATCH)).number(66, 1) == 0
+    one.ask(close(first))
+    one.open(leased("file", KEY, "R"))
+    assert other.ask(create("file", level=BATCH)).number(66, 1) == LEVEL_II
+
+
+@pytest.mark.parametrize("asked, granted", [("RH", "R"), ("RWH", "R"), ("R", "R")])
+def test_a_lease_beside_an_oplock(served: ServerProcess, connect: Connect, asked: str, granted: str) -> None:
+    """It holds no handles."""
+    from tests.serve.wire_client import contexts_of  # pylint: disable=import-outside-toplevel
+    one, other = connect(served), connect(served)
+    assert one.ask(create("file", level=LEVEL_II)).number(66, 1) == LEVEL_II
+    answer = CreateAnswer.read(contexts_of(other.ask(leased("file", KEY, asked, durable=True))))
+    assert (answer.state, answer.durable) == (LeaseState.of(granted), False)
 
 
 @pytest.mark.parametrize("access, expected", [

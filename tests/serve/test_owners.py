@@ -2,10 +2,11 @@
 from __future__ import annotations
 
 import socket
+import struct
 from typing import TYPE_CHECKING
 
 import pytest
-from smblease import CreateAsk, LeaseState, Status
+from smblease import Context, CreateAsk, LeaseState, Status, append_context
 
 from drive.headers import Command, Message
 from serve.server_process import ServerProcess
@@ -63,6 +64,18 @@ def test_a_durable_oplock_of_another(served: ServerProcess, connect: Connect) ->
     other.connect_tree()
     assert other.status(again) == Status.ACCESS_DENIED
     assert connect(served).status(again) == Status.SUCCESS
+
+
+@pytest.mark.parametrize("more, expected", [(0, Status.SUCCESS), (1, Status.OBJECT_NAME_NOT_FOUND)])
+def test_a_durable_open_by_version_2(served: ServerProcess, connect: Connect, more: int, expected: Status) -> None:
+    """Where a client sends `DH2C` alone, its FileId counts (2.2.13.2.12)."""
+    guid = b"9" * 16
+    one = connect(served, guid)
+    number = one.open(leased("file", KEY, "RWH", durable=True))
+    one.close()
+    again = Context(b"DH2C", struct.pack("<QQ16sL", number + more, number + more, b"any", 0))
+    contexts = append_context(CreateAsk(KEY, LeaseState.NONE).write(), again)
+    assert connect(served, guid).status(create("file", level=0xFF, contexts=contexts)) == expected
 
 
 def test_a_durable_lease_of_another(served: ServerProcess, connect: Connect) -> None:
