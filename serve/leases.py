@@ -2,6 +2,7 @@
 from __future__ import annotations
 
 import struct
+from typing import TYPE_CHECKING
 from uuid import UUID
 
 from smblease import (AcknowledgeDone, AcknowledgeRequest, Acknowledgment, CreateAnswer, Fault, LeaseState, Notification,
@@ -15,6 +16,9 @@ from serve.opens import LEVEL_II, NO_LEVEL, LeaseSeen, MachineClient, Open
 from serve.packets import Answer
 from serve.request import Handlers, Request
 from serve.status_error import StatusError
+
+if TYPE_CHECKING:
+    from serve.connection import Connection
 
 OPLOCK = struct.Struct("<HBBLQQ")
 
@@ -32,7 +36,7 @@ class Leases(Handlers):
     def broken(self, client: MachineClient, message: bytes) -> None:
         notification = Notification.read(message)
         lease, state = client.leases.get(notification.key), notification.new
-        if lease is None or client.connection is None:
+        if lease is None or not client.is_connected:
             # It is on its way to a client that is cut already.
             return
         if notification.ack_required:
@@ -45,7 +49,12 @@ class Leases(Handlers):
         if client.open:
             self._oplock_broken(client.open, state, notification.ack_required)
         else:
-            client.connection.notify(message)
+            self._connection_of(client, notification.key).notify(message)
+
+    def _connection_of(self, client: MachineClient, key: UUID) -> Connection:
+        """Where a break is sent: over the connection of an open under the key, if there is one (3.3.4.7)."""
+        opened = (it.connection for it in self._server.opens.values() if it.client is client and it.key == key and it.connection)
+        return next(opened, client.connections[0])
 
     def _oplock_broken(self, opened: Open, state: LeaseState, is_acknowledged: bool) -> None:
         """What is left of an oplock is level II, where its lease may still be read under."""

@@ -27,7 +27,7 @@ class MachineClients:
         return next((it for it in self._by_number.values() if it.guid == guid), None)
 
     def of(self, connection: Connection) -> list[MachineClient]:
-        return [it for it in self._by_number.values() if it.connection is connection]
+        return [it for it in self._by_number.values() if connection in it.connections]
 
     @property
     def is_full(self) -> bool:
@@ -35,14 +35,14 @@ class MachineClients:
 
     def _idle(self) -> MachineClient | None:
         """A client of a ClientGuid that has left nothing."""
-        return next((it for it in self._by_number.values() if it.guid and not it.connection and not it.leases), None)
+        return next((it for it in self._by_number.values() if it.guid and not it.is_connected and not it.leases), None)
 
     @property
     def has_room_for_oplock(self) -> bool:
         return sum(it.guid is None for it in self._by_number.values()) < MOST_OPLOCKS
 
     def longest_away(self) -> MachineClient | None:
-        away = [it for it in self._by_number.values() if it.connection is None]
+        away = [it for it in self._by_number.values() if not it.is_connected]
         return min(away, key=lambda it: it.left) if away else None
 
     def take(self, guid: bytes | None) -> MachineClient:

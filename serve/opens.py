@@ -122,16 +122,23 @@ class MachineClient:
 
     number: int
     guid: bytes | None = None
-    connection: Connection | None = None
+    # a ClientGuid may have several at a time
+    connections: list[Connection] = field(default_factory=list)
     open: Open | None = None
     leases: dict[UUID, LeaseSeen] = field(default_factory=dict)
     writes: int = 0
     sent: int = 0
     took: int = 0
-    # when its connection was lost
+    # it had several connections, so that it isn't known in which order it takes messages
+    has_strayed: bool = False
+    # when its last connection was lost
     left: float = 0.0
     # the key of an oplock's lease
     own_key: UUID = field(default_factory=lambda: UUID(bytes=b"oplock" + os.urandom(10)))
+
+    @property
+    def is_connected(self) -> bool:
+        return bool(self.connections)
 
     def next_write(self, file_id: int, offset: int, data: bytes) -> WriteRequest:
         self.writes += 1

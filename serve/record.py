@@ -47,6 +47,13 @@ class Record:
         client.sent = client.took = 0
         self.fact(f"joined {client.number}")
 
+    def strayed(self, client: MachineClient) -> None:
+        """A client has one more connection: nothing is promised to it from here on."""
+        if not client.has_strayed:
+            client.has_strayed = True
+            self.remark(f"client {client.number} has several connections")
+            self.fact(f"strayed {client.number}")
+
     def dropped(self, client: MachineClient) -> None:
         self.fact(f"dropped {client.number}")
         for lease in list(client.leases.values()):
@@ -58,7 +65,7 @@ class Record:
 
     def took(self, client: MachineClient, message: int) -> None:
         """The client has taken a message by now, and so each one before it."""
-        while client.took < message:
+        while client.took < message and not client.has_strayed:
             client.took += 1
             self.fact(f"took {client.number}")
 

@@ -75,9 +75,9 @@ class Request:
     def find(self) -> Open | None:
         """The request's open. A FileId that the shell doesn't know is left to the machine."""
         found = self.server.opens.get(self.file_id())
-        if found is None or found.connection is not self.connection:
+        if found is None or found.connection is not self.connection and found.client is not self.connection.client:
             return None
-        if found.session is not self.session or found.tree is not self.tree:
+        if found.connection is not self.connection or found.session is not self.session or found.tree is not self.tree:
             raise StatusError(Status.FILE_CLOSED)
         return found
 

@@ -117,7 +117,7 @@ class Server:  # pylint: disable=too-many-instance-attributes  # its parts find 
         """A client that is cut may have been answered by what another one's cut set free. Nobody would have an open that is
         kept then, so it is closed."""
         found = self.clients.numbered(client)
-        if found and found.connection:
+        if found and found.is_connected:
             return False
         if isinstance(reply, Created):
             self.machine.say(f"scavenge {reply.file_id}")
@@ -155,14 +155,16 @@ class Server:  # pylint: disable=too-many-instance-attributes  # its parts find 
     # Who is connected
 
     def connect_client(self, connection: Connection) -> None:
-        """A client is connected, once at a time (profile)."""
+        """All connections of a ClientGuid are one client."""
         if connection.client or connection.guid is None:
             return
         client = self.clients.of_guid(connection.guid) or self._take_client(connection.guid)
-        if client.connection:
-            raise StatusError(Status.REQUEST_NOT_ACCEPTED)
         connection.client = client
-        self.join_machine(client, connection, str(uuid.UUID(bytes=connection.guid)))
+        if client.is_connected:
+            client.connections.append(connection)
+            self.record.strayed(client)
+        else:
+            self.join_machine(client, connection, str(uuid.UUID(bytes=connection.guid)))
 
     def _take_client(self, guid: bytes | None) -> MachineClient:
         """Where all are taken, the one that has been away longest loses what it left."""
@@ -172,7 +174,7 @@ class Server:  # pylint: disable=too-many-instance-attributes  # its parts find 
         return self.clients.take(guid)
 
     def end_session(self, session: Session) -> None:
-        """With the last one its client is gone."""
+        """With the last one of a client's last connection the client is gone."""
         connection = session.connection
         connection.sessions.pop(session.identifier, None)
         self.sessions.pop(session.identifier, None)
@@ -181,22 +183,29 @@ class Server:  # pylint: disable=too-many-instance-attributes  # its parts find 
 
     def _disconnect_client(self, connection: Connection, client: MachineClient) -> None:
         opens = [it for it in self.opens.values() if it.connection is connection]
-        cut = [client, *(it for it in self.clients.of(connection) if it is not client)]
+        connected = [client, *(it for it in self.clients.of(connection) if it is not client)]
         connection.client = None
+        for one in connected:
+            one.connections.remove(connection)
+        cut = [it for it in connected if not it.is_connected]
         for one in cut:
-            one.connection, one.left = None, time.monotonic()
+            one.left = time.monotonic()
             self.record.dropped(one)
             self.machine.say(f"cut {one.number}")
         for opened in opens:
-            self._keep_or_forget(opened)
+            self._leave(opened)
         for opened in [it for it in opens if it.file_id in self.opens][:-MOST_KEPT]:
             self.scavenge(opened.file_id)
         self.machine.abandon({it.number for it in cut}, Status.USER_SESSION_DELETED)
         self.settle()
 
-    def _keep_or_forget(self, opened: Open) -> None:
+    def _leave(self, opened: Open) -> None:
+        """An open of a connection that is over: it is closed where its client has another one, else kept or forgotten."""
         opened.connection = opened.session = opened.tree = None
         opened.is_breaking = False
+        if opened.client and opened.client.is_connected:
+            self.start(self.close_open(opened))
+            return
         if not self.is_kept(opened):
             self.forget_open(opened)
             return
@@ -266,7 +275,7 @@ class Server:  # pylint: disable=too-many-instance-attributes  # its parts find 
     def free(self, client: MachineClient) -> None:
         """A client that was there for one open isn't needed any more."""
         client.open = None
-        if client.connection:
+        if client.is_connected:
             self.record.dropped(client)
             self.machine.say(f"cut {client.number}")
         self.clients.free(client)
@@ -278,7 +287,7 @@ class Server:  # pylint: disable=too-many-instance-attributes  # its parts find 
         return client
 
     def join_machine(self, client: MachineClient, connection: Connection, who: str) -> None:
-        client.connection = connection
+        client.connections = [connection]
         self.record.joined(client, who)
         self.machine.say(f"join {client.number}")
 

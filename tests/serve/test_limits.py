@@ -8,7 +8,6 @@ import pytest
 from smblease import Status
 
 from drive.faults import DriveFault
-from drive.headers import Command
 from serve.create_parameters import DELETE_ON_CLOSE, OVERWRITE_IF
 from serve.server_process import ServerProcess
 from tests.serve.conftest import Connect
@@ -53,15 +52,6 @@ def test_the_end_of_a_file(served: ServerProcess, connect: Connect, size: int, e
     file_id = one.open(create("file"))
     one.ask(write(file_id))
     assert one.status(set_info(file_id, END_OF_FILE, struct.pack("<Q", size))) == expected
-
-
-def test_a_second_connection_of_a_client(served: ServerProcess, connect: Connect) -> None:
-    """It is refused, and one is taken again once the first is lost."""
-    first = connect(served, b"2" * 16)
-    with pytest.raises(DriveFault, match="REQUEST_NOT_ACCEPTED"):
-        connect(served, b"2" * 16)
-    first.close()
-    assert connect(served, b"2" * 16).status((Command.ECHO, struct.pack("<HH", 4, 0))) == Status.SUCCESS
 
 
 def test_clients(served: ServerProcess, connect: Connect) -> None:
