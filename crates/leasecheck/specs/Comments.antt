@@ -1,5 +1,5 @@
 -- What a record says of its facts: the comment on the line before each.
-use Rattle.std.specs.Prelude.{ℕ, ◌==◌, Bool, List, [], ◌∷◌, if◌then◌else◌}
+use Rattle.std.specs.Prelude.{ℕ, ◌==◌, List, [], ◌∷◌, if◌then◌else◌}
 use Rattle.lease_texts.specs.Pieces.{lines_of}
 use Rattle.lease_texts.specs.Reading.{is_passed_over}
 

@@ -11,7 +11,7 @@ use Rattle.manager_model.specs.Decisions.{Decision, told_of}
 use Rattle.manager_model.specs.Ending.{EndsAreTold, EndsByWithdrawalAreTold, IsToldOf, Waited, WasAsked}
 use Rattle.manager_model.specs.Handling.{Handling, Manager, Pass, Tagged, ended_between, ends, gone_on, handling, is_of}
 use Rattle.manager_model.specs.Handling.{is_open, is_under}
-use Rattle.manager_model.specs.Handling.{held_in, left_to_wait, left_waiting, lost, one_pass, pass_answered, tagged_of}
+use Rattle.manager_model.specs.Handling.{held_in, left_to_wait, lost, one_pass, tagged_of}
 use Rattle.manager_model.specs.Handling as rules
 use Rattle.manager_model.specs.Hosting.{Coming, managed}
 use Rattle.manager_model.proofs.ends.Told.{AreTold, answers_told, begins_told, ends_told, has_number, told_more}

@@ -4,7 +4,7 @@ use Rattle.lease_laws.proofs.Words.{⊎_elim, [], ap}
 use Rattle.lease_laws.proofs.Words.{arith, eqb-true, false, if◌then◌else◌, inl, inr, length, numbers_to, refl, subst, suc, sym}
 use Rattle.lease_laws.proofs.Words.{nat_tests, true, zero}
 use Rattle.lease_laws.proofs.server.Lists.{clash, either}
-use Rattle.manager_model.specs.Handling.{Handling, Pass, Tagged, last_file, one_pass}
+use Rattle.manager_model.specs.Handling.{Handling, Pass, Tagged, one_pass}
 use Rattle.manager_model.specs.Handling as rules
 use Rattle.manager_model.specs.Laws.{FilesAreEnough}
 use Rattle.manager_model.specs.Waiting.{AreAbove}

@@ -4,7 +4,6 @@ use Rattle.lease_laws.proofs.Words.{is_behind, refl, subst, suc, sym, tried, tru
 use Rattle.lease_laws.proofs.server.Lists.{either}
 use Rattle.manager_model.specs.Handling.{Handling, Pass, Tagged, after_try, ends, gone_on, held_in, left_waiting, one_pass}
 use Rattle.manager_model.specs.Handling.{pass_answered}
-use Rattle.manager_model.specs.Handling.{queued}
 use Rattle.manager_model.specs.Handling as rules
 
 abbrev pub try_of : Tagged → Handling → Tried

@@ -1,4 +1,4 @@
-use Rattle.std.proofs.Common.{◌∙◌, List, [], subst, sym}
+use Rattle.std.proofs.Common.{List, subst, sym}
 use Rattle.capture_texts.proofs.Remaining.{Left, at_first, none_left, with_one}
 use Rattle.capture_texts.specs.Names.{names_in}
 use Rattle.capture_texts.specs.declared.names.MessageName.{MessageName}

@@ -1,4 +1,4 @@
-use Rattle.lease_laws.proofs.Words.{◌≡◌, ◌++◌, ◌∙◌, [], List, ap, subst, ℕ, sym}
+use Rattle.lease_laws.proofs.Words.{◌≡◌, ◌++◌, ◌∙◌, [], List, ap, subst, ℕ}
 use Rattle.std.proofs.Common.{codes}
 use Rattle.std.proofs.lemmas.List.{append_assoc}
 use Rattle.capture_texts.specs.Reports.{IsReport, verdict_of}

@@ -1,5 +1,4 @@
 use Rattle.std.proofs.Common.{◌≡◌, ◌+◌, ◌∙◌, ℕ, List, ap, ap₂, arith, length, map, min, refl}
-use Rattle.record_pictures.specs.Lanes.{size_for}
 use Rattle.record_pictures.specs.Remarks.{widened, words_of}
 use Rattle.record_pictures.specs.Requests.{asked_from}
 use Rattle.record_pictures.specs.declared.picture.Remark.{Remark}
