@@ -32,7 +32,7 @@ impl Tally {
     }
 }
 
-struct LeaseRecord { file: u8, lease: Lease, tally: Tally }
+struct LeaseRecord { file: FileNo, lease: Lease, tally: Tally }
 
 // What is marked of a lease: it holds W, and it hinders no write under another key.
 #[derive(PartialEq)]
@@ -65,9 +65,9 @@ impl Summary {
 
 struct Tables {
     opens: BTreeMap<u64, Open>,
-    left: BTreeMap<(u8, u8), BTreeSet<u64>>,
+    left: BTreeMap<(ClientNo, FileNo), BTreeSet<u64>>,
     leases: BTreeMap<Key, LeaseRecord>,
-    files: BTreeMap<u8, Summary>,
+    files: BTreeMap<FileNo, Summary>,
 }
 
 impl Tables {
@@ -139,13 +139,15 @@ impl Tables {
         }
     }
 
-    fn close_left(&mut self, key: Key) {
-        let Some(record) = self.leases.get(&key) else { return };
-        let Some(ids) = self.left.get(&(key.0, record.file)) else { return };
+    // The FileIds of those that were closed.
+    fn close_left(&mut self, key: Key) -> Vec<u64> {
+        let Some(record) = self.leases.get(&key) else { return Vec::new() };
+        let Some(ids) = self.left.get(&(key.0, record.file)) else { return Vec::new() };
         let ids: Vec<u64> = ids.iter().copied().filter(|fid| self.opens.get(fid).is_some_and(|one| one.has(key))).collect();
-        for fid in ids {
-            self.close(fid);
+        for fid in &ids {
+            self.close(*fid);
         }
+        ids
     }
 
     fn connect_again(&mut self, fid: u64) {
@@ -160,21 +162,21 @@ impl Tables {
         }
     }
 
-    fn is_elsewhere(&self, key: Key, file: u8) -> bool {
+    fn is_elsewhere(&self, key: Key, file: FileNo) -> bool {
         self.leases.get(&key).is_some_and(|record| record.file != file)
     }
 
-    fn has_other_on(&self, own: Option<Key>, file: u8) -> bool {
+    fn has_other_on(&self, own: Option<Key>, file: FileNo) -> bool {
         self.files.get(&file).is_some_and(|summary| {
             summary.keyless > 0 || summary.keys.len() > usize::from(own.is_some_and(|key| summary.keys.contains(&key)))
         })
     }
 
-    fn has_conflict_on(&self, file: u8, access: Access, share: Share) -> bool {
+    fn has_conflict_on(&self, file: FileNo, access: Access, share: Share) -> bool {
         self.files.get(&file).is_some_and(|summary| summary.tally.conflicts(access, share))
     }
 
-    fn is_hindered(&self, own: Option<Key>, file: u8) -> bool {
+    fn is_hindered(&self, own: Option<Key>, file: FileNo) -> bool {
         self.files.get(&file).is_some_and(|summary| summary.is_hindered(own))
     }
 
@@ -188,7 +190,7 @@ impl Tables {
         }
     }
 
-    fn wanted(&self, wish: Wish, own: Option<Key>, file: u8) -> Vec<Key> {
+    fn wanted(&self, wish: Wish, own: Option<Key>, file: FileNo) -> Vec<Key> {
         let Some(summary) = self.files.get(&file) else { return Vec::new() };
         let keys = if matches!(wish, Wish::NoWrites) { &summary.writers } else { &summary.keys };
         keys.iter().copied().filter(|key| self.is_wanted(wish, own, *key)).collect()

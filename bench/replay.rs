@@ -6,6 +6,7 @@ use std::fs;
 use std::io::{self, Write as _};
 use std::process::exit;
 
+include!("plain_values.rs");
 include!("plain_server.rs");
 include!("plain_records.rs");
 include!("plain_judge.rs");

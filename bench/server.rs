@@ -2,6 +2,7 @@
 use std::env;
 use std::process::exit;
 
+include!("plain_values.rs");
 include!("plain_server.rs");
 #[cfg(not(records))]
 include!("plain_lists.rs");

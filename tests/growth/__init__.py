@@ -1,1 +1,1 @@
-"""How the cost of `leasecheck judge`, `judge --explain`, `draw`, `replay` and `client` grows with their input."""
+"""How the cost of `leasecheck judge`, `judge --explain`, `draw`, `replay`, `client` and `server` grows with their input."""

@@ -31,6 +31,8 @@ class Family:
     most_memory: Optional[int] = None
     # The largest exponent that is wanted.
     most_exponent: float = LINEAR
+    # Why the exponent is above that; empty where it isn't.
+    above: str = ""
 
     def sizes(self, divisor: int) -> list[int]:
         """Four sizes, each twice the one before."""
@@ -46,7 +48,7 @@ class Family:
     @property
     def is_spoken(self) -> bool:
         """Whether the input is given line by line, on standard input, and not as a file."""
-        return self.command == "client"
+        return self.command in ("client", "server")
 
     def check_answer(self, size: int, answer: str, faults: str) -> None:
         """The answer has to be safe or name the family's rule, and has to have the facts of its family. Where the family is

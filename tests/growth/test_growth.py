@@ -13,16 +13,18 @@ from pathlib import Path
 from typing import IO, NamedTuple, Sequence, Union
 
 import pytest
+from _pytest.mark import ParameterSet
 
 from tests import needs
 from tests.growth.clients import CLIENTS
 from tests.growth.family import Family
 from tests.growth.records import RECORDS
 from tests.growth.schedules import SCHEDULES
+from tests.growth.servers import SERVERS
 from tests.paths import built_program
 
 pytestmark = [pytest.mark.long, needs.program("valgrind"), needs.program("time")]
-FAMILIES = [*RECORDS, *SCHEDULES, *CLIENTS]
+FAMILIES = [*RECORDS, *SCHEDULES, *CLIENTS, *SERVERS]
 
 
 class Sample(NamedTuple):
@@ -67,7 +69,13 @@ def slope(samples: Sequence[Sample]) -> float:
     return above / sum((one - x) ** 2 for one in sizes)
 
 
-@pytest.mark.parametrize("family", FAMILIES, ids=[it.name for it in FAMILIES])
+def marked(family: Family) -> ParameterSet:
+    """A family that is known to be above its limit has to be, until someone mends it."""
+    marks = [pytest.mark.xfail(strict=True, raises=AssertionError, reason=family.above)] if family.above else []
+    return pytest.param(family, id=family.name, marks=marks)
+
+
+@pytest.mark.parametrize("family", [marked(it) for it in FAMILIES])
 def test_growth(family: Family, tmp_path: Path, request: pytest.FixtureRequest) -> None:
     setup = measured(family, 0, tmp_path).cost
     sizes = family.sizes(1 if request.config.getoption("full_sizes") else 4)
