@@ -37,14 +37,6 @@ kept_empty opens summaries last_id none agree = grind arith
 abbrev pub IsCountPut : Waiting → Waiting → ℕ → ℕ → Type 0
 IsCountPut before after i count = (n : ℕ) → count_in after n ≡ (if n == i then count else count_in before n)
 
-count_here : (before after : Waiting) (i count : ℕ) → IsCountPut before after i count → count_in after i ≡ count
-count_here before after i count put = grind arith
-
--- what is known of each file's count, once one file's is another
-count_cases : (P : ℕ → ℕ → Type 0) (before after : Waiting) (i count : ℕ) → IsCountPut before after i count → P i count
-    → ((n : ℕ) → P n (count_in before n)) → (n : ℕ) → P n (count_in after n)
-count_cases P before after i count put here others n = grind arith
-
 abbrev pub Known : Server → (ℕ → List Held) → Waiting → Type 0
 Known server queues waiting = (n : ℕ) → AreCounted server n (queues n) (count_in waiting n)
 

@@ -12,7 +12,6 @@ pub mod Filing
 pub mod Hindering
 pub mod Homing
 pub mod Joining
-pub mod KeyOrder
 pub mod LeftOpens
 pub mod Losing
 pub mod Mapping

@@ -5,10 +5,6 @@ use Rattle.lease_manager.specs.declared.values.number.ClientNo.{ClientNo}
 use Rattle.lease_manager.specs.Closing.{closes, lease_under}
 use Rattle.lease_manager.specs.declared.values.closing.Closing.TheVariants.{LostBy}
 
-same_lease : (server : Server) (client : ℕ) (bytes : Option (List ℕ))
-    → lease_under server.leases (key_under client bytes) ≡ lease_by server client bytes
-same_lease server client bytes = grind arith
-
 lost_one : (server : Server) (client : ClientNo) (one : Open)
     → closes (LostBy client) server.leases one ≡ is_lost server client.0 one
 lost_one server client one = grind arith

@@ -63,11 +63,6 @@ pub no_items : (queue : List Tagged) → (length queue == 0) ≡ true → queue 
 no_items [] none = refl
 no_items (one ∷ queue) none = let e = (Decides-eqb (length (one ∷ queue)) 0).0 none in absurd (omega (arith, e))
 
--- what waits on a file that has a queue, or has none
-pub queue_found : (map : BTreeMap FileNo (Vec Tagged)) (file : FileNo) (queue : Vec Tagged)
-    → get file_order map file ≡ Some queue → waiting_or_none (get file_order map (record { 0 = file.0 })) ≡ queue.items
-queue_found map file queue there = ap waiting_or_none there
-
 -- the queue that is there is edited
 pub edited_at : (edit : List Tagged → List Tagged) (before after : BTreeMap FileNo (Vec Tagged)) (file : FileNo)
     (queue written : Vec Tagged) → get file_order before file ≡ Some queue

@@ -6,6 +6,7 @@ use Rattle.lease_laws.proofs.Words.{if◌then◌else◌, inl, inr, is_at, is_key
 use Rattle.lease_laws.proofs.Words.{list_any, map, nat_tests, no_lease, not, put_key, refl, subst, suc, sym, take, true}
 use Rattle.lease_laws.proofs.Words.{with_lease, with_opens, without, zero}
 use Rattle.std.specs.Map.{lookup}
+use Rattle.std.proofs.lemmas.List.{length-append}
 use Rattle.lease_laws.proofs.server.Goes.{one_id}
 use Rattle.lease_laws.proofs.server.Lists.{either, clash, among_filter, among_filtered, among_append, any_has, has_any, not_true}
 use Rattle.lease_laws.proofs.server.Lists.{among_map, or_of_true, and_parts}
@@ -147,7 +148,7 @@ without_more ids id (one ∷ opens) =
     (λ t. rw (more, t) later)
     (λ t. either (has_id id one) (λ h. rw (more, t, h) later) (λ h. rw (more, t, h) (ap (λ x. one ∷ x) later)))
 
-unused_lease : (key : Key) (opens : List Open) (summaries : Summaries) → Agrees summaries opens
+pub unused_lease : (key : Key) (opens : List Open) (summaries : Summaries) → Agrees summaries opens
     → lease_in summaries key ≡ (if list_any (has_key key) opens then lease_in summaries key else no_lease)
 unused_lease key opens summaries agree = grind arith
 
@@ -357,22 +358,6 @@ pub untaken_agrees : (n : ℕ) (opens left : List Open) (summaries : Summaries) 
     → left ≡ without (has_id n) opens → Agrees summaries opens → Agrees summaries left
 untaken_agrees n opens left summaries none is agree = subst (Agrees summaries) (sym (is ∙ none_taken n opens none)) agree
 
-pub unused_now : (key : Key) (opens : List Open) (summaries : Summaries) → Agrees summaries opens
-    → lease_in summaries key ≡ (if list_any (has_key key) opens then lease_in summaries key else no_lease)
-unused_now key opens summaries agree = unused_lease key opens summaries agree
-
-pub ids_more : (ids : List FileId) (i : ℕ) (d : FileId) → i < length ids
-    → map (λ id. id.0) (take (i + 1) ids) ≡ map (λ id. id.0) (take i ids) ++ (get_or ids i d).0 ∷ []
-ids_more [] i d inside = absurd (omega (arith, inside))
-ids_more (id ∷ ids) zero d inside = refl
-ids_more (id ∷ ids) (suc i) d inside = let later = ids_more ids i d (omega (arith, inside)) in grind arith
-
-pub ids_all : (ids : List FileId) (i : ℕ) → length ids ≤ i → map (λ id. id.0) (take i ids) ≡ map (λ id. id.0) ids
-ids_all [] zero less = refl
-ids_all [] (suc i) less = refl
-ids_all (id ∷ ids) zero less = absurd (omega (arith, less))
-ids_all (id ∷ ids) (suc i) less = ap (λ x. id.0 ∷ x) (ids_all ids i (omega (arith, less)))
-
 pub one_more_last : (one : Open) (opens : List Open) → IsOneMore one opens (opens ++ one ∷ [])
 one_more_last one opens = record {
   before = opens;
@@ -381,13 +366,9 @@ one_more_last one opens = record {
   is_more = refl;
 }
 
-length_last : (opens : List Open) (one : Open) → length (opens ++ one ∷ []) ≡ suc (length opens)
-length_last [] one = refl
-length_last (first ∷ opens) one = ap suc (length_last opens one)
-
 pub short_more : (opens : List Open) (one : Open) (n : ℕ) → n ≡ length opens → n < 2 ^ 63 → length (opens ++ one ∷ []) < 2 ^ 64
 short_more opens one n is small =
-    let e = length_last opens one in
+    let e = length-append opens (one ∷ []) in
     omega (arith, e, is, small)
 
 pub opened_now : (opens now : List Open) (one : Open) (summaries after : Summaries) (last : ℕ) → AreKept opens summaries last

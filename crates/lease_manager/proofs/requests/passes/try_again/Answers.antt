@@ -85,22 +85,12 @@ conclude-requires-clause-met c = λ ready.
     (ready_at_home c.one.inside.client.0 (request_like c.one.inside.ask) (begun (server_of c.args.tables.now))
     (progress_of c.try_now.new.tables c.try_now.new.outs) _ c.in_ok-outcome.ensures.ended ready)
 
-pub returns-clause-step : goal.returns-clause-step
-returns-clause-step c = (answered_here c.args.file.0 c.args.place c.args.tables.now c.try_now.new.tables c.release.new.self
+pub returns : goal.returns
+returns c = let it = answered_here c.args.file.0 c.args.place c.args.tables.now c.try_now.new.tables c.release.new.self
     c.conclude.new.tables c.args.told.now c.tell-2.new.self c.try_now.new.outs c.conclude.new.outs (the_view c.one.inside)
     (outcome_of c.in_ok-outcome.outcome) c.requires (rw (← c.one.view_is, c.held-held.ensures) at c.index-held-place.is)
     (rw (← c.one.view_is, c.held-held.ensures, c.rules.ensures) at (sym c.is_behind.ensures ∙ c.if-is_behind.false))
     c.in_ok-outcome.ensures.ended (sym c.waits.ensures ∙ c.if-waits.false)
     c.in_ok-outcome.ensures.queues c.release.ensures c.in_ok-conclude.ensures.step
     c.in_ok-conclude.ensures.queues (c.in_ok-tell-2.ensures
-    ∙ ap (λ said. said ++ told_of c.one.inside.tag.0 c.conclude.new.outs) c.in_ok-outcome.ensures.told)).step
-
-pub returns-clause-fewer : goal.returns-clause-fewer
-returns-clause-fewer c = (answered_here c.args.file.0 c.args.place c.args.tables.now c.try_now.new.tables c.release.new.self
-    c.conclude.new.tables c.args.told.now c.tell-2.new.self c.try_now.new.outs c.conclude.new.outs (the_view c.one.inside)
-    (outcome_of c.in_ok-outcome.outcome) c.requires (rw (← c.one.view_is, c.held-held.ensures) at c.index-held-place.is)
-    (rw (← c.one.view_is, c.held-held.ensures, c.rules.ensures) at (sym c.is_behind.ensures ∙ c.if-is_behind.false))
-    c.in_ok-outcome.ensures.ended (sym c.waits.ensures ∙ c.if-waits.false)
-    c.in_ok-outcome.ensures.queues c.release.ensures c.in_ok-conclude.ensures.step
-    c.in_ok-conclude.ensures.queues (c.in_ok-tell-2.ensures
-    ∙ ap (λ said. said ++ told_of c.one.inside.tag.0 c.conclude.new.outs) c.in_ok-outcome.ensures.told)).fewer
+    ∙ ap (λ said. said ++ told_of c.one.inside.tag.0 c.conclude.new.outs) c.in_ok-outcome.ensures.told) in record { step = it.step; fewer = it.fewer }

@@ -5,31 +5,26 @@ use Rattle.lease_manager.proofs.Ordering.{has_key_own}
 use Rattle.lease_manager.proofs.Recording.{records_gain, records_keyless, lease_put}
 use Rattle.lease_manager.proofs.tables.summaries.Summaries.gain.Goals as goal
 
-pub returns-in_ok-gain_on_file-in-Some-clause-agrees : goal.returns-in_ok-gain_on_file-in-Some-clause-agrees
-returns-in_ok-gain_on_file-in-Some-clause-agrees c = λ less more m short home agrees.
+pub returns-in_ok-gain_on_file-in-Some : goal.returns-in_ok-gain_on_file-in-Some
+returns-in_ok-gain_on_file-in-Some c =
     let one = c.args.one.now in
     let key = c.in-Some.key in
     let during = c.gain_record.new.self in
     let own = sym c.key.ensures ∙ c.in-Some.is in
-    let on_file = at_home _ key one.file less own home in
     let changed = c.in_ok-gain_record-in-Some.ensures.changed in
-    agrees_from c.gain_on_file.new.self during more c.in_ok-gain_on_file-in-Some.ensures.leases
-    (records_gain key one c.args.lease (record_at c.args.self.now) (record_at during) less more own m short on_file
-    changed agrees.records)
-    (c.in_ok-gain_on_file-in-Some.ensures.files less more (lease_in c.args.self.now) (lease_in during) m short
-    (after_gain key one c.args.lease c.of-marks.result less c.args.self.now during own on_file (sym c.of-marks.ensures)
-    (lease_put key c.args.lease _ _ (record_at c.args.self.now) (record_at during) changed))
-    (files_kept c.args.self.now during less (lease_in c.args.self.now) c.in_ok-gain_record-in-Some.ensures.files agrees.files))
-
-pub returns-in_ok-gain_on_file-in-Some-clause-leases : goal.returns-in_ok-gain_on_file-in-Some-clause-leases
-returns-in_ok-gain_on_file-in-Some-clause-leases c = λ other.
-    let one = c.args.one.now in
-    let key = c.in-Some.key in
-    let during = c.gain_record.new.self in
-    let own = sym c.key.ensures ∙ c.in-Some.is in
-    leases_same c.gain_on_file.new.self during other c.in_ok-gain_on_file-in-Some.ensures.leases
-    ∙ rw (has_key_own one key other own) (lease_put key c.args.lease _ _ (record_at c.args.self.now) (record_at during)
-    c.in_ok-gain_record-in-Some.ensures.changed other)
+    let put = lease_put key c.args.lease _ _ (record_at c.args.self.now) (record_at during) changed in record {
+      agrees = λ less more m short home agrees.
+          let on_file = at_home _ key one.file less own home in
+          agrees_from c.gain_on_file.new.self during more c.in_ok-gain_on_file-in-Some.ensures.leases
+          (records_gain key one c.args.lease (record_at c.args.self.now) (record_at during) less more own m short on_file
+          changed agrees.records)
+          (c.in_ok-gain_on_file-in-Some.ensures.files less more (lease_in c.args.self.now) (lease_in during) m short
+          (after_gain key one c.args.lease c.of-marks.result less c.args.self.now during own on_file (sym c.of-marks.ensures) put)
+          (files_kept c.args.self.now during less (lease_in c.args.self.now) c.in_ok-gain_record-in-Some.ensures.files
+          agrees.files));
+      leases = λ other. leases_same c.gain_on_file.new.self during other c.in_ok-gain_on_file-in-Some.ensures.leases
+          ∙ rw (has_key_own one key other own) (put other);
+    }
 
 pub returns-in_ok-gain_on_file-in-None-clause-agrees : goal.returns-in_ok-gain_on_file-in-None-clause-agrees
 returns-in_ok-gain_on_file-in-None-clause-agrees c = λ less more m short home agrees.

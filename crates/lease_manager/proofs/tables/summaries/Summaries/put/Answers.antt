@@ -8,8 +8,8 @@ use Rattle.lease_manager.proofs.Recording.{key_changed, records_put, lease_put, 
 use Rattle.lease_manager.proofs.Summing.{summaries_alike, marks_same}
 use Rattle.lease_manager.proofs.tables.summaries.Summaries.put.Goals as goal
 
-pub returns-in_ok-mark_on_file-in-Some-clause-agrees : goal.returns-in_ok-mark_on_file-in-Some-clause-agrees
-returns-in_ok-mark_on_file-in-Some-clause-agrees c = λ opens there agrees.
+pub returns-in_ok-mark_on_file-in-Some : goal.returns-in_ok-mark_on_file-in-Some
+returns-in_ok-mark_on_file-in-Some c =
     let key = c.args.key in
     let known = c.in-Some.known.now in
     let written = record known { lease = c.args.lease } in
@@ -17,26 +17,20 @@ returns-in_ok-mark_on_file-in-Some-clause-agrees c = λ opens there agrees.
     let during : Summaries = record { leases = c.get_mut.follows.lender written; files = before.files } in
     let changed = key_changed before.leases during.leases key _ ((c.get_mut.follows.holds written).3 (search rules)) in
     let was = sym c.in-Some.ensures.value in
-    let is = record_there key opens _ known was (agrees.records key) in
-    agrees_from c.mark_on_file.new.self during opens c.in_ok-mark_on_file-in-Some.ensures.leases
-    (records_put key known c.args.lease (record_at before) (record_at during) opens was changed agrees.records)
-    (c.in_ok-mark_on_file-in-Some.ensures.files opens (lease_in before) (lease_in during)
-    (is_put key (lease_of c.args.lease) c.of-marks.result (lease_in before) (lease_in during)
-    (sym c.of-marks.ensures) (lease_put key c.args.lease _ _ (record_at before) (record_at during) changed))
-    (on_file_alike key known.file.0 opens is.one_file ∙ there) is.one_file agrees.files)
+    let put = lease_put key c.args.lease _ _ (record_at before) (record_at during) changed in record {
+      agrees = λ opens there agrees.
+          let is = record_there key opens _ known was (agrees.records key) in
+          agrees_from c.mark_on_file.new.self during opens c.in_ok-mark_on_file-in-Some.ensures.leases
+          (records_put key known c.args.lease (record_at before) (record_at during) opens was changed agrees.records)
+          (c.in_ok-mark_on_file-in-Some.ensures.files opens (lease_in before) (lease_in during)
+          (is_put key (lease_of c.args.lease) c.of-marks.result (lease_in before) (lease_in during) (sym c.of-marks.ensures) put)
+          (on_file_alike key known.file.0 opens is.one_file ∙ there) is.one_file agrees.files);
+      leases = λ opens there agrees other.
+          leases_same c.mark_on_file.new.self during other c.in_ok-mark_on_file-in-Some.ensures.leases ∙ put other;
+    }
 
-pub returns-in_ok-mark_on_file-in-Some-clause-leases : goal.returns-in_ok-mark_on_file-in-Some-clause-leases
-returns-in_ok-mark_on_file-in-Some-clause-leases c = λ opens there agrees other.
-    let key = c.args.key in
-    let written = record c.in-Some.known.now { lease = c.args.lease } in
-    let before = c.args.self.now in
-    let during : Summaries = record { leases = c.get_mut.follows.lender written; files = before.files } in
-    leases_same c.mark_on_file.new.self during other c.in_ok-mark_on_file-in-Some.ensures.leases
-    ∙ lease_put key c.args.lease _ _ (record_at before) (record_at during)
-    (key_changed before.leases during.leases key _ ((c.get_mut.follows.holds written).3 (search rules))) other
-
-pub returns-else-ne-clause-agrees : goal.returns-else-ne-clause-agrees
-returns-else-ne-clause-agrees c = λ opens there agrees.
+pub returns-else-ne : goal.returns-else-ne
+returns-else-ne c =
     let key = c.args.key in
     let known = c.in-Some.known.now in
     let written = record known { lease = c.args.lease } in
@@ -44,21 +38,14 @@ returns-else-ne-clause-agrees c = λ opens there agrees.
     let during : Summaries = record { leases = c.get_mut.follows.lender written; files = before.files } in
     let changed = key_changed before.leases during.leases key _ ((c.get_mut.follows.holds written).3 (search rules)) in
     let was = sym c.in-Some.ensures.value in
-    let same : c.of-marks.result ≡ c.of-marked.result = marks_same _ _ (sym c.ne.ensures ∙ c.if-ne.false) in
-    agrees_from during during opens refl
-    (records_put key known c.args.lease (record_at before) (record_at during) opens was changed agrees.records)
-    (summaries_alike key (lease_of c.args.lease) opens (lease_in before) (lease_in during) (summary_at before)
-    (lease_put key c.args.lease _ _ (record_at before) (record_at during) changed)
-    (sym c.of-marks.ensures ∙ (same ∙ (c.of-marked.ensures ∙ ap (λ r. marks_of (lease_or_none r)) (sym was)))) agrees.files)
-
-pub returns-else-ne-clause-leases : goal.returns-else-ne-clause-leases
-returns-else-ne-clause-leases c = λ opens there agrees other.
-    let key = c.args.key in
-    let written = record c.in-Some.known.now { lease = c.args.lease } in
-    let before = c.args.self.now in
-    let during : Summaries = record { leases = c.get_mut.follows.lender written; files = before.files } in
-    lease_put key c.args.lease _ _ (record_at before) (record_at during)
-    (key_changed before.leases during.leases key _ ((c.get_mut.follows.holds written).3 (search rules))) other
+    let put = lease_put key c.args.lease _ _ (record_at before) (record_at during) changed in
+    let same : c.of-marks.result ≡ c.of-marked.result = marks_same _ _ (sym c.ne.ensures ∙ c.if-ne.false) in record {
+      agrees = λ opens there agrees. agrees_from during during opens refl
+          (records_put key known c.args.lease (record_at before) (record_at during) opens was changed agrees.records)
+          (summaries_alike key (lease_of c.args.lease) opens (lease_in before) (lease_in during) (summary_at before) put
+          (sym c.of-marks.ensures ∙ (same ∙ (c.of-marked.ensures ∙ ap (λ r. marks_of (lease_or_none r)) (sym was)))) agrees.files);
+      leases = λ opens there agrees other. put other;
+    }
 
 pub returns-in-None-clause-agrees : goal.returns-in-None-clause-agrees
 returns-in-None-clause-agrees c = λ opens there agrees.
