@@ -12,7 +12,7 @@ use Rattle.std.specs.List.Sorted.{IsStrictlySortedBy}
 use Rattle.std.specs.Ordering.{is_lt}
 use Rattle.lease_laws.proofs.server.Keys.{key_eq-same, key_eq-refl, lease_by-key, is_key-one, is_key-refl}
 use Rattle.lease_laws.proofs.server.KeyOrder.{keys_of-all, among_mapped}
-use Rattle.lease_laws.proofs.server.Lists.{either, clash, and_parts, and_both, not_true, any_has, has_any, none_has, among_filter}
+use Rattle.lease_laws.proofs.server.Lists.{either, clash, and_parts, and_both, not_parts, not_true, any_has, has_any, none_has, among_filter}
 use Rattle.lease_laws.proofs.server.Lists.{among_filtered}
 use Rattle.lease_laws.proofs.server.Wanted.{wants_where-exact, key_before-then, key_before-self}
 use Rattle.lease_laws.proofs.server.Wants.{keys_of-has}
@@ -146,8 +146,8 @@ pub key_there : (client : ℕ) (bytes : Option (List ℕ)) → is_some bytes ≡
 key_there client None some = absurd (true≢false (sym some))
 key_there client (Some bytes) some = (key_of client bytes, is_key-refl client bytes)
 
-not_off : (b : Bool) → not b ≡ true → b ≡ false
-not_off b e = grind arith
+on_both : (a b : Bool) → (a && not b) ≡ false → a ≡ true → b ≡ true
+on_both a b e on = grind arith
 
 has_none_by : (client : ℕ) (bytes : Option (List ℕ)) (key : Key) → is_some bytes ≡ false → is_key key client bytes ≡ false
 has_none_by client bytes key none = grind arith
@@ -160,7 +160,7 @@ pub other_keyless : (own : Option Key) (file : ℕ) (opens : List Open) → list
 other_keyless own file opens some =
     let one = any_has (is_keyless_on file) opens some in
     let parts = and_parts (is_on file one.0) (not (is_some (one.0).lease_key)) one.2 in
-    let apart = keyless_own own one.0 (not_off _ parts.1) in
+    let apart = keyless_own own one.0 (not_parts _ parts.1) in
     has_any (λ o. o.file == file && not (has_own_key own o)) one.0 opens one.1
     (and_both (is_on file one.0) (not (has_own_key own one.0)) parts.0 (ap not apart))
 
@@ -179,15 +179,12 @@ others_are own file opens keys are keyless = both_so _ _
     let one = any_has (λ o. o.file == file && not (has_own_key own o)) opens some in
     let parts = and_parts (is_on file one.0) (not (has_own_key own one.0)) one.2 in
     let unkeyed = none_has (is_keyless_on file) one.0 opens keyless one.1 in
-    let keyed = still_keyed (is_on file one.0) (is_some (one.0).lease_key) unkeyed parts.0 in
+    let keyed = on_both (is_on file one.0) (is_some (one.0).lease_key) unkeyed parts.0 in
     let key = key_there (one.0).client (one.0).lease_key keyed in
     let there = are key.0 ∙ has_any (has_key_on file key.0) one.0 opens one.1
     (and_both (is_on file one.0) (has_key key.0 one.0) parts.0 key.1) in
     has_any (λ k. not (is_own_key own k)) key.0 keys.keys (among_members keys key.0 there)
     (ap not (sym (own_alike own key.0 one.0 key.1)) ∙ parts.1))
-  where
-    still_keyed : (on keyed : Bool) → (on && not keyed) ≡ false → on ≡ true → keyed ≡ true
-    still_keyed on keyed e o = grind arith
 
 pub all_counted : (keys : List Key) → list_any (λ key. true) keys ≡ nat_lt 0 (length keys)
 all_counted [] = grind (arith, nat_tests)
@@ -242,11 +239,8 @@ conflicted file access share one c = (and_parts (one.file == file) (conflict acc
 -- an open of the key is on the key's file
 at_file : (key : Key) (at : ℕ) (opens : List Open) (one : Open) → list_any (is_elsewhere key at) opens ≡ false
     → Among one opens → has_key key one ≡ true → one.file ≡ at
-at_file key at opens one home among has = (Decides-eqb one.file at).0 (on_true (has_key key one) (one.file == at)
+at_file key at opens one home among has = (Decides-eqb one.file at).0 (on_both (has_key key one) (one.file == at)
     (none_has (is_elsewhere key at) one opens home among) has)
-  where
-    on_true : (has on : Bool) → (has && not on) ≡ false → has ≡ true → on ≡ true
-    on_true has on e h = grind arith
 
 wants_to : (wish : Wish) (own : Option Key) (file : FileNo) (key : Key) (summaries : Summaries) (server : Server)
     (summary : FileSummary) (known : Option LeaseRecord)

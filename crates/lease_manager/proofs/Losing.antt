@@ -1,8 +1,8 @@
 -- The opens that a lost connection closes, by the leases that there are.
-use Rattle.lease_laws.proofs.Words.{◌≡◌, List, Open, Option, Server, ℕ, arith}
-use Rattle.lease_laws.proofs.Words.{fun_ext, is_lost, key_under, lease_by}
+use Rattle.lease_laws.proofs.Words.{◌≡◌, Open, Server, arith}
+use Rattle.lease_laws.proofs.Words.{fun_ext, is_lost}
 use Rattle.lease_manager.specs.declared.values.number.ClientNo.{ClientNo}
-use Rattle.lease_manager.specs.Closing.{closes, lease_under}
+use Rattle.lease_manager.specs.Closing.{closes}
 use Rattle.lease_manager.specs.declared.values.closing.Closing.TheVariants.{LostBy}
 
 lost_one : (server : Server) (client : ClientNo) (one : Open)

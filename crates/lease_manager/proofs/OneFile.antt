@@ -138,18 +138,15 @@ create_file file server client access share ask home = look_for_create (local fi
     asked_on None = create_on file server (own_key client ask.lease) access share home
     asked_on (Some file_id) = reconnect_on file server client (own_key client ask.lease) file_id
 
-some_open : (x y : Open) → Some x ≡ Some y → x ≡ y
-some_open x y e = cc
-
-pub some_file : (x y : ℕ) → Some x ≡ Some y → x ≡ y
-some_file x y e = cc
+pub some_same : {X : Type 0} (x y : X) → Some x ≡ Some y → x ≡ y
+some_same x y e = cc
 
 pub found_on : (test p : Open → Bool) (opens : List Open) (one : Open) → find test opens ≡ Some one → p one ≡ true
     → find test (filter p opens) ≡ Some one
 found_on test p [] one found is = absurd (cc found)
 found_on test p (x ∷ xs) one found is = either (test x)
     (λ t.
-    let same = some_open x one (rw t at found) in
+    let same = some_same x one (rw t at found) in
     let passes : p x ≡ true = ap p same ∙ is in
     rw (passes, t) (ap Some same))
     (λ t.
@@ -176,7 +173,7 @@ write_on file server client file_id number patch about = look_for_write (local f
         ≡ by_open (connected_open server client file_id) (λ one. write_finding server one patch)
     go None is there = absurd (cc there)
     go (Some one) is there =
-        let same = some_file one.file file there in
+        let same = some_same one.file file there in
         let here = found_on (λ x. x.file_id == file_id && x.client == client && x.connected) (is_on file) server.opens one is
         ((Decides-eqb one.file file).1 same) in
         ap (λ o. by_open o (λ x. write_finding (local file server) x patch)) here ∙ (write_same file server one patch same

@@ -3,8 +3,9 @@ use Rattle.lease_laws.proofs.Words.{◌++◌, ◌+◌, ◌<◌, ◌∙◌, ◌�
 use Rattle.lease_laws.proofs.Words.{Progress, Server, Some, Tried, ℕ, [], ap, append-nil, arith, begun, Decides-eqb, ⊎_elim}
 use Rattle.lease_laws.proofs.Words.{concluded, drop, ended, false, get_or, held_left, is_behind}
 use Rattle.lease_laws.proofs.Words.{Held, length, put, refl, suc, sym, take, tried, true, zero}
-use Rattle.std.proofs.lemmas.List.{drop_all}
+use Rattle.std.proofs.lemmas.List.{drop_all, length-map, take-map}
 use Rattle.std.proofs.Math.Seq.{take-suc, drop-cons}
+use Rattle.manager_model.proofs.passes.Ways.{goes_on, is_over, is_passed_over, is_tried, passes_on, passes_stop, try_of}
 use Rattle.std.specs.List.{remove, slice_get}
 use Rattle.lease_laws.proofs.server.Lists.{clash, either}
 use Rattle.manager_model.specs.Decisions.{Decision, told_of}
@@ -22,41 +23,6 @@ use Rattle.lease_manager.specs.StillWaiting.{IsTriedInVain, WaitStill}
 use Rattle.lease_manager.specs.Table.{Queue, Table, manager_of, queue_at, requeued, server_of}
 
 -- ---- the steps of passes
-
-pub goes_on : (file : ℕ) (one : Tagged) (waiting : List Tagged) (pass : Pass)
-    → rules.pass_over file (one ∷ waiting) pass ≡ rules.pass_over file waiting (rules.tried_again file one waiting pass)
-unfolding rules.pass_over
-goes_on file one waiting pass = refl
-
-is_over : (file : ℕ) (pass : Pass) → rules.pass_over file [] pass ≡ pass
-unfolding rules.pass_over
-is_over file pass = refl
-
-is_passed_over : (file : ℕ) (one : Tagged) (waiting : List Tagged) (pass : Pass)
-    → is_behind pass.now.manager.server.rules one.held (held_in pass.passed) ≡ true
-    → rules.tried_again file one waiting pass ≡ left_waiting one pass pass.now
-unfolding rules.tried_again
-is_passed_over file one waiting pass behind = rw behind refl
-
-abbrev try_of : Tagged → Handling → Tried
-try_of one now = tried one.held.client one.held.request (begun now.manager.server)
-
-is_tried : (file : ℕ) (one : Tagged) (waiting : List Tagged) (pass : Pass)
-    → is_behind pass.now.manager.server.rules one.held (held_in pass.passed) ≡ false
-    → rules.tried_again file one waiting pass
-    ≡ after_try file one waiting pass (try_of one pass.now).progress (try_of one pass.now).outcome
-unfolding rules.tried_again
-is_tried file one waiting pass first = rw first refl
-
-passes_on : (count file : ℕ) (now : Handling) → (one_pass file now).has_answered ≡ true
-    → rules.passes_for (suc count) file now ≡ rules.passes_for count file (one_pass file now).now
-unfolding rules.passes_for
-passes_on count file now answered = rw answered refl
-
-passes_stop : (count file : ℕ) (now : Handling) → (one_pass file now).has_answered ≡ false
-    → rules.passes_for (suc count) file now ≡ (one_pass file now).now
-unfolding rules.passes_for
-passes_stop count file now none = rw none refl
 
 -- ---- a queue, from a place on
 
@@ -305,16 +271,6 @@ there [] place inside = absurd (omega (arith, inside))
 there (one ∷ queue) zero inside = (one, refl, refl)
 there (one ∷ queue) (suc place) inside = there queue place (omega (arith, inside))
 
-pub held_taken : (queue : List Tagged) (place : ℕ) → held_in (take place queue) ≡ take place (held_in queue)
-held_taken [] zero = refl
-held_taken [] (suc place) = refl
-held_taken (one ∷ queue) zero = refl
-held_taken (one ∷ queue) (suc place) = ap (λ l. one.held ∷ l) (held_taken queue place)
-
-held_count : (queue : List Tagged) → length (held_in queue) ≡ length queue
-held_count [] = refl
-held_count (one ∷ queue) = ap suc (held_count queue)
-
 pub got_held : (queue : List Tagged) (place : ℕ) (one : Tagged) (held : Held) → one ≡ get_or queue place one
     → slice_get (held_in queue) place ≡ Some held → one.held ≡ held
 got_held [] place one held is found = absurd (cc found)
@@ -326,10 +282,10 @@ skipped : (file place : ℕ) (has : Bool) (table : Table) (told : List Decision)
     → place < count → pass_at file (place + 1) has (handling_of table told) ≡ pass_at file place has (handling_of table told)
 skipped file place has table told count still less =
     let within = still.within in
-    let many = held_count (queue_at table.queues file) in
+    let many = length-map (queue_at table.queues file) (λ (one : Tagged). one.held) in
     let inside : place < length (queue_at table.queues file) = omega (arith, less, within, many) in
     let found = there (queue_at table.queues file) place inside in
-    let front = held_taken (queue_at table.queues file) place in
+    let front = sym (take-map (λ (one : Tagged). one.held) place (queue_at table.queues file)) in
     either (is_behind table.rules (found.0).held (held_in (take place (queue_at table.queues file))))
     (λ behind. behind_here file place has (handling_of table told) found.0 inside found.2 behind)
     (λ first. ⊎_elim

@@ -2,7 +2,7 @@
 use Rattle.lease_laws.proofs.Words.{◌++◌, ◌==◌, ◌∙◌, ◌∷◌, ◌≡◌, List, None, Option, Some, Updates, ℕ, [], ap, arith, fun_ext, get}
 use Rattle.lease_laws.proofs.Words.{Among, Bool, Decides-eqb, Held, Open, false, if◌then◌else◌, is_at, length, list_any, map}
 use Rattle.lease_laws.proofs.Words.{nat_tests, refl, sym, true, without, ⊎_elim, ◌<◌, ◌≤◌, Rules, Server, get_or}
-use Rattle.lease_laws.proofs.Words.{◌||◌, ◌⊎◌, ◌+◌, append_assoc, drop, Less, inl, inr}
+use Rattle.lease_laws.proofs.Words.{◌⊎◌, ◌+◌, append_assoc, drop, Less, inl, inr}
 use Rattle.lease_laws.proofs.Words.{last_file_number, map-append, new_server_under, no_lease, numbered, put, subst}
 use Rattle.lease_laws.proofs.Words.{filter, suc, zero}
 use Rattle.lease_laws.proofs.Words.{with_number}
@@ -27,7 +27,8 @@ use Rattle.lease_manager.specs.declared.tables.queues.Queues.{Queues}
 use Rattle.lease_manager.specs.declared.values.number.ClientNo.{ClientNo}
 use Rattle.lease_manager.specs.declared.values.number.FileNo.{FileNo}
 use Rattle.std.proofs.lemmas.List.Kept.{IsStrictlySortedBy-filter}
-use Rattle.std.proofs.lemmas.List.{drop_all}
+use Rattle.std.proofs.lemmas.List.{drop_all, length-map}
+use Rattle.manager_model.proofs.bytes.Steps.{map_put}
 use Rattle.std.proofs.Math.Seq.{drop-cons}
 
 at_file : (file : ℕ) (other : FileNo) → is_at (file_order (record { 0 = file })) other ≡ (file == other.0)
@@ -162,16 +163,6 @@ edited edit before after file changed = fun_ext (λ other. queue_filed after oth
     ∙ (ap (λ q. if other == file then edit q else queue_in before other) (sym (queue_filed before file))
     ∙ ap (λ q. if other == file then edit (queue_at (filed before) file) else q) (sym (queue_filed before other)))))
 
-map_put : {X Y : Type 0} (f : X → Y) (table : ℕ → X) (place : ℕ) (new : X)
-    → put (λ n. f (table n)) place (f new) ≡ (λ n. f (put table place new n))
-unfolding put
-map_put f table place new = fun_ext (λ n. either (n == place) (λ t. rw t refl) (λ t. rw t refl))
-
-pub any_map : {X Y : Type 0} (test : Y → Bool) (f : X → Y) (xs : List X)
-    → list_any test (map f xs) ≡ list_any (λ x. test (f x)) xs
-any_map test f [] = refl
-any_map test f (x ∷ xs) = ap (λ b. test (f x) || b) (any_map test f xs)
-
 abbrev with_queues : Server → (ℕ → List Tagged) → (ℕ → List Held) → Manager
 with_queues server queues held = record { server = record server { held = held }; queues = queues }
 
@@ -235,12 +226,8 @@ pub new_is_new : (rules : Rules) (files : ℕ) → manager_of (record {
 unfolding new_server_under
 new_is_new rules files = refl
 
-held_length : (queue : List Tagged) → length (held_in queue) ≡ length queue
-held_length [] = refl
-held_length (one ∷ queue) = ap suc (held_length queue)
-
 pub held_inside : (queue : List Tagged) (place : ℕ) → place < length queue → place < length (held_in queue)
-held_inside queue place inside = rw (held_length queue) inside
+held_inside queue place inside = rw (length-map queue (λ (one : Tagged). one.held)) inside
 
 pub unchanged : (before after : Queues) → ((other : ℕ) → queue_in after other ≡ queue_in before other)
     → queue_at (filed after) ≡ queue_at (filed before)

@@ -17,7 +17,7 @@ use Rattle.lease_manager.specs.Summaries.{IsAtHome, lease_in, is_on}
 use Rattle.lease_manager.specs.declared.tables.summaries.Summaries.{Summaries}
 use Rattle.lease_manager.specs.declared.tables.waiting.Waiting.{Waiting}
 use Rattle.lease_manager.proofs.StillWaiting.{about_same, none_counted}
-use Rattle.lease_manager.proofs.OneFile.{any_once, none_within, found_on, some_file}
+use Rattle.lease_manager.proofs.OneFile.{any_once, none_within, found_on, some_same}
 use Rattle.lease_manager.proofs.Counted.{Known}
 
 -- ---- files that a change leaves as they were
@@ -110,7 +110,7 @@ about_left file test rules count opens leases later client (FileRequest.Write fi
     go None is there = absurd (cc there)
     go (Some one) is there =
         let among = (find_has (λ x. x.file_id == file_id && x.client == client && x.connected) one opens is).0 in
-        let same = some_file one.file file there in
+        let same = some_same one.file file there in
         let stays = none one among ((Decides-eqb one.file file).1 same) in
         ap (option_map (λ x. x.file)) (found_on (λ x. x.file_id == file_id && x.client == client && x.connected)
         (λ x. not (test x)) opens one is (ap not stays)) ∙ there

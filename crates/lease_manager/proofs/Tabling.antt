@@ -1,10 +1,10 @@
 -- The tables' opens and lease records as the server that they stand for.
 use Rattle.lease_laws.proofs.Words.{◌++◌, ◌+◌, ◌<◌, ◌^◌, ◌||◌, ◌∙◌, ◌∷◌, ◌≡◌, ◌≤◌, Among, AreInOrder, Bool}
-use Rattle.lease_laws.proofs.Words.{Decides-eqb, FileId, Key, Lease, List, None, Open, Option, Server, Some, ℕ, ⊎_elim, [], ap}
-use Rattle.lease_laws.proofs.Words.{append-nil, ap₂, arith, awaits, disconnected, false, filter, find, fun_ext, get_or, has_key}
+use Rattle.lease_laws.proofs.Words.{Decides-eqb, Key, Lease, List, None, Open, Option, Server, Some, ℕ, ⊎_elim, [], ap}
+use Rattle.lease_laws.proofs.Words.{append-nil, ap₂, arith, awaits, disconnected, false, filter, find, fun_ext, has_key}
 use Rattle.lease_laws.proofs.Words.{if◌then◌else◌, inl, inr, is_at, is_key, is_leased_elsewhere, is_left_behind, key_eq, length}
-use Rattle.lease_laws.proofs.Words.{list_any, map, nat_tests, no_lease, not, put_key, refl, subst, suc, sym, take, true}
-use Rattle.lease_laws.proofs.Words.{with_lease, with_opens, without, zero}
+use Rattle.lease_laws.proofs.Words.{list_any, map, nat_tests, no_lease, not, put_key, refl, subst, sym, true}
+use Rattle.lease_laws.proofs.Words.{with_lease, with_opens, without}
 use Rattle.std.specs.Map.{lookup}
 use Rattle.std.proofs.lemmas.List.{length-append}
 use Rattle.lease_laws.proofs.server.Goes.{one_id}

@@ -1,6 +1,6 @@
 mod Computes
 mod answers
-mod bytes
+pub mod bytes
 mod ends
-mod hosts
-mod passes
+pub mod hosts
+pub mod passes

@@ -225,6 +225,13 @@ way old coming kept manager told given is comes same after = record {
   said = ap decisions same ∙ after.told;
 }
 
+-- the same of what asks nothing
+abbrev pub way_alone : (old : Table) (coming : Coming) (manager : managed.Table) (told given : List code.Decision)
+    → AsksNothing coming → IsServer old → told ≡ given
+    → IsAfter manager given (managed (managed.manager_of old.manager) coming) → IsUnderWay manager (decisions told) old.kept
+way_alone old coming manager told given none is same after =
+    way old coming old.kept manager told given is (comes_alone old coming none) same after
+
 -- ---- calls that don't apply
 
 pub idle_called : (old : Table) (call : Call) → IsServer old → called (server_of old) call ≡ begun (server_of old)

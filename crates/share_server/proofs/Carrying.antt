@@ -7,6 +7,8 @@ use Rattle.lease_laws.proofs.Words.{◌+◌, ◌++◌, ◌==◌, ◌∙◌, ◌�
 use Rattle.lease_laws.proofs.Words.{Decides-eqb, if◌then◌else◌, length, list_any, put, refl, subst, sym, true}
 use Rattle.lease_laws.proofs.server.Lists.{clash, either, has_any}
 use Rattle.std.proofs.lemmas.List.Sums.{sum_by-append}
+use Rattle.manager_model.proofs.hosts.Faithful.{does_none, does_one, does_then}
+use Rattle.manager_model.proofs.passes.Tables.{put_apart}
 use Rattle.manager_model.specs.Answering.{answers, is_answer}
 use Rattle.manager_model.specs.Decisions.{Decision}
 use Rattle.manager_model.specs.Hosting.{Hosted, closed_as, does, does_all, gone_on_with, notes, opened_as}
@@ -16,29 +18,9 @@ use Rattle.share_server.specs.Table.{HasDone, HasLetGo, Kept, handles_in, hosted
 abbrev pub one_if : Bool → ℕ
 one_if b = if b then 1 else 0
 
-does_then : (requests : ℕ → FileRequest) (first later : List Decision) (done : Hosted)
-    → does_all requests (first ++ later) done ≡ does_all requests later (does_all requests first done)
-unfolding does_all
-does_then requests [] later done = refl
-does_then requests (decision ∷ first) later done = does_then requests first later (does requests decision done)
-
-does_none : (requests : ℕ → FileRequest) (done : Hosted) → does_all requests [] done ≡ done
-unfolding does_all
-does_none requests done = refl
-
-does_one : (requests : ℕ → FileRequest) (decision : Decision) (done : Hosted)
-    → does_all requests (decision ∷ []) done ≡ does requests decision done
-unfolding does_all
-does_one requests decision done = refl
-
 answers_both : (tag : ℕ) (first later : List Decision)
     → answers tag (first ++ later) ≡ answers tag first + answers tag later
 answers_both tag first later = sum_by-append (λ decision. if is_answer tag decision then 1 else 0) first later
-
-put_apart : {X : Type 0} (table : ℕ → X) (place other : ℕ) (new : X) → (other == place) ≡ false
-    → put table place new other ≡ table other
-unfolding put
-put_apart table place other new apart = rw (apart) refl
 
 pub none_done : (kept : Kept) (outs : List Out) → HasDone [] kept kept outs outs
 none_done kept outs = record {
@@ -133,9 +115,6 @@ noted decision kept before after done = record {
 }
 
 -- ---- handles
-
-pub none_let_go : (opens : List Open) (kept : Kept) → HasLetGo opens kept kept
-none_let_go opens kept = record { handles = λ one there. refl; contents = refl; requests = refl; next = refl }
 
 pub let_go_more : (opens : List Open) (first old new : Kept) → HasLetGo opens first old → HasLetGo opens old new
     → HasLetGo opens first new

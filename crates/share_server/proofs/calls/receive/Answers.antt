@@ -1,10 +1,8 @@
 use Rattle.lease_laws.proofs.Words.{Call, request_of, sym}
-use Rattle.share_server.specs.Table.{server_of, table_of}
 use Rattle.share_server.proofs.Calling.{idle_called, receive_idles}
 use Rattle.share_server.proofs.calls.receive.Goals as goal
 
 pub returns-else-is_connected-clause-step : goal.returns-else-is_connected-clause-step
-returns-else-is_connected-clause-step c = rw (c.requires.given) (idle_called (table_of c.args.manager.now c.args.host.now)
+returns-else-is_connected-clause-step c = rw (c.requires.given) (idle_called _
     (Call.Receive c.args.client.0 (request_of c.args.request)) c.requires.server
-    (receive_idles (server_of (table_of c.args.manager.now c.args.host.now)) c.args.client.0 (request_of c.args.request)
-    (sym (rw c.client_no.ensures at c.if-is_connected.ensures))))
+    (receive_idles _ c.args.client.0 _ (sym (rw c.client_no.ensures at c.if-is_connected.ensures))))

@@ -1,6 +1,7 @@
 use Rattle.lease_laws.proofs.Words.{◌++◌, ◌+◌, ◌∙◌, Outcome, [], ap, arith, begun, inl, inr, is_behind, length, refl, subst, sym, take}
+use Rattle.std.proofs.lemmas.List.{take-map}
 use Rattle.manager_model.specs.Decisions.{told_of}
-use Rattle.manager_model.specs.Handling.{Manager}
+use Rattle.manager_model.specs.Handling.{Manager, Tagged}
 use Rattle.lease_manager.specs.Findings.{outcome_of}
 use Rattle.lease_manager.specs.Outs.{handling_of, progress_of}
 use Rattle.lease_manager.specs.Passing.{pass_at}
@@ -9,7 +10,7 @@ use Rattle.lease_manager.specs.StillWaiting.{Stays}
 use Rattle.lease_manager.specs.Table.{Table, held_at, queue_at, server_of}
 use Rattle.lease_manager.specs.contracts.values.request.Held.{the_view}
 use Rattle.lease_manager.proofs.Homing.{home_kept, ready_at_home}
-use Rattle.lease_manager.proofs.Passing.{answered_here, behind_here, gone, got_held, held_taken, in_vain_told, waits_here}
+use Rattle.lease_manager.proofs.Passing.{answered_here, behind_here, gone, got_held, in_vain_told, waits_here}
 use Rattle.lease_manager.proofs.requests.passes.try_again.Goals as goal
 
 pub count_still-requires : goal.count_still-requires
@@ -17,7 +18,7 @@ count_still-requires c = λ one is.
     let queue = queue_at c.args.tables.now.queues c.args.file.0 in
     let there = got_held queue c.args.place (the_view c.one.inside) one (rw (← c.one.view_is, c.held-held.ensures) at c.index-held-place.is) is in
     subst (Stays (server_of c.args.tables.now) c.args.file.0 (take c.args.place (held_at c.args.tables.now.queues c.args.file.0))) there
-    (inl (ap (is_behind c.args.tables.now.rules (the_view c.one.inside).held) (sym (held_taken queue c.args.place)) ∙ (rw (
+    (inl (ap (is_behind c.args.tables.now.rules (the_view c.one.inside).held) (take-map (λ (one : Tagged). one.held) c.args.place queue) ∙ (rw (
       ← c.one.view_is,
       c.held-held.ensures,
       c.rules.ensures,

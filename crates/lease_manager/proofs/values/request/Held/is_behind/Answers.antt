@@ -1,6 +1,6 @@
 use Rattle.lease_laws.proofs.Words.{◌∙◌, sym, waits_behind}
 use Rattle.manager_model.specs.Handling.{Tagged}
-use Rattle.lease_manager.proofs.Queuing.{any_map}
+use Rattle.manager_model.proofs.bytes.Steps.{any_map}
 use Rattle.lease_manager.proofs.values.request.Held.is_behind.Goals as goal
 
 pub returns : goal.returns
