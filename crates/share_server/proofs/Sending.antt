@@ -9,8 +9,7 @@ use Rattle.lease_wire.specs.Notification.{Notice, IsNotification, notification_b
 pub notice_found : (bytes : List ℕ) (v : Notice) → NotificationIsFound → IsNotification bytes v
     → notice_in bytes ≡ Some (noticed_as v)
 notice_found bytes v law layout =
-    let whole : take 44 bytes ≡ bytes = take_all 44 bytes (let n = layout.size in omega (arith, n)) in
-    law bytes v (rw whole layout)
+    law bytes v (rw (take_all 44 bytes (let n = layout.size in omega (arith, n))) layout)
 
 pub notice_back : (bytes : List ℕ) (v : Notice) → NotificationIsFound → IsNotification bytes v
     → bytes ≡ notification_bytes v → notice_bytes (notice_in bytes) ≡ bytes
@@ -19,8 +18,7 @@ notice_back bytes v law layout text = ap notice_bytes (notice_found bytes v law 
 pub acknowledgment_found : (bytes : List ℕ) (v : KeyAndState) → AcknowledgmentIsFound → IsAcknowledgment bytes v
     → acknowledged_in bytes ≡ Some (acknowledged_as v)
 acknowledgment_found bytes v law layout =
-    let whole : take 36 bytes ≡ bytes = take_all 36 bytes (let n = layout.size in omega (arith, n)) in
-    law bytes v (rw whole layout)
+    law bytes v (rw (take_all 36 bytes (let n = layout.size in omega (arith, n))) layout)
 
 pub acknowledgment_back : (bytes : List ℕ) (v : KeyAndState) → AcknowledgmentIsFound → IsAcknowledgment bytes v
     → bytes ≡ acknowledgment_bytes v → lease_message_bytes (acknowledged_in bytes) ≡ bytes

@@ -12,24 +12,18 @@ use Rattle.lease_manager.proofs.requests.arrival.try_on.Goals as goal
 
 pub returns-then-is_behind : goal.returns-then-is_behind
 returns-then-is_behind c =
-    let request = request_like c.args.ask in
-    let lane = lane_like c.lane_of-lane.result in
-    let one : Tagged = record { held = held_of c.args.client.0 request lane; tag = c.args.tag.0 } in
-    tagged_so (server_of c.args.tables.now) c.args.tag.0 c.args.client.0 request lane
+    tagged_so (server_of c.args.tables.now) c.args.tag.0 c.args.client.0 (request_like c.args.ask) (lane_like c.lane_of-lane.result)
     (handling_of c.args.tables.now c.args.told.now) _ c.args.file.0 c.lane_of-lane.ensures
-    (behind_told c.args.tables.now c.hold.new.self c.args.told.now c.waits.new.self c.args.file.0 one
+    (behind_told c.args.tables.now c.hold.new.self c.args.told.now c.waits.new.self c.args.file.0 _
     (rw (c.held.ensures, c.rules.ensures) at (sym c.is_behind.ensures ∙ c.if-is_behind.true)) c.in_ok-hold.ensures
     c.in_ok-waits.ensures)
 
 pub returns-then-waits : goal.returns-then-waits
 returns-then-waits c =
-    let request = request_like c.args.ask in
-    let lane = lane_like c.lane_of-lane.result in
-    let one : Tagged = record { held = held_of c.args.client.0 request lane; tag = c.args.tag.0 } in
-    tagged_so (server_of c.args.tables.now) c.args.tag.0 c.args.client.0 request lane
+    tagged_so (server_of c.args.tables.now) c.args.tag.0 c.args.client.0 (request_like c.args.ask) (lane_like c.lane_of-lane.result)
     (handling_of c.args.tables.now c.args.told.now) _ c.args.file.0 c.lane_of-lane.ensures
     (tried_and_waits c.args.tables.now c.try_now.new.tables c.hold-then-waits.new.self c.args.told.now c.tell.new.self
-    c.waits-then-waits.new.self c.try_now.new.outs c.args.file.0 one (outcome_of c.in_ok-outcome.outcome)
+    c.waits-then-waits.new.self c.try_now.new.outs c.args.file.0 _ (outcome_of c.in_ok-outcome.outcome)
     (rw (c.held.ensures, c.rules.ensures) at (sym c.is_behind.ensures ∙ c.if-is_behind.false))
     c.in_ok-outcome.ensures.ended (sym c.waits-2.ensures ∙ c.if-waits.true) c.in_ok-outcome.ensures.queues
     (c.in_ok-tell.ensures
@@ -42,13 +36,10 @@ conclude-requires-clause-met c = λ ready. ready_at_home c.args.client.0 (reques
 
 pub returns : goal.returns
 returns c =
-    let request = request_like c.args.ask in
-    let lane = lane_like c.lane_of-lane.result in
-    let one : Tagged = record { held = held_of c.args.client.0 request lane; tag = c.args.tag.0 } in
-    tagged_so (server_of c.args.tables.now) c.args.tag.0 c.args.client.0 request lane
+    tagged_so (server_of c.args.tables.now) c.args.tag.0 c.args.client.0 (request_like c.args.ask) (lane_like c.lane_of-lane.result)
     (handling_of c.args.tables.now c.args.told.now) _ c.args.file.0 c.lane_of-lane.ensures
     (tried_and_answered c.args.tables.now c.try_now.new.tables c.conclude.new.tables c.args.told.now c.tell-2.new.self
-    c.try_now.new.outs c.conclude.new.outs c.args.file.0 one (outcome_of c.in_ok-outcome.outcome)
+    c.try_now.new.outs c.conclude.new.outs c.args.file.0 _ (outcome_of c.in_ok-outcome.outcome)
     (rw (c.held.ensures, c.rules.ensures) at (sym c.is_behind.ensures ∙ c.if-is_behind.false))
     c.in_ok-outcome.ensures.ended (sym c.waits-2.ensures ∙ c.if-waits.false) c.in_ok-outcome.ensures.queues
     c.in_ok-conclude.ensures.step c.in_ok-conclude.ensures.queues

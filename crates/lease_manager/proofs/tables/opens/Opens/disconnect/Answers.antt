@@ -7,14 +7,13 @@ use Rattle.lease_manager.proofs.tables.opens.Opens.disconnect.Goals as goal
 pub invariant_of-self-in-Some : goal.invariant_of-self-in-Some
 invariant_of-self-in-Some c =
     let n = c.args.fid.0 in
-    let entries = c.self.inside.by_id.entries in
-    let found : find (has_id n) (values_of entries) ≡ Some c.in-Some.one.now =
-    sym (c.in-Some.ensures.value ∙ find_filed n entries c.self.invariant.0) in (
+    let entries = c.self.inside.by_id.entries in (
       c.set_connected.ensures.still_filed,
       c.set_connected.ensures.still_in_order,
       rw c.set_connected.ensures.opens
           (waiting_left c.self.inside.left c.insert.new.self c.args.fid c.owner-owner.result (values_of entries)
-          c.in-Some.one.now c.self.invariant.1 found c.owner-owner.ensures.client c.owner-owner.ensures.file
+          c.in-Some.one.now c.self.invariant.1
+          (sym (c.in-Some.ensures.value ∙ find_filed n entries c.self.invariant.0)) c.owner-owner.ensures.client c.owner-owner.ensures.file
           c.self.invariant.2 c.in_ok-insert-in-Some.ensures.one_more),
     )
 

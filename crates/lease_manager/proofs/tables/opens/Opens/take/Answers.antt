@@ -9,27 +9,22 @@ invariant_of-self c =
     let n = c.args.fid.0 in
     let entries = c.self.inside.by_id.entries in
     let filed : AreFiled c.remove.new.self.entries = rw c.remove.ensures.entries (filed_removed n entries c.self.invariant.0) in
-    let found : find (has_id n) (values_of entries) ≡ Some c.in-Some.one =
-    sym (c.in-Some.ensures.value ∙ find_filed n entries c.self.invariant.0) in
     let now : values_of c.remove.new.self.entries ≡ without (has_id n) (values_of entries) =
     ap values_of c.remove.ensures.entries ∙ left_removed n entries c.self.invariant.0 c.self.invariant.1 in (
       filed,
       in_order c.remove.new.self.entries filed c.remove.ensures.ordered,
       rw now (waiting_taken c.self.inside.left c.remove-in-Some.new.self n c.owner.result (values_of entries) c.in-Some.one
-          c.self.invariant.1 found c.owner.ensures.client c.owner.ensures.file c.self.invariant.2 c.remove-in-Some.ensures),
+          c.self.invariant.1 (sym (c.in-Some.ensures.value ∙ find_filed n entries c.self.invariant.0)) c.owner.ensures.client c.owner.ensures.file c.self.invariant.2 c.remove-in-Some.ensures),
     )
 
-pub returns-in-Some-clause-taken : goal.returns-in-Some-clause-taken
-returns-in-Some-clause-taken c = rw (← c.self.view_is)
-    (c.in-Some.ensures.value ∙ find_filed c.args.fid.0 c.self.inside.by_id.entries c.self.invariant.0)
-
-pub returns-in-Some-clause-one_less : goal.returns-in-Some-clause-one_less
-returns-in-Some-clause-one_less c = rw (← c.self.view_is, c.remove.ensures.entries)
-    (one_removed c.args.fid.0 c.self.inside.by_id.entries c.in-Some.one c.self.invariant.0 (sym c.in-Some.ensures.value))
-
-pub returns-in-Some-clause-left : goal.returns-in-Some-clause-left
-returns-in-Some-clause-left c = rw (← c.self.view_is) (ap values_of c.remove.ensures.entries
-    ∙ left_removed c.args.fid.0 c.self.inside.by_id.entries c.self.invariant.0 c.self.invariant.1)
+pub returns-in-Some : goal.returns-in-Some
+returns-in-Some c = rw (← c.self.view_is) (record {
+  taken = c.in-Some.ensures.value ∙ find_filed c.args.fid.0 c.self.inside.by_id.entries c.self.invariant.0;
+  one_less = rw c.remove.ensures.entries
+      (one_removed c.args.fid.0 c.self.inside.by_id.entries c.in-Some.one c.self.invariant.0 (sym c.in-Some.ensures.value));
+  left = ap values_of c.remove.ensures.entries
+      ∙ left_removed c.args.fid.0 c.self.inside.by_id.entries c.self.invariant.0 c.self.invariant.1;
+})
 
 pub returns-in-None-clause-taken : goal.returns-in-None-clause-taken
 returns-in-None-clause-taken c = rw (← c.self.view_is)
