@@ -7,16 +7,18 @@ mod codes;
 mod loose;
 mod outcome;
 mod room;
+mod rules;
 
 pub use codes::{access_of, share_of, status_of};
 pub use loose::Loose;
 pub use outcome::Outcome;
 pub use room::{copied, fill};
+pub use rules::rules_of;
 
 #[cfg(test)]
 mod tests {
     use super::*;
-    use lease_state::{Access, Share, Status};
+    use lease_state::{Access, Order, Rise, Rules, Share, Status};
     use std::test::Fail;
 
     #[test]
@@ -30,6 +32,14 @@ mod tests {
         assert_eq!(rt; status_of(0xC000_0128), Status::FileClosed);
         assert_eq!(rt; status_of(0xC000_003A), Status::Unsuccessful);
         assert_eq!(rt; Outcome::NoSuch.code(), 4);
+        let rules = Rules {
+            order: Order::ByKey,
+            rise: Rise::AsFree,
+        };
+        assert_eq!(rt; rules_of(0, 0), Some(Rules::profile()));
+        assert_eq!(rt; rules_of(1, 0), Some(rules));
+        assert_eq!(rt; rules_of(2, 1), None);
+        assert_eq!(rt; rules_of(1, 2), None);
     }
 
     #[test]

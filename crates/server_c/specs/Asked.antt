@@ -1,11 +1,8 @@
 -- What numbers and bytes from C ask of a server.
-use Rattle.std.specs.Prelude.{ℕ, Bool, not, List, Option, Some, None, if◌then◌else◌, ◌==◌}
+use Rattle.std.specs.Prelude.{ℕ, Bool, not, List, Option, Some, None, if◌then◌else◌}
 use Rattle.std.specs.List.{list_any}
 use Rattle.lease_state.specs.declared.access.Access.{Access}
 use Rattle.lease_state.specs.declared.access.Share.{Share}
-use Rattle.lease_state.specs.declared.rules.Order.{Order}
-use Rattle.lease_state.specs.declared.rules.Rise.{Rise}
-use Rattle.lease_state.specs.declared.rules.Rules.{Rules}
 use Rattle.lease_wire.specs.Gathering.{value_of}
 use Rattle.lease_wire.specs.declared.create.Direction.{Direction}
 use Rattle.lease_model.specs.messages.FromBytes.{ask_found, acknowledged_in}
@@ -56,18 +53,3 @@ is_gone file_id server = not (list_any (is_left_behind file_id) server.opens)
 -- the key of a request, where it has one
 abbrev pub key_given : MaybeKey → Option (List ℕ)
 key_given key = if is_set key.has_key then Some key.bytes else None
-
--- the rules that an order and a rise by their numbers stand for
-abbrev pub order_given : ℕ → Option Order
-order_given number = if number == 0 then Some Order.ByClient else if number == 1 then Some Order.ByKey else None
-
-abbrev pub rise_given : ℕ → Option Rise
-rise_given number = if number == 0 then Some Rise.AsFree else if number == 1 then Some Rise.Whole else None
-
-abbrev pub both_given : Option Order → Option Rise → Option Rules
-both_given (Some order) (Some rise) = Some (record { order = order; rise = rise })
-both_given (Some order) None = None
-both_given None rise = None
-
-abbrev pub rules_given : ℕ → ℕ → Option Rules
-rules_given order rise = both_given (order_given order) (rise_given rise)

@@ -1,14 +1,14 @@
 ghost use Rattle.std.specs.Prelude.{◌≡◌, ◌≢◌, ◌≤◌, ◌<◌, ◌++◌, ◌∷◌, [], length, Some, None, IfOk, IfNone, IfSome, OnOk, OnErr, IsSomeAnd};
 ghost use Rattle.lease_handles.specs.Calls.{code_of};
+ghost use Rattle.lease_handles.specs.Rules.{rules_given};
 ghost use Rattle.lease_model.specs.server.State.{new_server, new_server_under};
 ghost use Rattle.share_server.specs.Table.{server_of};
-ghost use Rattle.server_c.specs.Asked.{rules_given};
 ghost use Rattle.server_c.specs.Calls.{running, files_in};
 
 use crate::files::{Files, FilesHandle};
 use crate::handle::{Hosted, ServerHandle};
-use lease_handles::Outcome;
-use lease_state::{Content, FILE_LIMIT, Memory, Order, Rise, Rules};
+use lease_handles::{Outcome, rules_of};
+use lease_state::{Content, FILE_LIMIT, Memory, Rules};
 use share_server::Server;
 use std::alloc::Global;
 
@@ -140,23 +140,6 @@ fn begin(alloc: Global, rules: Rules, server: &mut ServerHandle, files: &mut Fil
         }
         Err(_) => Outcome::Lost,
     }
-}
-
-// The rules that these numbers stand for.
-fn rules_of(order: u32, rise: u32) -> Option<Rules>
-    ensures { result ≡ rules_given order rise }
-{
-    let order = match order {
-        0 => Order::ByClient,
-        1 => Order::ByKey,
-        _ => return None,
-    };
-    let rise = match rise {
-        0 => Rise::AsFree,
-        1 => Rise::Whole,
-        _ => return None,
-    };
-    Some(Rules { order, rise })
 }
 
 /// A server with these files, that no client has joined; the files' handle holds none then. What the
