@@ -1,11 +1,13 @@
-/* Both headers in one program, which is C and C++. With MACHINES_FIRST defined they come in the other order. Each header has a
+/* All headers in one program, which is C and C++. With MACHINES_FIRST defined they come in the other order. Two of them have a
    request: the one that decisions are made on, and the one that a client sends. */
 #ifdef MACHINES_FIRST
+#include <smblease_manager.h>
 #include <smblease_machines.h>
 #include <smblease.h>
 #else
 #include <smblease.h>
 #include <smblease_machines.h>
+#include <smblease_manager.h>
 #endif
 
 uint32_t status_of_a_read(struct smblease_client *client, struct smblease_request *decided);

@@ -16,9 +16,10 @@ from tests.paths import TOP
 
 # (the library is built for processors whose pointers have 8 bytes)
 SIZES = {"u8": 1, "u16": 2, "u32": 4, "u64": 8, "usize": 8, "*mut u8": 8}
-# The structs of the machines' handles. Some are declared in both crates, and have to be the same there.
+# The structs of the handles. Some are declared in several crates, and have to be the same there.
 NAMES = {
     "ClientHandle": "smblease_client", "ServerHandle": "smblease_server", "FilesHandle": "smblease_files",
+    "ManagerHandle": "smblease_manager",
     "ClientGuid": "smblease_guid", "KeyBytes": "smblease_key", "MaybeKey": "smblease_maybe_key",
     "BreakMessage": "smblease_break_message", "AckMessage": "smblease_ack_message", "ResponseMessage": "smblease_ack_message",
     "ClientOpen": "smblease_open_terms", "ClientAnswer": "smblease_answer", "ClientRequest": "smblease_client_request",

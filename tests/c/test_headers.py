@@ -23,7 +23,7 @@ def test_a_header_alone(compiler: str, language: str, standard: str, header: Pat
 
 @pytest.mark.parametrize("order", ["messages_first", "machines_first"])
 @pytest.mark.parametrize("compiler, language, standard", STANDARDS)
-def test_both_headers(compiler: str, language: str, standard: str, order: str) -> None:
+def test_all_headers(compiler: str, language: str, standard: str, order: str) -> None:
     define = ["-DMACHINES_FIRST"] if order == "machines_first" else []
     words = [compiler, f"-std={standard}", *STRICT, *define, "-Iinclude", "-fsyntax-only", "-x", language, "tests/c/both.c"]
     assert run(*words) == Ended(0, "")

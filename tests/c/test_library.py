@@ -21,10 +21,11 @@ def test_make() -> None:
     assert run("out/c/leasecheck", "--help").status == 0
 
 
-# `fields` and `machine_fields` have each field of each struct, `messages` rooms, faults and odd numbers, `appended` contexts that
-# are appended one by one, `decisions` decisions on leases, `nothing` handles that hold nothing, and `long_reads` answers to reads
-# of more than 64 KiB.
-@pytest.mark.parametrize("name", ["fields", "machine_fields", "messages", "appended", "decisions", "nothing", "long_reads"])
+# `fields`, `machine_fields` and `manager` have each field of each struct, `messages` rooms, faults and odd numbers, `appended`
+# contexts that are appended one by one, `decisions` decisions on leases, `nothing` and `manager` handles that hold nothing, and
+# `long_reads` answers to reads of more than 64 KiB.
+@pytest.mark.parametrize("name", ["fields", "machine_fields", "manager", "messages", "appended", "decisions", "nothing",
+                                  "long_reads"])
 def test_program(folder: Path, name: str) -> None:
     """Each prints what is wrong."""
     assert run(program(folder, f"tests/c/{name}.c")) == Ended(0, "")

@@ -1,0 +1,243 @@
+/*
+ * A manager of SMB 2.1 leases and durable opens (MS-SMB2 3.3) as a handle, for a file server that keeps its
+ * files itself: it is to leases what a manager of locks is to locks. It has the opens, the leases and the
+ * requests that wait for a break; names, bytes, sockets and timers are its host's. The host calls it for
+ * what comes in, and carries out the decisions of each call, in their order. What each function does is proved,
+ * for all arguments: it is what the rules of docs/MODEL.md say of the same call.
+ *
+ * Clients, files and tags are numbers of 64 bits that the host chooses: a client stands for a ClientGuid, a
+ * file has a number from 1 on and isn't declared. FileIds are the manager's, from 1 on, and none is used
+ * twice. A request comes under a tag, by which its decisions name it: the host keeps under the tag what is to
+ * be done when the request goes on. While a request waits under a tag, no other one of any client has it.
+ *
+ * A handle is a struct of one pointer. It starts as {0}, and holds nothing then. Never copy a handle.
+ * smblease_manager_free frees what no other function freed. A call of the first part below replaces the
+ * decisions of the call before it: read them by index, in order, after each call.
+ *
+ * The way of one break. Client 1 has file 5 open as FileId 1, with the lease K of all three caches, RWH.
+ *
+ * - A CREATE of file 5 comes from client 2. The host checks names and rights, reads the create contexts
+ *   (smblease_read_create_ask), and asks: smblease_manager_create, under the tag 20. The decisions are
+ *   BREAKS for client 1, of K from RWH to RH, which has to be acknowledged, and WAITS for tag 20.
+ * - BREAKS: the host sends client 1 the notification (smblease_write_notification), and, since ack_required
+ *   is set, starts the timer of the break, which is named by the client and the key. WAITS: it answers the
+ *   CREATE with STATUS_PENDING, and keeps it under its tag. Nothing has been opened yet.
+ * - Client 1 writes back what it had cached: a WRITE by FileId 1. smblease_manager_write, under the tag 11,
+ *   gives GOES_ON for it: the host writes the bytes at that place, and then answers.
+ * - Client 1 acknowledges (smblease_read_acknowledgment): smblease_manager_acknowledge gives ACKNOWLEDGED,
+ *   and then OPENED for tag 20, with FileId 2 and the lease that client 2 is granted. The host stops the
+ *   timer and sends client 1 the response (smblease_write_response); then it opens file 5 for FileId 2, and
+ *   answers the CREATE that it kept (smblease_write_create_answer). Where it can't open the file, it answers
+ *   with the failure, and closes FileId 2 (smblease_manager_close) once all decisions are carried out.
+ * - Had client 1 not answered, the timer would run out: smblease_manager_expire gives ENDED for FileId 1,
+ *   whose handle the host lets go of, and then OPENED for tag 20. What client 1 still sends by FileId 1 is
+ *   REFUSED with STATUS_FILE_CLOSED. A timer of a break that has ended meanwhile changes nothing, as long as
+ *   the lease isn't breaking again: stop it with the break.
+ * - Had client 2 taken its CREATE back by a CANCEL, smblease_manager_withdraw would give WITHDRAWN for tag 20,
+ *   which the host answers with STATUS_CANCELLED. Had its connection been lost, smblease_manager_cut would
+ *   give no decision for tag 20: the host forgets what it kept of that client.
+ *
+ * The order of the decisions is an order of effects. A host carries out each one before it goes on to the
+ * next, and those of one call before it makes another call. So where files are written asynchronously, a
+ * GOES_ON has to have taken effect on the file before what comes after it is done; and what is sent to one
+ * client is sent in this order, whatever file it is about. Take a host that answers OPENED above while the
+ * write of tag 11 still lies in a queue: client 2 reads the old bytes, and may cache them by its lease. The
+ * write comes to the file later, and no break follows, since by the order of the decisions it was there
+ * before client 2 came. Client 2 goes on reading what the file no longer has. Where a write fails on the
+ * disk, the host answers with the failure, and nothing has to be taken back.
+ *
+ * What the manager has no call for goes by calls that are there. Each may cost a break more.
+ *
+ * - Overwriting, truncating, or locking bytes of a file: ask for a write by an open that may write, and do it
+ *   where GOES_ON comes. Before that all others are sent breaks of all that they cache. Where the open may only
+ *   read, the host takes an open of a client of its own, which writes, and closes it afterwards.
+ * - Renaming or removing a file: ask for a create that shares nothing (SMBLEASE_NO_USE), under the lease key
+ *   of the open that it comes by and with the state 0, so that this one gives up nothing. All others that have
+ *   it open give up the handles that they cache. Go on when it is decided: that it is refused for sharing
+ *   doesn't matter, and an open that it makes is closed at once.
+ *
+ * Memory: calls allocate with the program's malloc and realloc. Where memory runs out within a call of the
+ * first part below, the manager is lost: it is freed with all that it knew, the handle is {0}, and the call
+ * returns SMBLEASE_LOST. The host's files are as they were, but nobody knows any longer who has what open, or
+ * caches it: the host cuts every connection, lets go of all that is open, answers nothing of what waited, and
+ * makes a new manager. smblease_manager_new and smblease_manager_list_opens return SMBLEASE_NO_MEMORY then,
+ * and nothing changed. Each function below says whether it allocates.
+ *
+ * What a caller has to keep to is what smblease_machines.h says of its handles: one call at a time uses a
+ * handle, also one that only looks; handles share nothing, so threads may use different handles at once; a
+ * handle may go to another thread where a lock, or the start or the end of a thread, orders the calls;
+ * pointers are to structs that have been given some value before; and no function is called from a signal
+ * handler, or from the forked child of a process with threads. Any number may stand in a field or be given.
+ */
+#ifndef SMBLEASE_MANAGER_H
+#define SMBLEASE_MANAGER_H
+
+#include "smblease.h"
+#include "smblease_machines.h"
+
+#ifdef __cplusplus
+extern "C" {
+#endif
+
+struct smblease_manager { void *state; };
+
+/* Makes a manager where nothing is open and no client has joined, of an order of requests and a rise of
+   leases (smblease_machines.h; both 0 are the rules of docs/PROFILE.md). Files have the numbers from 1 to
+   `files`: UINT64_MAX where the host checks them itself. What the handle held is freed. Allocates. DONE,
+   NO_MEMORY, or NO_SUCH where a number stands for no rule; unless DONE the handle is as it was. */
+uint32_t smblease_manager_new(struct smblease_manager *manager, uint32_t order, uint32_t rise, uint64_t files);
+/* Frees the manager; the handle is {0} then. Allocates nothing. */
+void smblease_manager_free(struct smblease_manager *manager);
+
+/* ---- What comes in ---- */
+
+/* A client connects (3.3.5.1), or its connection is lost (3.3.7.1); the timer of the break of its lease
+   (3.3.6.5), or of a durable open (3.3.6.2), runs out. Where that doesn't apply nothing changes, nothing is
+   decided and the manager is never lost. A cut gives no decision for what waited of the client. Allocate.
+   DONE, LOST or NONE. */
+uint32_t smblease_manager_join(struct smblease_manager *manager, uint64_t client);
+uint32_t smblease_manager_cut(struct smblease_manager *manager, uint64_t client);
+uint32_t smblease_manager_expire(struct smblease_manager *manager, uint64_t client, const struct smblease_key *key);
+uint32_t smblease_manager_scavenge(struct smblease_manager *manager, uint64_t file_id);
+
+/* A request of a client comes under a tag (3.3.5). Where the client isn't connected nothing changes, nothing
+   is decided and the manager is never lost. A create opens a file or, where has_reconnect is set, connects a
+   durable open again; has_other_lease is passed over. A write `fits` where it ends within what the host allows
+   of a file; it is refused where it doesn't. Allocate. DONE, LOST or NONE; of create also NO_SUCH, where the
+   access or the share stands for nothing. */
+uint32_t smblease_manager_create(struct smblease_manager *manager, uint64_t client, uint64_t tag, uint64_t file,
+                                 uint8_t access, uint8_t share, const struct smblease_create_ask *ask);
+uint32_t smblease_manager_read(struct smblease_manager *manager, uint64_t client, uint64_t tag, uint64_t file_id);
+uint32_t smblease_manager_write(struct smblease_manager *manager, uint64_t client, uint64_t tag, uint64_t file_id,
+                                uint8_t fits);
+uint32_t smblease_manager_close(struct smblease_manager *manager, uint64_t client, uint64_t tag, uint64_t file_id);
+
+/* A client acknowledges a break (3.3.5.22.2), or sends an acknowledgment that can't be read; as a request,
+   but under no tag. Allocate. DONE, LOST or NONE. */
+uint32_t smblease_manager_acknowledge(struct smblease_manager *manager, uint64_t client,
+                                      const struct smblease_acknowledgment *given);
+uint32_t smblease_manager_acknowledge_malformed(struct smblease_manager *manager, uint64_t client);
+
+/* A request that waits on the file is taken back (3.3.5.16). Where none waits nothing changes, nothing is
+   decided and the manager is never lost. Allocates. DONE, LOST or NONE. */
+uint32_t smblease_manager_withdraw(struct smblease_manager *manager, uint64_t client, uint64_t tag, uint64_t file);
+
+/* ---- What is decided ---- */
+
+enum smblease_manager_decision_kind {
+    /* The create is answered: the file is open under this FileId, or is again. client, tag, file_id, durable,
+       has_lease, and with it key, state and breaking */
+    SMBLEASE_DECISION_OPENED = 1,
+    /* The read or the write is done now, and answered. client, tag */
+    SMBLEASE_DECISION_GOES_ON = 2,
+    /* The close is done, and answered. client, tag */
+    SMBLEASE_DECISION_CLOSED = 3,
+    /* The request is answered with the status. client, tag, status */
+    SMBLEASE_DECISION_REFUSED = 4,
+    /* The request waits for a break: it is answered with STATUS_PENDING, and a decision of another kind comes
+       for its tag. client, tag */
+    SMBLEASE_DECISION_WAITS = 5,
+    /* The request that waited was taken back. client, tag */
+    SMBLEASE_DECISION_WITHDRAWN = 6,
+    /* The client is sent a notification. client, key, current_state, new_state, ack_required: the client has to
+       acknowledge it, and a timer is started */
+    SMBLEASE_DECISION_BREAKS = 7,
+    /* The acknowledgment is answered with a response, and the timer of the break is stopped. client, key,
+       state: what the lease has */
+    SMBLEASE_DECISION_ACKNOWLEDGED = 8,
+    /* The acknowledgment is answered with the status. client, status */
+    SMBLEASE_DECISION_NOT_ACKNOWLEDGED = 9,
+    /* The open is no more, though its client didn't close it: the host lets go of its handle. file_id */
+    SMBLEASE_DECISION_ENDED = 10
+};
+
+/* What the host is to do. What has no meaning for the kind is 0. */
+struct smblease_manager_decision {
+    uint64_t client;
+    uint64_t tag;
+    uint64_t file_id;
+    uint8_t key[16];
+    uint32_t kind;
+    /* an NTSTATUS */
+    uint32_t status;
+    /* the bits of LeaseState */
+    uint32_t state;
+    uint32_t current_state;
+    uint32_t new_state;
+    uint8_t has_lease;
+    uint8_t breaking;
+    uint8_t durable;
+    uint8_t ack_required;
+    uint8_t reserved[24];
+};
+
+/* What the last call decided. Allocate nothing. The count is 0 where there is no manager. DONE, NONE, or
+   NO_SUCH where nothing has the index; unless DONE nothing is written. */
+size_t smblease_manager_decision_count(struct smblease_manager *manager);
+uint32_t smblease_manager_decision_at(struct smblease_manager *manager, size_t index,
+                                      struct smblease_manager_decision *decision);
+
+/* ---- Questions ---- */
+
+/* Nothing changes, and the decisions stay. Allocate nothing. Where there is no manager, those that return no
+   outcome return 0. */
+
+/* 1 where it is so, and else 0: the client is connected; a break of its lease waits for an acknowledgment; its
+   request under the tag waits on the file; an open of this FileId waits for its client to connect again; there
+   is an open of this FileId, connected or not. */
+uint32_t smblease_manager_connected(struct smblease_manager *manager, uint64_t client);
+uint32_t smblease_manager_breaking(struct smblease_manager *manager, uint64_t client, const struct smblease_key *key);
+uint32_t smblease_manager_waiting(struct smblease_manager *manager, uint64_t client, uint64_t tag, uint64_t file);
+uint32_t smblease_manager_left_behind(struct smblease_manager *manager, uint64_t file_id);
+uint32_t smblease_manager_has_open(struct smblease_manager *manager, uint64_t file_id);
+/* How many opens there are, those that wait for their clients too. */
+size_t smblease_manager_open_count(struct smblease_manager *manager);
+/* What may be granted of the state that is wanted: the bits of LeaseState. */
+uint32_t smblease_manager_allowed(struct smblease_manager *manager, uint64_t client, const struct smblease_maybe_key *key,
+                                  uint64_t file, uint32_t want);
+/* The client's oldest durable open on the file that waits for it. DONE, NONE, or NO_SUCH where there is none;
+   unless DONE nothing is written. */
+uint32_t smblease_manager_kept(struct smblease_manager *manager, uint64_t client, uint64_t file, uint64_t *file_id);
+
+/* A lease (3.3.1.12). */
+struct smblease_held_lease {
+    /* the bits of LeaseState */
+    uint32_t state;
+    /* while a break waits for its acknowledgment, what it is broken to */
+    uint32_t broken_to;
+    uint8_t breaking;
+    uint8_t reserved[23];
+};
+
+/* The lease of the client's key; that of a key that no open has holds nothing. DONE or NONE; unless DONE
+   nothing is written. */
+uint32_t smblease_manager_lease(struct smblease_manager *manager, uint64_t client, const struct smblease_key *key,
+                                struct smblease_held_lease *lease);
+
+/* An open (3.3.1.10); its access and its share as smblease_manager_create takes them. */
+struct smblease_listed_open {
+    uint64_t file_id;
+    uint64_t client;
+    uint64_t file;
+    /* where has_key is set */
+    uint8_t key[16];
+    uint8_t has_key;
+    uint8_t access;
+    uint8_t share;
+    uint8_t durable;
+    uint8_t connected;
+    uint8_t reserved[27];
+};
+
+/* Lists all opens as they stand, in the order of their FileIds; the decisions stay. The list is there until the
+   next call of the first part above. Allocates. DONE, NO_MEMORY or NONE; unless DONE nothing changed. */
+uint32_t smblease_manager_list_opens(struct smblease_manager *manager);
+/* The open that was listed at this index. Allocates nothing. DONE, NONE, or NO_SUCH where nothing has the index;
+   unless DONE nothing is written. */
+uint32_t smblease_manager_listed_at(struct smblease_manager *manager, size_t index, struct smblease_listed_open *listed);
+
+#ifdef __cplusplus
+}
+#endif
+
+#endif
