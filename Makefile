@@ -36,7 +36,7 @@ DIST := dist/x86_64-linux
 HEADERS := $(notdir $(wildcard include/*.h))
 # What is installed of the pages and examples: what a user reads, and COPYING.md on the licence.
 PAGES := CHANGELOG.md COPYING.md SECURITY.md $(patsubst %,docs/%.md,BUILDING C FORMATS MODEL PROFILE PROOF PYTHON REAL_SERVERS SESSIONS)
-EXAMPLES := $(patsubst examples/%,%,$(wildcard examples/*.txt examples/c/*.c examples/python/*.py))
+EXAMPLES := $(patsubst examples/%,%,$(wildcard examples/*.txt examples/c/*.c examples/c/file_server/*.txt examples/python/*.py))
 
 # What was made from these sources stands in one folder, which tools/current prints, and is copied only where it changed. Each file is made beside
 # its place and then moved there, since programs that are started at once may each have it made.
@@ -72,7 +72,7 @@ uninstall:
 	for header in $(HEADERS); do rm -f "$(DESTDIR)$(INCLUDEDIR)/$$header"; done
 	for page in $(PAGES); do rm -f "$(DESTDIR)$(DOCDIR)/$${page##*/}"; done
 	for name in $(EXAMPLES); do rm -f "$(DESTDIR)$(DOCDIR)/examples/$$name"; done
-	for folder in /examples/c /examples/python /examples ''; do rmdir "$(DESTDIR)$(DOCDIR)$$folder" 2>/dev/null || :; done
+	for folder in /examples/c/file_server /examples/c /examples/python /examples ''; do rmdir "$(DESTDIR)$(DOCDIR)$$folder" 2>/dev/null || :; done
 
 check: all
 	$(PYTHON) -m pytest -n $(JOBS) --dist loadgroup -q -m "not long" $(TESTS)

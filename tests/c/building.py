@@ -53,10 +53,11 @@ def made() -> Ended:
         return run("make")
 
 
-def program(folder: Path, *sources: str, standard: str = "c99", flags: tuple[str, ...] = ()) -> Path:
+def program(folder: Path, *sources: str, standard: str = "c99", flags: tuple[str, ...] = (),
+            checks: tuple[str, ...] = CHECKED) -> Path:
     """A program of these sources over the static library, checked for its use of memory while it runs."""
     out = folder / Path(sources[0]).stem
-    done = run(CC, f"-std={standard}", *STRICT, *CHECKED, "-Iinclude", "-o", out, *sources, LIBRARY, *flags)
+    done = run(CC, f"-std={standard}", *STRICT, *checks, "-Iinclude", "-o", out, *sources, LIBRARY, *flags)
     assert done == Ended(0, ""), done.errors
     return out
 

@@ -42,6 +42,25 @@ def shared(folder: Path) -> Path:
 
 
 @pytest.fixture(scope="session")
+def file_server(folder: Path) -> Path:
+    return building.program(folder, "examples/c/file_server.c")
+
+
+@pytest.fixture(scope="session")
+def file_server_with_refusals(tmp_path_factory: pytest.TempPathFactory, folder: Path) -> Path:
+    assert folder
+    sources = ("examples/c/file_server.c", "tests/c/refuse_calls.c")
+    return building.program(tmp_path_factory.mktemp("refusing"), *sources, flags=building.WRAPPED)
+
+
+@pytest.fixture(scope="session")
+def plain_file_server(tmp_path_factory: pytest.TempPathFactory, folder: Path) -> Path:
+    """Without the compiler's checks, which valgrind doesn't go with."""
+    assert folder
+    return building.program(tmp_path_factory.mktemp("plain"), "examples/c/file_server.c", checks=("-g", "-O1"))
+
+
+@pytest.fixture(scope="session")
 def play(folder: Path) -> Path:
     return building.program(folder, "tests/c/play.c")
 
