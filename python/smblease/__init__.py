@@ -1,8 +1,11 @@
 """SMB 2.1 leases and durable opens by libsmblease, which is proved: messages, create contexts, and the client and the server as
-machines (docs/PYTHON.md). The decisions of a server on leases are in smblease.decisions."""
+machines, and a manager of leases (docs/PYTHON.md). The decisions of a server on leases are in smblease.decisions, those of a
+manager in smblease.manager_decisions."""
 from smblease.client import Client, lease_key
 from smblease.contexts import Context, CreateAnswer, CreateAsk, append_context, each_context, find_context, replace_data
 from smblease.faults import Fault, MachineLost
+from smblease.manager import Manager
+from smblease.manager_questions import HeldLease, ListedOpen
 from smblease.messages import Acknowledgment, MessageKind, Notification, Response
 from smblease.outs import Changed, Opened, Out, Sent
 from smblease.replies import (AcknowledgeDone, AcknowledgeFailed, Break, Closed, CloseFailed, Created, CreateFailed, ReadDone,
@@ -17,9 +20,9 @@ __version__ = "0.3.0"
 __all__ = [
     "Access", "AcknowledgeDone", "AcknowledgeFailed", "AcknowledgeRequest", "Acknowledgment", "Answer", "Believes", "Break",
     "CachedRead", "Changed", "Client", "Closed", "CloseFailed", "CloseRequest", "Context", "CreateAnswer", "CreateAsk",
-    "CreateFailed", "CreateRequest", "Created", "Done", "Failed", "Fault", "FileBytes", "LeaseState", "MachineLost",
-    "MessageKind", "Note", "Notification", "Opened", "Order", "Out", "Quiet", "ReadDone", "ReadFailed", "ReadRequest",
-    "Refusal", "Refused", "Reply", "Request", "Response", "Rise", "Rules", "Sent", "Server", "Settled", "Settlement", "Share",
-    "Status", "Step", "Waiting", "WriteDone", "WriteFailed", "WriteRequest", "Wrote", "append_context", "each_context",
-    "find_context", "lease_key", "replace_data",
+    "CreateFailed", "CreateRequest", "Created", "Done", "Failed", "Fault", "FileBytes", "HeldLease", "LeaseState", "ListedOpen",
+    "MachineLost", "Manager", "MessageKind", "Note", "Notification", "Opened", "Order", "Out", "Quiet", "ReadDone",
+    "ReadFailed", "ReadRequest", "Refusal", "Refused", "Reply", "Request", "Response", "Rise", "Rules", "Sent", "Server",
+    "Settled", "Settlement", "Share", "Status", "Step", "Waiting", "WriteDone", "WriteFailed", "WriteRequest", "Wrote",
+    "append_context", "each_context", "find_context", "lease_key", "replace_data",
 ]

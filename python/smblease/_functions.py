@@ -8,6 +8,7 @@ _BYTES = (c_char_p, c_size_t)
 _ROOM = (POINTER(c_char), c_size_t)
 _CLIENT = POINTER(structs.Client)
 _SERVER = POINTER(structs.Server)
+_MANAGER = POINTER(structs.Manager)
 _OPENS = (POINTER(structs.Open), c_size_t)
 _TABLES = (*_OPENS, POINTER(structs.Lease), c_size_t)
 _REQUEST = POINTER(structs.Request)
@@ -103,4 +104,33 @@ SERVER: Dict[str, Signature] = {
     "server_content": (c_uint32, (_SERVER, c_uint8, POINTER(c_uint64), *_ROOM)),
 }
 
-FUNCTIONS: Dict[str, Signature] = {**CODEC, **DECISIONS, **CLIENT, **SERVER}
+MANAGER: Dict[str, Signature] = {
+    "manager_new": (c_uint32, (_MANAGER, c_uint32, c_uint32, c_uint64)),
+    "manager_free": (None, (_MANAGER,)),
+    "manager_join": (c_uint32, (_MANAGER, c_uint64)),
+    "manager_cut": (c_uint32, (_MANAGER, c_uint64)),
+    "manager_expire": (c_uint32, (_MANAGER, c_uint64, _KEY)),
+    "manager_scavenge": (c_uint32, (_MANAGER, c_uint64)),
+    "manager_create": (c_uint32, (_MANAGER, c_uint64, c_uint64, c_uint64, c_uint8, c_uint8, POINTER(structs.CreateAsk))),
+    "manager_read": (c_uint32, (_MANAGER, c_uint64, c_uint64, c_uint64)),
+    "manager_write": (c_uint32, (_MANAGER, c_uint64, c_uint64, c_uint64, c_uint8)),
+    "manager_close": (c_uint32, (_MANAGER, c_uint64, c_uint64, c_uint64)),
+    "manager_acknowledge": (c_uint32, (_MANAGER, c_uint64, POINTER(structs.Acknowledgment))),
+    "manager_acknowledge_malformed": (c_uint32, (_MANAGER, c_uint64)),
+    "manager_withdraw": (c_uint32, (_MANAGER, c_uint64, c_uint64, c_uint64)),
+    "manager_decision_count": (c_size_t, (_MANAGER,)),
+    "manager_decision_at": (c_uint32, (_MANAGER, c_size_t, POINTER(structs.ManagerDecision))),
+    "manager_connected": (c_uint32, (_MANAGER, c_uint64)),
+    "manager_breaking": (c_uint32, (_MANAGER, c_uint64, _KEY)),
+    "manager_waiting": (c_uint32, (_MANAGER, c_uint64, c_uint64, c_uint64)),
+    "manager_left_behind": (c_uint32, (_MANAGER, c_uint64)),
+    "manager_has_open": (c_uint32, (_MANAGER, c_uint64)),
+    "manager_open_count": (c_size_t, (_MANAGER,)),
+    "manager_allowed": (c_uint32, (_MANAGER, c_uint64, POINTER(structs.MaybeKey), c_uint64, c_uint32)),
+    "manager_kept": (c_uint32, (_MANAGER, c_uint64, c_uint64, POINTER(c_uint64))),
+    "manager_lease": (c_uint32, (_MANAGER, c_uint64, _KEY, POINTER(structs.HeldLease))),
+    "manager_list_opens": (c_uint32, (_MANAGER,)),
+    "manager_listed_at": (c_uint32, (_MANAGER, c_size_t, POINTER(structs.ListedOpen))),
+}
+
+FUNCTIONS: Dict[str, Signature] = {**CODEC, **DECISIONS, **CLIENT, **SERVER, **MANAGER}

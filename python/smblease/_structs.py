@@ -117,3 +117,23 @@ class Server(ctypes.Structure):
 class ServerOut(ctypes.Structure):
     _fields_ = [("file_id", c_uint64), ("number", c_uint64), ("length", c_uint64), ("kind", c_uint32), ("status", c_uint32),
                 ("offset", c_uint32), ("client", c_uint8), ("file", c_uint8), ("reserved", c_uint8 * 26)]
+
+
+class Manager(ctypes.Structure):
+    _fields_ = [("state", ctypes.c_void_p)]
+
+
+class ManagerDecision(ctypes.Structure):
+    _fields_ = [("client", c_uint64), ("tag", c_uint64), ("file_id", c_uint64), ("key", c_uint8 * 16), ("kind", c_uint32),
+                ("status", c_uint32), ("state", c_uint32), ("current_state", c_uint32), ("new_state", c_uint32),
+                ("has_lease", c_uint8), ("breaking", c_uint8), ("durable", c_uint8), ("ack_required", c_uint8),
+                ("reserved", c_uint8 * 24)]
+
+
+class HeldLease(ctypes.Structure):
+    _fields_ = [("state", c_uint32), ("broken_to", c_uint32), ("breaking", c_uint8), ("reserved", c_uint8 * 23)]
+
+
+class ListedOpen(ctypes.Structure):
+    _fields_ = [("file_id", c_uint64), ("client", c_uint64), ("file", c_uint64), ("key", c_uint8 * 16), ("has_key", c_uint8),
+                ("access", c_uint8), ("share", c_uint8), ("durable", c_uint8), ("connected", c_uint8), ("reserved", c_uint8 * 27)]

@@ -55,12 +55,17 @@ class CreateAsk:
         >>> CreateAsk(uuid.UUID(int=1), LeaseState.R).write().hex()[:40]
         '0000000010000400000018002000000052714c73'
         """
-        ask = structs.CreateAsk(state=LeaseState(self.state).value, durable=bool(self.durable))
-        if self.key is not None:
-            ask.has_lease, ask.key = 1, key_field(self.key)
-        if self.reconnect is not None:
-            ask.has_reconnect, ask.file_id = 1, number(self.reconnect, LONG, "reconnect")
-        return written(library.smblease_write_create_ask, ask, CREATE_ASK_MOST)
+        return written(library.smblease_write_create_ask, ask_struct(self), CREATE_ASK_MOST)
+
+
+def ask_struct(ask: CreateAsk) -> structs.CreateAsk:
+    """What is asked for, as a call is given it."""
+    found = structs.CreateAsk(state=LeaseState(ask.state).value, durable=bool(ask.durable))
+    if ask.key is not None:
+        found.has_lease, found.key = 1, key_field(ask.key)
+    if ask.reconnect is not None:
+        found.has_reconnect, found.file_id = 1, number(ask.reconnect, LONG, "reconnect")
+    return found
 
 
 @dataclass(frozen=True)

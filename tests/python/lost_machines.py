@@ -10,7 +10,8 @@ from contextlib import contextmanager
 
 import pytest
 
-from smblease import Access, Client, Created, CreateRequest, LeaseState, MachineLost, ReadRequest, Server, Share, Wrote
+from smblease import (Access, Client, CreateAsk, Created, CreateRequest, LeaseState, MachineLost, Manager, ReadRequest, Server,
+                      Share, Wrote)
 
 GUID = uuid.UUID(int=1)
 RWH = LeaseState.of("RWH")
@@ -29,7 +30,7 @@ def raises_exactly(kind: type[BaseException], call: Callable[[], object]) -> Non
     assert raised.type is kind
 
 
-def lose(machine: Client | Server, call: Callable[[], object], other: Callable[[], object]) -> None:
+def lose(machine: Client | Server | Manager, call: Callable[[], object], other: Callable[[], object]) -> None:
     """A call loses a machine; another one shows that the object holds nothing."""
     with refusing():
         raises_exactly(MachineLost, call)
@@ -97,8 +98,33 @@ def server_reads() -> None:
         assert another.content(1) == b"abc"
 
 
-CASES = {it.__name__: it for it in (client_is_made, client_opens, client_writes, client_flushes,
-                                    server_is_made, contexts_are_copied, server_reads)}
+def manager_is_made() -> None:
+    with refusing():
+        raises_exactly(MemoryError, Manager)
+    with Manager() as another:
+        assert not another.opens()
+
+
+def manager_opens() -> None:
+    manager = Manager()
+    manager.join(1)
+    with refusing():
+        assert not manager.create(2, 20, 5, Access.READ, Share.READ)
+    lose(manager, lambda: manager.create(1, 10, 5, Access.READ, Share.READ, CreateAsk(GUID, RWH)), lambda: manager.join(2))
+
+
+def opens_are_listed() -> None:
+    manager = Manager()
+    manager.join(1)
+    manager.create(1, 10, 5, Access.READ, Share.READ, CreateAsk(GUID, RWH))
+    with refusing():
+        raises_exactly(MemoryError, manager.opens)
+        assert manager.open_count() == 1 and manager.lease(1, GUID).state == RWH
+    assert [it.file_id for it in manager.opens()] == [1]
+
+
+CASES = {it.__name__: it for it in (client_is_made, client_opens, client_writes, client_flushes, server_is_made,
+                                    contexts_are_copied, server_reads, manager_is_made, manager_opens, opens_are_listed)}
 
 
 if __name__ == "__main__":

@@ -41,7 +41,7 @@ def parameters(text: str) -> tuple[Any, ...]:
 
 
 def prototypes() -> dict[str, tuple[Any, tuple[Any, ...]]]:
-    text = "".join((TOP / "include" / name).read_text(encoding="utf-8") for name in ("smblease.h", "smblease_machines.h"))
+    text = "".join(it.read_text(encoding="utf-8") for it in sorted((TOP / "include").glob("*.h")))
     found = PROTOTYPE.findall(COMMENT.sub("", text))
     return {name: (type_of(result), parameters(given)) for result, name, given in found}
 

@@ -9,19 +9,21 @@ from typing import Any
 
 import pytest
 
-from smblease import (Access, AcknowledgeDone, AcknowledgeFailed, AcknowledgeRequest, Break, Client, Closed, Context,
-                      CreateAnswer, CreateAsk, CreateRequest, Fault, LeaseState, Notification, Quiet, ReadRequest, Response,
-                      Rules, Server, Share, Status, WriteDone, WriteRequest, append_context, each_context)
+from smblease import (Access, AcknowledgeDone, AcknowledgeFailed, AcknowledgeRequest, Acknowledgment, Break, Client, Closed,
+                      Context, CreateAnswer, CreateAsk, CreateRequest, Fault, LeaseState, Manager, Notification, Quiet,
+                      ReadRequest, Response, Rules, Server, Share, Status, WriteDone, WriteRequest, append_context, each_context)
 
 GUID = uuid.UUID(int=1)
 RW, RH = LeaseState.of("RW"), LeaseState.of("RH")
 LONG = 1 << 64
-CLIENT, SERVER = Client(GUID, 1), Server([b"abc"])
+CLIENT, SERVER, MANAGER = Client(GUID, 1), Server([b"abc"]), Manager()
 # (mypy would refuse arguments of other types)
 client: Any = CLIENT
 server: Any = SERVER
+manager: Any = MANAGER
 any_client: Any = Client
 any_server: Any = Server
+any_manager: Any = Manager
 any_rules: Any = Rules
 any_ask: Any = CreateAsk
 any_answer: Any = CreateAnswer
@@ -83,6 +85,15 @@ HALF = bytes((0, 0, 0, 0, 24, 0, 4)) + bytes(17) + b"DHnQ" + bytes(4)
     refused("the content of file 0", lambda: server.content(0)),
     refused("the content of file 2", lambda: server.content(2)),
     refused("the content of file 256", lambda: server.content(256), word="file"),
+    refused("rules of a manager as a text", lambda: any_manager("by-key,whole"), TypeError, "Rules.of('by-key,whole')"),
+    refused("2^64 files of a manager", lambda: any_manager(files=LONG), word="files"),
+    refused("client 2^64 of a manager", lambda: manager.join(LONG), word="client"),
+    refused("tag -1", lambda: manager.read(1, -1, 1), word="tag"),
+    refused("a closed FileId of 65 bits", lambda: manager.close_open(1, 10, LONG), word="file_id"),
+    refused("file 2^64 of a manager", lambda: manager.withdraw(1, 10, LONG), word="file"),
+    refused("an access of 0 of a manager", lambda: manager.create(1, 10, 1, 0, Share.READ), word="Access"),
+    refused("a share of 4 of a manager", lambda: manager.create(1, 10, 1, Access.READ, 4), word="Share"),
+    refused("a manager's key as bytes", lambda: manager.expire(1, bytes(16)), TypeError, "uuid.UUID"),
     refused("a FileId of 65 bits in contexts", lambda: CreateAsk(reconnect=LONG).write(), word="reconnect"),
     refused("a name of 65,513 bytes", lambda: append_context(DURABLE, Context(bytes(65513), b"")), word="doesn't fit"),
     refused("a key as bytes in contexts", lambda: any_answer(bytes(16), RH).write(), TypeError, "UUID"),
@@ -118,19 +129,28 @@ SERVER_CALLS: dict[str, tuple[Any, ...]] = {
     "connected": (1,), "breaking": (1, GUID), "left_behind": (1,),
     "kept": (1, 1), "content": (1,), "__enter__": (),
 }
+MANAGER_CALLS: dict[str, tuple[Any, ...]] = {
+    "join": (1,), "cut": (1,), "expire": (1, GUID), "scavenge": (1,), "create": (1, 10, 1, Access.READ, Share.READ),
+    "read": (1, 10, 1), "write": (1, 10, 1), "close_open": (1, 10, 1), "acknowledge": (1, Acknowledgment(GUID, RH)),
+    "acknowledge_malformed": (1,), "withdraw": (1, 10, 1), "connected": (1,), "breaking": (1, GUID), "waiting": (1, 10, 1),
+    "left_behind": (1,), "has_open": (1,), "open_count": (), "allowed": (1, None, 1, RW), "kept": (1, 1), "lease": (1, GUID),
+    "opens": (), "__enter__": (),
+}
 # (these ask nothing of the machine)
 FREE = {"close", "closed", "key"}
 
 
 def closed(kind: str) -> Any:
-    machine: Client | Server = Client(GUID, 1) if kind == "client" else Server([b"abc"])
+    made: dict[str, Callable[[], Any]] = {"client": lambda: Client(GUID, 1), "server": lambda: Server([b"abc"]),
+                                          "manager": Manager}
+    machine = made[kind]()
     with machine:
         pass
     return machine
 
 
 CLOSED_CALLS = [pytest.param(kind, method, arguments, id=f"{kind}-{method}") for kind, calls in (("client", CLIENT_CALLS),
-                ("server", SERVER_CALLS)) for method, arguments in calls.items()]
+                ("server", SERVER_CALLS), ("manager", MANAGER_CALLS)) for method, arguments in calls.items()]
 
 
 @pytest.mark.parametrize("kind, method, arguments", CLOSED_CALLS)
@@ -140,13 +160,14 @@ def test_a_call_of_a_closed_machine(kind: str, method: str, arguments: tuple[Any
 
 
 @pytest.mark.parametrize("machine, calls", [pytest.param(Client, CLIENT_CALLS, id="client"),
-                                            pytest.param(Server, SERVER_CALLS, id="server")])
+                                            pytest.param(Server, SERVER_CALLS, id="server"),
+                                            pytest.param(Manager, MANAGER_CALLS, id="manager")])
 def test_each_method_of_a_closed_machine_is_tried(machine: type, calls: dict[str, tuple[Any, ...]]) -> None:
     public = {it for it, _ in inspect.getmembers(machine) if not it.startswith("_")} - FREE
     assert public == set(calls) - {"__enter__"}
 
 
-@pytest.mark.parametrize("kind", ["client", "server"])
+@pytest.mark.parametrize("kind", ["client", "server", "manager"])
 def test_a_machine_is_closed_twice(kind: str) -> None:
     machine = closed(kind)
     machine.close()

@@ -1,0 +1,177 @@
+"""What a manager of leases may be asked, and what it knows of opens and leases. Nothing changes by that."""
+from __future__ import annotations
+
+import ctypes
+import uuid
+from dataclasses import dataclass
+from typing import Any, Callable, Optional, Tuple
+
+from smblease import _structs as structs
+from smblease._arguments import LONG, key_field, key_octets, key_of, number
+from smblease._handles import Handle, Outcome
+from smblease._library import library
+from smblease.values import Access, LeaseState, Share
+
+
+@dataclass(frozen=True)
+class HeldLease:
+    """A lease: what it holds and, while a break waits for its acknowledgment, what it is broken to.
+
+    >>> HeldLease(LeaseState.of("RWH")).broken_to is None
+    True
+    """
+
+    state: LeaseState
+    broken_to: Optional[LeaseState] = None
+
+
+@dataclass(frozen=True)
+class ListedOpen:
+    """An open. One that isn't connected waits for its client.
+
+    >>> ListedOpen(1, 2, 3, None, Access.READ, Share.READ, durable=False, connected=True).file
+    3
+    """
+
+    file_id: int
+    client: int
+    file: int
+    key: Optional[uuid.UUID]
+    access: Access
+    share: Share
+    durable: bool
+    connected: bool
+
+
+def key_struct(key: uuid.UUID) -> structs.Key:
+    """A key that a call is given.
+
+    >>> bytes(key_struct(uuid.UUID(int=1)))[-1]
+    1
+    """
+    return structs.Key.from_buffer_copy(key_octets(key))
+
+
+def _open(has: Any) -> ListedOpen:
+    key = key_of(has.key) if has.has_key else None
+    return ListedOpen(int(has.file_id), int(has.client), int(has.file), key, Access(has.access), Share(has.share),
+                      bool(has.durable), bool(has.connected))
+
+
+class ManagerQuestions(Handle[structs.Manager]):
+    """The questions that a Manager answers.
+
+    >>> from smblease import Manager
+    >>> issubclass(Manager, ManagerQuestions)
+    True
+    """
+
+    def _asked(self, call: Callable[..., int], *arguments: object) -> int:
+        with self._lock:
+            self._check_open()
+            return int(call(ctypes.byref(self._handle), *arguments))
+
+    def connected(self, client: int) -> bool:
+        """Whether a client is connected.
+
+        >>> from smblease import Manager
+        >>> Manager().connected(1)
+        False
+        """
+        return bool(self._asked(library.smblease_manager_connected, number(client, LONG, "client")))
+
+    def breaking(self, client: int, key: uuid.UUID) -> bool:
+        """Whether a break of a client's lease waits for its acknowledgment.
+
+        >>> from smblease import Manager
+        >>> Manager().breaking(1, uuid.UUID(int=1))
+        False
+        """
+        return bool(self._asked(library.smblease_manager_breaking, number(client, LONG, "client"), ctypes.byref(key_struct(key))))
+
+    def waiting(self, client: int, tag: int, file: int) -> bool:
+        """Whether a request of a client under the tag waits on the file.
+
+        >>> from smblease import Manager
+        >>> Manager().waiting(1, 10, 5)
+        False
+        """
+        return bool(self._asked(library.smblease_manager_waiting, number(client, LONG, "client"), number(tag, LONG, "tag"),
+                                number(file, LONG, "file")))
+
+    def left_behind(self, file_id: int) -> bool:
+        """Whether an open waits for its client to connect again.
+
+        >>> from smblease import Manager
+        >>> Manager().left_behind(1)
+        False
+        """
+        return bool(self._asked(library.smblease_manager_left_behind, number(file_id, LONG, "file_id")))
+
+    def has_open(self, file_id: int) -> bool:
+        """Whether there is an open of this FileId, connected or not.
+
+        >>> from smblease import Manager
+        >>> Manager().has_open(1)
+        False
+        """
+        return bool(self._asked(library.smblease_manager_has_open, number(file_id, LONG, "file_id")))
+
+    def open_count(self) -> int:
+        """How many opens there are, those that wait for their clients too.
+
+        >>> from smblease import Manager
+        >>> Manager().open_count()
+        0
+        """
+        return self._asked(library.smblease_manager_open_count)
+
+    def allowed(self, client: int, key: Optional[uuid.UUID], file: int, want: LeaseState) -> LeaseState:
+        """What may be granted to a client of the state that it wants.
+
+        >>> from smblease import Manager
+        >>> str(Manager().allowed(1, None, 5, LeaseState.of("RWH")))
+        'RWH'
+        """
+        maybe = structs.MaybeKey() if key is None else structs.MaybeKey(key_field(key), 1)
+        return LeaseState(self._asked(library.smblease_manager_allowed, number(client, LONG, "client"), ctypes.byref(maybe),
+                                      number(file, LONG, "file"), LeaseState(want).value))
+
+    def kept(self, client: int, file: int) -> Optional[int]:
+        """The FileId of a client's oldest durable open on a file that waits for it, or None where there is none.
+
+        >>> from smblease import Manager
+        >>> Manager().kept(1, 5) is None
+        True
+        """
+        found = ctypes.c_uint64()
+        outcome = self._asked(library.smblease_manager_kept, number(client, LONG, "client"), number(file, LONG, "file"),
+                              ctypes.byref(found))
+        return found.value if outcome == Outcome.DONE else None
+
+    def lease(self, client: int, key: uuid.UUID) -> HeldLease:
+        """The lease of a client's key; that of a key that no open has holds nothing.
+
+        >>> from smblease import Manager
+        >>> Manager().lease(1, uuid.UUID(int=1))
+        HeldLease(state=<LeaseState none>, broken_to=None)
+        """
+        found = structs.HeldLease()
+        self._asked(library.smblease_manager_lease, number(client, LONG, "client"), ctypes.byref(key_struct(key)),
+                    ctypes.byref(found))
+        return HeldLease(LeaseState(found.state), LeaseState(found.broken_to) if found.breaking else None)
+
+    def opens(self) -> Tuple[ListedOpen, ...]:
+        """All opens, in the order of their FileIds. Where there is no memory for the list, MemoryError is raised.
+
+        >>> from smblease import Manager
+        >>> Manager().opens()
+        ()
+        """
+        handle = ctypes.byref(self._handle)
+        with self._lock:
+            self._check(library.smblease_manager_list_opens(handle))
+            found = [structs.ListedOpen() for _ in range(library.smblease_manager_open_count(handle))]
+            for index, one in enumerate(found):
+                self._check(library.smblease_manager_listed_at(handle, index, ctypes.byref(one)))
+        return tuple(map(_open, found))

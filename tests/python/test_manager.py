@@ -1,0 +1,144 @@
+"""A manager of leases as an object: a break and its ends, opens that stay, and the example of a file server."""
+from __future__ import annotations
+
+import threading
+import uuid
+from collections import Counter
+from pathlib import Path
+
+import pytest
+
+from smblease import (Access, Acknowledgment, CreateAnswer, CreateAsk, HeldLease, LeaseState, ListedOpen, Manager, Notification,
+                      Response, Rules, Share, Status)
+from smblease.manager_decisions import (Acknowledged, Breaks, Closed, Decisions, Ended, GoesOn, NotAcknowledged, Opened, Refused,
+                                        Waits, Withdrawn)
+from tests.paths import TESTS, TOP, files_of
+from tests.python.refusing import LOST, Ended as Finished, refusals, run
+
+ONE, TWO, FILE = (1 << 63) + 1, 2, (1 << 64) - 1
+KEY, OTHER_KEY = uuid.UUID(int=1), uuid.UUID(int=2)
+RWH, RH, R, NONE = map(LeaseState.of, ("RWH", "RH", "R", "none"))
+EXAMPLE = TOP / "examples/python/play_file_server.py"
+SCRIPTS = [pytest.param(it, id=it.stem) for it in files_of(TOP / "examples/c/file_server")]
+
+
+def opened(client: int, tag: int, key: uuid.UUID, state: LeaseState, manager: Manager, **more: bool) -> Decisions:
+    return manager.create(client, tag, FILE, Access.READ_WRITE, Share.READ_WRITE, CreateAsk(key, state, **more))
+
+
+@pytest.fixture(name="manager")
+def joined_manager() -> Manager:
+    manager = Manager()
+    for client in (ONE, TWO):
+        manager.join(client)
+    return manager
+
+
+def test_a_break_is_acknowledged(manager: Manager) -> None:
+    assert opened(ONE, 10, KEY, RWH, manager) == (Opened(ONE, 10, 1, CreateAnswer(KEY, RWH)),)
+    assert opened(TWO, 20, OTHER_KEY, RWH, manager) == (Breaks(ONE, Notification(KEY, RWH, RH, True)), Waits(TWO, 20))
+    assert manager.breaking(ONE, KEY) and manager.waiting(TWO, 20, FILE) and not manager.waiting(TWO, 21, FILE)
+    assert manager.lease(ONE, KEY) == HeldLease(RWH, RH)
+    assert manager.write(ONE, 11, 1) == (GoesOn(ONE, 11),)
+    assert manager.acknowledge_malformed(ONE) == (NotAcknowledged(ONE, Status.INVALID_PARAMETER),)
+    assert manager.acknowledge(ONE, Acknowledgment(KEY, RH)) == (Acknowledged(ONE, Response(KEY, RH)),
+                                                                 Opened(TWO, 20, 2, CreateAnswer(OTHER_KEY, RH)))
+    assert manager.acknowledge(ONE, Acknowledgment(KEY, RH)) == (NotAcknowledged(ONE, Status.UNSUCCESSFUL),)
+    assert manager.close_open(ONE, 12, 1) == (Closed(ONE, 12),)
+
+
+def test_a_break_expires(manager: Manager) -> None:
+    opened(ONE, 10, KEY, RWH, manager)
+    opened(TWO, 20, OTHER_KEY, R, manager)
+    assert manager.expire(TWO, KEY) == ()
+    assert manager.expire(ONE, KEY) == (Ended(1), Opened(TWO, 20, 2, CreateAnswer(OTHER_KEY, R)))
+    assert manager.read(ONE, 11, 1) == (Refused(ONE, 11, Status.FILE_CLOSED),)
+
+
+def test_a_request_is_withdrawn(manager: Manager) -> None:
+    opened(ONE, 10, KEY, RWH, manager)
+    opened(TWO, 20, OTHER_KEY, R, manager)
+    assert manager.withdraw(TWO, 21, FILE) == ()
+    assert manager.withdraw(TWO, 20, FILE) == (Withdrawn(TWO, 20),)
+    assert manager.acknowledge(ONE, Acknowledgment(KEY, NONE)) == (Acknowledged(ONE, Response(KEY, NONE)),)
+
+
+def test_opens_stay(manager: Manager) -> None:
+    assert opened(ONE, 10, KEY, RWH, manager, durable=True) == (Opened(ONE, 10, 1, CreateAnswer(KEY, RWH, durable=True)),)
+    assert manager.cut(ONE) == ()
+    assert manager.left_behind(1) and manager.has_open(1) and manager.kept(ONE, FILE) == 1 and not manager.connected(ONE)
+    left = ListedOpen(1, ONE, FILE, KEY, Access.READ_WRITE, Share.READ_WRITE, durable=True, connected=False)
+    assert manager.opens() == (left,) and manager.open_count() == 1
+    manager.join(ONE)
+    again = manager.create(ONE, 11, FILE, Access.READ, Share.READ, CreateAsk(KEY, reconnect=1))
+    assert again == (Opened(ONE, 11, 1, CreateAnswer(KEY, RWH)),)
+    manager.cut(ONE)
+    assert manager.scavenge(1) == (Ended(1),)
+
+
+def test_what_is_refused(manager: Manager) -> None:
+    first = manager.create(ONE, 10, FILE, Access.READ, Share.READ)
+    assert first == (Opened(ONE, 10, 1, CreateAnswer()),)
+    assert manager.create(TWO, 20, FILE, Access.WRITE, Share.READ) == (Refused(TWO, 20, Status.SHARING_VIOLATION),)
+    assert manager.write(ONE, 11, 1) == (Refused(ONE, 11, Status.ACCESS_DENIED),)
+    second = manager.create(TWO, 21, 1, Access.WRITE, Share.READ)
+    assert second == (Opened(TWO, 21, 2, CreateAnswer()),)
+    assert manager.write(TWO, 22, 2, fits=False) == (Refused(TWO, 22, Status.INVALID_PARAMETER),)
+    assert manager.allowed(TWO, OTHER_KEY, FILE, RWH) == RH
+    assert [it.key for it in manager.opens()] == [None, None]
+
+
+def test_rules_and_files() -> None:
+    with Manager(Rules.of("by-key,whole"), files=1) as manager:
+        manager.join(ONE)
+        manager.join(TWO)
+        assert manager.create(ONE, 10, 2, Access.READ, Share.READ) == (Refused(ONE, 10, Status.OBJECT_NAME_NOT_FOUND),)
+        manager.create(ONE, 11, 1, Access.READ, Share.READ, CreateAsk(KEY, R))
+        manager.create(TWO, 20, 1, Access.READ, Share.READ, CreateAsk(OTHER_KEY, RWH))
+        [again] = manager.create(ONE, 12, 1, Access.READ, Share.READ, CreateAsk(KEY, RWH))
+    assert isinstance(again, Opened) and again.answer.state == R
+
+
+def test_threads_share_a_manager() -> None:
+    """Each call gives its own decisions, whichever thread it comes from."""
+    manager = Manager()
+    found: list[tuple[int, Decisions]] = []
+
+    def use(client: int) -> None:
+        manager.join(client)
+        for tag in range(100):
+            found.append((client, manager.create(client, tag, client, Access.READ, Share.READ)))
+    threads = [threading.Thread(target=use, args=(client,)) for client in range(1, 5)]
+    for thread in threads:
+        thread.start()
+    for thread in threads:
+        thread.join()
+    opens = [it for _, decisions in found for it in decisions]
+    assert all(isinstance(it, Opened) for it in opens)
+    assert sorted(it.file_id for it in opens if isinstance(it, Opened)) == list(range(1, 401))
+    assert all(it.client == client for client, decisions in found for it in decisions if isinstance(it, Opened))
+    assert {it.client for it in manager.opens()} == {1, 2, 3, 4}
+
+
+def expected(script: Path) -> str:
+    """What the example in C prints, which tests/c compares too."""
+    return (TESTS / "c/file_server" / script.stem).read_text(encoding="ascii")
+
+
+@pytest.mark.parametrize("script", SCRIPTS)
+def test_the_example_plays(tmp_path: Path, script: Path) -> None:
+    assert run(EXAMPLE, tmp_path, script) == Finished(0, expected(script))
+
+
+@pytest.mark.parametrize("script, step", [
+    pytest.param(it.values[0], step, id=f"{it.id}-{step}", marks=[pytest.mark.long] if step == 1 else [])
+    for it in SCRIPTS for step in (1, 4) if it.id in ("durable_open", "break_expires") or step == 1])
+def test_each_allocation_refused(library: str, tmp_path: Path, script: Path, step: int) -> None:
+    """Each is refused alone, and with all that follow: the manager is lost, or was never made."""
+    said = Counter[str]()
+    for whole, done in refusals(library, tmp_path / "calls", step, EXAMPLE, tmp_path, script):
+        assert whole == expected(script) and done.status == LOST, done
+        assert whole.startswith(done.output.rpartition("- ")[0]), done
+        said[done.errors.removeprefix("play_file_server.py: ")] += 1
+    assert said.pop("there is no memory for a manager\n") == 2
+    assert set(said) == {"memory ran out within a call of the manager, which is lost\n"}
