@@ -162,6 +162,9 @@ pub fn forget_home(waiting: &mut Waiting, summaries: &Summaries, key: Key)
     ensures { (opens : List ModelOpen) → Agrees summaries.now opens
         → HaveForgotten (has_key key) opens waiting.old waiting.new }
 {
+    if waiting.is_empty() {
+        return;
+    }
     match summaries.home(key) {
         Some(file) => waiting.forget(file),
         None => {}
@@ -172,6 +175,9 @@ pub fn forget_home(waiting: &mut Waiting, summaries: &Summaries, key: Key)
 pub fn forget_files(waiting: &mut Waiting, opens: &Opens, ids: &[FileId])
     ensures { HaveForgotten (is_one_of (map (λ id. id.0) ids.now)) opens.now waiting.old waiting.new }
 {
+    if waiting.is_empty() {
+        return;
+    }
     for id in ids {
         forget_file_of(waiting, opens, *id);
     }

@@ -1,7 +1,10 @@
-use Rattle.lease_laws.proofs.Words.{FileId}
+use Rattle.lease_laws.proofs.Words.{FileId, inl}
 use Rattle.std.proofs.lemmas.List.{map_more}
 use Rattle.lease_manager.proofs.Counted.{forgotten_first, forgotten_more}
 use Rattle.lease_manager.proofs.tables.still.forget_files.Goals as goal
+
+pub returns-then-is_empty : goal.returns-then-is_empty
+returns-then-is_empty c = λ file. inl (c.is_empty.ensures c.if-is_empty.true file)
 
 pub loop-id-init : goal.loop-id-init
 loop-id-init c = forgotten_first c.args.opens.now c.args.waiting.now

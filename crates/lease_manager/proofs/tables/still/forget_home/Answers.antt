@@ -1,6 +1,9 @@
-use Rattle.lease_laws.proofs.Words.{has_key, refl}
+use Rattle.lease_laws.proofs.Words.{has_key, inl, refl}
 use Rattle.lease_manager.proofs.Counted.{forgotten_home, forgotten_none}
 use Rattle.lease_manager.proofs.tables.still.forget_home.Goals as goal
+
+pub returns-then-is_empty : goal.returns-then-is_empty
+returns-then-is_empty c = λ opens agree file. inl (c.is_empty.ensures c.if-is_empty.true file)
 
 pub returns-in-Some : goal.returns-in-Some
 returns-in-Some c = λ opens agree.
