@@ -8,7 +8,7 @@ include!("plain_records.rs");
 
 fn key(number: u64) -> [u8; 16] {
     let mut bytes = [7; 16];
-    bytes[..8].copy_from_slice(&number.to_be_bytes());
+    bytes[..8].copy_from_slice(&number.wrapping_mul(0x9E37_79B9_7F4A_7C15).to_be_bytes());
     bytes
 }
 

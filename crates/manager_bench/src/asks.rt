@@ -1,10 +1,13 @@
 use lease_manager::{Ask, ClientNo, CreateAsk, FileNo};
 use lease_state::{Access, FileId, LeaseKey, LeaseState, Share};
 
-/// The key of a number.
+// Multiples of it are spread over all numbers.
+const SPREAD: u64 = 0x9E37_79B9_7F4A_7C15;
+
+/// The key of a number. Keys differ early, as the random ones of clients do.
 pub fn key(number: u64) -> LeaseKey {
     let mut bytes = [7; 16];
-    bytes[..8].copy_from_slice(&number.to_be_bytes());
+    bytes[..8].copy_from_slice(&number.wrapping_mul(SPREAD).to_be_bytes());
     LeaseKey(bytes)
 }
 
