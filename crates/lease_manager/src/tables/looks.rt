@@ -135,7 +135,6 @@ impl Tables {
         self.summaries.has_lease(key)
     }
 
-    /// Whether a disconnected open has this FileId.
     /// Whether there is an open of this FileId.
     pub fn has_open(&self, fid: FileId) -> bool
         ensures { result ≡ list_any (has_id fid.0) (server_of self.now).opens }
@@ -146,6 +145,7 @@ impl Tables {
         }
     }
 
+    /// Whether a disconnected open has this FileId.
     pub fn has_left_behind(&self, fid: FileId) -> bool
         ensures { result ≡ list_any (is_left_behind fid.0) (server_of self.now).opens }
     {
