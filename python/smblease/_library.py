@@ -9,7 +9,7 @@ from smblease import _functions
 
 # The version of the headers that this package was written for. A library of the same first number fits, where its second one is
 # no lower.
-MAJOR, MINOR = 0, 2
+MAJOR, MINOR = 0, 3
 VARIABLE = "SMBLEASE_LIBRARY"
 REMEDY = ("To have it, run `make install` or `pip install --no-build-isolation .` at the top of the repository, or set"
           f" {VARIABLE} to the path of its libsmblease.so")
