@@ -10,7 +10,7 @@ import pytest
 from tests.paths import TOP
 from tests.program.ran import Ended
 
-PARTS = ("leasecheck", "tools", "dist", "kit.txt", "crates.txt", "crates")
+PARTS = ("leasecheck", "tools", "dist", "kit.txt", "crates.txt", "crates", "include")
 NO_KIT = "and the command rt of the Rattle kit, which would prove and build it, is not on the path"
 
 
