@@ -7,7 +7,7 @@ ghost use Rattle.lease_model.specs.world.Events as model;
 ghost use Rattle.lease_model.specs.world.Events.{client_of};
 ghost use Rattle.lease_world.specs.world.Obstacles.{against_command, is_command, obstacle_meant, Meets, MeetsThere};
 ghost use Rattle.lease_world.specs.world.Passages.{gone_noted, passages_noted, sent_noted};
-ghost use Rattle.lease_world.specs.world.Stands.{link_of, Stands};
+ghost use Rattle.lease_world.specs.world.Stands.{link_of, no_server, Stands};
 ghost use Rattle.lease_world.specs.world.Worlds.{Happens, Tells, Delivers, Links, CutsLink, Sends, Applies};
 ghost use Rattle.lease_world.specs.world.Seats.{IsPresent, HasKept, is_link, seat_in};
 ghost use Rattle.std.specs.Option.{option_map};
@@ -45,26 +45,26 @@ mod seat;
 // docs/DECISIONS.md: "What a world keeps".
 #[derive(Debug, Drop)]
 pub struct World {
-    server: Server,
+    // `None` once a call of it found no memory; no call finds any from then on.
+    server: Option<Server>,
     seats: Vec<Seat>,
     facts: Vec<Fact>,
     messages: Messages,
-    // What the server and clients give out, call by call.
-    outs: Vec<Out>,
+    // What clients give out, call by call.
     given: Given,
 }
 
 impl Model for World {
+    ghost use Rattle.std.specs.Prelude as prelude;
     ghost use Rattle.lease_world.specs.world.Stands as stands;
 
     ghost Value = { stands.CodeWorld };
 
     ghost view = { λ world. record {
-      server = world.server;
+      server = prelude.unwrap_or world.server stands.no_server;
       seats = world.seats.items;
       facts = world.facts.items;
       messages = world.messages;
-      outs = world.outs.items;
     } };
 }
 
@@ -89,11 +89,10 @@ impl World {
         let server = Server::with_rules(alloc, rules, first::copy_contents(alloc, contents)?)?;
         let seats = first::seats(alloc, &setup.clients, contents.len() as u8)?;
         Ok(World {
-            server,
+            server: Some(server),
             seats,
             facts,
             messages,
-            outs: Vec::new(alloc),
             given: Given::new(alloc),
         })
     }
@@ -284,11 +283,11 @@ impl World {
         requires { IsPresent client.0 self.now.seats }
         ensures { MeetsThere (model.Event.Expire client.0 file.0) self.now result }
     {
-        if self.server.content(file).is_none() {
+        if !self.has_file(file) {
             return Some(Obstacle::NoFile(file));
         }
         let key = self.key(client, file);
-        if self.server.breaking(client, key) {
+        if self.is_breaking(client, key, file) {
             None
         } else {
             Some(Obstacle::NoBreak(client, file))
@@ -345,16 +344,19 @@ impl World {
         self.messages.push(message)
     }
 
-    // Delivers what the server gave out.
-    fn deliver(&mut self) -> Result<(), Memory>
-        ensures { OnOk result (Delivers self.old self.new) }
+    // Takes the server out, to be called.
+    fn take_server(&mut self) -> Result<Server, Memory>
+        ensures { IfOk result (λ server. (server ≡ self.old.server) × (self.new ≡ record self.old { server = no_server })) }
     {
-        deliver(
-            &mut self.seats,
-            &mut self.facts,
-            &mut self.messages,
-            &mut self.outs,
-        )?;
+        self.server.take().ok_or(Memory)
+    }
+
+    // Puts the server back after a call, and delivers what it gave out.
+    fn put_back(&mut self, server: Server, outs: Vec<Out>) -> Result<(), Memory>
+        ensures { OnOk result (Delivers server outs.items self.old self.new) }
+    {
+        self.server = Some(server);
+        deliver(&mut self.seats, &mut self.facts, &mut self.messages, outs)?;
         Ok(())
     }
 
@@ -376,19 +378,35 @@ impl World {
         lease_key(seat.guid(), file)
     }
 
+    // Whether there is such a file.
+    fn has_file(&self, file: FileNo) -> bool
+        ensures { result ≡ is_some (content (server_of self.now.server) file.0) }
+    {
+        match &self.server {
+            Some(server) => server.content(file).is_some(),
+            None => false,
+        }
+    }
+
     // Whether there is such a file, and a break of the client's lease of this key waits.
     fn is_breaking(&self, client: ClientNo, key: LeaseKey, file: FileNo) -> bool
         ensures { result ≡ (is_some (content (server_of self.now.server) file.0)
             && breaking (server_of self.now.server) (key_of client.0 key.0)) }
     {
-        self.server.content(file).is_some() && self.server.breaking(client, key)
+        match &self.server {
+            Some(server) => server.content(file).is_some() && server.breaking(client, key),
+            None => false,
+        }
     }
 
     // The FileId of a client's lowest kept open of a file.
     fn kept(&self, client: ClientNo, file: FileNo) -> Option<FileId>
         ensures { option_map (λ file_id. file_id.0) result ≡ kept (server_of self.now.server) client.0 file.0 }
     {
-        self.server.kept(client, file)
+        match &self.server {
+            Some(server) => server.kept(client, file),
+            None => None,
+        }
     }
 
     // The link of a client is this from now on.
@@ -428,9 +446,9 @@ impl World {
         let seat = &mut self.seats[place_of(client)];
         match seat.pop_request() {
             Some(request) => {
-                self.server
-                    .receive_in_place(client, request, &mut self.outs)?;
-                self.deliver()
+                let server = self.take_server()?;
+                let (server, outs) = server.receive(client, request)?;
+                self.put_back(server, outs)
             }
             None => Ok(()),
         }
@@ -466,8 +484,9 @@ impl World {
         }
         self.cut_link(client);
         self.tell(Fact::Dropped(client))?;
-        self.server.cut_in_place(client, &mut self.outs)?;
-        self.deliver()
+        let server = self.take_server()?;
+        let (server, outs) = server.cut(client)?;
+        self.put_back(server, outs)
     }
 
     // A client whose link is cut notices that.
@@ -494,8 +513,9 @@ impl World {
         }
         self.set_link(client, Link::Up);
         self.tell(Fact::Joined(client))?;
-        self.server.join_in_place(client, &mut self.outs)?;
-        self.deliver()?;
+        let server = self.take_server()?;
+        let (server, outs) = server.join(client)?;
+        self.put_back(server, outs)?;
         let seat = &mut self.seats[place_of(client)];
         seat.connect(&mut self.given)?;
         tell_notes(&mut self.facts, client, &mut self.given)
@@ -511,8 +531,9 @@ impl World {
             return Ok(());
         }
         self.tell(Fact::Expired(client, file))?;
-        self.server.expire_in_place(client, key, &mut self.outs)?;
-        self.deliver()
+        let server = self.take_server()?;
+        let (server, outs) = server.expire(client, key)?;
+        self.put_back(server, outs)
     }
 
     // The timer of a client's lowest kept open of a file runs out, where there is one.
@@ -521,8 +542,9 @@ impl World {
     {
         match self.kept(client, file) {
             Some(fid) => {
-                self.server.scavenge_in_place(fid, &mut self.outs)?;
-                self.deliver()
+                let server = self.take_server()?;
+                let (server, outs) = server.scavenge(fid)?;
+                self.put_back(server, outs)
             }
             None => Ok(()),
         }

@@ -1,7 +1,6 @@
 mod breaks;
 mod calls;
 mod durable;
-mod in_place;
 mod words;
 
 use lease_state::{

@@ -40,14 +40,13 @@ impl Model for Outs {
 }
 
 impl Outs {
-    /// Nothing yet, in the memory of a list, whatever was on it.
-    // docs/DECISIONS.md: "Calls in place give out into a value of their caller".
-    pub fn over(list: Vec<Out>) -> Outs
+    /// Nothing yet. Allocates nothing.
+    pub fn new(alloc: Global) -> Outs
         ensures { result ≡ [] }
     {
-        let mut items = list;
-        items.clear();
-        Outs { items }
+        Outs {
+            items: Vec::new(alloc),
+        }
     }
 
     /// One more, which is written as what is read in it.

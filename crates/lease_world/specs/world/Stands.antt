@@ -1,5 +1,5 @@
 -- When a world of the code stands for one of the definitions.
-use Rattle.std.specs.Prelude.{◌≡◌, ℕ, Option, List, length, map, reverse}
+use Rattle.std.specs.Prelude.{◌≡◌, ℕ, Option, List, [], length, map, reverse}
 use Rattle.lease_client.specs.Known.{client_of}
 use Rattle.lease_laws.specs.messages.Written.{HaveFullKeys, IsWriting}
 use Rattle.lease_laws.specs.server.Laws.{IsSound}
@@ -11,15 +11,30 @@ use Rattle.lease_facts.specs.declared.fact.Fact.{Fact}
 use Rattle.lease_world.specs.declared.world.link.Link as code
 use Rattle.lease_world.specs.world.Seats.{Seat, seat_in, IsPresent}
 use Rattle.lease_state.specs.declared.reply.Reply.{Reply}
-use Rattle.share_server.specs.Table.{Table, server_of}
-use Rattle.share_server.specs.declared.values.out.Out.{Out}
+use Rattle.lease_state.specs.Rules.{profile_rules}
+use Rattle.share_server.specs.Table.{Table, fresh_kept, server_of}
 
 pub record CodeWorld : Type 0 where
   pub server : Table
   pub seats : List Seat
   pub facts : List Fact
   pub messages : Option (List Reply)
-  pub outs : List Out
+
+-- a server of no file, where nothing is open
+abbrev pub no_server : Table
+no_server = record {
+  manager = record {
+    rules = profile_rules;
+    files = 0;
+    queues = [];
+    opens = [];
+    leases = [];
+    present = [];
+    expired = [];
+    last_id = 0;
+  };
+  kept = fresh_kept [];
+}
 
 abbrev pub link_of : code.Link → model.Link
 link_of code.TheVariants.Down = model.Link.Down

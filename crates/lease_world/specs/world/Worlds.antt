@@ -16,6 +16,8 @@ use Rattle.lease_state.specs.declared.reply.Reply as code
 use Rattle.lease_world.specs.world.Messages.{sent_by, messages_of, messages_in}
 use Rattle.lease_world.specs.world.Seats.{HasReplies, HasKept, fact_given, replies_among}
 use Rattle.lease_world.specs.world.Stands.{CodeWorld, Stands}
+use Rattle.share_server.specs.Table.{Table}
+use Rattle.share_server.specs.declared.values.out.Out.{Out}
 
 -- ---- messages
 
@@ -38,13 +40,13 @@ IsQuiet old new = new.messages ≡ old.messages
 
 -- ---- what happens
 
--- what the server gave out is recorded, delivered and kept, where messages are
-pub record Delivers (old new : CodeWorld) : Type 0 where
-  pub server : new.server ≡ old.server
-  pub replies : HasReplies old.seats new.seats old.outs
+-- the server is this one, and what it gave out is recorded, delivered and kept, where messages are
+pub record Delivers (table : Table) (outs : List Out) (old new : CodeWorld) : Type 0 where
+  pub server : new.server ≡ table
+  pub replies : HasReplies old.seats new.seats outs
   pub count : length new.seats ≡ length old.seats
-  pub facts : map fact_of new.facts ≡ map fact_of old.facts ++ map fact_given old.outs
-  pub kept : HasKept old.messages new.messages (replies_among old.outs)
+  pub facts : map fact_of new.facts ≡ map fact_of old.facts ++ map fact_given outs
+  pub kept : HasKept old.messages new.messages (replies_among outs)
 
 abbrev pub Tells : Fact → CodeWorld → CodeWorld → Type 0
 Tells fact old new = IsQuiet old new × ((world : World) → Stands old world → Stands new (happened world fact))

@@ -21,14 +21,14 @@ pub fn deliver(
     seats: &mut Vec<Seat>,
     facts: &mut Vec<Fact>,
     messages: &mut Messages,
-    outs: &mut Vec<Out>,
+    outs: Vec<Out>,
 ) -> Result<(), Memory>
-    ensures replies { OnOk result (HasReplies seats.old.items seats.new.items outs.old.items) }
+    ensures replies { OnOk result (HasReplies seats.old.items seats.new.items outs.items) }
     ensures count { OnOk result (length seats.new.items ≡ length seats.old.items) }
-    ensures facts { OnOk result (map fact_of facts.new.items ≡ map fact_of facts.old.items ++ map fact_given outs.old.items) }
-    ensures kept { OnOk result (HasKept messages.old messages.new (replies_among outs.old.items)) }
+    ensures facts { OnOk result (map fact_of facts.new.items ≡ map fact_of facts.old.items ++ map fact_given outs.items) }
+    ensures kept { OnOk result (HasKept messages.old messages.new (replies_among outs.items)) }
 {
-    for out in outs.drain(..) {
+    for out in outs {
         deliver_one(seats, facts, messages, out)?;
     }
     Ok(())

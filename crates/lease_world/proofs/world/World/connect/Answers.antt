@@ -1,9 +1,9 @@
-use Rattle.lease_laws.proofs.Words.{◌∙◌, Call, ClientCall, ap, length, on_ok_weaker, refl, slice_set, subst, sym}
+use Rattle.lease_laws.proofs.Words.{◌∙◌, Call, ClientCall, on_ok_weaker, refl, slice_set, subst, sym}
 use Rattle.lease_world.specs.contracts.world.World.{the_view}
 use Rattle.lease_world.specs.world.Seats.{IsPresent, StepsSeat}
 use Rattle.lease_world.specs.world.Stands.{CodeWorld}
-use Rattle.lease_world.specs.world.Worlds.{Serves, StepsIn}
-use Rattle.lease_world.proofs.worlds.Called.{served_by, steps_in}
+use Rattle.lease_world.specs.world.Worlds.{StepsIn}
+use Rattle.lease_world.proofs.worlds.Called.{served_by, served_count, steps_in}
 use Rattle.lease_world.proofs.worlds.Events.{connect_one, connect_nothing}
 use Rattle.lease_world.proofs.worlds.Seats.{seat_changed, still_there}
 use Rattle.lease_world.proofs.world.World.connect.Goals as goal
@@ -14,15 +14,14 @@ returns-then-not-has_link c =
 
 pub returns : goal.returns
 returns c =
-    let call : Call = Call.Join c.args.client.0 in
-    let told : CodeWorld = the_view c.self.inside in
-    let joined : CodeWorld = the_view c.self-2.inside in
-    let delivers = c.in_ok-deliver.ensures in
-    let count = delivers.count ∙ ap (λ (w : CodeWorld). length w.seats) c.self.view_is
+    let joined : CodeWorld = the_view c.self.inside in
+    let delivers = c.in_ok-put_back.ensures in
+    let count = served_count c.tell.new.self c.take_server.new.self c.put_back.new.self c.in_ok-server.server
+    c.in_ok-server-2.server c.in_ok-server-2.outs.items c.in_ok-server.ensures delivers
     ∙ c.in_ok-tell.ensures.count ∙ c.set_link.ensures.count in
     let there : IsPresent c.args.client.0 joined.seats =
-    subst (λ (w : CodeWorld). IsPresent c.args.client.0 w.seats) (sym c.self-2.view_is)
-    (still_there c.args.self.now.seats c.deliver.new.self.seats c.args.client.0 count c.requires) in
+    subst (λ (w : CodeWorld). IsPresent c.args.client.0 w.seats) (sym c.self.view_is)
+    (still_there c.args.self.now.seats c.put_back.new.self.seats c.args.client.0 count c.requires) in
     let new : CodeWorld = record joined {
       seats = slice_set joined.seats c.place_of.result c.connect.new.self;
       facts = c.tell_notes.new.facts.items;
@@ -31,11 +30,11 @@ returns c =
     c.place_of.result c.index_mut-seat.result.now c.connect.new.self c.place_of.ensures there c.index_mut-seat.ensures.value
     c.in_ok-connect.ensures in
     on_ok_weaker c.tell_notes.result (λ noted.
-    connect_one c.args.self.now c.set_link.new.self c.tell.new.self c.deliver.new.self new c.args.client.0 c.requires
+    connect_one c.args.self.now c.set_link.new.self c.tell.new.self c.put_back.new.self new c.args.client.0 c.requires
     (sym c.has_link.ensures ∙ c.if-not-has_link.false) c.set_link.ensures.becomes c.in_ok-tell.ensures.becomes
-    (subst (λ (w : CodeWorld). Serves call w c.deliver.new.self) c.self.view_is
-    (served_by told c.deliver.new.self call c.join_in_place.new.self c.join_in_place.new.outs.items
-    c.in_ok-join_in_place.ensures.after delivers))
-    (subst (λ (w : CodeWorld). StepsIn c.args.client.0 ClientCall.Connected w new) c.self-2.view_is
+    (served_by c.tell.new.self c.take_server.new.self c.put_back.new.self (Call.Join c.args.client.0)
+    c.in_ok-server.server c.in_ok-server-2.server c.in_ok-server-2.outs.items
+    c.in_ok-server.ensures c.in_ok-server-2.ensures.after delivers)
+    (subst (λ (w : CodeWorld). StepsIn c.args.client.0 ClientCall.Connected w new) c.self.view_is
     (steps_in joined new c.args.client.0 ClientCall.Connected c.connect.new.given.notes refl refl changed noted there)))
     c.tell_notes.ensures
