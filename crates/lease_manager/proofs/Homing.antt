@@ -1,10 +1,7 @@
 -- A create that is ready has no open under its key on another file, and a write that is ready ends within the limit of a file.
-use Rattle.lease_laws.proofs.Words.{◌∙◌, ◌≡◌, FileRequest, Finding, Key, LeaseOf}
-use Rattle.lease_laws.proofs.Words.{List, None, Open, Option, Outcome, Progress, Server, Some, Tried, Want}
-use Rattle.lease_laws.proofs.Words.{ℕ, ap, arith, asked_key}
-use Rattle.lease_laws.proofs.Words.{ended, false, finding, has_key, is_leased_elsewhere}
-use Rattle.lease_laws.proofs.Words.{key_under, list_any, own_key, subst, sym}
-use Rattle.lease_laws.proofs.Words.{tried, tried_for}
+use Rattle.lease_laws.proofs.Words.{◌∙◌, ◌≡◌, FileRequest, Finding, Key, LeaseOf, List, None, Open, Option, Outcome, Progress}
+use Rattle.lease_laws.proofs.Words.{Server, Some, Tried, Want, ℕ, ap, arith, asked_key, ended, false, finding, has_key}
+use Rattle.lease_laws.proofs.Words.{is_leased_elsewhere, key_under, list_any, own_key, subst, sym, tried, tried_for}
 use Rattle.lease_laws.proofs.server.Tries.{IsFoundReady}
 use Rattle.lease_laws.proofs.server.cases.Findings.{any_needs}
 use Rattle.lease_laws.proofs.server.cases.Tries.{any_rounds}

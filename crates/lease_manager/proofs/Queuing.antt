@@ -1,20 +1,16 @@
 -- What waits on each file, as queues change.
 use Rattle.lease_laws.proofs.Words.{◌++◌, ◌==◌, ◌∙◌, ◌∷◌, ◌≡◌, List, None, Option, Some, Updates, ℕ, [], ap, arith, fun_ext, get}
 use Rattle.lease_laws.proofs.Words.{Among, Bool, Decides-eqb, Held, Open, false, if◌then◌else◌, is_at, length, list_any, map}
-use Rattle.lease_laws.proofs.Words.{nat_tests, refl, sym, true, without, ⊎_elim, ◌<◌, ◌≤◌, Rules, Server, get_or}
-use Rattle.lease_laws.proofs.Words.{◌⊎◌, ◌+◌, append_assoc, drop, Less, inl, inr}
-use Rattle.lease_laws.proofs.Words.{last_file_number, map-append, new_server_under, no_lease, numbered, put, subst}
-use Rattle.lease_laws.proofs.Words.{filter, suc, zero}
-use Rattle.lease_laws.proofs.Words.{with_number}
-use Rattle.std.specs.BTreeMap.{IsOrdered, keys, values}
+use Rattle.lease_laws.proofs.Words.{nat_tests, refl, sym, true, without, ⊎_elim, ◌<◌, ◌≤◌, Rules, Server, get_or, ◌⊎◌, ◌+◌}
+use Rattle.lease_laws.proofs.Words.{append_assoc, drop, Less, inl, inr, last_file_number, map-append, new_server_under, no_lease}
+use Rattle.lease_laws.proofs.Words.{numbered, put, subst, filter, suc, zero, with_number}
+use Rattle.std.specs.BTreeMap.{IsOrdered, keys, values, BTreeMap}
 use Rattle.std.specs.List.Sorted.{IsStrictlySortedBy}
 use Rattle.std.specs.List.{AllByRecursion}
 use Rattle.manager_model.specs.Waiting.{AreAbove, AreWaitingFiles}
 use Rattle.lease_manager.specs.Laws.{FirstIsOfHosts}
 use Rattle.lease_manager.specs.OneFile.{asks_with}
-use Rattle.std.specs.BTreeMap.{BTreeMap}
 use Rattle.std.specs.Map.{lookup}
-use Rattle.std.specs.Global.{Vec}
 use Rattle.lease_laws.proofs.server.Lists.{among_filter, among_filtered, either}
 use Rattle.manager_model.specs.Handling.{Manager, Tagged, held_in, is_of, last_file}
 use Rattle.manager_model.specs.Hosting.{fresh_manager}
@@ -34,10 +30,10 @@ use Rattle.std.proofs.Math.Seq.{drop-cons}
 at_file : (file : ℕ) (other : FileNo) → is_at (file_order (record { 0 = file })) other ≡ (file == other.0)
 at_file file other = grind (arith, nat_tests)
 
-abbrev filed_entry : FileNo × Vec Tagged → Queue
-filed_entry entry = record { file = entry.0.0; waiting = entry.1.items }
+abbrev filed_entry : FileNo × List Tagged → Queue
+filed_entry entry = record { file = entry.0.0; waiting = entry.1 }
 
-filed_at : (entries : List (FileNo × Vec Tagged)) (file : ℕ)
+filed_at : (entries : List (FileNo × List Tagged)) (file : ℕ)
     → queue_at (map filed_entry entries) file ≡ waiting_or_none (lookup (is_at (file_order (record { 0 = file }))) entries)
 filed_at [] file = refl
 filed_at (e ∷ entries) file = either (file == e.0.0)
@@ -54,7 +50,7 @@ queues_are queues = fun_ext (queue_filed queues)
 -- ---- one file's queue changes
 
 -- it is another
-pub queue_changed : (before after : BTreeMap FileNo (Vec Tagged)) (file : FileNo) (queue : Option (Vec Tagged))
+pub queue_changed : (before after : BTreeMap FileNo (List Tagged)) (file : FileNo) (queue : Option (List Tagged))
     → Updates file_order before after file queue → (other : ℕ)
     → waiting_or_none (get file_order after (record { 0 = other }))
     ≡ (if other == file.0 then waiting_or_none queue else waiting_or_none (get file_order before (record { 0 = other })))
@@ -65,9 +61,9 @@ no_items [] none = refl
 no_items (one ∷ queue) none = let e = (Decides-eqb (length (one ∷ queue)) 0).0 none in absurd (omega (arith, e))
 
 -- the queue that is there is edited
-pub edited_at : (edit : List Tagged → List Tagged) (before after : BTreeMap FileNo (Vec Tagged)) (file : FileNo)
-    (queue written : Vec Tagged) → get file_order before file ≡ Some queue
-    → Updates file_order before after file (Some written) → written.items ≡ edit queue.items → (other : ℕ)
+pub edited_at : (edit : List Tagged → List Tagged) (before after : BTreeMap FileNo (List Tagged)) (file : FileNo)
+    (queue written : List Tagged) → get file_order before file ≡ Some queue
+    → Updates file_order before after file (Some written) → written ≡ edit queue → (other : ℕ)
     → waiting_or_none (get file_order after (record { 0 = other }))
     ≡ (if other == file.0 then edit (waiting_or_none (get file_order before (record { 0 = file.0 })))
     else waiting_or_none (get file_order before (record { 0 = other })))
@@ -77,9 +73,9 @@ edited_at edit before after file queue written there updates is other =
     (is ∙ ap (λ found. edit (waiting_or_none found)) (sym there))
 
 -- a queue comes where there was none
-pub first_at : (edit : List Tagged → List Tagged) (before after : BTreeMap FileNo (Vec Tagged)) (file : FileNo)
-    (written : Vec Tagged) → get file_order before file ≡ None
-    → Updates file_order before after file (Some written) → written.items ≡ edit [] → (other : ℕ)
+pub first_at : (edit : List Tagged → List Tagged) (before after : BTreeMap FileNo (List Tagged)) (file : FileNo)
+    (written : List Tagged) → get file_order before file ≡ None
+    → Updates file_order before after file (Some written) → written ≡ edit [] → (other : ℕ)
     → waiting_or_none (get file_order after (record { 0 = other }))
     ≡ (if other == file.0 then edit (waiting_or_none (get file_order before (record { 0 = file.0 })))
     else waiting_or_none (get file_order before (record { 0 = other })))
@@ -94,16 +90,16 @@ same_either queues file other = either (other == file)
     (λ off. rw off refl)
 
 -- the queue that is there stays
-pub kept_at : (before after : BTreeMap FileNo (Vec Tagged)) (file : FileNo) (queue written : Vec Tagged)
+pub kept_at : (before after : BTreeMap FileNo (List Tagged)) (file : FileNo) (queue written : List Tagged)
     → get file_order before file ≡ Some queue → Updates file_order before after file (Some written)
-    → written.items ≡ queue.items → (other : ℕ) → waiting_or_none (get file_order after (record { 0 = other }))
+    → written ≡ queue → (other : ℕ) → waiting_or_none (get file_order after (record { 0 = other }))
     ≡ waiting_or_none (get file_order before (record { 0 = other }))
 kept_at before after file queue written there updates is other =
     edited_at (λ q. q) before after file queue written there updates is other
     ∙ same_either (λ n. waiting_or_none (get file_order before (record { 0 = n }))) file.0 other
 
 -- an empty queue is taken out
-pub dropped_at : (before after : BTreeMap FileNo (Vec Tagged)) (file : FileNo) → Updates file_order before after file None
+pub dropped_at : (before after : BTreeMap FileNo (List Tagged)) (file : FileNo) → Updates file_order before after file None
     → waiting_or_none (get file_order before (record { 0 = file.0 })) ≡ [] → (other : ℕ)
     → waiting_or_none (get file_order after (record { 0 = other }))
     ≡ waiting_or_none (get file_order before (record { 0 = other }))
@@ -112,7 +108,7 @@ dropped_at before after file updates none other = queue_changed before after fil
     ∙ same_either (λ n. waiting_or_none (get file_order before (record { 0 = n }))) file.0 other)
 
 -- no request is taken from a file where none waits
-pub unfound_at : (test : Tagged → Bool) (before : BTreeMap FileNo (Vec Tagged)) (file : FileNo)
+pub unfound_at : (test : Tagged → Bool) (before : BTreeMap FileNo (List Tagged)) (file : FileNo)
     → get file_order before file ≡ None → (other : ℕ) → waiting_or_none (get file_order before (record { 0 = other }))
     ≡ (if other == file.0 then without test (waiting_or_none (get file_order before (record { 0 = file.0 })))
     else waiting_or_none (get file_order before (record { 0 = other })))
@@ -125,8 +121,8 @@ unfound_at test before file none other =
 
 -- ---- creates that wait under the key of an open
 
-abbrev pub asks_in : Open → Vec Tagged → Bool
-asks_in one queue = list_any (λ waiting. asks_with one waiting.held) queue.items
+abbrev pub asks_in : Open → List Tagged → Bool
+asks_in one queue = list_any (λ waiting. asks_with one waiting.held) queue
 
 held_asks : (one : Open) (queue : List Tagged) (held : Held) → list_any (λ waiting. asks_with one waiting.held) queue ≡ false
     → Among held (held_in queue) → asks_with one held ≡ false
@@ -135,14 +131,14 @@ held_asks one (first ∷ queue) held none among = either (asks_with one first.he
     (λ t. absurd (cc (rw t at none)))
     (λ f. ⊎_elim (λ same. ap (asks_with one) same ∙ f) (λ later. held_asks one queue held (rw f at none) later) among)
 
-none_found : (one : Open) (entries : List (FileNo × Vec Tagged)) (compare : FileNo → Bool) (held : Held)
+none_found : (one : Open) (entries : List (FileNo × List Tagged)) (compare : FileNo → Bool) (held : Held)
     → list_any (asks_in one) (map (λ entry. entry.1) entries) ≡ false
     → Among held (held_in (waiting_or_none (lookup compare entries))) → asks_with one held ≡ false
 none_found one [] compare held none among = absurd among
 none_found one (entry ∷ entries) compare held none among = either (asks_in one entry.1)
     (λ t. absurd (cc (rw t at none)))
     (λ f. either (compare entry.0)
-    (λ at. held_asks one entry.1.items held f (rw at at among))
+    (λ at. held_asks one entry.1 held f (rw at at among))
     (λ at. none_found one entries compare held (rw f at none) (rw at at among)))
 
 pub none_asks : (one : Open) (queues : Queues) (file : ℕ) (held : Held)
@@ -266,7 +262,7 @@ numbered_too file [] among = absurd among
 numbered_too file (one ∷ files) (inl same) = inl (ap (λ (f : FileNo). f.0) same)
 numbered_too file (one ∷ files) (inr later) = inr (numbered_too file files later)
 
-key_or_empty : (entries : List (FileNo × Vec Tagged)) (n : ℕ)
+key_or_empty : (entries : List (FileNo × List Tagged)) (n : ℕ)
     → Among n (map (λ f. f.0) (map (λ entry. entry.0) entries)) ⊎ (queue_at (map filed_entry entries) n ≡ [])
 key_or_empty [] n = inr refl
 key_or_empty (entry ∷ entries) n = either (n == entry.0.0)

@@ -1,13 +1,10 @@
 -- Requests that have only to wait: a try of one changes nothing, and a pass may begin behind them.
-use Rattle.lease_laws.proofs.Words.{◌++◌, ◌+◌, ◌<◌, ◌==◌, ◌∙◌, ◌∷◌, ◌≡◌, Bool, FileRequest, Held, Key}
-use Rattle.lease_laws.proofs.Words.{Lease, List, None, Open, Option, Out, Progress, Server, Some, Updates, Want}
-use Rattle.lease_laws.proofs.Words.{ℕ, [], ap, append-nil, arith, false, finding}
-use Rattle.lease_laws.proofs.Words.{fun_ext, has_key, if◌then◌else◌, inr, is_at}
-use Rattle.lease_laws.proofs.Words.{is_breaking, is_left_open, is_ready, lease_broken, length, list_all}
-use Rattle.lease_laws.proofs.Words.{list_any, nat_tests, no_lease, not, opens_dropped, own_key}
-use Rattle.lease_laws.proofs.Words.{refl, subst, suc, sym, take, true, want_met, wants_met}
-use Rattle.lease_laws.proofs.Words.{Finding, Status, asked_finding, has_file, without}
-use Rattle.lease_laws.proofs.Words.{zero}
+use Rattle.lease_laws.proofs.Words.{◌++◌, ◌+◌, ◌<◌, ◌==◌, ◌∙◌, ◌∷◌, ◌≡◌, Bool, FileRequest, Held, Key, Lease, List, None, Open}
+use Rattle.lease_laws.proofs.Words.{Option, Out, Progress, Server, Some, Updates, Want, ℕ, [], ap, append-nil, arith, false}
+use Rattle.lease_laws.proofs.Words.{finding, fun_ext, has_key, if◌then◌else◌, inr, is_at, is_breaking, is_left_open, is_ready}
+use Rattle.lease_laws.proofs.Words.{lease_broken, length, list_all, list_any, nat_tests, no_lease, not, opens_dropped, own_key}
+use Rattle.lease_laws.proofs.Words.{refl, subst, suc, sym, take, true, want_met, wants_met, Finding, Status, asked_finding}
+use Rattle.lease_laws.proofs.Words.{has_file, without, zero}
 use Rattle.lease_manager.specs.declared.values.number.FileNo.{FileNo}
 use Rattle.std.specs.List.{slice_get}
 use Rattle.lease_laws.proofs.server.Lists.{either, and_parts, not_parts}

@@ -1,7 +1,6 @@
 -- What waits on each file, as the code keeps it.
 use Rattle.std.specs.Prelude.{ℕ, Bool, ◌&&◌, Option, Some, None, List, [], ◌∷◌, map, nat_le}
 use Rattle.std.specs.BTreeMap.{get}
-use Rattle.std.specs.Global.{Vec}
 use Rattle.lease_model.specs.values.Lists.{without}
 use Rattle.lease_model.specs.values.Tables.{put}
 use Rattle.manager_model.specs.Handling.{Tagged, is_of}
@@ -10,9 +9,9 @@ use Rattle.lease_manager.specs.Table.{Queue}
 use Rattle.lease_manager.specs.declared.values.number.FileNo.{FileNo}
 use Rattle.lease_manager.specs.declared.tables.queues.Queues.{Queues}
 
-abbrev pub waiting_or_none : Option (Vec Tagged) → List Tagged
+abbrev pub waiting_or_none : Option (List Tagged) → List Tagged
 waiting_or_none None = []
-waiting_or_none (Some queue) = queue.items
+waiting_or_none (Some queue) = queue
 
 -- what waits on a file
 abbrev pub queue_in : Queues → ℕ → List Tagged
@@ -20,7 +19,7 @@ queue_in queues file = waiting_or_none (get file_order queues.by_file (record { 
 
 -- the queues of the files where something waits
 abbrev pub filed : Queues → List Queue
-filed queues = map (λ entry. record { file = entry.0.0; waiting = entry.1.items }) queues.by_file.entries
+filed queues = map (λ entry. record { file = entry.0.0; waiting = entry.1 }) queues.by_file.entries
 
 -- the number is a file's, where this one is the last
 abbrev pub is_file : ℕ → ℕ → Bool

@@ -29,6 +29,7 @@ pub mod lease_marks;
 pub mod left_opens;
 mod looks;
 pub mod opens;
+pub mod queue;
 pub mod queues;
 mod still;
 pub mod summaries;

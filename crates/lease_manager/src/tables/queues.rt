@@ -11,6 +11,7 @@ ghost use Rattle.std.specs.BTreeMap.{keys};
 ghost use Rattle.manager_model.specs.Waiting.{AreWaitingFiles};
 ghost use Rattle.manager_model.specs.Handling.{is_of, is_under};
 
+use crate::tables::queue::Queue;
 use crate::values::number::{ClientNo, FileNo, Tag};
 use crate::values::open::Open;
 use crate::values::request::Held;
@@ -22,7 +23,7 @@ use std::collections::BTreeMap;
 #[derive(Debug, Drop)]
 pub struct Queues {
     /// Of the files where something waits.
-    by_file: BTreeMap<FileNo, Vec<Held>>,
+    by_file: BTreeMap<FileNo, Queue>,
 }
 
 impl Queues {
@@ -57,14 +58,9 @@ impl Queues {
         ensures refused { OnErr result ((other : ℕ) → queue_in self.new other ≡ queue_in self.old other) }
     {
         match self.by_file.get_mut(&file) {
-            Some(queue) => {
-                match queue.push(one) {
-                    Ok(()) => Ok(()),
-                    Err(_) => Err(Memory),
-                }
-            }
+            Some(queue) => queue.push(one),
             None => {
-                let mut queue = Vec::new(alloc);
+                let mut queue = Queue::new(alloc);
                 queue.push(one)?;
                 self.by_file.insert(file, queue)?;
                 Ok(())
@@ -89,9 +85,7 @@ impl Queues {
             ≡ (if other == file.0 then remove (queue_in self.old file.0) place else queue_in self.old other) }
     {
         match self.by_file.get_mut(&file) {
-            Some(queue) => {
-                let _one = queue.remove(place);
-            }
+            Some(queue) => queue.remove(place),
             None => {}
         }
     }
@@ -120,7 +114,7 @@ impl Queues {
             ≡ (if other == file.0 then without (is_of client.0) (queue_in self.old file.0) else queue_in self.old other) }
     {
         match self.by_file.get_mut(&file) {
-            Some(queue) => forget_of(queue, client),
+            Some(queue) => queue.forget(client),
             None => {}
         }
     }
@@ -140,7 +134,7 @@ impl Queues {
             then without (is_under client.0 tag.0) (queue_in self.old file.0) else queue_in self.old other) }
     {
         match self.by_file.get_mut(&file) {
-            Some(queue) => forget_under(queue, client, tag),
+            Some(queue) => queue.withdraw(client, tag),
             None => {}
         }
     }
@@ -183,31 +177,10 @@ impl Queues {
             → asks_with one.now held ≡ false }
     {
         for queue in self.by_file.values() {
-            if one_asks_with(queue, one) {
+            if queue.asks_with(one) {
                 return true;
             }
         }
         false
     }
-}
-
-// Whether a create is among these under the key of the open.
-fn one_asks_with(queue: &[Held], one: &Open) -> bool
-    ensures { result ≡ list_any (λ waiting. asks_with one.now waiting.held) queue.now }
-{
-    queue.iter().any(|held| held.asks_with(one))
-}
-
-// The requests of the client no longer wait.
-fn forget_of(queue: &mut Vec<Held>, client: ClientNo)
-    ensures { queue.new.items ≡ without (is_of client.0) queue.old.items }
-{
-    queue.retain(|one| one.client != client);
-}
-
-// The requests of the client under the tag no longer wait.
-fn forget_under(queue: &mut Vec<Held>, client: ClientNo, tag: Tag)
-    ensures { queue.new.items ≡ without (is_under client.0 tag.0) queue.old.items }
-{
-    queue.retain(|one| !(one.client == client && one.tag == tag));
 }

@@ -5,8 +5,8 @@ use Rattle.lease_manager.proofs.tables.queues.Queues.forgotten.Goals as goal
 
 pub returns-in-Some : goal.returns-in-Some
 returns-in-Some c = edited_at (without (is_of c.args.client.0)) c.args.self.now.by_file
-    (c.get_mut.follows.lender c.forget_of.new.queue) c.args.file c.in-Some.queue.now c.forget_of.new.queue
-    (sym c.in-Some.ensures.value) ((c.get_mut.follows.holds c.forget_of.new.queue).3 (search rules)) c.forget_of.ensures
+    (c.get_mut.follows.lender c.forget.new.self) c.args.file c.in-Some.queue.now c.forget.new.self
+    (sym c.in-Some.ensures.value) ((c.get_mut.follows.holds c.forget.new.self).3 (search rules)) c.forget.ensures
 
 pub returns-in-None : goal.returns-in-None
 returns-in-None c = rw c.get_mut.follows.holds-at-none

@@ -5,8 +5,8 @@ use Rattle.lease_manager.proofs.tables.queues.Queues.withdrawn.Goals as goal
 
 pub returns-in-Some : goal.returns-in-Some
 returns-in-Some c = edited_at (without (is_under c.args.client.0 c.args.tag.0)) c.args.self.now.by_file
-    (c.get_mut.follows.lender c.forget_under.new.queue) c.args.file c.in-Some.queue.now c.forget_under.new.queue
-    (sym c.in-Some.ensures.value) ((c.get_mut.follows.holds c.forget_under.new.queue).3 (search rules)) c.forget_under.ensures
+    (c.get_mut.follows.lender c.withdraw.new.self) c.args.file c.in-Some.queue.now c.withdraw.new.self
+    (sym c.in-Some.ensures.value) ((c.get_mut.follows.holds c.withdraw.new.self).3 (search rules)) c.withdraw.ensures
 
 pub returns-in-None : goal.returns-in-None
 returns-in-None c = rw c.get_mut.follows.holds-at-none

@@ -1,0 +1,135 @@
+ghost use Rattle.std.specs.Prelude.{◌≡◌, ◌≤◌, ◌<◌, ◌++◌, [], ◌∷◌, OnOk, OnErr, drop, length};
+ghost use Rattle.std.specs.List.{list_any, remove};
+ghost use Rattle.lease_model.specs.values.Lists.{without};
+ghost use Rattle.lease_manager.specs.OneFile.{asks_with};
+ghost use Rattle.manager_model.specs.Handling.{is_of, is_under};
+
+use crate::values::number::{ClientNo, Tag};
+use crate::values::open::Open;
+use crate::values::request::Held;
+use lease_state::Memory;
+use std::alloc::Global;
+use std::marker::Model;
+
+/// What waits on a file, in order of arrival.
+// docs/DECISIONS.md: "The front of a queue".
+#[derive(Debug, Drop)]
+pub struct Queue {
+    /// At the front those that no longer wait.
+    items: Vec<Held>,
+    /// How many no longer wait, which is at most half of them.
+    gone: usize,
+}
+
+impl Model for Queue {
+    ghost use Rattle.std.specs.Prelude.{◌≤◌, List, drop, length};
+    ghost use Rattle.manager_model.specs.Handling.{Tagged};
+
+    ghost Value = { List Tagged };
+
+    ghost view = { λ queue. drop queue.gone queue.items.items };
+
+    ghost invariant = { λ queue. queue.gone ≤ length queue.items.items };
+}
+
+impl Queue {
+    /// Nothing waits. Allocates nothing.
+    pub fn new(alloc: Global) -> Queue
+        ensures { result ≡ [] }
+    {
+        Queue {
+            items: Vec::new(alloc),
+            gone: 0,
+        }
+    }
+
+    /// What waits.
+    pub fn as_slice(&self) -> &[Held]
+        ensures { result.now ≡ self.now }
+    {
+        &self.items[self.gone..]
+    }
+
+    /// The request waits after the others.
+    ///
+    /// # Errors
+    ///
+    /// `Memory` where there is none left for it; nothing has changed then.
+    pub fn push(&mut self, one: Held) -> Result<(), Memory>
+        ensures more { OnOk result (self.new ≡ self.old ++ one ∷ []) }
+        ensures refused { OnErr result (self.new ≡ self.old) }
+    {
+        self.items.push(one)?;
+        Ok(())
+    }
+
+    /// The request at this place no longer waits.
+    pub fn remove(&mut self, place: usize)
+        requires { place < length self.old }
+        ensures { self.new ≡ remove self.old place }
+    {
+        if place != 0 {
+            let _one = self.items.remove(self.gone + place);
+            return;
+        }
+        self.gone += 1;
+        if self.gone > self.items.len() - self.gone {
+            let_go(&mut self.items, self.gone);
+            self.gone = 0;
+        }
+    }
+
+    /// The requests of the client no longer wait.
+    pub fn forget(&mut self, client: ClientNo)
+        ensures { self.new ≡ without (is_of client.0) self.old }
+    {
+        let_go(&mut self.items, self.gone);
+        self.gone = 0;
+        forget_of(&mut self.items, client);
+    }
+
+    /// The requests of the client under the tag no longer wait.
+    pub fn withdraw(&mut self, client: ClientNo, tag: Tag)
+        ensures { self.new ≡ without (is_under client.0 tag.0) self.old }
+    {
+        let_go(&mut self.items, self.gone);
+        self.gone = 0;
+        forget_under(&mut self.items, client, tag);
+    }
+
+    /// Whether a create waits under the key of the open.
+    pub fn asks_with(&self, one: &Open) -> bool
+        ensures { result ≡ list_any (λ waiting. asks_with one.now waiting.held) self.now }
+    {
+        one_asks_with(self.as_slice(), one)
+    }
+}
+
+// Whether a create is among these under the key of the open.
+fn one_asks_with(queue: &[Held], one: &Open) -> bool
+    ensures { result ≡ list_any (λ waiting. asks_with one.now waiting.held) queue.now }
+{
+    queue.iter().any(|held| held.asks_with(one))
+}
+
+// So many at the front are taken out.
+fn let_go(items: &mut Vec<Held>, gone: usize)
+    requires { gone ≤ length items.old.items }
+    ensures { items.new.items ≡ drop gone items.old.items }
+{
+    drop(items.drain(..gone));
+}
+
+// The requests of the client no longer wait.
+fn forget_of(queue: &mut Vec<Held>, client: ClientNo)
+    ensures { queue.new.items ≡ without (is_of client.0) queue.old.items }
+{
+    queue.retain(|one| one.client != client);
+}
+
+// The requests of the client under the tag no longer wait.
+fn forget_under(queue: &mut Vec<Held>, client: ClientNo, tag: Tag)
+    ensures { queue.new.items ≡ without (is_under client.0 tag.0) queue.old.items }
+{
+    queue.retain(|one| !(one.client == client && one.tag == tag));
+}
