@@ -20,19 +20,20 @@
  *   (smblease_read_create_ask), and asks: smblease_manager_create, under the tag 20. The decisions are
  *   BREAKS for client 1, of K from RWH to RH, which has to be acknowledged, and WAITS for tag 20.
  * - BREAKS: the host sends client 1 the notification (smblease_write_notification), and, since ack_required
- *   is set, starts the timer of the break, which is named by the client and the key. WAITS: it answers the
- *   CREATE with STATUS_PENDING, and keeps it under its tag. Nothing has been opened yet.
+ *   is set, starts a timer for the break, which keeps the number of the decision. WAITS: it answers the CREATE
+ *   with STATUS_PENDING, and keeps it under its tag. Nothing has been opened yet.
  * - Client 1 writes back what it had cached: a WRITE by FileId 1. smblease_manager_write, under the tag 11,
  *   gives GOES_ON for it: the host writes the bytes at that place, and then answers.
  * - Client 1 acknowledges (smblease_read_acknowledgment): smblease_manager_acknowledge gives ACKNOWLEDGED,
- *   and then OPENED for tag 20, with FileId 2 and the lease that client 2 is granted. The host stops the
- *   timer and sends client 1 the response (smblease_write_response); then it opens file 5 for FileId 2, and
- *   answers the CREATE that it kept (smblease_write_create_answer). Where it can't open the file, it answers
+ *   and then OPENED for tag 20, with FileId 2 and the lease that client 2 is granted. The host sends client 1
+ *   the response (smblease_write_response); then it opens file 5 for FileId 2, and answers the CREATE that it
+ *   kept (smblease_write_create_answer). Where it can't open the file, it answers
  *   with the failure, and closes FileId 2 (smblease_manager_close) once all decisions are carried out.
- * - Had client 1 not answered, the timer would run out: smblease_manager_expire gives ENDED for FileId 1,
+ * - Had client 1 not answered, the timer would run out: smblease_manager_run_out gives ENDED for FileId 1,
  *   whose handle the host lets go of, and then OPENED for tag 20. What client 1 still sends by FileId 1 is
- *   REFUSED with STATUS_FILE_CLOSED. A timer of a break that has ended meanwhile changes nothing, as long as
- *   the lease isn't breaking again: stop it with the break.
+ *   REFUSED with STATUS_FILE_CLOSED. A timer need not be stopped: where the break of its number has ended,
+ *   nothing is decided, even if the lease is breaking again under another number. The manager keeps a number
+ *   until its break is acknowledged or broken anew, or it is told that the timer ran out.
  * - Had client 2 taken its CREATE back by a CANCEL, smblease_manager_withdraw would give WITHDRAWN for tag 20,
  *   which the host answers with STATUS_CANCELLED. Had its connection been lost, smblease_manager_cut would
  *   give no decision for tag 20: the host forgets what it kept of that client.
@@ -91,14 +92,16 @@ void smblease_manager_free(struct smblease_manager *manager);
 
 /* ---- What comes in ---- */
 
-/* A client connects (3.3.5.1), or its connection is lost (3.3.7.1); the timer of the break of its lease
-   (3.3.6.5), or of a durable open (3.3.6.2), runs out. Where that doesn't apply nothing changes, nothing is
+/* A client connects (3.3.5.1), or its connection is lost (3.3.7.1); the timer of a break (3.3.6.5), by the
+   number that it was told with, or of a durable open (3.3.6.2), runs out; the break of a client's lease is
+   ended whatever its timer says, as by an administrator. Where that doesn't apply nothing changes, nothing is
    decided and the manager is never lost. A cut gives no decision for what waited of the client. Allocate.
    DONE, LOST or NONE. */
 uint32_t smblease_manager_join(struct smblease_manager *manager, uint64_t client);
 uint32_t smblease_manager_cut(struct smblease_manager *manager, uint64_t client);
-uint32_t smblease_manager_expire(struct smblease_manager *manager, uint64_t client, const struct smblease_key *key);
+uint32_t smblease_manager_run_out(struct smblease_manager *manager, uint64_t number);
 uint32_t smblease_manager_scavenge(struct smblease_manager *manager, uint64_t file_id);
+uint32_t smblease_manager_expire(struct smblease_manager *manager, uint64_t client, const struct smblease_key *key);
 
 /* A request of a client comes under a tag (3.3.5). Where the client isn't connected nothing changes, nothing
    is decided and the manager is never lost. A create opens a file or, where has_reconnect is set, connects a
@@ -140,10 +143,10 @@ enum smblease_manager_decision_kind {
     /* The request that waited was taken back. client, tag */
     SMBLEASE_DECISION_WITHDRAWN = 6,
     /* The client is sent a notification. client, key, current_state, new_state, ack_required: the client has to
-       acknowledge it, and a timer is started */
+       acknowledge it, and a timer is started, of this number, which is from 1 on and given once */
     SMBLEASE_DECISION_BREAKS = 7,
-    /* The acknowledgment is answered with a response, and the timer of the break is stopped. client, key,
-       state: what the lease has */
+    /* The acknowledgment is answered with a response, and the break has ended. client, key, state: what the
+       lease has */
     SMBLEASE_DECISION_ACKNOWLEDGED = 8,
     /* The acknowledgment is answered with the status. client, status */
     SMBLEASE_DECISION_NOT_ACKNOWLEDGED = 9,
@@ -168,7 +171,8 @@ struct smblease_manager_decision {
     uint8_t breaking;
     uint8_t durable;
     uint8_t ack_required;
-    uint8_t reserved[24];
+    uint64_t number;
+    uint8_t reserved[16];
 };
 
 /* What the last call decided. Allocate nothing. The count is 0 where there is no manager. DONE, NONE, or

@@ -17,11 +17,9 @@ enum kind { NOTHING, OPEN, READ, WRITE, TRUNCATE, CLOSE };
 struct request { enum kind kind; uint64_t client, tag, file, file_id, offset, length; char text[TEXT]; };
 /* What stands behind a FileId: a descriptor of its own, which is closed when the open is gone. */
 struct opened { uint64_t file_id, client, file; int descriptor, is_timed; };
-struct break_timer { uint64_t client; struct smblease_key key; int is_running; };
 static char names[MOST][NAME]; /* a file's number is its place here, from 1 */
 static struct request waiting[MOST];
 static struct opened opens[MOST];
-static struct break_timer timers[MOST];
 static struct smblease_manager manager;
 static int folder = -1, line_number, wrong;
 static FILE *script;
@@ -161,18 +159,8 @@ static void show(const struct smblease_manager_decision *it) {
     if (it->kind == SMBLEASE_DECISION_BREAKS) printf(" %s to %s", state_word(it->current_state), state_word(it->new_state));
     if (it->has_lease || it->kind == SMBLEASE_DECISION_ACKNOWLEDGED) printf(" %s", state_word(it->state));
     if (it->status) printf(" %08" PRIx32, it->status);
-    puts(it->ack_required ? " ack" : it->durable ? " durable" : "");
-}
-
-static void start_timer(uint64_t client, const uint8_t *key) {
-    for (size_t k = 0; k < MOST; k++)
-        if (!timers[k].is_running) {
-            timers[k].client = client;
-            memcpy(timers[k].key.bytes, key, sizeof timers[k].key.bytes);
-            timers[k].is_running = 1;
-            return;
-        }
-    end(UNREADABLE, "too many breaks for this example");
+    if (it->number) printf(" timer %" PRIu64, it->number);
+    puts(it->durable ? " durable" : "");
 }
 
 /* A create is answered: there is a new open, or one that was left behind is its client's again. */
@@ -193,15 +181,12 @@ static void carry_out(const struct smblease_manager_decision *it) {
     case SMBLEASE_DECISION_GOES_ON: go_on(one); break;
     case SMBLEASE_DECISION_CLOSED: let_go(opened_as(one->file_id)); break;
     case SMBLEASE_DECISION_ENDED: let_go(opened_as(it->file_id)); break;
-    case SMBLEASE_DECISION_BREAKS:
-        if (it->ack_required) start_timer(it->client, it->key);
-        break;
-    default: break; /* the others are answers alone */
+    default: break; /* the others are answers, and breaks, whose timers a server with a clock starts by their numbers */
     }
     if (one && it->kind != SMBLEASE_DECISION_WAITS) one->kind = NOTHING;
 }
 
-/* Each decision takes effect before the next one. Then timers of breaks that are over are stopped. */
+/* Each decision takes effect before the next one. */
 static void after(uint32_t outcome) {
     struct smblease_manager_decision decision = {0};
     need(outcome);
@@ -209,8 +194,6 @@ static void after(uint32_t outcome) {
         need(smblease_manager_decision_at(&manager, k, &decision));
         carry_out(&decision);
     }
-    for (size_t k = 0; k < MOST; k++)
-        timers[k].is_running = timers[k].is_running && smblease_manager_breaking(&manager, timers[k].client, &timers[k].key);
 }
 
 /* ---- the script ---- */
@@ -302,16 +285,8 @@ static void cut(const struct step *step) {
     }
 }
 
-/* break-timer CLIENT KEY */
-static void end_break(const struct step *step) {
-    struct smblease_key key = key_of(step, 1);
-    for (size_t k = 0; k < MOST; k++)
-        if (timers[k].is_running && timers[k].client == number(step, 0) && timers[k].key.bytes[0] == key.bytes[0]) {
-            after(smblease_manager_expire(&manager, timers[k].client, &key));
-            return;
-        }
-    puts("  no such timer");
-}
+/* break-timer NUMBER: where the break has ended, the manager decides nothing. */
+static void end_break(const struct step *step) { after(smblease_manager_run_out(&manager, number(step, 0))); }
 
 /* open-timer FILEID */
 static void end_open(const struct step *step) {
@@ -339,7 +314,7 @@ static void happen(const struct step *step) {
     static const struct { const char *word; void (*does)(const struct step *); int least; } words[] = {
         {"file", begin_file, 1}, {"holds", look, 3}, {"join", join, 1}, {"cut", cut, 1}, {"open", open_file, 5},
         {"read", use_open, 5}, {"write", use_open, 5}, {"truncate", use_open, 4}, {"close", use_open, 3}, {"ack", acknowledge, 1},
-        {"cancel", cancel, 2}, {"break-timer", end_break, 2}, {"open-timer", end_open, 1}};
+        {"cancel", cancel, 2}, {"break-timer", end_break, 1}, {"open-timer", end_open, 1}};
     for (size_t k = 0; k < sizeof words / sizeof words[0]; k++)
         if (strcmp(step->word, words[k].word) == 0 && step->count >= words[k].least) {
             words[k].does(step);

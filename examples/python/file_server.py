@@ -3,7 +3,6 @@ timers. play_file_server.py plays scripts with it.
 """
 import os
 import re
-import uuid
 from dataclasses import dataclass, field
 
 from smblease import Manager
@@ -37,7 +36,7 @@ def about_lease(decision: Decision) -> str:
     """What a decision says of a lease: its key by its letter, and states."""
     if isinstance(decision, Breaks):
         it = decision.notification
-        return f" key {chr(it.key.bytes[0])} {it.current} to {it.new}{' ack' if it.ack_required else ''}"
+        return f" key {chr(it.key.bytes[0])} {it.current} to {it.new}" + (f" timer {decision.timer}" if decision.timer else "")
     if isinstance(decision, Acknowledged):
         return f" key {chr(decision.response.key.bytes[0])} {decision.response.state}"
     if isinstance(decision, Opened):
@@ -63,7 +62,6 @@ class FileServer:
     names: list[str] = field(default_factory=list)
     waiting: dict[tuple[int, int], Request] = field(default_factory=dict)
     handles: dict[int, Handle] = field(default_factory=dict)
-    timers: set[tuple[int, uuid.UUID]] = field(default_factory=set)
 
     def number_of(self, name: str) -> int:
         """Names are plain ones: none leads out of the folder."""
@@ -98,10 +96,7 @@ class FileServer:
         show(decision)
         if isinstance(decision, Ended):
             os.close(self.handles.pop(decision.file_id).descriptor)
-        elif isinstance(decision, Breaks):
-            if decision.notification.ack_required:
-                self.timers.add((decision.client, decision.notification.key))
-        elif not isinstance(decision, (Waits, Acknowledged, NotAcknowledged)):
+        elif not isinstance(decision, (Breaks, Waits, Acknowledged, NotAcknowledged)):
             request = self.waiting.pop((decision.client, decision.tag))
             if isinstance(decision, Opened):
                 self.answer_create(decision.file_id, request, decision.client)
@@ -111,10 +106,9 @@ class FileServer:
                 os.close(self.handles.pop(request.file_id).descriptor)
 
     def after(self, decisions: Decisions) -> None:
-        """Each decision takes effect before the next one. Then timers of breaks that are over are stopped."""
+        """Each decision takes effect before the next one."""
         for decision in decisions:
             self.carry_out(decision)
-        self.timers = {it for it in self.timers if self.manager.breaking(*it)}
 
     # ---- what else happens ----
 
@@ -132,12 +126,9 @@ class FileServer:
         if request:
             self.after(self.manager.withdraw(client, tag, self.number_of(request.file)))
 
-    def end_break(self, client: int, key: uuid.UUID) -> None:
-        """The timer of a break runs out, if it is still running."""
-        if (client, key) in self.timers:
-            self.after(self.manager.expire(client, key))
-        else:
-            print("  no such timer")
+    def end_break(self, timer: int) -> None:
+        """The timer of a break runs out. Where the break has ended, the manager decides nothing."""
+        self.after(self.manager.run_out(timer))
 
     def end_open(self, file_id: int) -> None:
         """The timer of a durable open runs out, if it is still running."""

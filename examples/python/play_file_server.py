@@ -82,8 +82,6 @@ class Player:
             self._server.cut(client)
         elif word == "ack":
             self._acknowledge(client, *rest)
-        elif word == "break-timer":
-            self._server.end_break(client, key_of(rest[0]))
         elif word == "cancel":
             self._server.cancel(client, int(rest[0]))
         elif word == "open":
@@ -98,6 +96,8 @@ class Player:
             self._begin_file(*rest)
         elif word == "holds":
             self._look(*rest)
+        elif word == "break-timer":
+            self._server.end_break(int(rest[0]))
         elif word == "open-timer":
             self._server.end_open(int(rest[0]))
         else:

@@ -110,6 +110,7 @@ MANAGER: Dict[str, Signature] = {
     "manager_join": (c_uint32, (_MANAGER, c_uint64)),
     "manager_cut": (c_uint32, (_MANAGER, c_uint64)),
     "manager_expire": (c_uint32, (_MANAGER, c_uint64, _KEY)),
+    "manager_run_out": (c_uint32, (_MANAGER, c_uint64)),
     "manager_scavenge": (c_uint32, (_MANAGER, c_uint64)),
     "manager_create": (c_uint32, (_MANAGER, c_uint64, c_uint64, c_uint64, c_uint8, c_uint8, POINTER(structs.CreateAsk))),
     "manager_read": (c_uint32, (_MANAGER, c_uint64, c_uint64, c_uint64)),

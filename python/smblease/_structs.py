@@ -127,7 +127,7 @@ class ManagerDecision(ctypes.Structure):
     _fields_ = [("client", c_uint64), ("tag", c_uint64), ("file_id", c_uint64), ("key", c_uint8 * 16), ("kind", c_uint32),
                 ("status", c_uint32), ("state", c_uint32), ("current_state", c_uint32), ("new_state", c_uint32),
                 ("has_lease", c_uint8), ("breaking", c_uint8), ("durable", c_uint8), ("ack_required", c_uint8),
-                ("reserved", c_uint8 * 24)]
+                ("number", c_uint64), ("reserved", c_uint8 * 16)]
 
 
 class HeldLease(ctypes.Structure):

@@ -74,8 +74,17 @@ class Manager(ManagerQuestions):
         """
         return self._decided(library.smblease_manager_cut, number(client, LONG, "client"))
 
+    def run_out(self, timer: int) -> Decisions:
+        """The timer of a break runs out (3.3.6.5), by the number that it was told with. A timer need not be stopped: where its
+        break has ended nothing is decided, even if the lease is breaking again.
+
+        >>> Manager().run_out(1)
+        ()
+        """
+        return self._decided(library.smblease_manager_run_out, number(timer, LONG, "timer"))
+
     def expire(self, client: int, key: uuid.UUID) -> Decisions:
-        """The timer of the break of a client's lease runs out (3.3.6.5).
+        """The break of a client's lease is ended, whatever its timer says, as by an administrator.
 
         >>> Manager().expire(1, uuid.UUID(int=1))
         ()

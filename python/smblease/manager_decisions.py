@@ -5,7 +5,7 @@ A request is named by its client and the tag under which it came.
 from __future__ import annotations
 
 from dataclasses import dataclass
-from typing import Any, Callable, Dict, Tuple, Union
+from typing import Any, Callable, Dict, Optional, Tuple, Union
 
 from smblease import _structs as structs
 from smblease._arguments import key_of
@@ -95,20 +95,22 @@ class Withdrawn:
 
 @dataclass(frozen=True)
 class Breaks:
-    """The client is sent the notification. Where it has to be acknowledged, a timer is started.
+    """The client is sent the notification. Where it has to be acknowledged, a timer is started, which keeps the number.
 
     >>> import uuid
-    >>> Breaks(1, Notification(uuid.UUID(int=1), LeaseState.of("RWH"), LeaseState.of("RH"), True)).notification.write().hex()[:16]
+    >>> notification = Notification(uuid.UUID(int=1), LeaseState.of("RWH"), LeaseState.of("RH"), True)
+    >>> Breaks(client=1, notification=notification, timer=1).notification.write().hex()[:16]
     '2c00000001000000'
     """
 
     client: int
     notification: Notification
+    timer: Optional[int] = None
 
 
 @dataclass(frozen=True)
 class Acknowledged:
-    """The acknowledgment is answered with the response, and the timer of the break is stopped.
+    """The acknowledgment is answered with the response, and the break has ended.
 
     >>> import uuid
     >>> Acknowledged(1, Response(uuid.UUID(int=1), LeaseState.of("RH"))).response.state
@@ -154,7 +156,7 @@ def _opened(has: Any) -> Opened:
 
 def _breaks(has: Any) -> Breaks:
     states = LeaseState(has.current_state), LeaseState(has.new_state)
-    return Breaks(int(has.client), Notification(key_of(has.key), *states, bool(has.ack_required)))
+    return Breaks(int(has.client), Notification(key_of(has.key), *states, bool(has.ack_required)), int(has.number) or None)
 
 
 def _tagged(kind: Callable[[int, int], Decision]) -> Callable[[Any], Decision]:

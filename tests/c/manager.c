@@ -59,6 +59,7 @@ static void calls_of_nothing(void) {
     IS(smblease_manager_join(&manager, CLIENT), SMBLEASE_NONE);
     IS(smblease_manager_cut(&manager, CLIENT), SMBLEASE_NONE);
     IS(smblease_manager_expire(&manager, CLIENT, &key), SMBLEASE_NONE);
+    IS(smblease_manager_run_out(&manager, 1), SMBLEASE_NONE);
     IS(smblease_manager_scavenge(&manager, 1), SMBLEASE_NONE);
     IS(smblease_manager_create(&manager, CLIENT, TAG, FILE_NO, 3, 3, &ask), SMBLEASE_NONE);
     IS(smblease_manager_create(&manager, CLIENT, TAG, FILE_NO, 0, 3, &ask), SMBLEASE_NO_SUCH);
@@ -147,7 +148,7 @@ static void broken_and_acknowledged(void) {
     const struct smblease_held_lease wanted = {7, 3, 1, {0}};
     DONE(smblease_manager_create(&manager, OTHER, LATER_TAG, FILE_NO, 1, 3, &ask));
     DECIDES({.client = CLIENT, .key = KEY, .kind = SMBLEASE_DECISION_BREAKS, .current_state = 7, .new_state = 3,
-             .ack_required = 1},
+             .ack_required = 1, .number = 1},
             {.client = OTHER, .tag = LATER_TAG, .kind = SMBLEASE_DECISION_WAITS});
     IS(smblease_manager_breaking(&manager, CLIENT, &key), 1);
     IS(smblease_manager_breaking(&manager, OTHER, &key), 0);
@@ -170,7 +171,7 @@ static void withdrawn(void) {
     struct smblease_acknowledgment given = {.key = KEY, .state = 1};
     DONE(smblease_manager_create(&manager, OTHER, LATER_TAG, FILE_NO, 1, 0, &ask));
     DECIDES({.client = CLIENT, .key = KEY, .kind = SMBLEASE_DECISION_BREAKS, .current_state = 3, .new_state = 1,
-             .ack_required = 1},
+             .ack_required = 1, .number = 2},
             {.client = OTHER, .tag = LATER_TAG, .kind = SMBLEASE_DECISION_WAITS});
     DONE(smblease_manager_withdraw(&manager, OTHER, TAG, FILE_NO));
     NOTHING_DECIDED;
@@ -246,6 +247,8 @@ static void ended(void) {
     struct smblease_create_ask ask = {.key = OTHER_KEY, .state = 1, .has_lease = 1};
     DONE(smblease_manager_create(&manager, OTHER, LATER_TAG, FILE_NO, 1, 3, &ask));
     IS(smblease_manager_decision_count(&manager), 2);
+    DONE(smblease_manager_run_out(&manager, 2));
+    NOTHING_DECIDED;
     DONE(smblease_manager_expire(&manager, OTHER, &key));
     NOTHING_DECIDED;
     DONE(smblease_manager_expire(&manager, CLIENT, &key));
@@ -270,6 +273,24 @@ static void scavenged(void) {
     DECIDES({.file_id = 6, .kind = SMBLEASE_DECISION_ENDED});
 }
 
+/* The timer of the last break of the lease runs out; those of others decide nothing. */
+static void ran_out(void) {
+    struct smblease_create_ask ask = {.key = OTHER_KEY, .state = 7, .has_lease = 1}, none = {0};
+    DONE(smblease_manager_join(&manager, OTHER));
+    DONE(smblease_manager_create(&manager, OTHER, TAG, FILE_NO, 3, 3, &ask));
+    DONE(smblease_manager_create(&manager, CLIENT, LATER_TAG, FILE_NO, 1, 3, &none));
+    DECIDES({.client = OTHER, .key = OTHER_KEY, .kind = SMBLEASE_DECISION_BREAKS, .current_state = 7, .new_state = 3,
+             .ack_required = 1, .number = 4},
+            {.client = CLIENT, .tag = LATER_TAG, .kind = SMBLEASE_DECISION_WAITS});
+    DONE(smblease_manager_run_out(&manager, 3));
+    NOTHING_DECIDED;
+    DONE(smblease_manager_run_out(&manager, 4));
+    DECIDES({.file_id = 7, .kind = SMBLEASE_DECISION_ENDED},
+            {.client = CLIENT, .tag = LATER_TAG, .file_id = 8, .kind = SMBLEASE_DECISION_OPENED});
+    DONE(smblease_manager_run_out(&manager, 4));
+    NOTHING_DECIDED;
+}
+
 int main(void) {
     calls_of_nothing();
     questions_of_nothing();
@@ -283,6 +304,7 @@ int main(void) {
     listed();
     ended();
     scavenged();
+    ran_out();
     smblease_manager_free(&manager);
     IS(manager.state != NULL, 0);
     return wrong;

@@ -14,7 +14,7 @@ SCRIPTS = [pytest.param(it, id=it.stem) for it in files_of(TOP / "examples/c/fil
 # What the files of each script hold in the end: their size, and their first bytes.
 FILES = {"write_waits": ("notes", 8, b"NEW-text"), "durable_open": ("draft", 9, b"abcdefghi"),
          "break_expires": ("plan", 2, b"v2"), "conflict": ("ledger", 3, b"200"), "large_file": ("image", 5, b"start"),
-         "cancelled": ("memo", 3, b"two")}
+         "cancelled": ("memo", 3, b"two"), "old_timer": ("log", 2, b"bc")}
 WRONG, UNREADABLE, LOST, FAILED = 1, 2, 3, 4
 ALL_THAT_FOLLOW = 10 ** 9
 

@@ -36,7 +36,7 @@ def joined_manager() -> Manager:
 
 def test_a_break_is_acknowledged(manager: Manager) -> None:
     assert opened(ONE, 10, KEY, RWH, manager) == (Opened(ONE, 10, 1, CreateAnswer(KEY, RWH)),)
-    assert opened(TWO, 20, OTHER_KEY, RWH, manager) == (Breaks(ONE, Notification(KEY, RWH, RH, True)), Waits(TWO, 20))
+    assert opened(TWO, 20, OTHER_KEY, RWH, manager) == (Breaks(ONE, Notification(KEY, RWH, RH, True), 1), Waits(TWO, 20))
     assert manager.breaking(ONE, KEY) and manager.waiting(TWO, 20, FILE) and not manager.waiting(TWO, 21, FILE)
     assert manager.lease(ONE, KEY) == HeldLease(RWH, RH)
     assert manager.write(ONE, 11, 1) == (GoesOn(ONE, 11),)
@@ -53,6 +53,24 @@ def test_a_break_expires(manager: Manager) -> None:
     assert manager.expire(TWO, KEY) == ()
     assert manager.expire(ONE, KEY) == (Ended(1), Opened(TWO, 20, 2, CreateAnswer(OTHER_KEY, R)))
     assert manager.read(ONE, 11, 1) == (Refused(ONE, 11, Status.FILE_CLOSED),)
+
+
+def test_a_timer_is_of_one_break(manager: Manager) -> None:
+    """That of a break which was acknowledged ends no later break of the lease."""
+    opened(ONE, 10, KEY, RWH, manager)
+    opened(TWO, 20, OTHER_KEY, R, manager)
+    manager.acknowledge(ONE, Acknowledgment(KEY, RH))
+    wanted = Breaks(ONE, Notification(KEY, RH, NONE, True), 2), GoesOn(TWO, 21)
+    assert manager.write(TWO, 21, 2) == wanted
+    assert manager.run_out(1) == () and manager.breaking(ONE, KEY)
+    assert manager.run_out(2) == (Ended(1),)
+    assert manager.run_out(2) == ()
+
+
+def test_a_break_of_reads_has_no_timer(manager: Manager) -> None:
+    opened(ONE, 10, KEY, R, manager)
+    opened(TWO, 20, OTHER_KEY, R, manager)
+    assert manager.write(TWO, 21, 2) == (Breaks(ONE, Notification(KEY, R, NONE, False)), GoesOn(TWO, 21))
 
 
 def test_a_request_is_withdrawn(manager: Manager) -> None:

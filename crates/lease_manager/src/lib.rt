@@ -48,6 +48,7 @@ mod values;
 pub use laws::managers_are_those_of_hosts;
 pub use manager::Manager;
 pub use values::decision::{BreakNotice, CreateAnswer, Decision};
+pub use values::key::Key;
 pub use values::lease::Lease;
 pub use values::number::{ClientNo, FileNo, Tag};
 pub use values::open::ListedOpen;

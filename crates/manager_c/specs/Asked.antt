@@ -1,6 +1,8 @@
 -- What numbers and structs from C ask of a manager.
-use Rattle.std.specs.Prelude.{ℕ, Bool, not, List, Option, Some, None, if◌then◌else◌}
+use Rattle.std.specs.Prelude.{ℕ, Bool, true, not, List, Option, Some, None, if◌then◌else◌}
 use Rattle.std.specs.List.{list_any}
+use Rattle.break_timers.specs.Timers.{Timers}
+use Rattle.lease_model.specs.values.Keys.{Key}
 use Rattle.lease_state.specs.State.{state_of_bits}
 use Rattle.lease_state.specs.declared.access.Access.{Access}
 use Rattle.lease_state.specs.declared.access.Share.{Share}
@@ -47,8 +49,16 @@ is_present client manager = manager.server.present client
 abbrev pub is_absent : ℕ → Manager → Bool
 is_absent client manager = not (manager.server.present client)
 
+abbrev pub is_idle_for : Option Key → Manager → Bool
+is_idle_for None manager = true
+is_idle_for (Some key) manager = not (queries.breaking manager.server key)
+
 abbrev pub is_settled : ℕ → List ℕ → Manager → Bool
 is_settled client key manager = not (queries.breaking manager.server (key_of client key))
+
+-- the timer of this number doesn't run, or its lease isn't breaking
+abbrev pub is_over : ℕ → Timers → Manager → Bool
+is_over number timers manager = is_idle_for (timers.running number) manager
 
 abbrev pub is_gone : ℕ → Manager → Bool
 is_gone file_id manager = not (list_any (is_left_behind file_id) manager.server.opens)

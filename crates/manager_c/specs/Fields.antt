@@ -6,6 +6,8 @@ use Rattle.lease_state.specs.Status.{code_of}
 use Rattle.lease_model.specs.messages.Replies.{LeaseGiven}
 use Rattle.lease_model.specs.server.State.{Lease, Open}
 use Rattle.lease_handles.specs.Codes.{flag_of}
+use Rattle.lease_manager.specs.Outs.{decision_of}
+use Rattle.lease_manager.specs.declared.values.decision.Decision as code
 use Rattle.manager_model.specs.Decisions.{Decision}
 use Rattle.manager_c.specs.declared.decision.ManagerDecision.{ManagerDecision}
 use Rattle.manager_c.specs.declared.listing.OpenFields.{OpenFields}
@@ -27,7 +29,8 @@ of_kind kind client tag = record {
   breaking = 0;
   durable = 0;
   ack_required = 0;
-  reserved = replicate 24 0;
+  number = 0;
+  reserved = replicate 16 0;
 }
 
 -- with the lease that a create is granted
@@ -58,6 +61,15 @@ decision_fields (Decision.Acknowledged client given) =
     record (of_kind 8 client 0) { key = given.key; state = bits_of_state given.state }
 decision_fields (Decision.NotAcknowledged client status) = record (of_kind 9 client 0) { status = code_of status }
 decision_fields (Decision.Ended file_id) = record (of_kind 10 0 0) { file_id = file_id }
+
+-- the number of the timer that a decision starts
+abbrev pub number_field : Option ℕ → ℕ
+number_field None = 0
+number_field (Some number) = number
+
+-- a decision of the last call, with the number that it was told
+abbrev pub told_fields : code.Decision → Option ℕ → ManagerDecision
+told_fields decision number = record (decision_fields (decision_of decision)) { number = number_field number }
 
 abbrev pub key_field : Option (List ℕ) → List ℕ
 key_field None = replicate 16 0

@@ -4,11 +4,12 @@ ghost use Rattle.lease_handles.specs.Calls.{IsCall};
 ghost use Rattle.lease_handles.specs.declared.outcome.Outcome.TheVariants as outcomes;
 ghost use Rattle.manager_model.specs.Handling as rules;
 ghost use Rattle.manager_c.specs.Asked.{is_present, is_absent, is_settled, is_gone, is_answered};
-ghost use Rattle.manager_c.specs.Calls.{Handled, MayBeLostUnless};
+ghost use Rattle.manager_c.specs.Calls.{Expired, Handled, MayBeLostUnless, MayBeLostUnlessOver, RunOut};
 
 use crate::handle::ManagerHandle;
 use crate::managing::Managing;
 use crate::values::KeyBytes;
+use break_timers::BreakNo;
 use lease_handles::Outcome;
 use lease_manager::{ClientNo, FileNo, Tag};
 use lease_state::{FileId, LeaseKey, Memory};
@@ -87,13 +88,33 @@ pub extern "C" fn smblease_manager_expire(
     client: u64,
     key: &KeyBytes,
 ) -> u32
-    ensures { IsCall (Handled (λ one. rules.expire one (key_of client key.now.bytes)))
+    ensures { IsCall (Expired (key_of client key.now.bytes))
         (MayBeLostUnless (is_settled client key.now.bytes)) result manager.old.held manager.new.held }
 {
     match manager.take(alloc) {
         None => Outcome::Nothing.code(),
         Some(mut managing) => {
             let came = managing.expire(alloc, ClientNo(client), LeaseKey(key.bytes));
+            manager.keep(alloc, managing, came).code()
+        }
+    }
+}
+
+/// The timer of this number, of a break, runs out (3.3.6.5). Where it doesn't run, or no break of
+/// its lease waits for its acknowledgment, nothing changes but that it doesn't run any longer. The
+/// outcomes are those of `smblease_manager_join`.
+#[unsafe(no_mangle)]
+pub extern "C" fn smblease_manager_run_out(
+    alloc: Global,
+    manager: &mut ManagerHandle,
+    number: u64,
+) -> u32
+    ensures { IsCall (RunOut number) (MayBeLostUnlessOver number) result manager.old.held manager.new.held }
+{
+    match manager.take(alloc) {
+        None => Outcome::Nothing.code(),
+        Some(mut managing) => {
+            let came = managing.run_out(alloc, BreakNo(number));
             manager.keep(alloc, managing, came).code()
         }
     }

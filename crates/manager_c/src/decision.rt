@@ -3,8 +3,8 @@ ghost use Rattle.lease_handles.specs.declared.outcome.Outcome.TheVariants as out
 ghost use Rattle.lease_state.specs.State.{bits_of_state, state_of};
 ghost use Rattle.lease_handles.specs.Codes.{flag_of};
 ghost use Rattle.lease_manager.specs.Outs.{decision_of, answer_told};
-ghost use Rattle.manager_c.specs.Calls.{decided};
-ghost use Rattle.manager_c.specs.Fields.{decision_fields, of_kind, with_lease};
+ghost use Rattle.manager_c.specs.Calls.{decided, numbered};
+ghost use Rattle.manager_c.specs.Fields.{decision_fields, of_kind, told_fields, with_lease};
 
 use crate::handle::ManagerHandle;
 use lease_handles::Outcome;
@@ -43,8 +43,10 @@ pub struct ManagerDecision {
     pub durable: u8,
     /// The client has to acknowledge the break.
     pub ack_required: u8,
+    /// The number of the timer that a break starts which has to be acknowledged.
+    pub number: u64,
     /// Room for later versions: 0.
-    pub reserved: [u8; 24],
+    pub reserved: [u8; 16],
 }
 
 impl ManagerDecision {
@@ -66,7 +68,8 @@ impl ManagerDecision {
             breaking: 0,
             durable: 0,
             ack_required: 0,
-            reserved: [0; 24],
+            number: 0,
+            reserved: [0; 16],
         }
     }
 
@@ -155,15 +158,18 @@ impl ManagerDecision {
     }
 }
 
-// Writes the decision at the index into `out`.
-fn tell(decisions: &[Decision], index: usize, out: &mut ManagerDecision) -> Outcome
+// Writes the decision at the index into `out`, with the number of the timer that it starts.
+fn tell(decisions: &[Decision], numbers: &[u64], index: usize, out: &mut ManagerDecision) -> Outcome
     ensures given { IfSome (slice_get decisions.now index) (λ one. (result ≡ outcomes.Done)
-        × (out.new ≡ decision_fields (decision_of one))) }
+        × (out.new ≡ told_fields one (slice_get numbers.now index))) }
     ensures nothing { slice_get decisions.now index ≡ None → (result ≡ outcomes.NoSuch) × (out.new ≡ out.old) }
 {
     match decisions.get(index) {
         Some(decision) => {
-            *out = ManagerDecision::holding(decision);
+            *out = ManagerDecision {
+                number: *numbers.get(index).unwrap_or(&0),
+                ..ManagerDecision::holding(decision)
+            };
             Outcome::Done
         }
         None => Outcome::NoSuch,
@@ -201,7 +207,7 @@ pub extern "C" fn smblease_manager_decision_at(
 ) -> u32
     ensures same { manager.new.held ≡ manager.old.held }
     ensures given { IfSome (slice_get (decided manager.old.held) index) (λ one. (result ≡ 0)
-        × (out.new ≡ decision_fields (decision_of one))) }
+        × (out.new ≡ told_fields one (slice_get (numbered manager.old.held) index))) }
     ensures nothing { slice_get (decided manager.old.held) index ≡ None → out.new ≡ out.old }
     ensures no_index { manager.old.held ≢ None → slice_get (decided manager.old.held) index ≡ None → result ≡ 4 }
     ensures none { manager.old.held ≡ None → result ≡ 3 }
@@ -209,7 +215,7 @@ pub extern "C" fn smblease_manager_decision_at(
     match manager.take(alloc) {
         None => Outcome::Nothing.code(),
         Some(managing) => {
-            let outcome = tell(managing.decisions.as_slice(), index, out);
+            let outcome = tell(&managing.decisions, &managing.numbers, index, out);
             manager.put(alloc, managing);
             outcome.code()
         }

@@ -11,6 +11,7 @@ mod handle;
 mod leases;
 mod listing;
 mod managing;
+mod numbering;
 mod queries;
 mod requests;
 mod setting_up;

@@ -1,25 +1,48 @@
-ghost use Rattle.std.specs.Prelude.{◌≡◌, true, [], Some, None, IsOk, OnOk};
+ghost use Rattle.std.specs.Prelude.{◌≡◌, true, [], Some, None, IsOk, OnOk, map};
+ghost use Rattle.break_timers.specs.Numbering.{noted_all, numbers_told};
+ghost use Rattle.break_timers.specs.Timers.{timers_of};
 ghost use Rattle.lease_state.specs.State.{state_of};
 ghost use Rattle.lease_model.specs.server.Naming.{key_of};
+ghost use Rattle.lease_manager.specs.Outs.{decisions};
 ghost use Rattle.lease_manager.specs.Requests.{request_like};
 ghost use Rattle.lease_manager.specs.Table.{manager_of};
 ghost use Rattle.manager_model.specs.Handling as rules;
-ghost use Rattle.manager_c.specs.Asked.{is_present, is_absent, is_settled, is_gone, is_answered};
-ghost use Rattle.manager_c.specs.Calls.{Handled};
+ghost use Rattle.manager_c.specs.Asked.{is_present, is_absent, is_settled, is_gone, is_answered, is_over};
+ghost use Rattle.manager_c.specs.Calls.{Expired, Handled, RunOut};
+ghost use Rattle.manager_c.specs.Fields.{number_field};
 
-use lease_manager::{Ask, ClientNo, Decision, FileNo, ListedOpen, Manager, Tag};
+use crate::numbering::note_all;
+use break_timers::{BreakNo, BreakTimers};
+use lease_manager::{Ask, ClientNo, Decision, FileNo, Key, ListedOpen, Manager, Tag};
 use lease_state::{FileId, LeaseKey, LeaseState, Memory};
 use std::alloc::Global;
 
-/// A manager, the decisions of its last call, and the opens that were listed since.
+/// A manager, the decisions of its last call, the timers of breaks, and the opens that were listed since.
 #[derive(Debug, Drop)]
 pub struct Managing {
     pub manager: Manager,
     pub decisions: Vec<Decision>,
+    pub timers: BreakTimers,
+    /// Of each decision, the number of the timer that it starts, or 0.
+    pub numbers: Vec<u64>,
     pub opens: Vec<ListedOpen>,
 }
 
 impl Managing {
+    // Timers start and stop as the decisions of the call say.
+    fn note(&mut self) -> Result<(), Memory>
+        ensures timers { OnOk result
+            (timers_of self.new.timers ≡ noted_all (decisions self.old.decisions.items) (timers_of self.old.timers)) }
+        ensures numbers { OnOk result (self.new.numbers.items
+            ≡ map number_field (numbers_told (decisions self.old.decisions.items) (timers_of self.old.timers))) }
+        ensures same { OnOk result ((self.new.manager ≡ self.old.manager) × (self.new.decisions ≡ self.old.decisions)
+            × (self.new.opens ≡ self.old.opens)) }
+        ensures silent { decisions self.old.decisions.items ≡ [] → IsOk result }
+    {
+        self.numbers.clear();
+        note_all(&mut self.timers, &self.decisions, &mut self.numbers)
+    }
+
     /// A client connects.
     pub(crate) fn join(&mut self, alloc: Global, client: ClientNo) -> Result<(), Memory>
         ensures after { OnOk result (Handled (λ one. rules.join one client.0) self.old self.new) }
@@ -27,7 +50,8 @@ impl Managing {
     {
         self.opens = Vec::new(alloc);
         self.decisions = Vec::new(alloc);
-        self.manager.join(client)
+        self.manager.join(client)?;
+        self.note()
     }
 
     /// A client asks something of a file, under a tag.
@@ -43,7 +67,8 @@ impl Managing {
         ensures idle { is_absent client.0 (manager_of self.old.manager) ≡ true → IsOk result }
     {
         self.opens = Vec::new(alloc);
-        self.manager.ask(client, tag, ask, &mut self.decisions)
+        self.manager.ask(client, tag, ask, &mut self.decisions)?;
+        self.note()
     }
 
     /// A client acknowledges a break of its lease of this key, with this state.
@@ -60,7 +85,8 @@ impl Managing {
     {
         self.opens = Vec::new(alloc);
         self.manager
-            .acknowledge(client, key, state, &mut self.decisions)
+            .acknowledge(client, key, state, &mut self.decisions)?;
+        self.note()
     }
 
     /// A client sends an acknowledgment that can't be read.
@@ -74,7 +100,8 @@ impl Managing {
     {
         self.opens = Vec::new(alloc);
         self.manager
-            .acknowledge_malformed(client, &mut self.decisions)
+            .acknowledge_malformed(client, &mut self.decisions)?;
+        self.note()
     }
 
     /// A client's connection is lost.
@@ -83,7 +110,8 @@ impl Managing {
         ensures idle { is_absent client.0 (manager_of self.old.manager) ≡ true → IsOk result }
     {
         self.opens = Vec::new(alloc);
-        self.manager.cut(client, &mut self.decisions)
+        self.manager.cut(client, &mut self.decisions)?;
+        self.note()
     }
 
     /// The timer of the break of a client's lease runs out.
@@ -93,11 +121,27 @@ impl Managing {
         client: ClientNo,
         key: LeaseKey,
     ) -> Result<(), Memory>
-        ensures after { OnOk result (Handled (λ one. rules.expire one (key_of client.0 key.0)) self.old self.new) }
+        ensures after { OnOk result (Expired (key_of client.0 key.0) self.old self.new) }
         ensures idle { is_settled client.0 key.0 (manager_of self.old.manager) ≡ true → IsOk result }
     {
         self.opens = Vec::new(alloc);
-        self.manager.expire(client, key, &mut self.decisions)
+        self.timers.stop(Key { client, bytes: key });
+        self.manager.expire(client, key, &mut self.decisions)?;
+        self.note()
+    }
+
+    /// The timer of this number, of a break, runs out.
+    pub(crate) fn run_out(&mut self, alloc: Global, number: BreakNo) -> Result<(), Memory>
+        ensures after { OnOk result (RunOut number.0 self.old self.new) }
+        ensures idle { is_over number.0 (timers_of self.old.timers) (manager_of self.old.manager) ≡ true → IsOk result }
+    {
+        self.opens = Vec::new(alloc);
+        self.decisions.clear();
+        if let Some(key) = self.timers.run_out(number) {
+            self.manager
+                .expire(key.client, key.bytes, &mut self.decisions)?;
+        }
+        self.note()
     }
 
     /// The timer of a durable open runs out.
@@ -106,7 +150,8 @@ impl Managing {
         ensures idle { is_gone fid.0 (manager_of self.old.manager) ≡ true → IsOk result }
     {
         self.opens = Vec::new(alloc);
-        self.manager.scavenge(fid, &mut self.decisions)
+        self.manager.scavenge(fid, &mut self.decisions)?;
+        self.note()
     }
 
     /// A request that waits on the file is taken back.
@@ -122,6 +167,7 @@ impl Managing {
     {
         self.opens = Vec::new(alloc);
         self.manager
-            .withdraw(file, client, tag, &mut self.decisions)
+            .withdraw(file, client, tag, &mut self.decisions)?;
+        self.note()
     }
 }

@@ -1,10 +1,12 @@
 ghost use Rattle.std.specs.Prelude.{◌≡◌, ◌≢◌, [], Some, None, IfOk, IfNone, IfSome, IsSomeAnd};
+ghost use Rattle.break_timers.specs.Timers.{no_timers, timers_of};
 ghost use Rattle.lease_handles.specs.Rules.{rules_given};
 ghost use Rattle.lease_manager.specs.Table.{manager_of};
 ghost use Rattle.manager_model.specs.Hosting.{fresh_manager};
 
 use crate::handle::ManagerHandle;
 use crate::managing::Managing;
+use break_timers::BreakTimers;
 use lease_handles::{Outcome, rules_of};
 use lease_manager::{FileNo, Manager};
 use lease_state::{Memory, Rules};
@@ -14,11 +16,15 @@ use std::alloc::Global;
 fn managing(alloc: Global, rules: Rules, files: u64) -> Result<Box<Managing>, Memory>
     ensures manager { IfOk result (λ made. manager_of made.value.manager ≡ fresh_manager rules files) }
     ensures decisions { IfOk result (λ made. made.value.decisions.items ≡ []) }
+    ensures timers { IfOk result (λ made. timers_of made.value.timers ≡ no_timers) }
+    ensures numbers { IfOk result (λ made. made.value.numbers.items ≡ []) }
     ensures opens { IfOk result (λ made. made.value.opens.items ≡ []) }
 {
     let made = Managing {
         manager: Manager::with_files(alloc, rules, FileNo(files)),
         decisions: Vec::new(alloc),
+        timers: BreakTimers::new(alloc),
+        numbers: Vec::new(alloc),
         opens: Vec::new(alloc),
     };
     Ok(Box::new(alloc, made)?)
@@ -39,7 +45,8 @@ pub extern "C" fn smblease_manager_new(
     files: u64,
 ) -> u32
     ensures new { IfSome (rules_given order rise) (λ rules. result ≡ 0 → IsSomeAnd manager.new.held
-        (λ one. (manager_of one.manager ≡ fresh_manager rules files) × (one.decisions.items ≡ []) × (one.opens.items ≡ []))) }
+        (λ one. (manager_of one.manager ≡ fresh_manager rules files) × (one.decisions.items ≡ [])
+        × (timers_of one.timers ≡ no_timers) × (one.numbers.items ≡ []) × (one.opens.items ≡ []))) }
     ensures no_memory { IfSome (rules_given order rise) (λ rules. result ≢ 0 → result ≡ 1) }
     ensures no_such { IfNone (rules_given order rise) (result ≡ 4) }
     ensures unchanged { result ≢ 0 → manager.new.held ≡ manager.old.held }

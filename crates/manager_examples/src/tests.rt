@@ -1,5 +1,6 @@
 mod breaks;
 mod ends;
+mod timers;
 mod words;
 
 use lease_manager::{Ask, ClientNo, Decision, FileNo, Lease, ListedOpen, Manager, Tag};

@@ -74,7 +74,7 @@ impl PartialOrd for Key {
 impl Key {
     /// Whether both name one lease.
     #[tactic(auto, unfolding(lease_model::specs::values::Keys::key_eq))]
-    pub fn is(self, other: Key) -> bool
+    pub(crate) fn is(self, other: Key) -> bool
         ensures { result ≡ key_eq self other }
     {
         self.client == other.client && self.bytes == other.bytes

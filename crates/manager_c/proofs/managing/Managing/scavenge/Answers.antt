@@ -1,0 +1,11 @@
+use Rattle.lease_manager.specs.Requests.{request_like}
+use Rattle.lease_manager.specs.Table.{manager_of}
+use Rattle.lease_model.specs.server.Naming.{key_of}
+use Rattle.lease_state.specs.State.{state_of}
+use Rattle.std.proofs.Common.{None, Some}
+use Rattle.manager_c.proofs.Idle.{none_scavenged, silent}
+use Rattle.manager_c.proofs.managing.Managing.scavenge.Goals as goal
+
+pub returns-clause-idle : goal.returns-clause-idle
+returns-clause-idle c = λ idle. c.note.ensures.silent (silent _ _ _ c.in_ok-scavenge.ensures.after
+    (none_scavenged (manager_of c.args.self.now.manager) c.args.fid.0 idle))
