@@ -22,8 +22,8 @@ def server_arguments(parser: argparse.ArgumentParser) -> None:
     parser.add_argument("--smbd", action="store_true", help="a private smbd, started afresh for each schedule and ended")
     parser.add_argument("--served", action="store_true", help="the proved server (serve/run), started and ended likewise")
     parser.add_argument("--rules", default=str(Rules()), metavar="RULES",
-                        help="the rules of the proved server, and of what its record is compared with: by-client,as-free or "
-                             "by-client,whole")
+                        help="the rules of the proved server, and of what its record is compared with: by-client or by-key, a "
+                             "comma, and as-free or whole; or profile, which are those that it has without this word")
     parser.add_argument("--server", metavar="HOST:PORT", help="a server that is there, in place of a private one")
     parser.add_argument("--share", metavar="NAME", help="its share")
     parser.add_argument("--user", metavar="USER%PASSWORD", help="who asks it")
@@ -51,7 +51,7 @@ def _server_maker(arguments: argparse.Namespace) -> Callable[[], Server]:
     if arguments.smbd_log:
         raise Usage("--smbd-log is of a private smbd")
     if arguments.served:
-        return lambda: DrivenServer(arguments.leasecheck, words=["--rules", arguments.rules])
+        return lambda: DrivenServer(arguments.leasecheck, rules=rules_of(arguments.rules))
     place = _place(arguments.server, arguments.share, arguments.user)
     break_time = BREAK_TIME if arguments.break_time is None else arguments.break_time
     if not 0 <= break_time < 1e9:

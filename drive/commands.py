@@ -12,7 +12,7 @@ from pathlib import Path
 from smblease.faults import ToolFault
 from smblease.program import replay
 from smblease.schedules import Schedule
-from smblease.values import Order, Rules
+from smblease.values import Rules
 
 from drive.faults import DriveFault, Usage
 
@@ -57,14 +57,11 @@ def _parsed(parser: argparse.ArgumentParser, words: Sequence[str] | None) -> arg
 
 
 def rules_of(text: str) -> Rules:
-    """The rules of a served share, whose answers have to come in the order of what was asked."""
+    """The rules of a served share; `profile` is another word for those of docs/PROFILE.md."""
     try:
-        rules = Rules.of(text)
+        return Rules() if text == "profile" else Rules.of(text)
     except ValueError as fault:
         raise Usage(f"--rules: {fault}") from None
-    if rules.order is not Order.BY_CLIENT:
-        raise Usage("--rules by-key: answers would come in another order than what was asked, and couldn't be told apart")
-    return rules
 
 
 def schedule_in(path: str, program: str) -> Schedule:

@@ -1,1 +1,1 @@
-"""The proved server on a port: SMB 2.1 around `leasecheck server` (docs/REAL_SERVERS.md)."""
+"""Files over the proved manager of leases: a server of SMB 2.1 (docs/REAL_SERVERS.md)."""

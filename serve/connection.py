@@ -9,8 +9,9 @@ from typing import TYPE_CHECKING
 from smblease import Status
 
 from drive.headers import ASYNC, FROM_SERVER, UNASKED as NOTIFICATION, Command, Unreadable
-from serve.machine import Handling, Task
-from serve.opens import MachineClient
+from serve.asks import Handling
+from serve.manager_host import Task
+from serve.opens import ManagerClient
 from serve.packets import (LONGEST_FRAME, LONGEST_WITHOUT_SESSION, MOST_IN_FRAME, Answer, Credits, Frames, RequestMessage,
                            Response, framed, split_compound)
 from serve.request import WITHOUT_SESSION, Request
@@ -86,7 +87,7 @@ class Chain:
         if sum(len(it.body) for it in self._responses) > UNREAD:
             self.send()
         self._is_waiting = False
-        # The last answer goes at once: what the machine gives out next may be for the same client.
+        # The last answer goes at once: what is decided next may be for the same client.
         if self._requests:
             self.go_on()
         else:
@@ -100,7 +101,7 @@ class Connection(asyncio.Protocol):
         self.guid: bytes | None = None
         self.is_negotiated = False
         self.is_open = True
-        self.client: MachineClient | None = None
+        self.client: ManagerClient | None = None
         self.sessions: dict[int, Session] = {}
         self._transport = asyncio.Transport()
         self._frames = Frames()
@@ -112,6 +113,11 @@ class Connection(asyncio.Protocol):
     def unread(self) -> int:
         """Bytes that the client hasn't read yet."""
         return self._transport.get_write_buffer_size() if self.is_open else 0
+
+    @property
+    def tasks(self) -> list[Task]:
+        """Those of requests that aren't answered for good."""
+        return [it.task for it in self._pending.values() if it.task]
 
     def connection_made(self, transport: asyncio.BaseTransport) -> None:
         assert isinstance(transport, asyncio.Transport)
@@ -186,7 +192,7 @@ class Connection(asyncio.Protocol):
         handling = self._handle(pending.request, failed if message.is_related else None)
         pending.task = Task(handling, lambda answer: self._answered(pending, answer))
         self.server.begun.append(pending)
-        self.server.machine.start(pending.task)
+        self.server.host.start(pending.task)
         self.server.send_interim_responses()
 
     def _handle(self, request: Request, failed: Status | None) -> Handling:
@@ -210,12 +216,9 @@ class Connection(asyncio.Protocol):
         self._pending.pop(message.identifier, None)
         LOG.debug("client %s: %s %d: %s", self.client.number if self.client else "-", message.name, message.identifier,
                   answer.status.name)
-        if pending.request.is_cancelled:
-            self.server.undo(answer)
-        elif not pending.is_answered:
-            pending.is_answered = True
-            if self.is_open:
-                pending.chain.answered(pending, answer)
+        pending.is_answered = True
+        if self.is_open:
+            pending.chain.answered(pending, answer)
 
     def response(self, pending: Pending, answer: Answer, session: int, tree: int) -> Response:
         message = pending.request.message
@@ -238,7 +241,7 @@ class Connection(asyncio.Protocol):
         self.send(framed([interim]))
 
     def _cancel(self, message: RequestMessage) -> None:
-        """A CREATE that is held is answered; what the machine makes of it is closed."""
+        """A request that waits in the manager is taken back, but for a CLOSE, whose client has forgotten the open."""
         wanted = message.async_id
         found = next((it for it in self._pending.values() if it.async_id == wanted), None) if wanted is not None \
             else self._pending.get(message.identifier)
@@ -248,9 +251,9 @@ class Connection(asyncio.Protocol):
                 session.check_signature(message)
         except StatusError:
             return
-        if found and found.request.message.command is Command.CREATE and not found.is_answered:
-            found.is_answered = found.request.is_cancelled = True
-            found.chain.answered(found, Answer(Status.CANCELLED))
+        if found and found.task and found.request.message.command is not Command.CLOSE:
+            self.server.host.withdraw(found.task)
+            self.server.settle()
 
     def notify(self, body: bytes) -> None:
         """A break (2.2.23)."""

@@ -1,14 +1,14 @@
-"""What a CREATE asks for (2.2.13), and what of it goes to the machine."""
+"""What a CREATE asks for (2.2.13), and what of it goes to the manager."""
 from __future__ import annotations
 
 import itertools
 from dataclasses import dataclass, replace
 from uuid import UUID
 
-from smblease import Access, CreateAsk, CreateRequest, Fault, LeaseState, Share, Status, each_context
+from smblease import Access, CreateAsk, Fault, LeaseState, Share, Status, each_context
 
 from drive.headers import HEADER, create_name
-from serve.namespace import Node, check_size, path_of
+from serve.names import path_of
 from serve.opens import BATCH, DELETE, EXCLUSIVE, LEASE, LEVEL_II, NO_LEVEL, SHARE_DELETE, Open, counts, reads, specific, writes
 from serve.packets import RequestMessage
 from serve.status_error import StatusError
@@ -18,7 +18,6 @@ MAKING = {SUPERSEDE, CREATE, OPEN_IF, OVERWRITE_IF}
 EMPTYING = {SUPERSEDE, OVERWRITE, OVERWRITE_IF}
 DIRECTORY_FILE, NON_DIRECTORY_FILE, DELETE_ON_CLOSE = 0x1, 0x40, 0x1000
 SUPERSEDED, OPENED, CREATED, OVERWRITTEN = range(4)
-KEPT_ATTRIBUTES = 0x1 | 0x2 | 0x4 | 0x20 | 0x100 | 0x2000
 MOST_CONTEXTS = 32
 MOST_ACCESS, ON_DISK, ALLOCATION = b"MxAc", b"QFid", b"AlSi"
 # A client that knows durable handles of version 2 may send only that when it connects one of version 1 again.
@@ -37,7 +36,6 @@ class CreateParameters:
     attributes: int
     level: int
     impersonation: int
-    contexts: bytes
     ask: CreateAsk
     # the other contexts by their names
     others: dict[bytes, bytes]
@@ -54,20 +52,20 @@ class CreateParameters:
     def empties(self) -> bool:
         return self.disposition in EMPTYING
 
-    def lease_contexts(self, has_oplock: bool) -> bytes:
-        """The contexts as they came, but for a lease that the level doesn't ask for; and for handles, where another open has an
-        oplock."""
-        if self.level != LEASE and self.ask.key is not None:
-            return CreateAsk(durable=self.ask.durable, reconnect=self.ask.reconnect).write()
-        if has_oplock and LeaseState.H in self.ask.state:
-            return CreateAsk(self.ask.key, self.ask.state & ~LeaseState.H, self.ask.durable).write()
-        return self.contexts
-
-    def machine_request(self, node: Node, contexts: bytes) -> CreateRequest:
-        """Access and share as the machine has them. Who empties a file writes it; who holds a lease alone reads."""
+    @property
+    def rights(self) -> tuple[Access, Share]:
+        """Access and share as the manager has them. Who empties a file writes it; who holds a lease alone reads."""
         access = reads(self.access) + 2 * (writes(self.access) or self.empties)
-        share = Share(self.share & 3) if access else Share.READ_WRITE
-        return CreateRequest(node.number, Access(access or 1), share, contexts)
+        return Access(access or 1), Share(self.share & 3) if access else Share.READ_WRITE
+
+    def lease_ask(self, has_oplock: bool) -> CreateAsk:
+        """What is asked for as it came, but for a lease that the level doesn't ask for; and for handles, where another open has
+        an oplock."""
+        if self.level != LEASE and self.ask.key is not None:
+            return CreateAsk(durable=self.ask.durable, reconnect=self.ask.reconnect)
+        if has_oplock and LeaseState.H in self.ask.state:
+            return replace(self.ask, state=self.ask.state & ~LeaseState.H)
+        return self.ask
 
 
 def read_parameters(message: RequestMessage) -> CreateParameters:
@@ -83,24 +81,22 @@ def read_parameters(message: RequestMessage) -> CreateParameters:
     again = others.get(RECONNECT_2, b"")
     if ask.reconnect is None and len(again) == 36:
         ask = replace(ask, reconnect=int.from_bytes(again[:8], "little"))
-        text = ask.write()
     share, disposition, options = (message.number(HEADER + place, 4) for place in (32, 36, 40))
     return CreateParameters(path_of(create_name(message)), specific(message.number(HEADER + 24, 4)), share, disposition, options,
-                            message.number(HEADER + 28, 4), message.number(HEADER + 3, 1), message.number(HEADER + 4, 4), text,
-                            ask, others)
+                            message.number(HEADER + 28, 4), message.number(HEADER + 3, 1), message.number(HEADER + 4, 4), ask,
+                            others)
 
 
-def check(wanted: CreateParameters) -> None:
+def check(wanted: CreateParameters, limit: int) -> None:
     """What a create that reconnects isn't asked for."""
-    if wanted.impersonation > 3 or wanted.disposition > OVERWRITE_IF or wanted.share > 7:
+    if wanted.impersonation > 3 or wanted.disposition > OVERWRITE_IF or wanted.share > 7 or wanted.allocation > limit:
         raise StatusError(Status.INVALID_PARAMETER)
-    check_size(wanted.allocation)
     if not wanted.access or wanted.options & DELETE_ON_CLOSE and not wanted.access & DELETE:
         raise StatusError(Status.ACCESS_DENIED)
 
 
 def conflicts(wanted: CreateParameters, other: Open) -> bool:
-    """Whether one deletes and the other doesn't share that; what is read and written is shared by the machine's rules."""
+    """Whether one deletes and the other doesn't share that; what is read and written is shared by the manager's rules."""
     if not counts(wanted.access) or not counts(other.access):
         return False
     return bool(wanted.access & DELETE and not other.share & SHARE_DELETE

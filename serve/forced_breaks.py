@@ -1,25 +1,26 @@
-"""Breaks that the shell needs itself, for deletion, renames, overwrites and locks: by requests that the machine has anyway."""
+"""Breaks that the shell needs itself, for deletion, renames and locks: by requests that the manager has anyway."""
 from __future__ import annotations
 
+from collections.abc import Callable
 from uuid import UUID
 
-from smblease import Access, CloseRequest, CreateAsk, CreateRequest, Created, Share, Status, WriteRequest
+from smblease import Access, CreateAsk, Share, Status
 
-from serve.machine import MachineRequest, Steps
-from serve.namespace import Node
-from serve.opens import MachineClient, Open, writes
+from serve.asks import Steps, closing, opening, writing
+from serve.node import Node
+from serve.opens import ManagerClient, Open, writes
 from serve.request import Handlers, Request
-from serve.status_error import StatusError
+from serve.status_error import RefusedByManager, StatusError
 
 
 class ForcedBreaks(Handlers):
-    def break_handles(self, request: Request, node: Node, client: MachineClient | None, key: UUID | None) -> Steps:
+    def break_handles(self, request: Request, node: Node, client: ManagerClient | None, key: UUID | None) -> Steps:
         """Has all others that hold handles give them up, as for a create that shares nothing. It goes by the key of the one
         that asks, which gives up nothing; that it is refused for sharing doesn't matter."""
         if not any(it.client and it.key for it in node.opens):
             return
         if client and key:
-            yield from self._open_and_close(client, node, Share.NONE, CreateAsk(key).write())
+            yield from self._open_and_close(client, node, Share.NONE, CreateAsk(key))
         else:
             yield from self.open_and_close(request, node, Share.NONE)
         if request.connection.client is None:
@@ -33,29 +34,41 @@ class ForcedBreaks(Handlers):
         finally:
             self._server.free(client)
 
-    def break_all(self, request: Request, opened: Open) -> Steps:
-        """Has all others give up all that they cache, as for a write of no bytes."""
+    def break_all(self, request: Request, opened: Open, effect: Callable[[], None]) -> Steps:
+        """Has all others give up all that they cache, as for a write of no bytes, in the place of which `effect` is done."""
         node = opened.node
         others = [it for it in node.opens if it.client and it.key and (it.client is not opened.client or it.key != opened.key)]
         if not others:
-            return
-        if opened.client and writes(opened.access):
-            yield MachineRequest(opened.client.number, opened.client.next_write(opened.file_id, 0, b""))
-            return
-        client = self._borrow(request)
+            effect()
+        elif opened.client and writes(opened.access):
+            yield from writing(opened.client, node, opened.file_id, effect)
+        else:
+            yield from self._break_all_by_another(request, opened, effect)
+
+    def _break_all_by_another(self, request: Request, opened: Open, effect: Callable[[], None]) -> Steps:
+        """By an open of a client of its own that writes. Where that isn't shared nobody caches writes."""
+        client, node = self._borrow(request), opened.node
         try:
-            reply = yield MachineRequest(client.number, CreateRequest(node.number, Access.WRITE, Share.READ_WRITE, b""))
-            if isinstance(reply, Created):
-                yield MachineRequest(client.number, WriteRequest(reply.file_id, 1, 0, b""))
-                yield MachineRequest(client.number, CloseRequest(reply.file_id))
+            made = yield from opening(client, node, Access.WRITE, Share.READ_WRITE)
+            yield from writing(client, node, made.file_id, lambda: self._done(opened, effect))
+            yield from closing(client, node, made.file_id)
+        except RefusedByManager:
+            self._done(opened, effect)
         finally:
             self._server.free(client)
 
-    def _borrow(self, request: Request) -> MachineClient:
-        return self._server.borrow(request.connection, f"the shell, for one request of client {request.client.number}")
+    def _done(self, opened: Open, effect: Callable[[], None]) -> None:
+        if opened.file_id not in self._server.opens:
+            raise StatusError(Status.FILE_CLOSED)
+        effect()
+
+    def _borrow(self, request: Request) -> ManagerClient:
+        return self._server.borrow(request.connection, "the shell, for one request", is_shells=True)
 
     @staticmethod
-    def _open_and_close(client: MachineClient, node: Node, share: Share, contexts: bytes = b"") -> Steps:
-        reply = yield MachineRequest(client.number, CreateRequest(node.number, Access.READ, share, contexts))
-        if isinstance(reply, Created):
-            yield MachineRequest(client.number, CloseRequest(reply.file_id))
+    def _open_and_close(client: ManagerClient, node: Node, share: Share, ask: CreateAsk = CreateAsk()) -> Steps:
+        try:
+            made = yield from opening(client, node, Access.READ, share, ask)
+        except RefusedByManager:
+            return
+        yield from closing(client, node, made.file_id)

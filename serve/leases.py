@@ -5,14 +5,12 @@ import struct
 from typing import TYPE_CHECKING
 from uuid import UUID
 
-from smblease import (AcknowledgeDone, AcknowledgeRequest, Acknowledgment, CreateAnswer, Fault, LeaseState, Notification,
-                      Response, Status)
+from smblease import Acknowledgment, CreateAnswer, Fault, LeaseState, Notification, Status
 from smblease.messages import ACKNOWLEDGMENT_SIZE
 
 from drive.headers import HEADER
-from serve.machine import Handling, MachineRequest, Steps, Waits, refuse_failed
-from serve.namespace import Node
-from serve.opens import LEVEL_II, NO_LEVEL, LeaseSeen, MachineClient, Open
+from serve.asks import Handling, Steps, Waits, acknowledging
+from serve.opens import LEVEL_II, NO_LEVEL, LeaseSeen, ManagerClient, Open
 from serve.packets import Answer
 from serve.request import Handlers, Request
 from serve.status_error import StatusError
@@ -24,37 +22,39 @@ OPLOCK = struct.Struct("<HBBLQQ")
 
 
 class Leases(Handlers):
-    def granted(self, client: MachineClient, node: Node, answer: CreateAnswer) -> None:
+    def granted(self, client: ManagerClient, opened: Open, answer: CreateAnswer) -> None:
         """A reply grants a lease. While a break is in progress nothing new is believed."""
         if answer.key is None:
             return
-        lease = client.leases.setdefault(answer.key, LeaseSeen(answer.key, node, answer.state))
+        lease = client.leases.setdefault(answer.key, LeaseSeen(answer.key, opened.node, answer.state))
+        if opened not in lease.opens:
+            lease.opens.append(opened)
         lease.state = answer.state
         if not answer.breaking:
             self._server.record.believes(client, lease, answer.state)
 
-    def broken(self, client: MachineClient, message: bytes) -> None:
-        notification = Notification.read(message)
+    def broken(self, client: ManagerClient, notification: Notification) -> None:
         lease, state = client.leases.get(notification.key), notification.new
         if lease is None or not client.is_connected:
             # It is on its way to a client that is cut already.
             return
         if notification.ack_required:
             lease.broken_by = client.sent
+            self._server.stop_timer(lease)
             lease.timer = self._server.loop.call_later(self._server.settings.break_timer,
-                                                  lambda: self.expire(client, notification.key))
+                                                       lambda: self.expire(client, notification.key))
         else:
             lease.state = state
             self._server.record.believes(client, lease, state)
         if client.open:
             self._oplock_broken(client.open, state, notification.ack_required)
         else:
-            self._connection_of(client, notification.key).notify(message)
+            self._connection_of(client, lease).notify(notification.write())
 
-    def _connection_of(self, client: MachineClient, key: UUID) -> Connection:
+    @staticmethod
+    def _connection_of(client: ManagerClient, lease: LeaseSeen) -> Connection:
         """Where a break is sent: over the connection of an open under the key, if there is one (3.3.4.7)."""
-        opened = (it.connection for it in self._server.opens.values() if it.client is client and it.key == key and it.connection)
-        return next(opened, client.connections[0])
+        return next((it.connection for it in lease.opens if it.connection), client.connections[0])
 
     def _oplock_broken(self, opened: Open, state: LeaseState, is_acknowledged: bool) -> None:
         """What is left of an oplock is level II, where its lease may still be read under."""
@@ -73,7 +73,7 @@ class Leases(Handlers):
             yield from self.acknowledged(opened.client, Acknowledgment(opened.key, state).write())
 
     def acknowledge(self, request: Request) -> Handling:
-        """An acknowledgment of a lease, or of an oplock (2.2.24). What is as long as the first is the machine's to refuse."""
+        """An acknowledgment of a lease, or of an oplock (2.2.24). What is as long as the first is the manager's to refuse."""
         if request.message.number(HEADER, 2) == 24 and len(request.message.data) < HEADER + ACKNOWLEDGMENT_SIZE:
             return (yield from self._acknowledge_oplock(request))
         body = request.message.part(HEADER, ACKNOWLEDGMENT_SIZE)
@@ -89,18 +89,16 @@ class Leases(Handlers):
         yield from self.acknowledged(opened.client, Acknowledgment(opened.key, state).write())
         return Answer(Status.SUCCESS, OPLOCK.pack(24, level, 0, 0, opened.file_id, opened.file_id))
 
-    def acknowledged(self, client: MachineClient, body: bytes) -> Waits[bytes]:
-        """Gives an acknowledgment to the machine; answers its response."""
+    def acknowledged(self, client: ManagerClient, body: bytes) -> Waits[bytes]:
+        """Gives an acknowledgment to the manager; answers its response."""
         lease = self._seen_before(client, body)
-        reply = yield MachineRequest(client.number, AcknowledgeRequest(body))
-        refuse_failed(reply)
-        response = reply.message if isinstance(reply, AcknowledgeDone) else b""
+        response = yield from acknowledging(client, body)
         if lease:
-            lease.state, lease.broken_by = Response.read(response).state, None
+            lease.state, lease.broken_by = response.state, None
             self._server.stop_timer(lease)
-        return response
+        return response.write()
 
-    def _seen_before(self, client: MachineClient, body: bytes) -> LeaseSeen | None:
+    def _seen_before(self, client: ManagerClient, body: bytes) -> LeaseSeen | None:
         """The lease that is acknowledged. By now the client has taken the break; nobody comes to believe more by that."""
         try:
             message = Acknowledgment.read(body)
@@ -112,25 +110,22 @@ class Leases(Handlers):
             self._server.record.believes(client, lease, message.state & lease.believed)
         return lease
 
-    def expire(self, client: MachineClient, key: UUID) -> bool:
-        """The timer of a break runs out: the machine closes what is open under the key."""
-        server, place = self._server, f"{client.number} {key.bytes.hex()}"
+    def expire(self, client: ManagerClient, key: UUID) -> bool:
+        """The timer of a break runs out: the manager closes what is open under the key."""
+        server = self._server
         lease = client.leases.get(key)
-        if lease is None or server.machine.say(f"breaking {place}") != "yes":
+        if lease is None or not server.host.manager.breaking(client.number, key):
             return False
-        server.record.fact(f"expired {client.number} {lease.node.number}")
-        server.machine.say(f"expire {place}")
+        client.has_expired = True
+        server.record.expired(client, lease.node)
         lease.broken_by = None
         server.stop_timer(lease)
-        for opened in [it for it in server.opens.values() if it.client is client and it.key == key]:
-            server.forget_open(opened)
+        server.host.call(lambda manager: manager.expire(client.number, key))
         server.settle()
         return True
 
     def believes_nothing(self, opened: Open) -> None:
         """The client closes the last open of a lease that it can use."""
-        client, key = opened.client, opened.key
-        lease = client.leases.get(key) if client and key else None
-        others = [it for it in self._server.opens.values() if it is not opened and it.client is client and it.key == key]
-        if client and lease and not others:
+        client, lease = opened.client, opened.lease
+        if client and lease and all(it is opened for it in lease.opens):
             self._server.record.believes(client, lease, LeaseState.NONE)

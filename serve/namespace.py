@@ -1,177 +1,207 @@
-"""Files and folders by their names, which the machine doesn't know: it knows numbers."""
+"""Names, and what on disk somebody has open by them."""
 from __future__ import annotations
 
-import time
-from dataclasses import dataclass, field
-from typing import TYPE_CHECKING
+import errno
+import logging
+import os
+import resource
 
 from smblease import Status
-from smblease.values import LARGEST_FILE
 
+from serve.disk import Disk, Located, names_in, stat_in
+from serve.file_numbers import FileNumbers
+from serve.names import joined, sent_name, split
+from serve.node import WRITABLE, Node, node_of
 from serve.status_error import StatusError
+from serve.streams import Streams
 
-if TYPE_CHECKING:
-    from serve.opens import Open
-
-MOST = 255
-READ_ONLY, FOLDER, ARCHIVE = 0x1, 0x10, 0x20
-FORBIDDEN = set('"*/<>?|') | {chr(code) for code in range(32)}
-UNIT = 4096
-# Seconds from 1601 to 1970.
-EPOCH = 11644473600
-
-
-def now() -> int:
-    """The time, in tenths of a microsecond since 1601."""
-    return (time.time_ns() // 100) + EPOCH * 10000000
-
-
-@dataclass
-class Times:
-    created: int = field(default_factory=now)
-    accessed: int = field(default_factory=now)
-    written: int = field(default_factory=now)
-    changed: int = field(default_factory=now)
-
-
-@dataclass(eq=False)
-class Node:
-    """A file or a folder. `number` is the machine's of a file."""
-
-    path: str
-    number: int
-    attributes: int
-    identifier: int
-    times: Times = field(default_factory=Times)
-    length: int = 0
-    allocated: int = 0
-    # how many bytes of another file, which had the number before, the machine still has
-    stale_length: int = 0
-    is_deleting: bool = False
-    is_gone: bool = False
-    opens: list[Open] = field(default_factory=list)
-
-    @property
-    def is_folder(self) -> bool:
-        return bool(self.attributes & FOLDER)
-
-    @property
-    def name(self) -> str:
-        return self.path.rpartition("\\")[2]
-
-    @property
-    def folder(self) -> str:
-        return self.path.rpartition("\\")[0]
-
-    @property
-    def is_stream(self) -> bool:
-        return ":" in self.path
-
-    @property
-    def allocation(self) -> int:
-        return -(-max(self.allocated, self.length) // UNIT) * UNIT
-
-    def allocate(self, size: int) -> None:
-        check_size(size)
-        self.allocated = size
-
-
-def check_size(size: int) -> None:
-    if size > LARGEST_FILE:
-        raise StatusError(Status.INVALID_PARAMETER)
-
-
-def path_of(name: str) -> str:
-    """A name as it comes, without the strokes around it. A stream has the name of its file and a colon before its own."""
-    path = name.strip("\\").replace("::$DATA", "")
-    parts = path.split("\\")
-    if path and any(not part or part in (".", "..") or len(part) > 255 or FORBIDDEN & set(part) for part in parts):
-        raise StatusError(Status.OBJECT_NAME_INVALID)
-    if ":" in path and (":" in "".join(parts[:-1]) or not all(parts[-1].split(":")) or parts[-1].count(":") > 1):
-        raise StatusError(Status.OBJECT_NAME_INVALID)
-    return path
+LOG = logging.getLogger("serve")
+MOST_WARNINGS = 1000
 
 
 class Namespace:
-    def __init__(self) -> None:
-        self._made = 0
-        self._next = 1
-        # numbers that were used, each with the bytes that the machine still has
-        self._free: list[tuple[int, int]] = []
-        self._nodes: dict[str, Node] = {}
-        self.root = self.make("", True)
+    """A name is looked up on disk each time. What is held has a descriptor, by which it stays the same whatever becomes of its
+    name."""
+
+    def __init__(self, disk: Disk, streams: Streams) -> None:
+        self.disk, self._streams = disk, streams
+        # by their paths
+        self._held: dict[str, Node] = {}
+        self._numbers = FileNumbers()
+        self._left_out: set[bytes] = set()
+        # the other half of the descriptors is for connections
+        self._most = max(64, resource.getrlimit(resource.RLIMIT_NOFILE)[0] // 2)
+
+    # What is there
 
     def find(self, path: str) -> Node | None:
-        return self._nodes.get(path.lower())
+        base, colon, stream = path.partition(":")
+        located = self.disk.locate(base)
+        if located is None:
+            return None
+        return self._find_stream(located, stream) if colon else self._known(node_of(located))
 
-    def at(self, number: int) -> Node | None:
-        return next((it for it in self._nodes.values() if it.number == number and not it.is_folder), None)
+    def _find_stream(self, base: Located, name: str) -> Node | None:
+        found = self._streams.find(node_of(base).identity, name)
+        located = self._streams.disk.locate(found.place) if found else None
+        return self._known(Node(f"{base.path}:{found.name}", located.stat, found.place)) if found and located else None
 
-    def make(self, path: str, is_folder: bool) -> Node:
-        """A file of a name made anew has another number than one of that name had before, as long as there are others."""
-        if path:
-            self.check_folder_of(path)
-        number, stale_length = (0, 0) if is_folder else self._new_number()
-        self._made += 1
-        node = Node(path, number, FOLDER if is_folder else ARCHIVE, self._made, stale_length=stale_length)
-        self._nodes[path.lower()] = node
+    def _known(self, node: Node) -> Node:
+        """The one that is held, unless something else has its name by now."""
+        known = self._held.get(node.path)
+        if known and known.identity == node.identity:
+            return known
+        if known:
+            self._lose(known)
         return node
 
-    def _new_number(self) -> tuple[int, int]:
-        """A number that nothing was written under, as long as there is one; else the one that was given back first."""
-        found = next((it for it in self._free if not it[1]), None)
-        if found is None and self._next <= MOST:
-            self._next += 1
-            return self._next - 1, 0
-        if not self._free:
+    def _lose(self, node: Node) -> None:
+        node.is_gone = True
+        if self._held.get(node.path) is node:
+            del self._held[node.path]
+
+    def held(self, folder: Node, name: str) -> Node | None:
+        """What is held of this name in a folder."""
+        return self._held.get(joined(folder.path, name))
+
+    def folder_of(self, path: str) -> str:
+        """The folder that a new name is for. It is refused where that isn't there, or not for long."""
+        folder = self.disk.locate_folder(split(path)[0])
+        if folder is None:
+            raise StatusError(Status.OBJECT_PATH_NOT_FOUND)
+        known = self._held.get(folder)
+        if known and known.is_deleting:
+            raise StatusError(Status.DELETE_PENDING)
+        return folder
+
+    def has_folder_of(self, path: str) -> bool:
+        return self.disk.locate_folder(split(path)[0]) is not None
+
+    def names_below(self, folder: Node) -> list[str]:
+        """The names in a folder that is held, but for those that can't be sent, and what isn't served."""
+        names = [(it, sent_name(it)) for it in names_in(folder.file)]
+        for name in [it for it, text in names if text is None]:
+            self._warn(name)
+        return sorted((text for _, text in names if text is not None), key=str.lower)
+
+    def _warn(self, name: bytes) -> None:
+        if name not in self._left_out and len(self._left_out) < MOST_WARNINGS:
+            self._left_out.add(name)
+            LOG.warning("%s: a name that can't be sent, which is left out", name.decode("utf-8", errors="backslashreplace"))
+
+    @staticmethod
+    def has_below(folder: Node) -> bool:
+        return bool(names_in(folder.file))
+
+    @staticmethod
+    def stat_below(folder: Node, name: str) -> os.stat_result | None:
+        return stat_in(folder.file, name)
+
+    # What is held
+
+    def hold(self, node: Node) -> Node:
+        """Opens it, where nobody holds it yet. What can't be opened raises OSError."""
+        if not node.users:
+            self._check_room()
+            disk = self._streams.disk if node.is_stream else self.disk
+            if node.is_folder:
+                descriptor, is_writable = disk.open_folder(node.place), False
+            else:
+                descriptor, is_writable = disk.open_file(node.place)
+            self._begin(node, descriptor, is_writable)
+        node.users += 1
+        return node
+
+    def _check_room(self) -> None:
+        if len(self._held) >= self._most:
             raise StatusError(Status.INSUFFICIENT_RESOURCES)
-        found = found or self._free[0]
-        self._free.remove(found)
-        return found
 
-    def renumber(self, node: Node) -> None:
-        """The file is empty from here on. Nobody has it open."""
-        node.number, node.stale_length = self._new_number()
-        node.length = 0
+    def _begin(self, node: Node, descriptor: int, is_writable: bool) -> None:
+        found = os.fstat(descriptor)
+        if (found.st_dev, found.st_ino) != node.identity:
+            os.close(descriptor)
+            raise FileNotFoundError(errno.ENOENT, "another file has the name by now")
+        node.descriptor, node.is_writable = descriptor, is_writable
+        node.number = 0 if node.is_folder else self._numbers.take(node.identity)
+        self._held[node.path] = node
 
-    def give_back(self, number: int, length: int, stale_length: int) -> None:
-        self._free.append((number, max(length, stale_length)))
+    def release(self, node: Node) -> None:
+        node.users -= 1
+        if node.users:
+            return
+        os.close(node.file)
+        node.descriptor = None
+        if not node.is_folder:
+            self._numbers.give_back(node.identity, node.is_gone)
+        if self._held.get(node.path) is node:
+            del self._held[node.path]
 
-    def take_back(self, node: Node, before: tuple[int, int, int]) -> None:
-        """The file is the one that it was before it was emptied."""
-        if node.number != before[0]:
-            self.give_back(node.number, node.length, node.stale_length)
-            node.number, node.length, node.stale_length = before
+    def make_writable(self, node: Node) -> None:
+        """A file that could only be read when it was opened may be writable by now. Where it isn't, OSError is raised."""
+        if node.is_writable:
+            return
+        descriptor = os.open(f"/proc/self/fd/{node.file}", os.O_RDWR | os.O_CLOEXEC)
+        os.close(node.file)
+        node.descriptor, node.is_writable = descriptor, True
 
-    def parent(self, path: str) -> Node | None:
-        found = self.find(path.rpartition("\\")[0])
-        return found if found and found.is_folder else None
+    def set_read_only(self, node: Node, is_read_only: bool) -> None:
+        mode = node.stat.st_mode & 0o7777
+        os.fchmod(node.file, mode & ~0o222 if is_read_only else mode | WRITABLE)
 
-    def check_folder_of(self, path: str) -> None:
-        """Refuses a new name in a folder that isn't there, or not for long."""
-        folder = self.parent(path)
-        if folder is None or folder.is_deleting:
-            raise StatusError(Status.DELETE_PENDING if folder else Status.OBJECT_PATH_NOT_FOUND)
+    # What changes
+
+    def make(self, path: str, is_folder: bool, is_read_only: bool = False) -> Node:
+        """Something new, which is held."""
+        self._check_room()
+        base, colon, stream = path.partition(":")
+        if colon:
+            return self._make_stream(base, stream)
+        made = joined(self.folder_of(path), split(path)[1])
+        if is_folder:
+            self.disk.make_folder(made)
+            descriptor = self.disk.open_folder(made)
+        else:
+            descriptor = self.disk.make_file(made, is_read_only)
+        return self._made(Node(made, os.fstat(descriptor)), descriptor)
+
+    def _make_stream(self, path: str, name: str) -> Node:
+        """Its file is made too, where it isn't there."""
+        if self.find(path) is None:
+            self.release(self.make(path, False))
+        base = self.find(path)
+        assert base
+        stream = self._streams.make(base.identity, name)
+        descriptor = self._streams.disk.make_file(stream.place, False)
+        return self._made(Node(f"{base.path}:{stream.name}", os.fstat(descriptor), stream.place), descriptor)
+
+    def _made(self, node: Node, descriptor: int) -> Node:
+        self._begin(node, descriptor, not node.is_folder)
+        node.users = 1
+        return node
 
     def remove(self, node: Node) -> None:
         """A file goes with its streams, those that somebody has open at their last close."""
-        for stream in [it for it in self._nodes.values() if it.path.lower().startswith(f"{node.path.lower()}:")]:
-            stream.is_deleting = True
-            if not stream.opens:
-                self.remove(stream)
-        del self._nodes[node.path.lower()]
-        node.is_gone = True
-        if not node.is_folder:
-            self.give_back(node.number, node.length, node.stale_length)
+        disk = self._streams.disk if node.is_stream else self.disk
+        disk.remove(node.place, node.identity, node.is_folder)
+        self._lose(node)
+        if node.stream_place is not None:
+            self._streams.forget(node.stream_place)
+            return
+        for stream in self._streams.of(node.identity):
+            held = self._held.get(f"{node.path}:{stream.name}")
+            if held:
+                held.is_deleting = True
+            else:
+                located = self._streams.disk.locate(stream.place)
+                if located:
+                    self.remove(Node(f"{node.path}:{stream.name}", located.stat, stream.place))
 
     def rename(self, node: Node, path: str) -> None:
-        old = node.path
-        below = (f"{old.lower()}\\", f"{old.lower()}:")
-        for one in [it for it in self._nodes.values() if it is node or it.path.lower().startswith(below)]:
-            del self._nodes[one.path.lower()]
-            one.path = path + one.path[len(old):]
-            self._nodes[one.path.lower()] = one
-
-    def children(self, folder: Node) -> list[Node]:
-        found = [it for it in self._nodes.values() if it.path and it.folder.lower() == folder.path.lower() and not it.is_stream]
-        return sorted(found, key=lambda it: it.path.lower())
+        """What is in the place of the new name goes."""
+        old, new = node.path, joined(self.folder_of(path), split(path)[1])
+        self.disk.rename(old, new, node.identity)
+        below = (f"{old}\\", f"{old}:")
+        for one in [it for it in self._held.values() if it is node or it.path.startswith(below)]:
+            del self._held[one.path]
+            one.path = new + one.path[len(old):]
+            self._held[one.path] = one

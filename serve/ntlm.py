@@ -11,9 +11,9 @@ from smblease import Status
 
 from drive.headers import Unreadable
 from serve import spnego
-from serve.namespace import now
 from serve.password_brake import PasswordBrake
 from serve.status_error import StatusError
+from serve.times import now
 
 if TYPE_CHECKING:
     from serve.named_user import NamedUser

@@ -1,4 +1,4 @@
-"""Opens, as the shell has them, and the machine clients that they belong to."""
+"""Opens, as the shell has them, and the manager's clients that they belong to."""
 from __future__ import annotations
 
 import os
@@ -7,9 +7,9 @@ from dataclasses import dataclass, field
 from typing import TYPE_CHECKING
 from uuid import UUID
 
-from smblease import LeaseState, WriteRequest
+from smblease import LeaseState
 
-from serve.namespace import Node
+from serve.node import Node
 
 if TYPE_CHECKING:
     from serve.connection import Connection
@@ -21,7 +21,7 @@ SHARE_READ, SHARE_DELETE = 1, 4
 ALL_ACCESS = 0x1F01FF
 GENERIC = {0x10000000: ALL_ACCESS, 0x02000000: ALL_ACCESS, 0x80000000: 0x120089, 0x40000000: 0x120116, 0x20000000: 0x1200A0}
 NO_LEVEL, LEVEL_II, EXCLUSIVE, BATCH, LEASE = 0, 1, 8, 9, 0xFF
-# The shell's own FileIds are far from the machine's, which begin at 1.
+# The shell's own FileIds are far from the manager's, which begin at 1.
 OWN_FILE_IDS = 1 << 62
 
 
@@ -71,8 +71,8 @@ class Open:  # pylint: disable=too-many-instance-attributes  # it has the state 
     connection: Connection | None
     session: Session | None
     tree: Tree | None
-    # the machine's client; none for what the shell keeps by itself
-    client: MachineClient | None = None
+    # the manager's client; none for what the shell keeps by itself
+    client: ManagerClient | None = None
     key: UUID | None = None
     level: int = NO_LEVEL
     is_durable: bool = False
@@ -80,14 +80,14 @@ class Open:  # pylint: disable=too-many-instance-attributes  # it has the state 
     owner: str = ""
     position: int = 0
     locks: list[Lock] = field(default_factory=list)
-    # the machine's open may do more than this one
+    # the manager's open may do more than this one
     is_lent: bool = False
     # a break of its oplock waits for the client's word
     is_breaking: bool = False
     # until when it is kept without a connection
     timer: TimerHandle | None = None
-    # of a folder: what is listed, and how far
-    listing: list[tuple[str, Node]] | None = None
+    # of a folder: the names that are still to be listed
+    listing: list[str] | None = None
 
     @property
     def is_connected(self) -> bool:
@@ -95,7 +95,7 @@ class Open:  # pylint: disable=too-many-instance-attributes  # it has the state 
 
     @property
     def lease(self) -> LeaseSeen | None:
-        """Its lease, or that by which the machine has its oplock."""
+        """Its lease, or that by which the manager has its oplock."""
         return self.client.leases.get(self.key) if self.client and self.key else None
 
     @property
@@ -105,11 +105,12 @@ class Open:  # pylint: disable=too-many-instance-attributes  # it has the state 
 
 @dataclass(eq=False)
 class LeaseSeen:
-    """A lease, as it was granted, broken and acknowledged."""
+    """A lease, as it was granted, broken and acknowledged, and the opens that have it."""
 
     key: UUID
     node: Node
     state: LeaseState
+    opens: list[Open] = field(default_factory=list)
     believed: LeaseState = LeaseState.NONE
     # the number of the message by which it is being broken
     broken_by: int | None = None
@@ -117,22 +118,24 @@ class LeaseSeen:
 
 
 @dataclass(eq=False)
-class MachineClient:
-    """A client of the machine: a ClientGuid, or one oplock, or the shell for a moment."""
+class ManagerClient:
+    """A client of the manager: a ClientGuid, or one oplock, or the shell for a moment."""
 
     number: int
     guid: bytes | None = None
     # a ClientGuid may have several at a time
     connections: list[Connection] = field(default_factory=list)
     open: Open | None = None
+    # how many opens it has, connected or not
+    opens: int = 0
     leases: dict[UUID, LeaseSeen] = field(default_factory=dict)
     writes: int = 0
     sent: int = 0
     took: int = 0
     # it had several connections, so that it isn't known in which order it takes messages
     has_strayed: bool = False
-    # when its last connection was lost
-    left: float = 0.0
+    # a break timer of it ran out, which the manager remembers until it joins again
+    has_expired: bool = False
     # the key of an oplock's lease
     own_key: UUID = field(default_factory=lambda: UUID(bytes=b"oplock" + os.urandom(10)))
 
@@ -140,6 +143,6 @@ class MachineClient:
     def is_connected(self) -> bool:
         return bool(self.connections)
 
-    def next_write(self, file_id: int, offset: int, data: bytes) -> WriteRequest:
+    def next_write(self) -> int:
         self.writes += 1
-        return WriteRequest(file_id, self.writes, offset, data)
+        return self.writes

@@ -7,7 +7,6 @@ import struct
 from dataclasses import dataclass, field
 
 from smblease import Status
-from smblease.values import LARGEST_FILE
 
 from drive.headers import ASYNC, FROM_SERVER, HEADER, RELATED, Command, Field, Message, Unreadable
 from drive.packets import PROTOCOL
@@ -15,8 +14,9 @@ from drive.packets import PROTOCOL
 HEAD = struct.Struct("<4sHHLHHLLQQQ16s")
 ERROR_BODY = struct.pack("<HBBL", 9, 0, 0, 0) + b"\0"
 SIGNED = 8
-# What a frame may hold: the most that is read or written at once, with room for headers and contexts.
-LONGEST_FRAME = LARGEST_FILE + 131072
+# The most that is read or written at once; and what a frame may hold, which has room for headers and contexts too.
+LONGEST_TRANSFER = 1 << 20
+LONGEST_FRAME = LONGEST_TRANSFER + 131072
 LONGEST_WITHOUT_SESSION = 65536
 MOST_IN_FRAME = 1024
 # The StructureSize of requests.

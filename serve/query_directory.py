@@ -2,16 +2,17 @@
 from __future__ import annotations
 
 import fnmatch
+import os
 import re
 import struct
 
 from smblease import Status
 
 from drive.headers import HEADER
-from serve.namespace import Node
+from serve.attributes import attributes_of
+from serve.node import Node
 from serve.opens import Open
 from serve.packets import Answer
-from serve.read_write_lock import attributes_of
 from serve.request import Handlers, Request
 from serve.status_error import StatusError
 
@@ -22,16 +23,16 @@ RESTART, SINGLE, REOPEN = 1, 2, 16
 WILD = str.maketrans({"<": "*", ">": "?", '"': "."})
 
 
-def entry(node: Node, name: str, kind: int) -> bytes:
+def entry(found: os.stat_result, allocated: int, name: str, kind: int) -> bytes:
     """An entry for a file, with no distance to the next one yet."""
     text = name.encode("utf-16le", errors="replace")
     length = struct.pack("<L", len(text))
     if kind == NAMES:
         return bytes(8) + length + text
-    times, (zeros, is_identified) = attributes_of(node), GAPS[kind]
+    times, (zeros, is_identified) = attributes_of(found, allocated), GAPS[kind]
     # An entry has the length before the allocation.
     head = bytes(8) + times[:32] + times[40:48] + times[32:40] + times[48:] + length
-    return head + bytes(zeros) + (struct.pack("<Q", node.identifier) if is_identified else b"") + text
+    return head + bytes(zeros) + (struct.pack("<Q", found.st_ino) if is_identified else b"") + text
 
 
 class QueryDirectory(Handlers):
@@ -48,34 +49,41 @@ class QueryDirectory(Handlers):
         is_first = opened.listing is None or bool(flags & (RESTART | REOPEN))
         if is_first or opened.listing is None:
             opened.listing = self._matching(opened, pattern)
-        if not opened.listing:
+        entries = self._entries(opened.node, opened.listing, kind, most, bool(flags & SINGLE))
+        if not entries:
             raise StatusError(Status.NO_SUCH_FILE if is_first else Status.NO_MORE_FILES)
-        entries = self._entries(opened.listing, kind, most, bool(flags & SINGLE))
         return Answer(Status.SUCCESS, struct.pack("<HHL", 9, HEADER + 8, len(entries)) + entries)
 
-    def _matching(self, opened: Open, pattern: str) -> list[tuple[str, Node]]:
-        folder = opened.node
+    def _matching(self, opened: Open, pattern: str) -> list[str]:
+        """The names that are to be listed, the last one first."""
         glob = "*" if pattern == "*.*" else pattern.translate(WILD).replace("[", "[[]")
         shape = re.compile(fnmatch.translate(glob), re.IGNORECASE)
-        dots = [(".", folder), ("..", self._server.names.parent(folder.path) or folder)] if shape.match(".") else []
-        return dots + [(it.name, it) for it in self._server.names.children(folder) if shape.match(it.name)]
+        dots = [".", ".."] if shape.match(".") else []
+        return [*dots, *(it for it in self._server.names.names_below(opened.node) if shape.match(it))][::-1]
 
-    @staticmethod
-    def _entries(listing: list[tuple[str, Node]], kind: int, most: int, is_single: bool) -> bytes:
+    def _entry(self, folder: Node, name: str, kind: int) -> bytes | None:
+        """What has gone meanwhile, and what isn't served, has none."""
+        if name in (".", ".."):
+            return entry(folder.stat, 0, name, kind)
+        held = self._server.names.held(folder, name)
+        found = held.stat if held else self._server.names.stat_below(folder, name)
+        return entry(found, held.allocated if held else 0, name, kind) if found else None
+
+    def _entries(self, folder: Node, listing: list[str], kind: int, most: int, is_single: bool) -> bytes:
         """As many entries as fit, each at a multiple of eight."""
-        entries, before = b"", 0
+        entries, before = bytearray(), 0
         while listing and not (is_single and entries):
-            name, node = listing[0]
-            start = -(-len(entries) // 8) * 8
-            one = entry(node, name, kind)
-            if start + len(one) > most:
-                break
-            if entries:
-                last = struct.pack("<L", start - before) + entries[before + 4:]
-                entries = entries[:before] + last.ljust(start - before, b"\0")
-                before = start
-            entries += one
-            listing.pop(0)
-        if not entries:
+            one = self._entry(folder, listing[-1], kind)
+            if one is not None:
+                start = -(-len(entries) // 8) * 8
+                if start + len(one) > most:
+                    break
+                if entries:
+                    entries[before:before + 4] = struct.pack("<L", start - before)
+                    entries += bytes(start - len(entries))
+                    before = start
+                entries += one
+            listing.pop()
+        if listing and not entries:
             raise StatusError(Status.INFO_LENGTH_MISMATCH)
-        return entries
+        return bytes(entries)

@@ -1,32 +1,39 @@
 """QUERY_INFO (3.3.5.20), as far as clients need it. IOCTL and CHANGE_NOTIFY are refused."""
 from __future__ import annotations
 
+import os
 import struct
 from collections.abc import Callable
 
 from smblease import Status
 
 from drive.headers import HEADER
-from serve.namespace import Node
+from serve.attributes import attributes_of, size_of
+from serve.node import Node, allocation, attributes_in
 from serve.opens import Open
 from serve.packets import Answer
-from serve.read_write_lock import attributes_of
 from serve.request import Handlers, Request
 from serve.status_error import StatusError
 
 FILE, FILESYSTEM, SECURITY = 1, 2, 3
-UNITS, SECTORS, SECTOR = 1 << 20, 8, 512
+SECTOR = 512
 LABEL = "leasecheck".encode("utf-16le")
 SYSTEM = "NTFS".encode("utf-16le")
 SERIAL = 0x1EA5E
 
 
+def attributes(node: Node) -> bytes:
+    return attributes_of(node.stat, node.allocated)
+
+
 def basic(node: Node) -> bytes:
-    return attributes_of(node)[:32] + struct.pack("<LL", node.attributes or 0x80, 0)
+    return attributes(node)[:32] + struct.pack("<LL", attributes_in(node.stat), 0)
 
 
 def standard(node: Node) -> bytes:
-    return struct.pack("<QQLBBH", node.allocation, node.length, 0 if node.is_deleting else 1, node.is_deleting, node.is_folder, 0)
+    found = node.stat
+    return struct.pack("<QQLBBH", allocation(found, node.allocated), size_of(found), 0 if node.is_deleting else 1,
+                       node.is_deleting, node.is_folder, 0)
 
 
 def named(text: str) -> bytes:
@@ -36,29 +43,30 @@ def named(text: str) -> bytes:
 
 def everything(opened: Open) -> bytes:
     node = opened.node
-    return (basic(node) + standard(node) + struct.pack("<QLLQLL", node.identifier, 0, opened.access, opened.position, 0, 0)
+    return (basic(node) + standard(node) + struct.pack("<QLLQLL", node.stat.st_ino, 0, opened.access, opened.position, 0, 0)
             + named("\\" + node.path))
 
 
 def stream(node: Node) -> bytes:
     if node.is_folder:
         return b""
-    name = "::$DATA".encode("utf-16le")
-    return struct.pack("<LLQQ", 0, len(name), node.length, node.allocation) + name
+    name, found = "::$DATA".encode("utf-16le"), node.stat
+    return struct.pack("<LLQQ", 0, len(name), found.st_size, allocation(found, node.allocated)) + name
 
 
 FILE_CLASSES: dict[int, Callable[[Open], bytes]] = {
-    4: lambda it: basic(it.node), 5: lambda it: standard(it.node), 6: lambda it: struct.pack("<Q", it.node.identifier),
+    4: lambda it: basic(it.node), 5: lambda it: standard(it.node), 6: lambda it: struct.pack("<Q", it.node.stat.st_ino),
     7: lambda it: bytes(4), 8: lambda it: struct.pack("<L", it.access), 14: lambda it: struct.pack("<Q", it.position),
     16: lambda it: bytes(4), 17: lambda it: bytes(4), 18: everything, 21: lambda it: named(it.node.name),
-    22: lambda it: stream(it.node), 28: lambda it: bytes(16), 34: lambda it: attributes_of(it.node) + bytes(4),
-    35: lambda it: struct.pack("<LL", it.node.attributes or 0x80, 0), 48: lambda it: named(it.node.path),
+    22: lambda it: stream(it.node), 28: lambda it: bytes(16), 34: lambda it: attributes(it.node) + bytes(4),
+    35: lambda it: struct.pack("<LL", attributes_in(it.node.stat), 0), 48: lambda it: named(it.node.path),
 }
-FILESYSTEM_CLASSES: dict[int, bytes] = {
-    1: struct.pack("<QLLBB", 0, SERIAL, len(LABEL), 0, 0) + LABEL, 3: struct.pack("<QQLL", UNITS, UNITS, SECTORS, SECTOR),
-    4: struct.pack("<LL", 7, 0x20), 5: struct.pack("<LLL", 0x3, 255, len(SYSTEM)) + SYSTEM,
-    7: struct.pack("<QQQLL", UNITS, UNITS, UNITS, SECTORS, SECTOR),
-    11: struct.pack("<LLLLLLL", SECTOR, SECTOR, SECTOR, SECTOR, 0, 0, 0),
+FILESYSTEM_CLASSES: dict[int, Callable[[os.statvfs_result], bytes]] = {
+    1: lambda _: struct.pack("<QLLBB", 0, SERIAL, len(LABEL), 0, 0) + LABEL,
+    3: lambda it: struct.pack("<QQLL", it.f_blocks, it.f_bavail, max(1, it.f_frsize // SECTOR), SECTOR),
+    4: lambda _: struct.pack("<LL", 7, 0x20), 5: lambda _: struct.pack("<LLL", 0x3, 255, len(SYSTEM)) + SYSTEM,
+    7: lambda it: struct.pack("<QQQLL", it.f_blocks, it.f_bavail, it.f_bfree, max(1, it.f_frsize // SECTOR), SECTOR),
+    11: lambda _: struct.pack("<LLLLLLL", SECTOR, SECTOR, SECTOR, SECTOR, 0, 0, 0),
 }
 # Owner and group are everyone, and so is who may do all.
 EVERYONE = bytes.fromhex("010100000000000100000000")
@@ -78,12 +86,11 @@ class QueryInfo(Handlers):
         information = information[:most]
         return Answer(status, struct.pack("<HHL", 9, HEADER + 8, len(information)) + (information or b"\0"))
 
-    @staticmethod
-    def _information(opened: Open, kind: int, number: int) -> bytes:
+    def _information(self, opened: Open, kind: int, number: int) -> bytes:
         if kind == FILE and number in FILE_CLASSES:
             return FILE_CLASSES[number](opened)
         if kind == FILESYSTEM and number in FILESYSTEM_CLASSES:
-            return FILESYSTEM_CLASSES[number]
+            return FILESYSTEM_CLASSES[number](self._server.names.disk.space())
         if kind == SECURITY:
             return DESCRIPTOR
         raise StatusError(Status.INVALID_INFO_CLASS if kind in (FILE, FILESYSTEM) else Status.NOT_SUPPORTED)

@@ -7,7 +7,7 @@ from typing import TYPE_CHECKING
 from smblease import Status
 
 from drive.headers import HEADER, PREVIOUS, Command
-from serve.opens import MachineClient, Open
+from serve.opens import ManagerClient, Open
 from serve.packets import RequestMessage
 from serve.status_error import StatusError
 
@@ -29,7 +29,6 @@ class Request:
     session_id: int
     tree_id: int
     previous: int | None = None
-    is_cancelled: bool = False
 
     @property
     def session(self) -> Session:
@@ -54,7 +53,7 @@ class Request:
         assert self.tree
 
     @property
-    def client(self) -> MachineClient:
+    def client(self) -> ManagerClient:
         found = self.connection.client
         if found is None:
             raise StatusError(Status.USER_SESSION_DELETED)
@@ -73,7 +72,7 @@ class Request:
         return int.from_bytes(wire[:8], "little")
 
     def find(self) -> Open | None:
-        """The request's open. A FileId that the shell doesn't know is left to the machine."""
+        """The request's open, which is its own connection's. A FileId that the shell doesn't know is left to the manager."""
         found = self.server.opens.get(self.file_id())
         if found is None or found.connection is not self.connection and found.client is not self.connection.client:
             return None

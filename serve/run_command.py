@@ -4,45 +4,51 @@ from __future__ import annotations
 import argparse
 import contextlib
 import logging
-import os
+import resource
+import shutil
 import sys
 from collections.abc import Sequence
 from typing import TYPE_CHECKING
 
-from smblease import Rules
-from smblease.lines import digits
-from smblease.processes import LineProcess
 from smblease.program import find_program, judge
-from smblease.values import LARGEST_FILE
 
 from drive.commands import NOT_DRIVEN, SAFE, UNSAFE, ended, rules_of
 from drive.faults import DriveFault, Usage
 from serve.connection import Connection
+from serve.disk import Disk
+from serve.disk_bytes import LARGEST
 from serve.event_loop import Loop
-from serve.namespace import FORBIDDEN, MOST, Namespace
+from serve.names import FORBIDDEN
+from serve.namespace import Namespace
 from serve.record import Record
-from serve.server import Server, Settings
+from serve.served_folder import served_folders
+from serve.server import Server
+from serve.settings import Settings
+from serve.streams import Streams
 from serve.timer_control import TimerControl
 
 if TYPE_CHECKING:
     from serve.named_user import NamedUser as User
 
 LOG = logging.getLogger("serve")
+RULES = "by-key,whole"
 EPILOG = """It prints `port N`, and serves until it is ended by SIGINT or SIGTERM. With --record it then prints the verdict of the
-record. docs/REAL_SERVERS.md says what is the proved server's and what the shell's, and which rules a record can break.
+record. docs/REAL_SERVERS.md says what is the proved manager's and what the shell's, and which rules a record can break.
 
 Exit status: 0 it was ended, and the record, if any, is safe; 1 it couldn't begin or go on; 2 the command line is
 refused; 3 the record is unsafe."""
 
 
 def parser() -> argparse.ArgumentParser:
-    made = argparse.ArgumentParser(prog="serve/run", description="Serves SMB 2.1 by the proved server, on a port.",
+    made = argparse.ArgumentParser(prog="serve/run", description="Serves SMB 2.1 by the proved manager of leases, on a port.",
                                    epilog=EPILOG, formatter_class=argparse.RawDescriptionHelpFormatter)
     made.add_argument("--port", type=int, required=True, metavar="N", help="the port; 0 for a free one")
     made.add_argument("--share", required=True, metavar="NAME", help="the name of the share")
     made.add_argument("--address", default="127.0.0.1", metavar="A", help="where to listen (127.0.0.1)")
     made.add_argument("--folder", metavar="DIR",
-                      help="the share begins with the files of this folder, which stay as they are; links in it aren't followed")
+                      help="serve a copy of this folder, or an empty folder where none is named; links in it aren't followed")
+    made.add_argument("--writable", action="store_true", help="serve the folder itself, whose files then change")
+    made.add_argument("--limit", type=int, default=LARGEST, metavar="BYTES", help="the most bytes that a file is given")
     made.add_argument("--record", metavar="FILE", help="write the record there, and have it judged at the end")
     made.add_argument("--user", metavar="USER%PASSWORD",
                       help="a user, whose sessions are signed, in place of guests; needs impacket")
@@ -50,10 +56,9 @@ def parser() -> argparse.ArgumentParser:
     made.add_argument("--break-timer", type=float, default=35.0, metavar="S", help="seconds that a break is waited for (35)")
     made.add_argument("--durable-timer", type=float, default=960.0, metavar="S",
                       help="seconds that a durable open is kept without a connection (960)")
-    made.add_argument("--rules", default=str(Rules()), metavar="RULES",
-                      help="the rules of the server: by-client,as-free, which are the profile's, or by-client,whole")
-    made.add_argument("--apart", action="store_true",
-                      help="opens without a lease don't wait with what their client asks under its lease of the file")
+    made.add_argument("--rules", default=RULES, metavar="RULES",
+                      help="by-client or by-key, a comma, and as-free or whole; or profile, the rules of docs/PROFILE.md "
+                           f"({RULES}, as Windows and Samba have it)")
     made.add_argument("--control", type=int, metavar="FD", help="read lines there that end a timer now")
     made.add_argument("--leasecheck", metavar="PATH", default=find_program(), help="the program leasecheck")
     made.add_argument("--verbose", action="store_true", help="say more on standard error")
@@ -82,74 +87,40 @@ def settings_of(arguments: argparse.Namespace) -> Settings:
         raise Usage("--share is a name")
     if not 0 < arguments.break_timer < 1e9 or not 0 < arguments.durable_timer < 1e9:
         raise Usage("timers are more than 0 seconds")
+    if not 0 < arguments.limit <= LARGEST:
+        raise Usage(f"--limit is from 1 to {LARGEST}")
+    if arguments.writable and arguments.folder is None:
+        raise Usage("--writable goes with --folder")
     if arguments.guests and arguments.user is None:
         raise Usage("--guests goes with --user; without one all are guests")
-    return Settings(arguments.share, user_of(arguments.user), arguments.break_timer, arguments.durable_timer, arguments.apart,
-                    arguments.guests or arguments.user is None)
+    return Settings(arguments.share, user_of(arguments.user), arguments.break_timer, arguments.durable_timer,
+                    arguments.guests or arguments.user is None, rules_of(arguments.rules), arguments.limit)
 
 
-def files_in(folder: str | None) -> tuple[list[str], dict[str, bytes]]:
-    """The folders and files below a folder, by their paths in the share."""
-    folders: list[str] = []
-    files: dict[str, bytes] = {}
-    if folder is None:
-        return folders, files
-    try:
-        if not os.path.isdir(folder):
-            raise DriveFault(f"{folder}: no folder")
-        for place, below, names in os.walk(folder):
-            below.sort()
-            path = os.path.relpath(place, folder).replace("/", "\\")
-            if path != ".":
-                folders.append(path)
-            for name in sorted([*names, *below]):
-                found = os.path.join(place, name)
-                if os.path.islink(found):
-                    LOG.warning("%s: a link, which isn't followed", found)
-                elif name in names and not os.path.isfile(found):
-                    raise DriveFault(f"{found}: no plain file")
-                elif name in names:
-                    with open(os.open(found, os.O_RDONLY | os.O_NOFOLLOW), "rb") as stream:
-                        files[f"{path}\\{name}" if path != "." else name] = stream.read(LARGEST_FILE + 1)
-    except OSError as fault:
-        raise DriveFault(f"{fault.filename}: {fault.strerror}") from None
-    return folders, files
-
-
-def named(folders: list[str], files: dict[str, bytes], record: Record) -> Namespace:
-    names = Namespace()
-    if len(files) > MOST:
-        raise DriveFault(f"at most {MOST} files; there are {len(files)}")
-    for path in [*folders, *files]:
-        is_bad = any(FORBIDDEN & set(part) for part in path.split("\\")) or not path.isprintable() or names.find(path)
-        if is_bad or len(files.get(path, b"")) > LARGEST_FILE:
-            raise DriveFault(f"{path}: a name that can't be served, or more than {LARGEST_FILE} bytes")
-        node = names.make(path, path not in files)
-        if path in files:
-            node.length = len(files[path])
-            record.start(node.number, files[path], path)
-    return names
+def allow_descriptors() -> None:
+    """As many open files as may be."""
+    most = resource.getrlimit(resource.RLIMIT_NOFILE)[1]
+    with contextlib.suppress(ValueError, OSError):
+        resource.setrlimit(resource.RLIMIT_NOFILE, (most, most))
 
 
 def serve(arguments: argparse.Namespace) -> int:
     settings = settings_of(arguments)
-    rules = rules_of(arguments.rules)
-    folders, files = files_in(arguments.folder)
+    if arguments.record and not shutil.which(arguments.leasecheck):
+        raise DriveFault(f"{arguments.leasecheck}: no program, which --record needs")
+    allow_descriptors()
     server: Server
     loop = Loop()
     with contextlib.closing(loop.events):
         port = loop.listen(arguments.address, arguments.port, lambda: Connection(server))
-        with contextlib.closing(Record(arguments.record)) as record:
-            names = named(folders, files, record)
-            contents = [*files.values(), *[b""] * (MOST - len(files))]
-            machine = LineProcess(arguments.leasecheck, "server", [f"rules {rules}", *(f"file {digits(it)}" for it in contents)])
-            with contextlib.closing(machine):
-                server = Server(settings, loop.events, machine, record, names)
-                if arguments.control is not None:
-                    TimerControl(server, arguments.control)
-                machine.say("content 1")
-                print(f"port {port}", flush=True)
-                loop.run()
+        with contextlib.closing(Record(arguments.record)) as record, \
+                served_folders(arguments.folder, arguments.writable) as folders, \
+                contextlib.closing(Disk(folders.share)) as disk, contextlib.closing(Disk(folders.streams)) as streams:
+            server = Server(settings, loop.events, record, Namespace(disk, Streams(streams)))
+            if arguments.control is not None:
+                TimerControl(server, arguments.control)
+            print(f"port {port}", flush=True)
+            loop.run()
     return verdict(arguments)
 
 

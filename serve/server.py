@@ -5,24 +5,23 @@ import asyncio
 import itertools
 import logging
 import os
-import time
 import uuid
 from collections.abc import Callable
-from dataclasses import dataclass
 from typing import TYPE_CHECKING
 
-from smblease import Changed, CloseRequest, Created, LeaseState, Out, Reply, Sent, Status
-from smblease.processes import Speaker
+from smblease import LeaseState, Status
+from smblease.manager_decisions import Breaks
 
 from drive.headers import Command
+from serve.asks import Handling, Steps, closing
 from serve.connection import Connection, Pending
 from serve.create import Create
 from serve.forced_breaks import ForcedBreaks
 from serve.leases import Leases
-from serve.machine import Handling, Machine, MachineRequest, Steps, Task
-from serve.machine_clients import MachineClients
-from serve.namespace import Namespace, now
-from serve.opens import OWN_FILE_IDS, LeaseSeen, MachineClient, Open
+from serve.manager_clients import ManagerClients
+from serve.manager_host import ManagerHost, Task
+from serve.namespace import Namespace
+from serve.opens import OWN_FILE_IDS, LeaseSeen, ManagerClient, Open
 from serve.packets import Answer
 from serve.password_brake import PasswordBrake
 from serve.pipes import Pipes
@@ -33,37 +32,28 @@ from serve.record import Record
 from serve.request import WITHOUT_TREE, Request
 from serve.sessions import Session, Sessions
 from serve.set_info import SetInfo
-from serve.status_error import StatusError
+from serve.settings import Settings
+from serve.status_error import RefusedByManager, StatusError
 
 if TYPE_CHECKING:
-    from serve.named_user import NamedUser
+    from serve.node import Node
 
 LOG = logging.getLogger("serve")
-# Durable opens that a client leaves, the newest of them.
-MOST_KEPT = 64
-
-
-@dataclass(frozen=True)
-class Settings:
-    share: str
-    user: NamedUser | None = None
-    break_timer: float = 35.0
-    durable_timer: float = 960.0
-    # whether an open without a lease, of a client that has one on the file, is a client of the machine by itself
-    is_apart: bool = False
-    has_guests: bool = True
+# Durable opens that are kept without a connection: those of one client, and of all; the newest of them.
+MOST_KEPT, MOST_KEPT_OF_ALL = 64, 4096
 
 
 class Server:  # pylint: disable=too-many-instance-attributes  # its parts find one another by it
-    """The shell around the proved server."""
+    """The shell around the proved manager."""
 
-    def __init__(self, settings: Settings, loop: asyncio.AbstractEventLoop, speaker: Speaker, record: Record,
-                 names: Namespace) -> None:
+    def __init__(self, settings: Settings, loop: asyncio.AbstractEventLoop, record: Record, names: Namespace) -> None:
         self.settings, self.loop, self.record, self.names = settings, loop, record, names
         self.guid = uuid.uuid4().bytes
-        self.machine = Machine(speaker, self)
-        self.clients = MachineClients()
+        self.host = ManagerHost(settings.rules, self)
+        self.clients = ManagerClients()
         self.opens: dict[int, Open] = {}
+        # the opens that are kept, the one that was left first before the others
+        self._kept: dict[int, Open] = {}
         self.sessions: dict[int, Session] = {}
         self.begun: list[Pending] = []
         self.connections: set[Connection] = set()
@@ -94,34 +84,32 @@ class Server:  # pylint: disable=too-many-instance-attributes  # its parts find 
             raise StatusError(Status.INVALID_DEVICE_REQUEST)
         return self.pipes.handlers[command]
 
-    # What the machine gives out
+    # What the manager decides
 
-    def happened(self, out: Out) -> None:
-        self.record.gave_out(out)
-        if isinstance(out, Sent):
-            client = self.clients.numbered(out.client)
-            if client:
-                client.sent += 1
-        elif isinstance(out, Changed) and out.data:
-            node = self.names.at(out.file)
-            if node:
-                node.length = max(node.length, out.offset + len(out.data))
-                node.times.written = node.times.changed = now()
+    def sent(self, number: int) -> None:
+        """The manager's client is sent a message."""
+        client = self.clients.numbered(number)
+        if client:
+            self.record.sent(client)
 
-    def broken(self, client: int, notification: bytes) -> None:
-        found = self.clients.numbered(client)
-        if found:
-            self.leases.broken(found, notification)
+    def broken(self, decision: Breaks) -> None:
+        client = self.clients.numbered(decision.client)
+        if client and client.is_connected:
+            self.record.sent(client)
+            self.leases.broken(client, decision.notification)
 
-    def is_late(self, client: int, reply: Reply) -> bool:
-        """A client that is cut may have been answered by what another one's cut set free. Nobody would have an open that is
-        kept then, so it is closed."""
-        found = self.clients.numbered(client)
-        if found and found.is_connected:
-            return False
-        if isinstance(reply, Created):
-            self.machine.say(f"scavenge {reply.file_id}")
-        return True
+    def ended(self, file_id: int) -> None:
+        opened = self.opens.get(file_id)
+        if opened:
+            self.forget_open(opened)
+
+    def lost(self) -> None:
+        """There is a new manager, which knows of nothing."""
+        LOG.warning("there was no memory for the manager: all connections are cut, and all opens are gone")
+        for connection in list(self.connections):
+            connection.close()
+        for opened in list(self.opens.values()):
+            self.forget_open(opened)
 
     def failed(self, fault: Exception) -> Status:
         LOG.warning("a request broke down: %s: %s", type(fault).__name__, str(fault)[:200])
@@ -131,12 +119,12 @@ class Server:  # pylint: disable=too-many-instance-attributes  # its parts find 
     # Tasks
 
     def settle(self) -> None:
-        self.machine.drain()
+        self.host.drain()
         self.send_interim_responses()
 
     def send_interim_responses(self) -> None:
         """The clients of requests that were begun and wait get STATUS_PENDING, once all is quiet."""
-        if self.machine.is_draining:
+        if self.host.is_draining:
             return
         begun, self.begun = self.begun, []
         for pending in begun:
@@ -145,12 +133,7 @@ class Server:  # pylint: disable=too-many-instance-attributes  # its parts find 
 
     def start(self, handling: Steps) -> None:
         """Something that nobody waits for."""
-        self.machine.start(Task(handling, lambda answer: None))
-
-    def undo(self, answer: Answer) -> None:
-        """The answer to a create that was cancelled."""
-        if answer.opened in self.opens:
-            self.start(self.close_open(self.opens[answer.opened]))
+        self.host.start(Task(handling, lambda answer: None))
 
     # Who is connected
 
@@ -158,20 +141,13 @@ class Server:  # pylint: disable=too-many-instance-attributes  # its parts find 
         """All connections of a ClientGuid are one client."""
         if connection.client or connection.guid is None:
             return
-        client = self.clients.of_guid(connection.guid) or self._take_client(connection.guid)
+        client = self.clients.of_guid(connection.guid) or self.clients.take(connection.guid)
         connection.client = client
         if client.is_connected:
             client.connections.append(connection)
             self.record.strayed(client)
         else:
-            self.join_machine(client, connection, str(uuid.UUID(bytes=connection.guid)))
-
-    def _take_client(self, guid: bytes | None) -> MachineClient:
-        """Where all are taken, the one that has been away longest loses what it left."""
-        away = self.clients.longest_away() if self.clients.is_full else None
-        for opened in [it for it in self.opens.values() if it.client is away and away]:
-            self.scavenge(opened.file_id)
-        return self.clients.take(guid)
+            self.join(client, connection, str(uuid.UUID(bytes=connection.guid)))
 
     def end_session(self, session: Session) -> None:
         """With the last one of a client's last connection the client is gone."""
@@ -181,7 +157,7 @@ class Server:  # pylint: disable=too-many-instance-attributes  # its parts find 
         if connection.client and not any(it.is_ready for it in connection.sessions.values()):
             self._disconnect_client(connection, connection.client)
 
-    def _disconnect_client(self, connection: Connection, client: MachineClient) -> None:
+    def _disconnect_client(self, connection: Connection, client: ManagerClient) -> None:
         opens = [it for it in self.opens.values() if it.connection is connection]
         connected = [client, *(it for it in self.clients.of(connection) if it is not client)]
         connection.client = None
@@ -189,15 +165,19 @@ class Server:  # pylint: disable=too-many-instance-attributes  # its parts find 
             one.connections.remove(connection)
         cut = [it for it in connected if not it.is_connected]
         for one in cut:
-            one.left = time.monotonic()
-            self.record.dropped(one)
-            self.machine.say(f"cut {one.number}")
+            self._cut(one)
         for opened in opens:
             self._leave(opened)
-        for opened in [it for it in opens if it.file_id in self.opens][:-MOST_KEPT]:
-            self.scavenge(opened.file_id)
-        self.machine.abandon({it.number for it in cut}, Status.USER_SESSION_DELETED)
+        self._limit_kept([it for it in opens if it.file_id in self._kept])
+        for task in connection.tasks if client.is_connected else ():
+            self.host.withdraw(task)
+        self.host.abandon({it.number for it in cut}, Status.USER_SESSION_DELETED)
+        self._drop(client)
         self.settle()
+
+    def _cut(self, client: ManagerClient) -> None:
+        self.record.dropped(client)
+        self.host.call(lambda manager: manager.cut(client.number))
 
     def _leave(self, opened: Open) -> None:
         """An open of a connection that is over: it is closed where its client has another one, else kept or forgotten."""
@@ -205,40 +185,54 @@ class Server:  # pylint: disable=too-many-instance-attributes  # its parts find 
         opened.is_breaking = False
         if opened.client and opened.client.is_connected:
             self.start(self.close_open(opened))
-            return
-        if not self.is_kept(opened):
+        elif opened.client and self.host.manager.left_behind(opened.file_id):
+            opened.timer = self.loop.call_later(self.settings.durable_timer, lambda: self.scavenge(opened.file_id))
+            self._kept[opened.file_id] = opened
+        else:
             self.forget_open(opened)
+
+    def _limit_kept(self, opens: list[Open]) -> None:
+        """The newest of these are kept, which one client left, and of all that are kept."""
+        for opened in opens[:-MOST_KEPT]:
+            self.scavenge(opened.file_id)
+        while len(self._kept) > MOST_KEPT_OF_ALL:
+            self.scavenge(next(iter(self._kept)))
+
+    def _drop(self, client: ManagerClient) -> None:
+        """A client of a ClientGuid that left nothing is as one that never came. The manager forgets what expired when it
+        joins."""
+        if client.is_connected or client.opens or self.clients.numbered(client.number) is not client or client.guid is None:
             return
-        opened.timer = self.loop.call_later(self.settings.durable_timer, lambda: self.scavenge(opened.file_id))
+        if client.has_expired:
+            self.host.call(lambda manager: manager.join(client.number))
+            self.host.call(lambda manager: manager.cut(client.number))
+        self.clients.free(client)
+
+    def connected_again(self, opened: Open) -> None:
+        self.stop_timer(opened)
+        self._kept.pop(opened.file_id, None)
 
     # What becomes of opens
 
-    def is_kept(self, opened: Open) -> bool:
-        """Whether the machine keeps an open without a connection. It names the oldest one of a client on a file."""
-        if not opened.client or not opened.is_durable:
-            return False
-        word, _, oldest = self.machine.say(f"kept {opened.client.number} {opened.node.number}").partition(" ")
-        return word == "fid" and int(oldest) <= opened.file_id
-
-    def forget_unkept(self, opens: list[Open]) -> None:
-        """The machine closes opens without a connection silently, where another open needs that."""
-        for opened in list(opens):
-            if not opened.is_connected and opened.client and not self.is_kept(opened):
-                self.forget_open(opened)
-
     def scavenge(self, file_id: int) -> bool:
         opened = self.opens.get(file_id)
-        if opened is None or opened.is_connected or self.machine.say(f"scavenge {file_id}") == "nothing":
+        if opened is None or not self.host.manager.left_behind(file_id):
             return False
-        self.forget_open(opened)
+        self.host.call(lambda manager: manager.scavenge(file_id))
         self.settle()
         return True
 
     def close_open(self, opened: Open) -> Steps:
-        """Closes an open, in the machine too."""
-        if opened.client:
+        """Closes an open, in the manager too."""
+        if opened.client and not opened.client.is_connected:
+            self.scavenge(opened.file_id)
+        elif opened.client:
             self.leases.believes_nothing(opened)
-            yield MachineRequest(opened.client.number, CloseRequest(opened.file_id))
+            try:
+                yield from closing(opened.client, opened.node, opened.file_id)
+            except RefusedByManager:
+                # It has ended by itself.
+                pass
         self.forget_open(opened)
 
     def close_all(self, concerned: Callable[[Open], bool], is_wanted: bool) -> Steps:
@@ -252,44 +246,52 @@ class Server:  # pylint: disable=too-many-instance-attributes  # its parts find 
         if self.opens.pop(opened.file_id, None) is None:
             return
         node = opened.node
-        self.stop_timer(opened)
+        self.connected_again(opened)
         node.opens.remove(opened)
-        node.is_deleting = (node.is_deleting or opened.deletes) and not (node.is_folder and self.names.children(node))
+        node.is_deleting = (node.is_deleting or opened.deletes) and not (node.is_folder and self.names.has_below(node))
         self._lease_gone(opened)
         if node.is_deleting and not node.opens and not node.is_gone:
+            self._remove(node)
+        self.names.release(node)
+
+    def _remove(self, node: Node) -> None:
+        try:
             self.names.remove(node)
+        except OSError as fault:
+            LOG.warning("%s: it was to be deleted: %s", node.path, fault.strerror)
 
     def _lease_gone(self, opened: Open) -> None:
-        client = opened.client
+        client, lease = opened.client, opened.lease
         if client is None:
             return
-        if opened.key and not any(it.client is client and it.key == opened.key for it in self.opens.values()):
-            lease = client.leases.get(opened.key)
-            if lease:
-                self.record.believes(client, lease, LeaseState.NONE)
-                self.stop_timer(lease)
-                del client.leases[opened.key]
+        if lease and opened in lease.opens:
+            lease.opens.remove(opened)
+        if lease and not lease.opens:
+            self.record.believes(client, lease, LeaseState.NONE)
+            self.stop_timer(lease)
+            del client.leases[lease.key]
+        client.opens -= 1
         if client.open is opened:
             self.free(client)
+        self._drop(client)
 
-    def free(self, client: MachineClient) -> None:
+    def free(self, client: ManagerClient) -> None:
         """A client that was there for one open isn't needed any more."""
         client.open = None
         if client.is_connected:
-            self.record.dropped(client)
-            self.machine.say(f"cut {client.number}")
+            self._cut(client)
         self.clients.free(client)
 
-    def borrow(self, connection: Connection, who: str) -> MachineClient:
-        """A client of the machine for one open of a connection."""
-        client = self._take_client(None)
-        self.join_machine(client, connection, who)
+    def borrow(self, connection: Connection, who: str, is_shells: bool = False) -> ManagerClient:
+        """A client of the manager for one open of a connection."""
+        client = self.clients.take(None, is_shells)
+        self.join(client, connection, who)
         return client
 
-    def join_machine(self, client: MachineClient, connection: Connection, who: str) -> None:
+    def join(self, client: ManagerClient, connection: Connection, who: str) -> None:
         client.connections = [connection]
         self.record.joined(client, who)
-        self.machine.say(f"join {client.number}")
+        self.host.call(lambda manager: manager.join(client.number))
 
     @staticmethod
     def stop_timer(concerned: LeaseSeen | Open) -> None:

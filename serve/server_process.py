@@ -12,6 +12,7 @@ import uuid
 from collections.abc import Sequence
 
 from smblease._library import TOP
+from smblease.values import LARGEST_FILE, Rules
 
 from drive.faults import DriveFault
 from drive.place import Place, Server
@@ -92,9 +93,13 @@ class ServerProcess:
 
 class DrivenServer(ServerProcess, Server):
     """As drive/ has its servers: a fresh one for each schedule, whose timers are ended by lines of control. A connection that is
-    closed is forgotten before a later request is done, and so is what it leaves to do."""
+    closed is forgotten before a later request is done, and so is what it leaves to do. Its files are no longer than those of a
+    schedule."""
 
     is_profiled = True
+
+    def __init__(self, leasecheck: str, record: str | None = None, rules: Rules = Rules()) -> None:
+        super().__init__(leasecheck, record, ["--rules", str(rules), "--limit", str(LARGEST_FILE)])
 
     def begin_break_timer(self, process: int | None, guid: bytes, key: bytes) -> None:
         self.tell(f"expire {uuid.UUID(bytes=guid)} {key.hex()}")

@@ -7,16 +7,15 @@ from dataclasses import dataclass, field
 from typing import TYPE_CHECKING
 
 from smblease import Status
-from smblease.values import LARGEST_FILE
 
 from drive.headers import HEADER, Unreadable, tree_path
-from serve.machine import Handling
-from serve.namespace import now
+from serve.asks import Handling
 from serve.ntlm import Authentication
-from serve.packets import Answer, RequestMessage, signed
+from serve.packets import LONGEST_TRANSFER, Answer, RequestMessage, signed
 from serve.request import Handlers, Request
 from serve.spnego import offered
 from serve.status_error import StatusError
+from serve.times import now
 
 if TYPE_CHECKING:
     from serve.connection import Connection
@@ -62,8 +61,8 @@ def negotiated(server: Server, dialect: int) -> Answer:
     token = offered()
     needs_signing = server.settings.user and not server.settings.has_guests
     mode = SIGNING_ENABLED | (SIGNING_REQUIRED if needs_signing else 0)
-    fixed = struct.pack("<HHHH16sLLLLQQHHL", 65, mode, dialect, 0, server.guid, LEASING | LARGE_MTU, LARGEST_FILE,
-                        LARGEST_FILE, LARGEST_FILE, now(), 0, HEADER + 64, len(token), 0)
+    fixed = struct.pack("<HHHH16sLLLLQQHHL", 65, mode, dialect, 0, server.guid, LEASING | LARGE_MTU, LONGEST_TRANSFER,
+                        LONGEST_TRANSFER, LONGEST_TRANSFER, now(), 0, HEADER + 64, len(token), 0)
     return Answer(Status.SUCCESS, fixed + token)
 
 

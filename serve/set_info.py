@@ -1,19 +1,22 @@
-"""SET_INFO (3.3.5.21): times and attributes, names, deletion, and the end of a file where it goes up."""
+"""SET_INFO (3.3.5.21): times and attributes, names, deletion, and the end of a file."""
 from __future__ import annotations
 
+import os
 import struct
 
 from smblease import Status
 
 from drive.headers import HEADER
-from serve.create_parameters import KEPT_ATTRIBUTES
-from serve.machine import Handling, MachineRequest, Steps, refuse_failed
-from serve.namespace import FOLDER, READ_ONLY, Node, check_size, path_of
+from serve.asks import Handling, Steps
+from serve.names import path_of, split
+from serve.node import READ_ONLY, Node
 from serve.opens import DELETE, WRITE_ATTRIBUTES, Open, writes
 from serve.packets import Answer
 from serve.query_info import FILE
 from serve.request import Handlers, Request
+from serve.resizing import resizing
 from serve.status_error import StatusError
+from serve.times import on_disk
 
 BASIC, RENAME, DISPOSITION, POSITION, MODE, ALLOCATION, END_OF_FILE = 4, 10, 13, 14, 16, 19, 20
 LEAST = {BASIC: 36, RENAME: 20, DISPOSITION: 1, POSITION: 8, MODE: 4, ALLOCATION: 8, END_OF_FILE: 8}
@@ -50,17 +53,19 @@ class SetInfo(Handlers):
             yield from self._resize(opened, int.from_bytes(data[:8], "little"), number == END_OF_FILE)
         return Answer(Status.SUCCESS, struct.pack("<H", 2))
 
-    @staticmethod
-    def _set_basic(opened: Open, data: bytes) -> None:
+    def _set_basic(self, opened: Open, data: bytes) -> None:
+        """The times of the last access and the last write are the disk's; the other two it has by itself, or hasn't."""
         if not opened.access & WRITE_ATTRIBUTES:
             raise StatusError(Status.ACCESS_DENIED)
         node, attributes = opened.node, int.from_bytes(data[32:36], "little")
-        times = [data[place:place + 8] for place in range(0, 32, 8)]
-        names = ("created", "accessed", "written", "changed")
-        for name, value in [(name, signed(it)) for name, it in zip(names, times) if it not in UNCHANGED]:
-            setattr(node.times, name, value)
-        if attributes:
-            node.attributes = attributes & KEPT_ATTRIBUTES | node.attributes & FOLDER
+        times = [None if it in UNCHANGED else signed(it) for it in (data[place:place + 8] for place in range(0, 32, 8))]
+        accessed, written = times[1], times[2]
+        if accessed is not None or written is not None:
+            found = node.stat
+            os.utime(node.file, ns=(found.st_atime_ns if accessed is None else on_disk(accessed),
+                                    found.st_mtime_ns if written is None else on_disk(written)))
+        if attributes and not node.is_folder:
+            self._server.names.set_read_only(node, bool(attributes & READ_ONLY))
 
     def _rename(self, request: Request, opened: Open, data: bytes) -> Steps:
         """A name is changed once nobody else holds handles of the file (profile, as in MS-FSA 2.1.5.14.11)."""
@@ -69,31 +74,30 @@ class SetInfo(Handlers):
         length = int.from_bytes(data[16:20], "little")
         if 20 + length > len(data):
             raise StatusError(Status.INFO_LENGTH_MISMATCH)
-        path, node, names = path_of(data[20:20 + length].decode("utf-16le", errors="replace")), opened.node, self._server.names
-        self._replaced(node, path, bool(data[0]))
+        path, node = path_of(data[20:20 + length].decode("utf-16le", errors="replace")), opened.node
+        self._check_new_name(node, path, bool(data[0]))
         yield from self._break_handles(request, opened)
-        target = self._replaced(node, path, bool(data[0]))
-        if target:
-            names.remove(target)
-        names.rename(node, path)
-        self._server.record.remark(f"file {node.number} is {path}")
+        replaced = self._check_new_name(node, path, bool(data[0]))
+        if replaced:
+            self._server.names.remove(replaced)
+        self._server.names.rename(node, path)
+        self._server.record.start(node)
 
-    def _replaced(self, node: Node, path: str, replaces: bool) -> Node | None:
+    def _check_new_name(self, node: Node, path: str, replaces: bool) -> Node | None:
         """The file that goes for the new name. It is looked for anew after every wait."""
         if not path or not node.path or node.is_folder and f"{path}\\".lower().startswith(f"{node.path}\\".lower()):
             raise StatusError(Status.OBJECT_PATH_NOT_FOUND)
         if ":" in path or node.is_stream:
             raise StatusError(Status.NOT_SUPPORTED)
-        self._server.names.check_folder_of(path)
+        self._server.names.folder_of(path)
         target = self._server.names.find(path)
         if target is None or target is node:
             return None
-        self._server.forget_unkept(target.opens)
         if not replaces:
             raise StatusError(Status.OBJECT_NAME_COLLISION)
-        if target.is_folder or target.opens or target.attributes & READ_ONLY:
+        if target.is_folder or target.opens or target.is_read_only:
             raise StatusError(Status.ACCESS_DENIED)
-        return None if target.is_gone else target
+        return target
 
     def _break_handles(self, request: Request, opened: Open) -> Steps:
         """Has others give up handles; the open may be closed meanwhile."""
@@ -114,26 +118,21 @@ class SetInfo(Handlers):
             opened.deletes = False
 
     def _check_deletable(self, node: Node) -> None:
-        if node.attributes & READ_ONLY:
+        if node.is_read_only:
             raise StatusError(Status.CANNOT_DELETE)
-        if node.is_folder and self._server.names.children(node):
+        if node.is_folder and self._server.names.has_below(node):
             raise StatusError(Status.DIRECTORY_NOT_EMPTY)
+        if not node.is_stream and not self._server.names.disk.may_change(split(node.path)[0]):
+            raise StatusError(Status.ACCESS_DENIED)
 
     def _resize(self, opened: Open, size: int, is_end: bool) -> Steps:
-        """An end that goes up is a write of zeros at the new end; none goes down."""
-        node = opened.node
+        """An allocation of less than there is cuts the file off too."""
+        node, limit = opened.node, self._server.settings.limit
         if opened.client is None or not writes(opened.access):
             raise StatusError(Status.ACCESS_DENIED)
-        check_size(size)
-        if size < node.length:
-            raise StatusError(Status.NOT_SUPPORTED)
+        if size > limit:
+            raise StatusError(Status.INVALID_PARAMETER)
         if not is_end:
-            node.allocate(size)
-            return
-        client = opened.client
-        is_longer = size > node.length
-        write = client.next_write(opened.file_id, size - 1, b"\0") if is_longer else client.next_write(opened.file_id, 0, b"")
-        if is_longer:
-            self._server.record.wrote(client, node.number, write)
-        reply = yield MachineRequest(client.number, write)
-        refuse_failed(reply)
+            node.allocated = size
+        if is_end or size < node.stat.st_size:
+            yield from resizing(self._server.record, opened, size)

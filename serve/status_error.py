@@ -10,3 +10,7 @@ class StatusError(Exception):
     def __init__(self, status: Status) -> None:
         super().__init__(status.name)
         self.status = status
+
+
+class RefusedByManager(StatusError):
+    """The manager refused what was asked of it in a client's name."""

@@ -6,7 +6,7 @@ from typing import TYPE_CHECKING
 from uuid import UUID
 
 from drive.faults import Usage
-from serve.opens import MachineClient
+from serve.opens import ManagerClient
 
 if TYPE_CHECKING:
     from serve.server import Server
@@ -54,8 +54,8 @@ class TimerControl:
             pass
         return "refused"
 
-    def _client(self, word: str) -> MachineClient | None:
-        if word.isdigit() and len(word) < 4:
+    def _client(self, word: str) -> ManagerClient | None:
+        if word.isdigit() and len(word) < 20:
             return self._server.clients.numbered(int(word))
         return self._server.clients.of_guid(UUID(word).bytes)
 

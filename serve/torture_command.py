@@ -12,12 +12,12 @@ from dataclasses import dataclass
 from enum import Enum
 from typing import TYPE_CHECKING
 
-from smblease import Rules
 from smblease.program import find_program
 
 from drive.clock import library
 from drive.commands import NOT_DRIVEN, SAFE, ended
 from drive.faults import DriveFault, Usage
+from serve.run_command import RULES
 from serve.server_process import ServerProcess
 
 if TYPE_CHECKING:
@@ -48,12 +48,11 @@ class Row:
 
 
 def parser() -> argparse.ArgumentParser:
-    made = argparse.ArgumentParser(prog="serve/torture", description="Runs tests of smbtorture against the proved server.",
+    made = argparse.ArgumentParser(prog="serve/torture", description="Runs tests of smbtorture against the server of serve/run.",
                                    epilog=EPILOG, formatter_class=argparse.RawDescriptionHelpFormatter)
     made.add_argument("name", metavar="NAME", nargs="*", help="a test, as smb2.lease.request; all of the suites where none is")
     made.add_argument("--smbd", action="store_true", help="against a private smbd, for comparison; needs root")
-    made.add_argument("--apart", action="store_true", help="with serve/run --apart")
-    made.add_argument("--rules", default=str(Rules()), metavar="RULES", help="with serve/run --rules RULES")
+    made.add_argument("--rules", default=RULES, metavar="RULES", help=f"with serve/run --rules RULES ({RULES})")
     made.add_argument("--limit", type=float, default=150.0, metavar="S", help="seconds that a test may take (150)")
     made.add_argument("--jobs", type=int, default=2, metavar="N", help="how many at a time (2)")
     made.add_argument("--record", metavar="PREFIX", help="keep the records as PREFIX followed by the test's name")
@@ -120,13 +119,11 @@ def torture(arguments: argparse.Namespace) -> int:
     if unknown or arguments.jobs < 1:
         raise Usage(f"no test of {', '.join(SUITES)}: {unknown[0]}" if unknown else "--jobs is at least 1")
 
-    apart = ["--apart"] if arguments.apart else []
-
     def server(name: str) -> ServerProcess | PrivateServer:
         if arguments.smbd:
             return private_server()
         record = f"{arguments.record}{name}" if arguments.record else None
-        return ServerProcess(arguments.leasecheck, record, ["--rules", arguments.rules, *apart])
+        return ServerProcess(arguments.leasecheck, record, ["--rules", arguments.rules])
     if arguments.smbd:
         # Compiled once, before servers are made side by side.
         library()

@@ -19,7 +19,7 @@ REFUSED = [
     (["run", MISSING, *NAMED], 2, "drive/run: --server needs"),
     (["run", MISSING, "--served", "--user", "u%p"], 2, "drive/run: --share, --user"),
     (["run", MISSING, "--smbd", "--share", "s"], 2, "drive/run: --share, --user"),
-    (["run", MISSING, "--served", "--rules", "by-key,whole"], 2, "drive/run: --rules by-key"),
+    (["run", MISSING, "--served", "--rules", "whole"], 2, "drive/run: --rules: 'whole'"),
     (["run", MISSING, "--smbd", "--rules", "by-client,whole"], 2, "drive/run: --rules are"),
     (["run", MISSING, "--served", "--break-time", "3"], 2, "drive/run: --share, --user"),
     (["run", MISSING, *NAMED, "--user", "u%p", "--break-time", "-1"], 2, "drive/run: --break-time"),

@@ -35,9 +35,11 @@ def test_schedule(program: str, path: Path, tmp_path: Path) -> None:
     check(program, Schedule.read(path.read_text(encoding="utf-8")), tmp_path)
 
 
-def test_a_lease_that_rises_whole(program: str) -> None:
-    """A schedule that has another record under the profile's rules."""
-    words: list[str | Path] = ["--leasecheck", program, "--served", "--rules", "by-client,whole", TOP / "examples" / "rise.txt"]
+@pytest.mark.parametrize("rules, name", [("by-client,whole", "rise.txt"), ("by-key,whole", "rise.txt"),
+                                         ("by-key,as-free", "flush.txt"), ("profile", "flush.txt")])
+def test_other_rules(program: str, rules: str, name: str) -> None:
+    """Schedules that have another record under the profile's rules."""
+    words: list[str | Path] = ["--leasecheck", program, "--served", "--rules", rules, TOP / "examples" / name]
     ended = subprocess.run([TOP / "drive" / "compare", *words], capture_output=True, text=True, timeout=60, check=False)
     assert (ended.returncode, ended.stdout, ended.stderr) == (0, "same\n", "")
 

@@ -12,27 +12,18 @@ from pathlib import Path
 import pytest
 from smblease import CreateAnswer, LeaseState, Status
 
-from drive.faults import DriveFault
 from serve.server_process import ServerProcess
 from tests import needs
 from tests.paths import TOP
 from tests.serve.conftest import Connect, Start
-from tests.serve.requests import KEY, OTHER_KEY, create, leased, read, write
+from tests.serve.requests import KEY, OTHER_KEY, acknowledgment, create, leased, read, write
 
 RUN = TOP / "serve/run"
 PLACE = ["--port", "0", "--share", "s"]
 # Python with the standard library alone: no folder of packages is looked into.
 BARE = (sys.executable, "-I", "-S")
 NO_IMPACKET = "serve/run: --user needs impacket, which can't be imported (tools/setup installs it); guests don't need it\n"
-FORGETFUL = """#!/bin/sh
-while read -r word rest; do
-    case $word in
-    rules | file) ;;
-    content) echo answer bytes - ;;
-    *) echo fault memory >&2; exit 1 ;;
-    esac
-done
-"""
+ODD = (sys.executable, str(TOP / "tests/serve/odd_managers.py"))
 
 
 def run(program: str, *words: str, interpreter: tuple[str, ...] = ()) -> "subprocess.CompletedProcess[str]":
@@ -47,25 +38,21 @@ def wait_for_end(server: ServerProcess) -> None:
         time.sleep(0.01)
 
 
-def executable(path: Path, text: str) -> str:
-    path.write_text(text, encoding="utf-8")
-    path.chmod(0o755)
-    return str(path)
-
-
 @pytest.mark.parametrize("words, status, beginning", [
     pytest.param([], 2, "usage: ", id="nothing"),
     pytest.param(["--port", "0", "--share", "a\\b"], 2, "serve/run: --share", id="--share"),
     pytest.param(["--port", "70000", "--share", "s"], 2, "serve/run: --port", id="--port"),
     pytest.param([*PLACE, "--user", "u"], 2, "serve/run: --user", id="--user"),
     pytest.param([*PLACE, "--address", "nowhere"], 2, "serve/run: --address", id="--address"),
-    pytest.param([*PLACE, "--rules", "by-key,whole"], 2, "serve/run: --rules by-key", id="--rules by-key"),
     pytest.param([*PLACE, "--rules", "whole"], 2, "serve/run: --rules: 'whole'", id="--rules"),
+    pytest.param([*PLACE, "--limit", "0"], 2, "serve/run: --limit", id="--limit"),
+    pytest.param([*PLACE, "--writable"], 2, "serve/run: --writable", id="--writable"),
     pytest.param([*PLACE, "--break-timer", "0"], 2, "serve/run: timers", id="--break-timer"),
     pytest.param([*PLACE, "--control", "77"], 2, "serve/run: --control", id="--control"),
     pytest.param([*PLACE, "--folder", "/nowhere"], 1, "serve/run: /nowhere", id="--folder"),
     pytest.param([*PLACE, "--record", "/nowhere/record"], 1, "serve/run: /nowhere/record", id="--record"),
-    pytest.param([*PLACE, "--leasecheck", "/nowhere/program"], 1, "serve/run: /nowhere/program", id="--leasecheck"),
+    pytest.param([*PLACE, "--record", "/dev/null", "--leasecheck", "/nowhere/program"], 1, "serve/run: /nowhere/program",
+                 id="--leasecheck"),
 ])
 def test_refused(program: str, words: list[str], status: int, beginning: str) -> None:
     done = run(program, *words)
@@ -91,14 +78,22 @@ def test_a_user_without_impacket(program: str) -> None:
 
 
 @needs.package("impacket")
-def test_want_of_memory(tmp_path: Path, connect: Connect) -> None:
-    """A machine that has no memory ends the server, with a line that says so, and nothing is answered in its place."""
-    server = ServerProcess(executable(tmp_path / "machine", FORGETFUL))
-    with pytest.raises(DriveFault):
-        connect(server)
-    wait_for_end(server)
+def test_want_of_memory(program: str, connect: Connect) -> None:
+    """Where the manager finds none all connections are cut, and all opens are gone; who comes then is served by a new manager."""
+    from tests.serve.wire_client import Closed, contexts_of  # pylint: disable=import-outside-toplevel
+    server = ServerProcess(program, interpreter=(*ODD, "forgetful"))
+    clients = [connect(server) for _ in range(3)]
+    clients[0].open(leased("file", KEY, "RWH", durable=True))
+    number = clients[1].send(create("file"))
+    assert clients[1].receive().status == Status.PENDING
+    clients[2].send(create("other"))
+    for client in clients:
+        with pytest.raises((Closed, ConnectionError)):
+            client.answer_to(number + 100)
+    one = connect(server)
+    assert CreateAnswer.read(contexts_of(one.ask(leased("file", KEY, "RWH")))).state == LeaseState.of("RWH")
     server.close()
-    assert (server.status, server.complaints.count("\n"), "fault memory" in server.complaints) == (1, 1, True)
+    assert (server.status, server.complaints.count("\n"), "no memory" in server.complaints) == (0, 1, True)
 
 
 def test_a_signal_ends_it(start: Start, connect: Connect, tmp_path: Path) -> None:
@@ -114,12 +109,9 @@ def test_a_signal_ends_it(start: Start, connect: Connect, tmp_path: Path) -> Non
     assert server.verdict == "safe"
 
 
-def test_a_machine_that_is_wrong(program: str, connect: Connect, tmp_path: Path) -> None:
+def test_a_manager_that_is_wrong(program: str, connect: Connect, tmp_path: Path) -> None:
     """Two clients that are both granted what one may have: the record breaks the first rule."""
-    wrong = executable(tmp_path / "wrong", f"""#!/bin/sh
-PYTHONPATH={TOP}:{TOP}/python exec {sys.executable} -m tests.serve.two_machines {program} "$@"
-""")
-    server = ServerProcess(wrong, str(tmp_path / "record"))
+    server = ServerProcess(program, str(tmp_path / "record"), interpreter=(*ODD, "wrong"))
     for key in (KEY, OTHER_KEY):
         connect(server).open(leased("file", key, "RWH"))
     server.close()
@@ -127,7 +119,8 @@ PYTHONPATH={TOP}:{TOP}/python exec {sys.executable} -m tests.serve.two_machines 
     assert (words[0], words[-1], server.status) == ("unsafe", "1", 3)
 
 
-@pytest.mark.parametrize("words, state", [([], "RH"), (["--rules", "by-client,whole"], "R")], ids=["as free", "whole"])
+@pytest.mark.parametrize("words, state", [([], "R"), (["--rules", "profile"], "RH"), (["--rules", "by-key,as-free"], "RH")],
+                         ids=["whole", "profile", "as free"])
 def test_how_a_lease_rises(start: Start, connect: Connect, words: list[str], state: str) -> None:
     """A lease of R whose client asks for RWH beside a lease of another."""
     from tests.serve.wire_client import contexts_of  # pylint: disable=import-outside-toplevel
@@ -139,13 +132,27 @@ def test_how_a_lease_rises(start: Start, connect: Connect, words: list[str], sta
     assert CreateAnswer.read(contexts_of(answer)).state == LeaseState.of(state)
 
 
-def test_a_folder_is_served(start: Start, connect: Connect, tmp_path: Path) -> None:
-    """Its files are there, and stay as they are."""
+@pytest.mark.parametrize("words, expected", [([], Status.SUCCESS), (["--rules", "profile"], Status.PENDING)],
+                         ids=["by key", "by client"])
+def test_which_requests_wait_for_one_another(start: Start, connect: Connect, words: list[str], expected: Status) -> None:
+    """A client's write under its lease, behind its create without one, which waits for that lease to break."""
+    one = connect(start(*words))
+    opened = one.open(leased("file", KEY, "RWH"))
+    waits, flush = one.send(create("file")), one.send(write(opened))
+    messages = [one.receive() for _ in range(3)]
+    assert {it.identifier: it.status for it in messages}[flush] == expected
+    one.ask(acknowledgment(KEY, "RH"))
+    assert one.answer_to(waits).status == Status.SUCCESS
+
+
+@pytest.mark.parametrize("words, content", [([], b"given"), (["--writable"], b"givbytes")], ids=["a copy", "the folder itself"])
+def test_a_folder_is_served(start: Start, connect: Connect, tmp_path: Path, words: list[str], content: bytes) -> None:
+    """Its files are there, and stay as they are where that isn't asked for."""
     (tmp_path / "below").mkdir()
     (tmp_path / "below/file").write_bytes(b"given")
-    one = connect(start("--folder", str(tmp_path)))
+    one = connect(start("--folder", str(tmp_path), *words))
     file_id = one.open(create("below\\file", disposition=1))
     assert one.ask(read(file_id)).data[80:] == b"given"
     assert one.status(write(file_id)) == Status.SUCCESS
     assert one.ask(read(file_id)).data[80:] == b"givbytes"
-    assert (tmp_path / "below/file").read_bytes() == b"given"
+    assert (tmp_path / "below/file").read_bytes() == content

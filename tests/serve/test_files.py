@@ -20,11 +20,18 @@ def end_of_file(message: Message) -> int:
     return message.number(112, 8)
 
 
-def test_an_overwrite_of_an_open_file_is_refused(served: ServerProcess, connect: Connect) -> None:
-    one = connect(served)
-    first = one.open(create("file"))
+def test_an_overwrite_of_an_open_file(served: ServerProcess, connect: Connect) -> None:
+    """It is a change as a write is: whoever caches the file gives up all of it, and then it ends at 0."""
+    one, other = connect(served), connect(served)
+    first = one.open(leased("file", KEY, "RWH"))
     one.ask(write(first))
-    assert one.status(create("file", disposition=OVERWRITE)) == Status.NOT_SUPPORTED
+    number = other.send(create("file", disposition=OVERWRITE))
+    assert (other.receive().status, one.receive().number(92, 4)) == (Status.PENDING, 3), "a break to RH"
+    assert one.status(write(first, 8, b" more")) == Status.SUCCESS
+    one.send(acknowledgment(KEY, "RH"))
+    assert end_of_file(other.answer_to(number)) == 0
+    assert [one.receive().command, one.receive().number(92, 4)] == [Command.OPLOCK_BREAK, 0], "the answer, and a break to none"
+    assert one.status(read(first)) == Status.END_OF_FILE
 
 
 def test_an_overwrite_that_is_refused_leaves_the_file(served: ServerProcess, connect: Connect) -> None:
@@ -126,7 +133,7 @@ def test_a_lease_beside_an_oplock(served: ServerProcess, connect: Connect, asked
     pytest.param(0x10000, Status.SHARING_VIOLATION, id="deleting"), pytest.param(0x80, Status.SUCCESS, id="attributes"),
 ])
 def test_sharing(shared: ServerProcess, connect: Connect, access: int, expected: Status) -> None:
-    """Reading and writing is shared by the machine's rules, deletion by the shell's. The first open shares reading alone."""
+    """Reading and writing is shared by the manager's rules, deletion by the shell's. The first open shares reading alone."""
     one, other = connect(shared), connect(shared)
     one.open(create("file", access=0x120089, share=1))
     assert other.status(create("file", access=access, share=7)) == expected

@@ -63,10 +63,10 @@ def test_a_durable_open_that_was_connected_again_goes_with_its_tree(served: Serv
     assert granted_alone(one) == LeaseState.of("RWH")
 
 
-def test_clients_of_the_machine_are_free_again(served: ServerProcess, connect: Connect) -> None:
-    """Each oplock is a client of the machine, of which there are 255: those that are granted too late are given back."""
+def test_oplocks_that_are_granted_too_late(served: ServerProcess, connect: Connect) -> None:
+    """Each oplock is a client of the manager, which goes with it."""
     one, other = connect(served), connect(served)
-    for _ in range(260):
+    for _ in range(30):
         held = one.open(leased("file", KEY, "RWH"))
         number = other.send(create("file", level=BATCH))
         assert other.receive().status == Status.PENDING

@@ -1,73 +1,130 @@
-"""Limits, and what is answered past them."""
+"""Limits, what is answered past them, and what has none."""
 from __future__ import annotations
 
 import struct
 import uuid
+from pathlib import Path
+from typing import TYPE_CHECKING
 
 import pytest
-from smblease import Status
+from smblease import CreateAnswer, LeaseState, Status
 
-from drive.faults import DriveFault
+from drive.headers import Message
 from serve.create_parameters import DELETE_ON_CLOSE, OVERWRITE_IF
 from serve.server_process import ServerProcess
-from tests.serve.conftest import Connect
+from tests.serve.conftest import Connect, Start
 from tests.serve.requests import KEY, close, create, frame, header, leased, read, set_info, write
 
-LARGEST_FILE = 1048576
+if TYPE_CHECKING:
+    from tests.serve.wire_client import WireClient
+
+DELETING = 0x13019F
+
+LIMIT = 1048576
 END_OF_FILE = 20
+MANY = 300
 
 
-def test_names(served: ServerProcess, connect: Connect) -> None:
-    """255 names, and no 256th; a name that is deleted with nothing written makes room."""
+def contexts(message: Message) -> bytes:
+    from tests.serve.wire_client import contexts_of  # pylint: disable=import-outside-toplevel
+    return contexts_of(message)
+
+
+def read_from(client: "WireClient", file_id: int, offset: int, length: int) -> bytes:
+    """A READ with as many credits as it needs."""
+    command, body = read(file_id, length)
+    first = bytearray(header(command, client.number, client.session, client.tree))
+    first[6:8] = (-(-length // 65536)).to_bytes(2, "little")
+    client.stream.sendall(frame(bytes(first) + body[:8] + struct.pack("<Q", offset) + body[16:]))
+    number, client.number = client.number, client.number + -(-length // 65536)
+    return client.answer_to(number).data[80:]
+
+
+def test_many_names(served: ServerProcess, connect: Connect) -> None:
+    """More than a byte counts, open at once; each has its own bytes."""
     one = connect(served)
-    first = one.open(create("name-0", access=0x13019F, options=DELETE_ON_CLOSE))
-    assert [one.status(create(f"name-{number}")) for number in range(1, 255)] == [Status.SUCCESS] * 254
-    assert one.status(create("name-255")) == Status.INSUFFICIENT_RESOURCES
-    assert one.status(close(first)) == Status.SUCCESS
-    assert one.status(create("name-255")) == Status.SUCCESS
+    opens = [one.open(create(f"name-{number}", access=DELETING)) for number in range(MANY)]
+    assert {one.status(write(it, 0, f"{place:03}".encode())) for place, it in enumerate(opens)} == {Status.SUCCESS}
+    assert [one.ask(read(it)).data[80:] for it in opens] == [f"{number:03}".encode() for number in range(MANY)]
 
 
-def test_bytes_of_a_file(served: ServerProcess, connect: Connect) -> None:
-    one = connect(served)
+def test_the_limit_of_a_file(start: Start, connect: Connect) -> None:
+    one = connect(start("--limit", str(LIMIT)))
     file_id = one.open(create("file"))
     one.ask(write(file_id, 0, b"x"))
-    assert one.status(write(file_id, LARGEST_FILE - 1, b"y")) == Status.SUCCESS
-    assert one.status(write(file_id, LARGEST_FILE, b"z")) == Status.INVALID_PARAMETER
+    assert one.status(write(file_id, LIMIT - 1, b"y")) == Status.SUCCESS
+    assert one.status(write(file_id, LIMIT, b"z")) == Status.INVALID_PARAMETER
     assert one.status(write(file_id, 1 << 40, b"z")) == Status.INVALID_PARAMETER
-    command, body = read(file_id, LARGEST_FILE)
-    charge = LARGEST_FILE // 65536
-    first = bytearray(header(command, one.number, one.session, one.tree))
-    first[6:8] = charge.to_bytes(2, "little")
-    one.stream.sendall(frame(bytes(first) + body))
-    whole = one.answer_to(one.number).data[80:]
-    assert (len(whole), whole[:2], whole[-2:]) == (LARGEST_FILE, b"x\0", b"\0y")
+    assert one.status(set_info(file_id, END_OF_FILE, struct.pack("<Q", LIMIT + 1))) == Status.INVALID_PARAMETER
+    whole = read_from(one, file_id, 0, LIMIT)
+    assert (len(whole), whole[:2], whole[-2:]) == (LIMIT, b"x\0", b"\0y")
 
 
-@pytest.mark.parametrize("size, expected", [
-    pytest.param(10, Status.SUCCESS, id="up"), pytest.param(8, Status.SUCCESS, id="the_same"),
-    pytest.param(7, Status.NOT_SUPPORTED, id="down"), pytest.param(1 << 21, Status.INVALID_PARAMETER, id="past_the_limit"),
+def test_a_large_file(start: Start, connect: Connect, tmp_path: Path) -> None:
+    """Bytes far behind what counts in 32 bits are written and read where they stand; between them is a hole."""
+    one, place = connect(start("--folder", str(tmp_path), "--writable")), (1 << 33) + 5
+    file_id = one.open(create("file"))
+    assert one.status(write(file_id, place, b"far")) == Status.SUCCESS
+    assert read_from(one, file_id, place - 2, 100) == b"\0\0far"
+    assert (tmp_path / "file").stat().st_size == place + 3
+
+
+@pytest.mark.parametrize("size, content", [
+    pytest.param(10, b"\0\0\0bytes\0\0", id="up"), pytest.param(8, b"\0\0\0bytes", id="the_same"),
+    pytest.param(5, b"\0\0\0by", id="down"), pytest.param(1 << 33, b"\0\0\0bytes" + bytes(92), id="far_up"),
 ])
-def test_the_end_of_a_file(served: ServerProcess, connect: Connect, size: int, expected: Status) -> None:
+def test_the_end_of_a_file(served: ServerProcess, connect: Connect, size: int, content: bytes) -> None:
     one = connect(served)
     file_id = one.open(create("file"))
     one.ask(write(file_id))
-    assert one.status(set_info(file_id, END_OF_FILE, struct.pack("<Q", size))) == expected
+    assert one.status(set_info(file_id, END_OF_FILE, struct.pack("<Q", size))) == Status.SUCCESS
+    assert one.ask(read(file_id)).data[80:] == content
 
 
-def test_clients(served: ServerProcess, connect: Connect) -> None:
-    """255 clients, and no 256th while each of them is there."""
-    there = [connect(served, uuid.UUID(int=number + 1).bytes) for number in range(255)]
-    with pytest.raises(DriveFault, match="INSUFFICIENT_RESOURCES|INSUFF_SERVER_RESOURCES"):
-        connect(served, b"3" * 16)
-    there.pop().close()
-    connect(served, b"4" * 16)
+def test_the_end_of_a_file_that_others_cache(served: ServerProcess, connect: Connect) -> None:
+    """They give up what they cache, as for a write."""
+    one, other = connect(served), connect(served)
+    other.open(leased("file", KEY, "R"))
+    file_id = one.open(create("file"))
+    one.ask(write(file_id))
+    assert other.receive().number(92, 4) == 0
+    other.open(leased("file", KEY, "R"))
+    assert one.status(set_info(file_id, END_OF_FILE, struct.pack("<Q", 1))) == Status.SUCCESS
+    assert other.receive().number(92, 4) == 0
+
+
+def test_many_clients(served: ServerProcess, connect: Connect) -> None:
+    """More than a byte counts, all connected, each with a lease."""
+    keys = [uuid.UUID(int=number + 1) for number in range(MANY)]
+    there = [connect(served, key.bytes) for key in keys]
+    states = {CreateAnswer.read(contexts(it.ask(leased(f"file-{key.int}", key, "RWH")))).state for it, key in zip(there, keys)}
+    assert states == {LeaseState.of("RWH")}
+
+
+def test_a_record_of_more_than_it_can_hold(start: Start, connect: Connect, tmp_path: Path) -> None:
+    """Clients and files past the 255th, and writes past 1,048,576 bytes, are counted at its end; it is judged."""
+    server = start("--folder", str(tmp_path), "--writable", record=tmp_path.parent / f"{tmp_path.name}.record")
+    (tmp_path / "long").write_bytes(bytes(LIMIT + 1))
+    one = connect(server)
+    one.ask(write(one.open(leased("long", KEY, "RWH")), 0, b"x"))
+    one.ask(write(one.open(create("file")), LIMIT, b"x"))
+    for number in range(MANY):
+        one.ask(close(one.open(create(f"name-{number}"))))
+    for _ in range(256):
+        connect(server).close()
+    server.close()
+    lines = (tmp_path.parent / f"{tmp_path.name}.record").read_text(encoding="utf-8").splitlines()
+    assert lines[-3:] == ["# left out: 2 clients past number 255",
+                          "# left out: 48 files past number 255, or of more than 1048576 bytes",
+                          "# left out: 1 writes past 1048576 bytes"]
+    assert server.verdict == "safe"
 
 
 def test_names_that_come_and_go(served: ServerProcess, connect: Connect) -> None:
-    """255 files are the most at a time, and not ever: files that are written to and deleted make room, and begin empty."""
+    """Files that are written to and deleted are gone, and their names begin empty."""
     one = connect(served)
-    for number in range(300):
-        file_id = one.open(create(f"name-{number % 7}", access=0x13019F, options=DELETE_ON_CLOSE))
+    for number in range(MANY):
+        file_id = one.open(create(f"name-{number % 7}", access=DELETING, options=DELETE_ON_CLOSE))
         assert one.status(write(file_id, 3, b"bytes")) == Status.SUCCESS, number
         assert one.ask(read(file_id)).data[80:] == b"\0\0\0bytes", number
         assert one.status(close(file_id)) == Status.SUCCESS
@@ -83,15 +140,3 @@ def test_a_name_that_is_overwritten(served: ServerProcess, connect: Connect) -> 
         assert one.status(write(file_id, 300 - number, b"x")) == Status.SUCCESS, number
         assert one.ask(read(file_id, 4096)).data[80:] == bytes(300 - number) + b"x", number
         assert one.status(close(file_id)) == Status.SUCCESS
-
-
-def test_a_file_of_a_number_that_was_used_before_opens_under_a_lease(served: ServerProcess, connect: Connect) -> None:
-    """What is read is what was written since, by another client too."""
-    one, other = connect(served), connect(served)
-    for number in range(260):
-        one.ask(close(one.open(create("name", disposition=OVERWRITE_IF))))
-        file_id = one.open(leased("name", KEY, "RWH"))
-        assert one.status(write(file_id, 0, f"{number:05}".encode())) == Status.SUCCESS, number
-        one.ask(close(file_id))
-    file_id = other.open(create("name"))
-    assert other.ask(read(file_id)).data[80:] == b"00259"

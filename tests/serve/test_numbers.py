@@ -13,8 +13,8 @@ from tests.serve.requests import Body, create, lock, query_directory, query_info
 
 ALLOCATION, END_OF_FILE, POSITION, BASIC = 19, 20, 14, 4
 ALL_INFORMATION = 18
-LARGEST_FILE = 1048576
-HUGE = [LARGEST_FILE + 1, 1 << 32, 1 << 63, (1 << 64) - 1]
+# What the disk counts places with is of 63 bits.
+HUGE = [(1 << 63) - 1, 1 << 63, (1 << 64) - 1]
 
 
 def allocated(size: int, disposition: int = 3) -> Body:
@@ -45,7 +45,7 @@ def test_a_size_that_a_create_asks_for(shared: ServerProcess, connect: Connect, 
     check_all_is_well(shared, connect)
 
 
-@pytest.mark.parametrize("size", [0, 1, 4096, 4097, LARGEST_FILE])
+@pytest.mark.parametrize("size", [0, 1, 4096, 4097, 1 << 20, 1 << 40])
 def test_a_size_that_a_file_has(served: ServerProcess, connect: Connect, size: int) -> None:
     """It is told in units of 4,096 bytes."""
     one = connect(served)

@@ -17,9 +17,8 @@ from tests.serve.test_command_line import BARE
 TORTURED = ["smb2.lease.request", "smb2.lease.upgrade", "smb2.lease.upgrade2", "smb2.lease.statopen3", "smb2.lease.rename_wait",
             "smb2.lease.duplicate_open", "smb2.durable-open.reopen1a-lease", "smb2.durable-open.delete_on_close1",
             "smb2.durable-open.lock-lease", "smb2.durable-open.oplock", "smb2.durable-open.reopen2-lease", "smb2.lease.complex1",
-            "smb2.lease.timeout-disconnect"]
-APART = "smb2.lease.breaking1"
-WHOLE = ["smb2.lease.break", "smb2.lease.upgrade3"]
+            "smb2.lease.timeout-disconnect", "smb2.lease.breaking1", "smb2.lease.breaking6", "smb2.lease.upgrade3",
+            "smb2.durable-open.read-only"]
 USER = "somebody%secret"
 
 
@@ -37,8 +36,8 @@ def ended(client: "subprocess.Popen[str]") -> tuple[int, str]:
 
 @needs.program("smbtorture")
 @pytest.mark.parametrize("name, words, interpreter", [
-    *(pytest.param(it, [], (), id=it) for it in TORTURED), pytest.param(APART, ["--apart"], (), id=f"{APART}-apart"),
-    *(pytest.param(it, ["--rules", "by-client,whole"], (), id=f"{it}-whole") for it in WHOLE),
+    *(pytest.param(it, [], (), id=it) for it in TORTURED),
+    pytest.param("smb2.lease.upgrade3", ["--rules", "by-client,whole"], (), id="smb2.lease.upgrade3-by_client"),
     pytest.param(TORTURED[0], [], BARE, id=f"{TORTURED[0]}-standard_library_alone"),
 ])
 def test_smbtorture(program: str, name: str, words: list[str], interpreter: tuple[str, ...]) -> None:
