@@ -124,11 +124,14 @@ class Disk:
                 os.unlink(name.encode(), dir_fd=place)
 
     def rename(self, old: str, new: str, identity: tuple[int, int]) -> None:
-        """Puts a file or a folder, as long as it is what it was, in the place of another name, whose file goes."""
+        """Puts a file or a folder, as long as it is what it was, in the place of another name, whose file goes. What isn't served
+        stays."""
         (old_folder, old_name), (new_folder, new_name) = split(old), split(new)
         with self.within(old_folder) as source, self.within(new_folder) as target:
             if not _is_same(source, old_name, identity):
                 raise FileNotFoundError(errno.ENOENT, "another file has the name by now")
+            if _is_there(target, new_name) and stat_in(target, new_name) is None:
+                raise FileExistsError(errno.EEXIST, "what has the name isn't served")
             os.rename(old_name.encode(), new_name.encode(), src_dir_fd=source, dst_dir_fd=target)
 
     def may_change(self, path: str) -> bool:
@@ -169,6 +172,14 @@ def stat_in(folder: int, name: str) -> os.stat_result | None:
 def _is_same(folder: int, name: str, identity: tuple[int, int]) -> bool:
     found = stat_in(folder, name)
     return found is not None and (found.st_dev, found.st_ino) == identity
+
+
+def _is_there(folder: int, name: str) -> bool:
+    try:
+        os.stat(name.encode(), dir_fd=folder, follow_symlinks=False)
+    except FileNotFoundError:
+        return False
+    return True
 
 
 def _plain(descriptor: int) -> int:
