@@ -3,6 +3,7 @@ from __future__ import annotations
 
 from dataclasses import dataclass
 from enum import IntEnum
+from functools import cached_property
 
 HEADER = 64
 UNASKED = 0xFFFFFFFFFFFFFFFF
@@ -33,6 +34,7 @@ class Command(IntEnum):
     OPLOCK_BREAK = 18
 
 
+COMMANDS = {int(it): it for it in Command}
 # where a request has its FileId
 FILE_IDS = {Command.CLOSE: 72, Command.FLUSH: 72, Command.READ: 80, Command.WRITE: 80, Command.LOCK: 72, Command.IOCTL: 72,
             Command.QUERY_DIRECTORY: 72, Command.CHANGE_NOTIFY: 72, Command.QUERY_INFO: 88, Command.SET_INFO: 80}
@@ -67,7 +69,9 @@ class Message:
             raise Unreadable
 
     def number(self, place: int, size: int) -> int:
-        return int.from_bytes(self.part(place, size), "little")
+        if place + size > len(self.data):
+            raise Unreadable
+        return int.from_bytes(self.data[place:place + size], "little")
 
     def part(self, place: int, length: int) -> bytes:
         if place + length > len(self.data):
@@ -77,10 +81,9 @@ class Message:
     def text(self, place: int, length: int) -> str:
         return self.part(place, length).decode("utf-16le", errors="replace")
 
-    @property
+    @cached_property
     def command(self) -> Command | None:
-        code = self.number(12, 2)
-        return Command(code) if code <= Command.OPLOCK_BREAK else None
+        return COMMANDS.get(self.number(12, 2))
 
     @property
     def name(self) -> str:

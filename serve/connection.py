@@ -25,6 +25,8 @@ LOG = logging.getLogger("serve")
 # Past so many bytes that a client hasn't read its requests wait; it is closed past more of them, or where all have too many.
 UNREAD, MOST_UNREAD, MOST_UNREAD_OF_ALL = 1 << 20, 1 << 24, 1 << 27
 MOST_PENDING = 512
+# So many answers go in one piece, if none of them is large.
+MOST_TOGETHER, LARGE = 32, 4096
 OLD_PROTOCOL = b"\xffSMB"
 OLD_NEGOTIATE = 0x72
 
@@ -84,7 +86,7 @@ class Chain:
         if message.command is Command.CREATE and answer.status >> 30 == 3:
             self._failed = answer.status
         self._responses.append(self._connection.response(pending, answer, self._session, self._tree))
-        if sum(len(it.body) for it in self._responses) > UNREAD:
+        if sum(it.length for it in self._responses) > UNREAD:
             self.send()
         self._is_waiting = False
         # The last answer goes at once: what is decided next may be for the same client.
@@ -106,7 +108,8 @@ class Connection(asyncio.Protocol):
         self._transport = asyncio.Transport()
         self._frames = Frames()
         self._credits = Credits()
-        self._is_unread = False
+        self._is_unread = self._is_taking = False
+        self._outgoing: list[bytes] = []
         self._pending: dict[int, Pending] = {}
 
     @property
@@ -145,7 +148,8 @@ class Connection(asyncio.Protocol):
         self._take_frames()
 
     def _take_frames(self) -> None:
-        """What came, as long as the client reads what it is answered."""
+        """What came, as long as the client reads what it is answered. Small answers go together."""
+        self._is_taking = True
         try:
             while self.is_open and not self._is_unread:
                 frame = self._frames.next(LONGEST_FRAME if self.client else LONGEST_WITHOUT_SESSION)
@@ -153,7 +157,11 @@ class Connection(asyncio.Protocol):
                     break
                 self._take(frame)
         except Unreadable:
+            self._flush()
             self.close()
+        finally:
+            self._is_taking = False
+            self._flush()
 
     def _take(self, frame: bytes) -> None:
         if frame[:4] == OLD_PROTOCOL:
@@ -175,7 +183,8 @@ class Connection(asyncio.Protocol):
         """A request without its credits ends the connection (3.3.5.2.3), and so does one before NEGOTIATE."""
         is_early = self.guid is None and message.command is not Command.NEGOTIATE
         is_free = message.command is Command.CANCEL
-        if message.is_from_server or not is_free and (is_early or not self._credits.take(message.identifier, message.charge)):
+        if message.is_from_server or not is_free and (
+                is_early or not self._credits.take(message.identifier, max(1, message.charge))):
             raise Unreadable
 
     def _old_negotiate(self, frame: bytes) -> None:
@@ -214,8 +223,9 @@ class Connection(asyncio.Protocol):
     def _answered(self, pending: Pending, answer: Answer) -> None:
         message = pending.request.message
         self._pending.pop(message.identifier, None)
-        LOG.debug("client %s: %s %d: %s", self.client.number if self.client else "-", message.name, message.identifier,
-                  answer.status.name)
+        if LOG.isEnabledFor(logging.DEBUG):
+            LOG.debug("client %s: %s %d: %s", self.client.number if self.client else "-", message.name, message.identifier,
+                      answer.status.name)
         pending.is_answered = True
         if self.is_open:
             pending.chain.answered(pending, answer)
@@ -227,7 +237,7 @@ class Connection(asyncio.Protocol):
         granted = self._credits.grant(message.credits_asked) if pending.async_id is None else 0
         flags = FROM_SERVER | (message.flags & 4)
         return Response(message.number(12, 2), answer.status, message.identifier, granted, session, tree, answer.body,
-                        message.number(6, 2), flags, pending.async_id, key)
+                        answer.data, message.charge, flags, pending.async_id, key)
 
     def send_interim_response(self, pending: Pending) -> None:
         """STATUS_PENDING, for a request that waits (3.3.4.2)."""
@@ -260,9 +270,15 @@ class Connection(asyncio.Protocol):
         self.send(framed([Response(Command.OPLOCK_BREAK, Status.SUCCESS, NOTIFICATION, 0, 0, 0, body)]))
 
     def send(self, data: bytes) -> None:
-        if not self.is_open or self._transport.is_closing():
+        self._outgoing.append(data)
+        if not self._is_taking or len(self._outgoing) == MOST_TOGETHER or len(data) > LARGE:
+            self._flush()
+
+    def _flush(self) -> None:
+        outgoing, self._outgoing = self._outgoing, []
+        if not outgoing or not self.is_open or self._transport.is_closing():
             return
-        self._transport.write(data)
+        self._transport.write(b"".join(outgoing) if len(outgoing) > 1 else outgoing[0])
         unread = self.unread
         if unread > MOST_UNREAD or unread > UNREAD and sum(it.unread for it in self.server.connections) > MOST_UNREAD_OF_ALL:
             self.server.loop.call_soon(self.close)

@@ -8,10 +8,12 @@ from dataclasses import dataclass, field
 
 from smblease import Status
 
-from drive.headers import ASYNC, FROM_SERVER, HEADER, RELATED, Command, Field, Message, Unreadable
+from drive.headers import ASYNC, COMMANDS, FROM_SERVER, HEADER, RELATED, Command, Field, Message, Unreadable
 from drive.packets import PROTOCOL
 
 HEAD = struct.Struct("<4sHHLHHLLQQQ16s")
+# Of a request's header what follows its StructureSize, but for the signature.
+FIXED = struct.Struct("<HLHHLLQLLQ")
 ERROR_BODY = struct.pack("<HBBL", 9, 0, 0, 0) + b"\0"
 SIGNED = 8
 # The most that is read or written at once; and what a frame may hold, which has room for headers and contexts too.
@@ -30,11 +32,14 @@ SIZES = {Command.NEGOTIATE: 36, Command.SESSION_SETUP: 25, Command.LOGOFF: 4, Co
 class RequestMessage(Message):
     """A request; its fields are read at their places from the header's first byte."""
 
-    credits_asked = Field(14, 2)
+    charge, credits_asked = Field(6, 2), Field(14, 2)
 
-    @property
-    def charge(self) -> int:
-        return max(1, self.number(6, 2))
+    def __post_init__(self) -> None:
+        """What every request is asked for is read once."""
+        super().__post_init__()
+        charge, _, code, credits_asked, flags, _, identifier, _, tree, session = FIXED.unpack_from(self.data, 6)
+        self.__dict__.update(charge=charge, command=COMMANDS.get(code), credits_asked=credits_asked, flags=flags,
+                             identifier=identifier, tree=tree, session=session)
 
     @property
     def is_related(self) -> bool:
@@ -52,6 +57,13 @@ class RequestMessage(Message):
         """Bytes that lie where a field of two bytes says."""
         return self.part(self.number(offset_place, 2), length) if length else b""
 
+    def view(self, offset_place: int, length: int) -> memoryview:
+        """The same, where the message has them."""
+        place = self.number(offset_place, 2)
+        if length and place + length > len(self.data):
+            raise Unreadable
+        return memoryview(self.data)[place:place + length]
+
     def check_size(self) -> None:
         """The StructureSize has to be that of the command. The messages of OPLOCK_BREAK have several."""
         if self.command in SIZES and self.number(HEADER, 2) != SIZES[self.command]:
@@ -64,6 +76,8 @@ class Answer:
 
     status: Status
     body: bytes = ERROR_BODY
+    # what follows the body, as the bytes of a file
+    data: bytes = b""
     # what the answer says of session, tree and open where the request didn't
     session: int | None = None
     tree: int | None = None
@@ -82,16 +96,21 @@ class Response:
     session: int
     tree: int
     body: bytes
+    data: bytes = b""
     charge: int = 0
     flags: int = FROM_SERVER
     async_id: int | None = None
     key: bytes | None = field(default=None, repr=False)
 
-    def packed(self, following: int) -> bytes:
+    @property
+    def length(self) -> int:
+        return HEADER + len(self.body) + len(self.data)
+
+    def header(self, following: int) -> bytes:
         flags = self.flags | (ASYNC if self.async_id is not None else 0) | (SIGNED if self.key else 0)
         place = self.async_id if self.async_id is not None else self.tree << 32
         return HEAD.pack(PROTOCOL, HEADER, self.charge, self.status, self.command, self.credits, flags, following,
-                         self.message, place, self.session, bytes(16)) + self.body
+                         self.message, place, self.session, bytes(16))
 
 
 def signed(data: bytes, key: bytes) -> bytes:
@@ -102,14 +121,14 @@ def signed(data: bytes, key: bytes) -> bytes:
 
 def framed(responses: list[Response]) -> bytes:
     """A frame of one message, or of a compound whose messages begin at multiples of eight."""
-    text = b""
+    parts = [b""]
     for place, response in enumerate(responses, 1):
-        data = response.packed(0)
-        if place < len(responses):
-            length = len(data) + -len(data) % 8
-            data = response.packed(length).ljust(length, b"\0")
-        text += signed(data, response.key) if response.key else data
-    return struct.pack(">L", len(text)) + text
+        padding = -response.length % 8 if place < len(responses) else 0
+        following = response.length + padding if place < len(responses) else 0
+        message = [response.header(following), response.body, response.data, bytes(padding)]
+        parts += [signed(b"".join(message), response.key)] if response.key else message
+    parts[0] = struct.pack(">L", sum(map(len, parts)))
+    return b"".join(parts)
 
 
 def split_compound(frame: bytes, most: int = MOST_IN_FRAME) -> list[RequestMessage]:
@@ -145,7 +164,8 @@ class Frames:
             raise Unreadable
         if len(self._bytes) < 4 + length:
             return None
-        frame = bytes(self._bytes[4:4 + length])
+        with memoryview(self._bytes) as whole:
+            frame = bytes(whole[4:4 + length])
         del self._bytes[:4 + length]
         return frame
 

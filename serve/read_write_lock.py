@@ -58,12 +58,12 @@ class ReadWriteLock(Handlers):
         if length and len(data) < max(1, least):
             raise StatusError(Status.END_OF_FILE)
         opened.position = offset + len(data)
-        return Answer(Status.SUCCESS, struct.pack("<HBBLLL", 17, HEADER + 16, 0, len(data), 0, 0) + (data or b"\0"))
+        return Answer(Status.SUCCESS, struct.pack("<HBBLLL", 17, HEADER + 16, 0, len(data), 0, 0), data or b"\0")
 
     def write(self, request: Request) -> Handling:
         message = request.message
         length, offset = message.number(HEADER + 4, 4), message.number(HEADER + 8, 8)
-        data = message.buffer(HEADER + 2, length)
+        data = message.view(HEADER + 2, length)
         if length > LONGEST_TRANSFER:
             raise StatusError(Status.INVALID_PARAMETER)
         fits = offset + length <= self._server.settings.limit

@@ -69,18 +69,20 @@ class Record:
         if self._has(client, node):
             self.fact(out_words(Opened(node.number, client.number)))
 
-    def wrote(self, client: ManagerClient, node: Node, number: int, offset: int, data: bytes) -> None:
+    def wrote(self, client: ManagerClient, node: Node, number: int, offset: int,
+              data: bytes | memoryview) -> None:
         """A write that is asked for."""
         if self._has(client, node):
             if offset + len(data) <= LARGEST_FILE:
-                self.fact(note_words(client.number, Wrote(node.number, number, offset, data, buffered=False)))
+                self.fact(note_words(client.number, Wrote(node.number, number, offset, bytes(data), buffered=False)))
             else:
                 self._writes += 1
 
-    def changed(self, client: ManagerClient, node: Node, number: int, offset: int, data: bytes) -> None:
+    def changed(self, client: ManagerClient, node: Node, number: int, offset: int,
+                data: bytes | memoryview) -> None:
         """A write that is done."""
         if self._has(client, node) and offset + len(data) <= LARGEST_FILE:
-            self.fact(out_words(Changed(node.number, client.number, number, offset, data)))
+            self.fact(out_words(Changed(node.number, client.number, number, offset, bytes(data))))
 
     def cut_off(self, node: Node, size: int) -> None:
         """No fact of a record makes a file shorter."""
