@@ -42,7 +42,15 @@ class Acknowledging:
     message: Acknowledgment | None
 
 
-Waits = Generator[Union[Asked, Acknowledging], Any, Found]
+@dataclass(frozen=True)
+class Meanwhile:
+    """What takes its time on another thread, and changes nothing that anybody sees."""
+
+    work: Callable[[], None]
+
+
+Yielded = Union[Asked, Acknowledging, Meanwhile]
+Waits = Generator[Yielded, Any, Found]
 Handling = Waits[Answer]
 Steps = Waits[None]
 

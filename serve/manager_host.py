@@ -1,6 +1,7 @@
 """The proved manager of leases, and what is made of its decisions: each is carried out before the next one, in the order told."""
 from __future__ import annotations
 
+import asyncio
 import itertools
 from collections import deque
 from collections.abc import Callable
@@ -13,7 +14,7 @@ from smblease.manager_decisions import (Acknowledged, Breaks, Closed, Decision, 
                                         Refused, Waits, Withdrawn)
 
 from drive.headers import Unreadable
-from serve.asks import Acknowledging, Asked, Handling, Steps
+from serve.asks import Acknowledging, Asked, Handling, Meanwhile, Steps, Yielded
 from serve.disk_status import status_of
 from serve.packets import Answer
 from serve.status_error import RefusedByManager, StatusError
@@ -161,7 +162,7 @@ class ManagerHost:
 
     # Tasks
 
-    def _go(self, task: Task, step: Callable[[], Asked | Acknowledging]) -> None:
+    def _go(self, task: Task, step: Callable[[], Yielded]) -> None:
         try:
             asked = step()
         except StopIteration as stop:
@@ -179,8 +180,11 @@ class ManagerHost:
         else:
             self._ask(task, asked)
 
-    def _ask(self, task: Task, asked: Asked | Acknowledging) -> None:
+    def _ask(self, task: Task, asked: Yielded) -> None:
         """What comes of a client that isn't connected is dropped, and nothing is decided."""
+        if isinstance(asked, Meanwhile):
+            self._wait_for(task, asked)
+            return
         is_decided = self._acknowledge(task, asked) if isinstance(asked, Acknowledging) else self._put(task, asked)
         if not is_decided and not task.is_over:
             if task.asked:
@@ -201,6 +205,20 @@ class ManagerHost:
                                  else manager.acknowledge_malformed(client))
         self._decisions.extend((it, None if place else task) for place, it in enumerate(decisions))
         return bool(decisions)
+
+    def _wait_for(self, task: Task, asked: Meanwhile) -> None:
+        task.asked = None
+
+        def done(future: asyncio.Future[None]) -> None:
+            fault = future.exception()
+            if fault is None:
+                self._send(task, None)
+            elif isinstance(fault, OSError):
+                self._refuse(task, StatusError(status_of(fault)))
+            else:
+                raise fault
+            self._server.settle()
+        self._server.loop.run_in_executor(None, asked.work).add_done_callback(done)
 
     def _taken(self, client: int, tag: int) -> Task | None:
         tasks = self._waiting.get(client, {})

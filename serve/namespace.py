@@ -87,7 +87,7 @@ class Namespace:
     def _warn(self, name: bytes) -> None:
         if name not in self._left_out and len(self._left_out) < MOST_WARNINGS:
             self._left_out.add(name)
-            LOG.warning("%s: a name that can't be sent, which is left out", name.decode("utf-8", errors="backslashreplace"))
+            LOG.warning("%s: a name that can't be sent, which is left out", ascii(name)[2:-1])
 
     @staticmethod
     def has_below(folder: Node) -> bool:

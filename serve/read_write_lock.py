@@ -4,12 +4,13 @@ from __future__ import annotations
 import os
 import struct
 from collections.abc import Callable
+from functools import partial
 
 from smblease import Manager, Status
 from smblease.manager_decisions import Decisions
 
 from drive.headers import HEADER
-from serve.asks import Handling, Waits, closing, reading, refused, writing
+from serve.asks import Handling, Meanwhile, Waits, closing, reading, refused, writing
 from serve.attributes import attributes_of
 from serve.disk_bytes import LARGEST, read_bytes, write_bytes
 from serve.opens import Lock, ManagerClient, Open, reads, writes
@@ -39,10 +40,11 @@ class ReadWriteLock(Handlers):
             let_go()
         return Answer(Status.SUCCESS, struct.pack("<HHL", 60, flags, 0) + attributes)
 
-    def flush(self, request: Request) -> Answer:
+    def flush(self, request: Request) -> Handling:
+        """Others are served while the disk writes."""
         opened = request.open()
         if opened.node.is_writable:
-            os.fsync(opened.node.file)
+            yield Meanwhile(partial(_sync, os.dup(opened.node.file)))
         return Answer(Status.SUCCESS, struct.pack("<HH", 4, 0))
 
     def read(self, request: Request) -> Handling:
@@ -117,6 +119,13 @@ class ReadWriteLock(Handlers):
                 raise StatusError(Status.INSUFFICIENT_RESOURCES)
             yield from self._server.forced_breaks.break_all(request, opened, lambda: _take_locks(opened, wanted))
         return Answer(Status.SUCCESS, struct.pack("<HH", 4, 0))
+
+
+def _sync(descriptor: int) -> None:
+    try:
+        os.fsync(descriptor)
+    finally:
+        os.close(descriptor)
 
 
 def _take_locks(opened: Open, wanted: list[tuple[Lock, int]]) -> None:

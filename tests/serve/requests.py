@@ -58,6 +58,10 @@ def close(file_id: int) -> Body:
     return Command.CLOSE, struct.pack("<HHL16s", 24, 1, 0, wire(file_id))
 
 
+def flush(file_id: int) -> Body:
+    return Command.FLUSH, struct.pack("<HHL16s", 24, 0, 0, wire(file_id))
+
+
 def lock(file_id: int, flags: int = 2 | 16, offset: int = 0, length: int = 1, more: Sequence[int] = ()) -> Body:
     """A lock of a range, and of more of this length."""
     ranges = b"".join(struct.pack("<QQLL", it, length, flags, 0) for it in (offset, *more))
@@ -94,7 +98,7 @@ def on_open(file_id: int) -> list[Body]:
     """A request of each kind for an open file."""
     of_file = wire(file_id)
     return [
-        write(file_id), read(file_id), (Command.FLUSH, struct.pack("<HHL16s", 24, 0, 0, of_file)), lock(file_id),
+        write(file_id), read(file_id), flush(file_id), lock(file_id),
         query_info(file_id, 18),
         set_info(file_id, 20, struct.pack("<Q", 100)), rename(file_id, NEW_NAME),
         set_info(file_id, 4, struct.pack("<QQQQLL", 1, 2, 3, 4, 0x20, 0)), query_directory(file_id),

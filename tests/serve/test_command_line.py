@@ -23,7 +23,7 @@ PLACE = ["--port", "0", "--share", "s"]
 # Python with the standard library alone: no folder of packages is looked into.
 BARE = (sys.executable, "-I", "-S")
 NO_IMPACKET = "serve/run: --user needs impacket, which can't be imported (tools/setup installs it); guests don't need it\n"
-ODD = (sys.executable, str(TOP / "tests/serve/odd_managers.py"))
+ODD = (sys.executable, str(TOP / "tests/serve/odd_servers.py"))
 
 
 def run(program: str, *words: str, interpreter: tuple[str, ...] = ()) -> "subprocess.CompletedProcess[str]":

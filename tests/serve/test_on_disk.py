@@ -4,6 +4,7 @@ from __future__ import annotations
 import os
 import struct
 import sys
+import time
 from pathlib import Path
 from typing import TYPE_CHECKING
 
@@ -14,9 +15,10 @@ from drive.headers import Command, Message
 from serve.create_parameters import CREATE, DELETE_ON_CLOSE, DIRECTORY_FILE, OPEN, OVERWRITE
 from serve.server_process import ServerProcess
 from tests import needs
+from tests.paths import TOP
 from tests.serve.conftest import Connect, Start
-from tests.serve.requests import (KEY, OTHER_KEY, acknowledgment, close, create, leased, query_directory, query_info, read,
-                                  rename, set_info, write)
+from tests.serve.requests import (KEY, OTHER_KEY, acknowledgment, close, create, flush, leased, query_directory, query_info,
+                                  read, rename, set_info, write)
 
 if TYPE_CHECKING:
     from tests.serve.wire_client import WireClient
@@ -240,6 +242,19 @@ def test_what_else_the_disk_refuses(full: ServerProcess, connect: Connect) -> No
     assert end_of_file(one.ask(create("file", disposition=OPEN))) == 0
     assert one.status(create("n" * 255)) == Status.SUCCESS
     assert one.status(create("ü" * 255)) == Status.OBJECT_NAME_INVALID
+
+
+def test_a_flush(start: Start, connect: Connect) -> None:
+    """The disk is waited for, and others are served meanwhile; where it fails, that is answered."""
+    server = start(interpreter=(sys.executable, str(TOP / "tests/serve/odd_servers.py"), "slow"))
+    one, other = connect(server), connect(server)
+    opened, begun = one.open(create("file")), time.monotonic()
+    number = one.send(flush(opened))
+    assert other.status(write(other.open(create("file")), 0, b"x")) == Status.SUCCESS
+    assert time.monotonic() - begun < 0.9
+    assert one.answer_to(number).status == Status.SUCCESS
+    assert time.monotonic() - begun > 0.9
+    assert one.status(flush(opened)) == Status.IO_DEVICE_ERROR
 
 
 def test_a_write_that_waits_is_cancelled(served: ServerProcess, connect: Connect) -> None:

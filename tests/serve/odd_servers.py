@@ -1,9 +1,11 @@
-"""serve/run with a manager that isn't the proved one: `python3 odd_managers.py KIND serve/run WORD..`."""
+"""serve/run with a manager that isn't the proved one, or a disk that is slow: `python3 odd_servers.py KIND serve/run WORD..`."""
 from __future__ import annotations
 
+import errno
 import itertools
 import os
 import sys
+import time
 from typing import Any
 
 TOP = os.path.dirname(os.path.dirname(os.path.dirname(os.path.abspath(__file__))))
@@ -12,7 +14,7 @@ sys.path[:0] = [TOP, os.path.join(TOP, "python")]
 from smblease import Access, MachineLost, Manager, Rules, Share  # noqa: E402  # pylint: disable=wrong-import-position
 from smblease.manager_decisions import Decisions  # noqa: E402  # pylint: disable=wrong-import-position
 
-from serve import manager_host, run_command  # noqa: E402  # pylint: disable=wrong-import-position
+from serve import manager_host, read_write_lock, run_command  # noqa: E402  # pylint: disable=wrong-import-position
 
 CREATES = itertools.count(1)
 
@@ -45,6 +47,25 @@ class Wrong(Manager):
         return self._other.create(client, *words) if client == 2 else super().create(client, *words)
 
 
+class SlowDisk:
+    """The module `os`, but that a disk takes its time for a flush, and then fails the second one."""
+
+    def __init__(self) -> None:
+        self._flushes = 0
+
+    def __getattr__(self, name: str) -> Any:
+        return getattr(os, name)
+
+    def fsync(self, _: int) -> None:
+        self._flushes += 1
+        time.sleep(1)
+        if self._flushes == 2:
+            raise OSError(errno.EIO, os.strerror(errno.EIO))
+
+
+KINDS = {"forgetful": (manager_host, "Manager", Forgetful), "wrong": (manager_host, "Manager", Wrong),
+         "slow": (read_write_lock, "os", SlowDisk())}
+
 if __name__ == "__main__":
-    setattr(manager_host, "Manager", {"forgetful": Forgetful, "wrong": Wrong}[sys.argv[1]])
+    setattr(*KINDS[sys.argv[1]])
     sys.exit(run_command.main(sys.argv[3:]))
