@@ -6,12 +6,12 @@ import errno
 import os
 import stat
 from collections.abc import Iterator
-from contextlib import contextmanager
+from contextlib import ExitStack, contextmanager
 from dataclasses import dataclass
 
-from serve.names import joined, sent_name, split
+from serve.folder_names import FOLDER, FolderNames
+from serve.names import joined, split
 
-FOLDER = os.O_RDONLY | os.O_DIRECTORY | os.O_NOFOLLOW | os.O_CLOEXEC
 PLACE = os.O_PATH | os.O_DIRECTORY | os.O_NOFOLLOW | os.O_CLOEXEC
 # (a pipe that stands in a file's place isn't waited for)
 FILE = os.O_NOFOLLOW | os.O_NONBLOCK | os.O_CLOEXEC
@@ -36,18 +36,10 @@ def is_served(found: os.stat_result) -> bool:
     return stat.S_ISREG(found.st_mode) or stat.S_ISDIR(found.st_mode)
 
 
-def names_in(folder: int) -> list[bytes]:
-    """Each name in a folder, whoever else lists it."""
-    opened = os.open(".", FOLDER, dir_fd=folder)
-    try:
-        return [os.fsencode(it) for it in os.listdir(opened)]
-    finally:
-        os.close(opened)
-
-
 class Disk:
     def __init__(self, root: str) -> None:
         self._root = os.open(root, os.O_RDONLY | os.O_DIRECTORY | os.O_CLOEXEC)
+        self._names = FolderNames()
 
     def close(self) -> None:
         os.close(self._root)
@@ -74,13 +66,24 @@ class Disk:
             for place, part in enumerate(path.split("\\") if path else ()):
                 if place:
                     folder = _below(folder, split(exact)[1])
-                looked_up = _looked_up(folder, part) if stat.S_ISDIR(found.st_mode) else None
+                looked_up = self._looked_up(folder, part) if stat.S_ISDIR(found.st_mode) else None
                 if looked_up is None:
                     return None
                 exact, found = joined(exact, looked_up[0]), looked_up[1]
         finally:
             os.close(folder)
         return Located(exact, found)
+
+    def _looked_up(self, folder: int, name: str) -> tuple[str, os.stat_result] | None:
+        """The name in just this form, else one that differs in case alone."""
+        found = stat_in(folder, name)
+        if found:
+            return name, found
+        for other in self._names.alike(folder, name):
+            found = stat_in(folder, other)
+            if found:
+                return other, found
+        return None
 
     def locate_folder(self, path: str) -> str | None:
         found = self.locate(path)
@@ -105,12 +108,14 @@ class Disk:
         folder, name = split(path)
         with self.within(folder) as place:
             mode = READ_ONLY_MODE if is_read_only else MODE
-            return os.open(name.encode(), FILE | os.O_RDWR | os.O_CREAT | os.O_EXCL, mode, dir_fd=place)
+            with self._names.changing(place, added=[name]):
+                return os.open(name.encode(), FILE | os.O_RDWR | os.O_CREAT | os.O_EXCL, mode, dir_fd=place)
 
     def make_folder(self, path: str) -> None:
         folder, name = split(path)
         with self.within(folder) as place:
-            os.mkdir(name.encode(), dir_fd=place)
+            with self._names.changing(place, added=[name]):
+                os.mkdir(name.encode(), dir_fd=place)
 
     def remove(self, path: str, identity: tuple[int, int], is_folder: bool) -> None:
         """Removes what this path names, as long as it is what it was."""
@@ -118,10 +123,11 @@ class Disk:
         with self.within(folder) as place:
             if not _is_same(place, name, identity):
                 return
-            if is_folder:
-                os.rmdir(name.encode(), dir_fd=place)
-            else:
-                os.unlink(name.encode(), dir_fd=place)
+            with self._names.changing(place, removed=[name]):
+                if is_folder:
+                    os.rmdir(name.encode(), dir_fd=place)
+                else:
+                    os.unlink(name.encode(), dir_fd=place)
 
     def rename(self, old: str, new: str, identity: tuple[int, int]) -> None:
         """Puts a file or a folder, as long as it is what it was, in the place of another name, whose file goes. What isn't served
@@ -132,7 +138,14 @@ class Disk:
                 raise FileNotFoundError(errno.ENOENT, "another file has the name by now")
             if _is_there(target, new_name) and stat_in(target, new_name) is None:
                 raise FileExistsError(errno.EEXIST, "what has the name isn't served")
-            os.rename(old_name.encode(), new_name.encode(), src_dir_fd=source, dst_dir_fd=target)
+            if os.path.samestat(os.fstat(source), os.fstat(target)):
+                both = [self._names.changing(target, [new_name], [old_name])]
+            else:
+                both = [self._names.changing(source, removed=[old_name]), self._names.changing(target, [new_name])]
+            with ExitStack() as changes:
+                for one in both:
+                    changes.enter_context(one)
+                os.rename(old_name.encode(), new_name.encode(), src_dir_fd=source, dst_dir_fd=target)
 
     def may_change(self, path: str) -> bool:
         """Whether names may be made and removed in a folder."""
@@ -145,20 +158,6 @@ def _below(folder: int, name: str) -> int:
     below = os.open(name.encode(), PLACE, dir_fd=folder)
     os.close(folder)
     return below
-
-
-def _looked_up(folder: int, name: str) -> tuple[str, os.stat_result] | None:
-    """The name in just this form, else one that differs in case alone."""
-    found = stat_in(folder, name)
-    if found:
-        return name, found
-    for other in names_in(folder):
-        text = sent_name(other)
-        if text is not None and text.lower() == name.lower():
-            found = stat_in(folder, text)
-            if found:
-                return text, found
-    return None
 
 
 def stat_in(folder: int, name: str) -> os.stat_result | None:

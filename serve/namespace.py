@@ -8,8 +8,9 @@ import resource
 
 from smblease import Status
 
-from serve.disk import Disk, Located, names_in, stat_in
+from serve.disk import Disk, Located, stat_in
 from serve.file_numbers import FileNumbers
+from serve.folder_names import names_in
 from serve.names import joined, sent_name, split
 from serve.node import WRITABLE, Node, node_of
 from serve.status_error import StatusError
