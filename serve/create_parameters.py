@@ -2,17 +2,20 @@
 from __future__ import annotations
 
 import itertools
+import struct
 from dataclasses import dataclass, replace
 from uuid import UUID
 
 from smblease import Access, CreateAsk, Fault, LeaseState, Share, Status, each_context
 
-from drive.headers import HEADER, create_name
+from drive.headers import HEADER, Unreadable, create_name
 from serve.names import path_of
 from serve.opens import BATCH, DELETE, EXCLUSIVE, LEASE, LEVEL_II, NO_LEVEL, SHARE_DELETE, Open, counts, reads, specific, writes
 from serve.packets import RequestMessage
 from serve.status_error import StatusError
 
+# Level and impersonation, access, attributes, share, disposition and options, and where the contexts are (2.2.13).
+FIXED = struct.Struct("<3xBL16xLLLLL4xLL")
 SUPERSEDE, OPEN, CREATE, OPEN_IF, OVERWRITE, OVERWRITE_IF = range(6)
 MAKING = {SUPERSEDE, CREATE, OPEN_IF, OVERWRITE_IF}
 EMPTYING = {SUPERSEDE, OVERWRITE, OVERWRITE_IF}
@@ -69,8 +72,15 @@ class CreateParameters:
 
 
 def read_parameters(message: RequestMessage) -> CreateParameters:
-    length = message.number(HEADER + 52, 4)
-    text = message.part(message.number(HEADER + 48, 4), length) if length else b""
+    if len(message.data) < HEADER + FIXED.size:
+        raise Unreadable
+    level, impersonation, access, attributes, share, disposition, options, place, length = FIXED.unpack_from(message.data, HEADER)
+    ask, others = _contexts(message.part(place, length)) if length else (CreateAsk(), {})
+    return CreateParameters(path_of(create_name(message)), specific(access), share, disposition, options, attributes, level,
+                            impersonation, ask, others)
+
+
+def _contexts(text: bytes) -> tuple[CreateAsk, dict[bytes, bytes]]:
     try:
         contexts = list(itertools.islice(each_context(text), MOST_CONTEXTS + 1))
         if len(contexts) > MOST_CONTEXTS:
@@ -81,10 +91,7 @@ def read_parameters(message: RequestMessage) -> CreateParameters:
     again = others.get(RECONNECT_2, b"")
     if ask.reconnect is None and len(again) == 36:
         ask = replace(ask, reconnect=int.from_bytes(again[:8], "little"))
-    share, disposition, options = (message.number(HEADER + place, 4) for place in (32, 36, 40))
-    return CreateParameters(path_of(create_name(message)), specific(message.number(HEADER + 24, 4)), share, disposition, options,
-                            message.number(HEADER + 28, 4), message.number(HEADER + 3, 1), message.number(HEADER + 4, 4), ask,
-                            others)
+    return ask, others
 
 
 def check(wanted: CreateParameters, limit: int) -> None:
