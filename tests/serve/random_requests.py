@@ -18,7 +18,8 @@ from tests.serve.in_process import FrameClient, Sent
 from tests.serve.plain_files import PlainFiles
 from tests.serve.requests import Body, acknowledge_oplock, acknowledgment, close, create, lock, read, rename, set_info, write
 
-CLIENTS, FILES, LASTING = 16, 8, 5
+# The last of the clients are pairs of connections of one ClientGuid.
+CLIENTS, ALONE, FILES, LASTING = 16, 12, 8, 5
 LETTERS = ("none", "R", "RH", "RW", "RWH")
 STATES = ("none", "R", "RH", "RWH")
 OPEN_IF, OVERWRITE_IF = 3, 5
@@ -37,9 +38,11 @@ class Asked:
 
 @dataclass
 class Member:
-    """One client. `opens` are by their FileIds, with the names that they were opened by and whether they may last."""
+    """One client, or one connection of it. `opens` are by their FileIds, with the names that they were opened by and whether they
+    may last; `left` are those that it left, or its sister did."""
 
     guid: bytes
+    files: int = FILES
     client: FrameClient | None = None
     opens: dict[int, tuple[str, bool]] = field(default_factory=dict)
     left: dict[int, str] = field(default_factory=dict)
@@ -49,12 +52,16 @@ class Member:
 
 
 class RandomRequests:
-    """Names below LASTING are of files that stay; the others are deleted and renamed, and have no durable opens."""
+    """Names below LASTING are of files that stay; the others are deleted and renamed, and have no durable opens, nor any of
+    sisters, whose opens end when that is their turn."""
 
     def __init__(self, server: Server, sent: Sent, chance: random.Random) -> None:
         self.server, self._sent, self._chance = server, sent, chance
         self.files = PlainFiles()
-        self.members = [Member(uuid.UUID(int=number + 1).bytes) for number in range(CLIENTS)]
+        self.members = [Member(uuid.UUID(int=number + 1).bytes) for number in range(ALONE)]
+        for number in range(ALONE, CLIENTS, 2):
+            left: dict[int, str] = {}
+            self.members += [Member(uuid.UUID(int=number + 1).bytes, LASTING, left=left) for _ in range(2)]
         self.statuses: dict[int, int] = {}
         self.given = 0
 
@@ -86,7 +93,7 @@ class RandomRequests:
             self._give(member, body(file_id), partial(done, file_id))
 
     def _open(self, member: Member) -> None:
-        number, chance = self._chance.randrange(FILES), self._chance
+        number, chance = self._chance.randrange(member.files), self._chance
         name, lasts = f"file-{number}", number < LASTING and chance.random() < 0.4
         access = chance.choice((READING, WRITING, WRITING, DELETING)) if number >= LASTING else chance.choice((READING, WRITING))
         disposition, share = OVERWRITE_IF if chance.random() < 0.08 else OPEN_IF, chance.choice((7, 7, 7, 7, 5, 1))
@@ -165,10 +172,11 @@ class RandomRequests:
     # What else happens
 
     def _cut(self, member: Member) -> None:
-        """The opens that were durable once may be left behind: the server knows."""
+        """The opens that were durable once may be left behind: the server knows. With a sister they aren't."""
         assert member.client
+        has_sister = any(it.client and it is not member and it.guid == member.guid for it in self.members)
         for file_id, (_, lasts) in list(member.opens.items()):
-            if not lasts:
+            if not lasts or has_sister:
                 self._gone(member, file_id)
         member.asked, member.waiting, member.broken = {}, {}, []
         member.client.cut()
@@ -184,8 +192,10 @@ class RandomRequests:
         breaking = [key for key in client.leases if self.server.host.manager.breaking(client.number, key)] if client else []
         if client and breaking:
             key = self._chance.choice(sorted(breaking))
-            for opened in client.leases[key].opens:
-                self._gone(member, opened.file_id)
+            for file_id in [it.file_id for it in client.leases[key].opens]:
+                for one in self.members:
+                    one.opens.pop(file_id, None)
+                self.files.close(file_id)
             assert self.server.leases.expire(client, key)
 
     def _scavenge(self, member: Member) -> None:
@@ -220,11 +230,14 @@ class RandomRequests:
     def check(self) -> None:
         """The manager's opens are the shell's, but for those that the shell has for a moment; and what waits was asked for."""
         host: Any = self.server.host
+        # pylint: disable-next=protected-access  # which opens are left behind is seen nowhere else
+        opens, kept = [it for it in self.server.opens.values() if it.client], self.server._kept
         listed = {it.file_id: it.connected for it in host.manager.opens() if it.client < SHELLS}
-        assert listed == {it.file_id: it.is_connected for it in self.server.opens.values() if it.client}
+        assert listed == {it.file_id: it.file_id not in kept for it in opens}
         assert host.still_waiting() == {(it.asked.client.number, it.tag, it.asked.file) for it in host.waiting}
         pending = {task for it in self.members if it.client for task in it.client.connection.tasks}
-        assert set(host.waiting) <= pending
+        ending = [it for it in opens if not it.is_connected and it.file_id not in kept]
+        assert len(set(host.waiting) - pending) <= len(ending)
         for member in self.members:
             if member.client:
                 assert set(member.asked) == set(member.waiting)
