@@ -209,13 +209,12 @@ class Connection(asyncio.Protocol):
         if failed:
             raise StatusError(failed)
         message = request.message
-        if message.command not in self.server.handlers:
-            raise StatusError(Status.NOT_SUPPORTED)
+        self.server.commands.check_known(message.command)
         if len(self._pending) > MOST_PENDING:
             raise StatusError(Status.INSUFFICIENT_RESOURCES)
         if message.command not in WITHOUT_SESSION:
             request.session.check_signature(message)
-        handler = self.server.handler(request)
+        handler = self.server.commands.handler(request)
         message.check_size()
         handled = handler(request)
         return handled if isinstance(handled, Answer) else (yield from handled)

@@ -184,22 +184,34 @@ class Namespace:
         """A file goes with its streams, those that somebody has open at their last close."""
         disk = self._streams.disk if node.is_stream else self.disk
         disk.remove(node.place, node.identity, node.is_folder)
+        self._gone(node)
+
+    def _gone(self, node: Node) -> None:
         self._lose(node)
         if node.stream_place is not None:
             self._streams.forget(node.stream_place)
             return
         for stream in self._streams.of(node.identity):
-            held = self._held.get(f"{node.path}:{stream.name}")
-            if held:
-                held.is_deleting = True
-            else:
-                located = self._streams.disk.locate(stream.place)
-                if located:
-                    self.remove(Node(f"{node.path}:{stream.name}", located.stat, stream.place))
+            self._stream_gone(f"{node.path}:{stream.name}", stream.place)
 
-    def rename(self, node: Node, path: str) -> None:
-        """What is in the place of the new name goes."""
-        old, new = node.path, joined(self.folder_of(path), split(path)[1])
+    def _stream_gone(self, path: str, place: str) -> None:
+        held, located = self._held.get(path), self._streams.disk.locate(place)
+        if held and held.stream_place == place:
+            held.is_deleting = True
+        elif located:
+            self.remove(Node(path, located.stat, place))
+
+    def rename(self, node: Node, path: str, replaced: Node | None = None) -> None:
+        """What is in the place of the new name goes by that, and by nothing before; its name may differ in case."""
+        new = joined(self.folder_of(path), split(path)[1])
+        if replaced:
+            self._move(node, replaced.path)
+            self._gone(replaced)
+        if node.path != new:
+            self._move(node, new)
+
+    def _move(self, node: Node, new: str) -> None:
+        old = node.path
         self.disk.rename(old, new, node.identity)
         below = (f"{old}\\", f"{old}:")
         for one in [it for it in self._held.values() if it is node or it.path.startswith(below)]:

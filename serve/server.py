@@ -12,28 +12,20 @@ from typing import TYPE_CHECKING
 from smblease import LeaseState, Status
 from smblease.manager_decisions import Breaks
 
-from drive.headers import Command
-from serve.asks import Handling, Steps, closing
+from serve.asks import Steps, closing
+from serve.commands import Commands
 from serve.connection import Connection, Pending
-from serve.create import Create
 from serve.forced_breaks import ForcedBreaks
 from serve.leases import Leases
 from serve.manager_clients import ManagerClients
 from serve.manager_host import ManagerHost, Task
 from serve.namespace import Namespace
 from serve.opens import OWN_FILE_IDS, LeaseSeen, ManagerClient, Open
-from serve.packets import Answer
 from serve.password_brake import PasswordBrake
-from serve.pipes import Pipes
-from serve.query_directory import QueryDirectory
-from serve.query_info import QueryInfo
-from serve.read_write_lock import ReadWriteLock
 from serve.record import Record
-from serve.request import WITHOUT_TREE, Request
-from serve.sessions import Session, Sessions
-from serve.set_info import SetInfo
+from serve.sessions import Session
 from serve.settings import Settings
-from serve.status_error import RefusedByManager, StatusError
+from serve.status_error import RefusedByManager
 
 if TYPE_CHECKING:
     from serve.node import Node
@@ -62,27 +54,7 @@ class Server:  # pylint: disable=too-many-instance-attributes  # its parts find 
         self.tree_ids, self.async_ids, self.own_file_ids = (itertools.count(it + 1) for it in (0, 0, OWN_FILE_IDS))
         self.leases = Leases(self)
         self.forced_breaks = ForcedBreaks(self)
-        self.pipes = Pipes(self)
-        sessions, transfers = Sessions(self), ReadWriteLock(self)
-        self.handlers: dict[Command | None, Callable[[Request], Answer | Handling]] = {
-            Command.NEGOTIATE: sessions.negotiate, Command.SESSION_SETUP: sessions.set_up, Command.LOGOFF: sessions.log_off,
-            Command.TREE_CONNECT: sessions.connect_tree, Command.TREE_DISCONNECT: sessions.disconnect_tree,
-            Command.ECHO: sessions.echo, Command.OPLOCK_BREAK: self.leases.acknowledge,
-            Command.CREATE: Create(self).create, Command.CLOSE: transfers.close, Command.FLUSH: transfers.flush,
-            Command.READ: transfers.read, Command.WRITE: transfers.write, Command.LOCK: transfers.lock,
-            Command.QUERY_INFO: QueryInfo(self).query, Command.SET_INFO: SetInfo(self).set,
-            Command.QUERY_DIRECTORY: QueryDirectory(self).query, Command.IOCTL: QueryInfo.control,
-            Command.CHANGE_NOTIFY: QueryInfo.notify,
-        }
-
-    def handler(self, request: Request) -> Callable[[Request], Answer | Handling]:
-        """What handles a request, whose command has a handler. One without the tree that it needs is refused."""
-        command = request.message.command
-        if command in WITHOUT_TREE or not request.tree.is_pipe:
-            return self.handlers[command]
-        if command not in self.pipes.handlers:
-            raise StatusError(Status.INVALID_DEVICE_REQUEST)
-        return self.pipes.handlers[command]
+        self.commands = Commands(self)
 
     # What the manager decides
 
@@ -199,10 +171,13 @@ class Server:  # pylint: disable=too-many-instance-attributes  # its parts find 
             self.scavenge(next(iter(self._kept)))
 
     def _drop(self, client: ManagerClient) -> None:
-        """A client of a ClientGuid that left nothing is as one that never came. The manager forgets what expired when it
-        joins."""
+        """A client of a ClientGuid that left nothing is as one that never came."""
         if client.is_connected or client.opens or self.clients.numbered(client.number) is not client or client.guid is None:
             return
+        self._forget(client)
+
+    def _forget(self, client: ManagerClient) -> None:
+        """The manager remembers what expired of a client until it joins."""
         if client.has_expired:
             self.host.call(lambda manager: manager.join(client.number))
             self.host.call(lambda manager: manager.cut(client.number))
@@ -280,7 +255,7 @@ class Server:  # pylint: disable=too-many-instance-attributes  # its parts find 
         client.open = None
         if client.is_connected:
             self._cut(client)
-        self.clients.free(client)
+        self._forget(client)
 
     def borrow(self, connection: Connection, who: str, is_shells: bool = False) -> ManagerClient:
         """A client of the manager for one open of a connection."""

@@ -77,10 +77,7 @@ class SetInfo(Handlers):
         path, node = path_of(data[20:20 + length].decode("utf-16le", errors="replace")), opened.node
         self._check_new_name(node, path, bool(data[0]))
         yield from self._break_handles(request, opened)
-        replaced = self._check_new_name(node, path, bool(data[0]))
-        if replaced:
-            self._server.names.remove(replaced)
-        self._server.names.rename(node, path)
+        self._server.names.rename(node, path, self._check_new_name(node, path, bool(data[0])))
         self._server.record.start(node)
 
     def _check_new_name(self, node: Node, path: str, replaces: bool) -> Node | None:

@@ -1,16 +1,20 @@
 """What a rename and a deletion find when others give up handles, which they wait for."""
 from __future__ import annotations
 
+import errno
+import os
 from collections.abc import Callable
 from dataclasses import dataclass
+from pathlib import Path
 from typing import TYPE_CHECKING
 
 import pytest
-from smblease import Status
+from smblease import Rules, Status
 
 from serve.create_parameters import CREATE, DELETE_ON_CLOSE, DIRECTORY_FILE, OPEN, OVERWRITE_IF
 from serve.server_process import ServerProcess
 from tests.serve.conftest import Connect
+from tests.serve.in_process import FrameClient, Sent, server_in
 from tests.serve.requests import KEY, OTHER_KEY, Body, acknowledgment, close, create, leased, read, rename, set_info, write
 
 if TYPE_CHECKING:
@@ -140,6 +144,47 @@ def test_an_overwrite_that_is_refused_after_it_waited(served: ServerProcess, con
     holder.ask(close(file_id))
     assert one.answer_to(number).status == Status.INVALID_PARAMETER
     assert other.ask(read(other.open(create("file", disposition=OPEN)))).data[80:] == b"file and more"
+
+
+def test_a_replaced_file_whose_name_differs_in_case(served: ServerProcess, connect: Connect) -> None:
+    """It goes with its streams, and the new name is as it was asked for."""
+    one = connect(served)
+    for name, data in (("Kept", KEPT), ("Kept:stream", b"stream"), ("file", b"file"), ("file:stream", b"mine")):
+        opened = one.open(create(name))
+        one.ask(write(opened, 0, data))
+        one.ask(close(opened))
+    stream = one.open(create("file:stream", disposition=OPEN))
+    assert one.status(rename(one.open(create("file", access=DELETING)), "kEPT")) == Status.SUCCESS
+    assert one.ask(read(one.open(create("KEPT", disposition=OPEN)))).data[80:] == b"file"
+    assert one.ask(read(one.open(create("kept:stream", disposition=OPEN)))).data[80:] == b"mine"
+    one.ask(close(stream))
+    assert one.status(create("file", disposition=OPEN)) == Status.OBJECT_NAME_NOT_FOUND
+
+
+def test_a_rename_that_the_disk_refuses(tmp_path: Path, monkeypatch: pytest.MonkeyPatch) -> None:
+    """Neither file is lost."""
+    share, streams = tmp_path / "share", tmp_path / "streams"
+    share.mkdir()
+    streams.mkdir()
+    (share / "old").write_bytes(b"old")
+    (share / "new").write_bytes(b"new")
+    sent: Sent = []
+    with server_in(share, streams, Rules()) as server:
+        one = FrameClient(server, b"g" * 16, sent)
+        one.give(create("old", access=DELETING, disposition=OPEN))
+        opened = sent.pop()[1].number(128, 8)
+
+        def refused(*_: object, **__: object) -> None:
+            raise PermissionError(errno.EACCES, os.strerror(errno.EACCES))
+        with monkeypatch.context() as patch:
+            patch.setattr(os, "rename", refused)
+            one.give(rename(opened, "new"))
+        assert sent.pop()[1].status == Status.ACCESS_DENIED
+        assert {it.name: it.read_bytes() for it in share.iterdir()} == {"old": b"old", "new": b"new"}
+        one.give(rename(opened, "new"))
+        assert sent.pop()[1].status == Status.SUCCESS
+        assert {it.name: it.read_bytes() for it in share.iterdir()} == {"new": b"old"}
+        one.cut()
 
 
 @pytest.mark.parametrize("old, new", [("file", "other:stream"), ("file:stream", "other"), ("file:stream", "file:other")])
