@@ -79,6 +79,8 @@ class Create(Handlers):
             raise StatusError(Status.ACCESS_DENIED)
         if node.is_read_only and wanted.options & DELETE_ON_CLOSE:
             raise StatusError(Status.CANNOT_DELETE)
+        if wanted.options & DELETE_ON_CLOSE and not self._server.names.may_remove(node):
+            raise StatusError(Status.ACCESS_DENIED)
         return {SUPERSEDE: SUPERSEDED, OVERWRITE: OVERWRITTEN, OVERWRITE_IF: OVERWRITTEN}.get(wanted.disposition, OPENED)
 
     @staticmethod

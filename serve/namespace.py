@@ -180,6 +180,9 @@ class Namespace:
         node.users = 1
         return node
 
+    def may_remove(self, node: Node) -> bool:
+        return node.is_stream or self.disk.may_change(split(node.path)[0])
+
     def remove(self, node: Node) -> None:
         """A file goes with its streams, those that somebody has open at their last close."""
         disk = self._streams.disk if node.is_stream else self.disk

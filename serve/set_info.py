@@ -8,7 +8,7 @@ from smblease import Status
 
 from drive.headers import HEADER
 from serve.asks import Handling, Steps
-from serve.names import path_of, split
+from serve.names import path_of
 from serve.node import READ_ONLY, Node
 from serve.opens import DELETE, WRITE_ATTRIBUTES, Open, writes
 from serve.packets import Answer
@@ -119,7 +119,7 @@ class SetInfo(Handlers):
             raise StatusError(Status.CANNOT_DELETE)
         if node.is_folder and self._server.names.has_below(node):
             raise StatusError(Status.DIRECTORY_NOT_EMPTY)
-        if not node.is_stream and not self._server.names.disk.may_change(split(node.path)[0]):
+        if not self._server.names.may_remove(node):
             raise StatusError(Status.ACCESS_DENIED)
 
     def _resize(self, opened: Open, size: int, is_end: bool) -> Steps:

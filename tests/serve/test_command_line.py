@@ -145,6 +145,19 @@ def test_which_requests_wait_for_one_another(start: Start, connect: Connect, wor
     assert one.answer_to(waits).status == Status.SUCCESS
 
 
+def test_what_is_temporary_is_removed(start: Start, connect: Connect, tmp_path: Path, monkeypatch: pytest.MonkeyPatch) -> None:
+    """Copies and streams, when the server ends."""
+    (tmp_path / "share/below").mkdir(parents=True)
+    (tmp_path / "share/below/file").write_bytes(b"given")
+    (tmp_path / "temporary").mkdir()
+    monkeypatch.setenv("TMPDIR", str(tmp_path / "temporary"))
+    server = start("--folder", str(tmp_path / "share"))
+    connect(server).open(create("below\\file:stream"))
+    assert len(list((tmp_path / "temporary").rglob("file"))) == 1
+    server.close()
+    assert not list((tmp_path / "temporary").iterdir())
+
+
 @pytest.mark.parametrize("words, content", [([], b"given"), (["--writable"], b"givbytes")], ids=["a copy", "the folder itself"])
 def test_a_folder_is_served(start: Start, connect: Connect, tmp_path: Path, words: list[str], content: bytes) -> None:
     """Its files are there, and stay as they are where that isn't asked for."""

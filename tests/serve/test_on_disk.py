@@ -4,6 +4,7 @@ from __future__ import annotations
 import os
 import struct
 import sys
+import tempfile
 import time
 from pathlib import Path
 from typing import TYPE_CHECKING
@@ -209,6 +210,29 @@ def test_attributes_and_times_that_the_disk_has(one: "WireClient", folder: Path)
     assert struct.unpack("<QQQ", told[8:24] + told[:8])[:2] == (time, time + 10) and told[32] == 0x21
     assert one.status(set_info(opened, BASIC, struct.pack("<QQQQLL", 0, 0, 0, 0, 0x80, 0))) == Status.SUCCESS
     assert (folder / "file").stat().st_mode & 0o200
+
+
+def is_open_to_all(path: Path) -> bool:
+    return all(it.stat().st_mode & 0o5 == 0o5 for it in (path, *path.parents))
+
+
+@needs.ROOT
+@needs.program("setpriv")
+@pytest.mark.skipif(not is_open_to_all(TOP), reason="others may not read this repository")
+def test_what_the_servers_user_may_not_do(start: Start, connect: Connect) -> None:
+    """Whoever asks, it has the rights of its process: here a folder and its file may be read alone."""
+    with tempfile.TemporaryDirectory() as name:
+        Path(name).chmod(0o755)
+        (Path(name) / "file").write_bytes(b"data")
+        nobody = ("setpriv", "--reuid", "65534", "--regid", "65534", "--clear-groups", sys.executable)
+        one = connect(start("--folder", name, "--writable", interpreter=nobody))
+        assert content(one, "file") == b"data"
+        opened = one.open(create("file", access=0x110080, disposition=OPEN))
+        refused = [create("file"), create("file", access=0x120089, disposition=OVERWRITE), create("new", disposition=CREATE),
+                   create("new", disposition=CREATE, options=DIRECTORY_FILE), set_info(opened, 13, b"\1"), rename(opened, "new"),
+                   create("file", access=0x110080, disposition=OPEN, options=DELETE_ON_CLOSE)]
+        assert [one.status(it) for it in refused] == [Status.ACCESS_DENIED] * len(refused)
+        assert (Path(name) / "file").read_bytes() == b"data"
 
 
 @pytest.fixture
