@@ -109,7 +109,6 @@ def replay_cut(count: int) -> str:
 # Why families are above their limit. Whoever mends one takes it out here.
 ALL_ASKED = "each try asks every lease of the file"
 OPENS_LOOKED_THROUGH = "each try asks every lease of the file, and each expiry looks through all opens"
-FIRST_TAKEN_OUT = "what is taken out of a queue at its front moves the others"
 
 
 def limited(name: str, make: Callable[[int], str], unit: str, facts: dict[str, int], above: str = "") -> Family:
@@ -121,7 +120,7 @@ SERVERS = [
     limited("server-acknowledged", server_acknowledged, "lease", {"sent 1 break": 1, "sent 1 ackdone": 1}, ALL_ASKED),
     limited("server-expired", server_expired, "lease", {"sent 1 break": 1}, OPENS_LOOKED_THROUGH),
     limited("server-conflicts", server_conflicts, "create", {"sent 2 createfailed 1 STATUS_SHARING_VIOLATION": 1}, ALL_ASKED),
-    limited("server-released", server_released, "create", {"opened 1 2": 1}, FIRST_TAKEN_OUT),
+    limited("server-released", server_released, "create", {"opened 1 2": 1}),
     limited("server-cut", server_cut, "open", {"opened 1 1": 1}),
     limited("replay-acknowledged", replay_acknowledged, "lease", {"sent 1": 3}, ALL_ASKED),
     limited("replay-conflicts", replay_conflicts, "create", {"sent 2": 1}, ALL_ASKED),
