@@ -28,6 +28,8 @@ class Asked:
     call: Callable[[Manager, int], Decisions]
     effect: Callable[[], object] = lambda: None
     is_new_open: bool = False
+    # the FileId of what it closes, which nobody takes back
+    closes: int | None = None
 
     @property
     def file(self) -> int:
@@ -73,7 +75,7 @@ def writing(client: ManagerClient, node: Node, file_id: int, effect: Callable[[]
 
 
 def closing(client: ManagerClient, node: Node, file_id: int, effect: Callable[[], object] = lambda: None) -> Steps:
-    yield Asked(client, node, lambda manager, tag: manager.close_open(client.number, tag, file_id), effect)
+    yield Asked(client, node, lambda manager, tag: manager.close_open(client.number, tag, file_id), effect, closes=file_id)
 
 
 def refused(client: ManagerClient, file_id: int, call: Callable[[Manager, int, int, int], Decisions]) -> Steps:

@@ -250,7 +250,7 @@ class Connection(asyncio.Protocol):
         self.send(framed([interim]))
 
     def _cancel(self, message: RequestMessage) -> None:
-        """A request that waits in the manager is taken back, but for a CLOSE, whose client has forgotten the open."""
+        """A request that waits in the manager is taken back."""
         wanted = message.async_id
         found = next((it for it in self._pending.values() if it.async_id == wanted), None) if wanted is not None \
             else self._pending.get(message.identifier)
@@ -260,7 +260,7 @@ class Connection(asyncio.Protocol):
                 session.check_signature(message)
         except StatusError:
             return
-        if found and found.task and found.request.message.command is not Command.CLOSE:
+        if found and found.task:
             self.server.host.withdraw(found.task)
             self.server.settle()
 

@@ -7,7 +7,7 @@ from smblease import Access, Context, CreateAnswer, CreateAsk, LeaseState, Share
 from smblease.manager_decisions import Opened
 
 from drive.headers import HEADER
-from serve.asks import Handling, Steps, Waits, closing, opening
+from serve.asks import Handling, Steps, Waits, opening
 from serve.attributes import attributes_of
 from serve.create_parameters import (ALLOCATION, CREATE, CREATED, DELETE_ON_CLOSE, DIRECTORY_FILE, MAKING, MOST_ACCESS,
                                      NON_DIRECTORY_FILE, ON_DISK, OPENED, OVERWRITE, OVERWRITE_IF, OVERWRITTEN, RWH, SUPERSEDE,
@@ -141,13 +141,12 @@ class Create(Handlers):
             yield from self._server.close_open(opened)
             raise
 
-    @staticmethod
-    def _refuse_late(request: Request, client: ManagerClient, node: Node, decided: Opened) -> Steps:
+    def _refuse_late(self, request: Request, client: ManagerClient, node: Node, decided: Opened) -> Steps:
         """What is answered once its tree or session is gone: that is closed again."""
         try:
             request.require_tree()
         except StatusError:
-            yield from closing(client, node, decided.file_id)
+            yield from self._server.close_in_manager(client, node, decided.file_id)
             raise
 
     def _break_for_deletion(self, request: Request, opened: Open) -> Steps:

@@ -90,9 +90,9 @@ class ManagerHost:
             self.is_draining = False
 
     def withdraw(self, task: Task) -> None:
-        """Takes a request back, where it waits in the manager."""
+        """Takes a request back, where it waits in the manager. What closes an open goes on: its client has forgotten that."""
         asked, tag = task.asked, task.tag
-        if asked:
+        if asked and asked.closes is None:
             client, file = asked.client.number, asked.file
             self.call(lambda manager: manager.withdraw(client, tag, file))
 

@@ -25,7 +25,7 @@ from serve.password_brake import PasswordBrake
 from serve.record import Record
 from serve.sessions import Session
 from serve.settings import Settings
-from serve.status_error import RefusedByManager
+from serve.status_error import StatusError
 
 if TYPE_CHECKING:
     from serve.node import Node
@@ -203,12 +203,15 @@ class Server:  # pylint: disable=too-many-instance-attributes  # its parts find 
             self.scavenge(opened.file_id)
         elif opened.client:
             self.leases.believes_nothing(opened)
-            try:
-                yield from closing(opened.client, opened.node, opened.file_id)
-            except RefusedByManager:
-                # It has ended by itself.
-                pass
+            yield from self.close_in_manager(opened.client, opened.node, opened.file_id)
         self.forget_open(opened)
+
+    def close_in_manager(self, client: ManagerClient, node: Node, file_id: int) -> Steps:
+        """Where it has ended by itself, or its client is cut while that waits, it isn't kept either."""
+        try:
+            yield from closing(client, node, file_id)
+        except StatusError:
+            self.host.call(lambda manager: manager.scavenge(file_id))
 
     def close_all(self, concerned: Callable[[Open], bool], is_wanted: bool) -> Steps:
         for opened in [it for it in self.opens.values() if is_wanted and it.is_connected and concerned(it)]:

@@ -228,16 +228,18 @@ class RandomRequests:
     # What has to be so
 
     def check(self) -> None:
-        """The manager's opens are the shell's, but for those that the shell has for a moment; and what waits was asked for."""
+        """The manager's opens are the shell's, but for those that the shell has for a moment or is closing; and what waits was
+        asked for."""
         host: Any = self.server.host
+        closing = {it.asked.closes for it in host.waiting}
         # pylint: disable-next=protected-access  # which opens are left behind is seen nowhere else
-        opens, kept = [it for it in self.server.opens.values() if it.client], self.server._kept
+        ours = {it.file_id: it.file_id not in self.server._kept for it in self.server.opens.values() if it.client}
         listed = {it.file_id: it.connected for it in host.manager.opens() if it.client < SHELLS}
-        assert listed == {it.file_id: it.file_id not in kept for it in opens}
+        assert set(listed) - closing == set(ours) - closing
+        assert all(ours[it] is listed[it] for it in set(ours) & set(listed))
         assert host.still_waiting() == {(it.asked.client.number, it.tag, it.asked.file) for it in host.waiting}
         pending = {task for it in self.members if it.client for task in it.client.connection.tasks}
-        ending = [it for it in opens if not it.is_connected and it.file_id not in kept]
-        assert len(set(host.waiting) - pending) <= len(ending)
+        assert {it for it in host.waiting if it.asked.closes is None} <= pending
         for member in self.members:
             if member.client:
                 assert set(member.asked) == set(member.waiting)
