@@ -141,7 +141,8 @@ class Server:  # pylint: disable=too-many-instance-attributes  # its parts find 
         for opened in opens:
             self._leave(opened)
         self._limit_kept([it for it in opens if it.file_id in self._kept])
-        for task in connection.tasks if client.is_connected else ():
+        # The last one first: none goes on because one before it is taken back.
+        for task in reversed(connection.tasks if client.is_connected else []):
             self.host.withdraw(task)
         self.host.abandon({it.number for it in cut}, Status.USER_SESSION_DELETED)
         self._drop(client)
