@@ -33,7 +33,7 @@
  *   whose handle the host lets go of, and then OPENED for tag 20. What client 1 still sends by FileId 1 is
  *   REFUSED with STATUS_FILE_CLOSED. A timer need not be stopped: where the break of its number has ended,
  *   nothing is decided, even if the lease is breaking again under another number. The manager keeps a number
- *   until its break is acknowledged or broken anew, or it is told that the timer ran out.
+ *   until its break is acknowledged, the lease breaks anew, or smblease_manager_run_out is called with it.
  * - Had client 2 taken its CREATE back by a CANCEL, smblease_manager_withdraw would give WITHDRAWN for tag 20,
  *   which the host answers with STATUS_CANCELLED. Had its connection been lost, smblease_manager_cut would
  *   give no decision for tag 20: the host forgets what it kept of that client.
@@ -93,7 +93,7 @@ void smblease_manager_free(struct smblease_manager *manager);
 /* ---- What comes in ---- */
 
 /* A client connects (3.3.5.1), or its connection is lost (3.3.7.1); the timer of a break (3.3.6.5), by the
-   number that it was told with, or of a durable open (3.3.6.2), runs out; the break of a client's lease is
+   number in its decision, or of a durable open (3.3.6.2), runs out; the break of a client's lease is
    ended whatever its timer says, as by an administrator. Where that doesn't apply nothing changes, nothing is
    decided and the manager is never lost. A cut gives no decision for what waited of the client. Allocate.
    DONE, LOST or NONE. */

@@ -130,11 +130,11 @@ SERVER_CALLS: dict[str, tuple[Any, ...]] = {
     "kept": (1, 1), "content": (1,), "__enter__": (),
 }
 MANAGER_CALLS: dict[str, tuple[Any, ...]] = {
-    "join": (1,), "cut": (1,), "expire": (1, GUID), "scavenge": (1,), "create": (1, 10, 1, Access.READ, Share.READ),
-    "read": (1, 10, 1), "write": (1, 10, 1), "close_open": (1, 10, 1), "acknowledge": (1, Acknowledgment(GUID, RH)),
-    "acknowledge_malformed": (1,), "withdraw": (1, 10, 1), "connected": (1,), "breaking": (1, GUID), "waiting": (1, 10, 1),
-    "left_behind": (1,), "has_open": (1,), "open_count": (), "allowed": (1, None, 1, RW), "kept": (1, 1), "lease": (1, GUID),
-    "opens": (), "__enter__": (),
+    "join": (1,), "cut": (1,), "expire": (1, GUID), "run_out": (1,), "scavenge": (1,),
+    "create": (1, 10, 1, Access.READ, Share.READ), "read": (1, 10, 1), "write": (1, 10, 1), "close_open": (1, 10, 1),
+    "acknowledge": (1, Acknowledgment(GUID, RH)), "acknowledge_malformed": (1,), "withdraw": (1, 10, 1), "connected": (1,),
+    "breaking": (1, GUID), "waiting": (1, 10, 1), "left_behind": (1,), "has_open": (1,), "open_count": (),
+    "allowed": (1, None, 1, RW), "kept": (1, 1), "lease": (1, GUID), "opens": (), "__enter__": (),
 }
 # (these ask nothing of the machine)
 FREE = {"close", "closed", "key"}
