@@ -1,5 +1,5 @@
 -- A call that doesn't apply decides nothing.
-use Rattle.lease_laws.proofs.Words.{◌∙◌, ◌≡◌, Bool, FileRequest, Key, LeaseOf, List, None, Option, Some, ℕ, [], arith, false, key_of}
+use Rattle.lease_laws.proofs.Words.{◌∙◌, ◌≡◌, Bool, FileRequest, Key, LeaseOf, List, Option, ℕ, [], arith, false}
 use Rattle.lease_laws.proofs.Words.{list_any, not, refl, true}
 use Rattle.lease_model.specs.server.Calls.{is_left_behind}
 use Rattle.lease_model.specs.server.Queries as queries
@@ -8,7 +8,7 @@ use Rattle.lease_manager.specs.Table.{Table}
 use Rattle.lease_manager.specs.declared.values.decision.Decision.{Decision}
 use Rattle.manager_model.specs.Handling as rules
 use Rattle.manager_model.specs.Handling.{Handling, Manager}
-use Rattle.manager_c.specs.Asked.{is_absent, is_answered, is_gone, is_settled}
+use Rattle.manager_c.specs.Asked.{is_absent, is_answered, is_gone}
 
 is_not : (b : Bool) → not b ≡ true → b ≡ false
 is_not b e = grind (arith, e)

@@ -1,8 +1,5 @@
-use Rattle.lease_manager.specs.Requests.{request_like}
 use Rattle.lease_manager.specs.Table.{manager_of}
 use Rattle.lease_model.specs.server.Naming.{key_of}
-use Rattle.lease_state.specs.State.{state_of}
-use Rattle.std.proofs.Common.{None, Some}
 use Rattle.manager_c.proofs.Idle.{none_expired, silent}
 use Rattle.manager_c.proofs.managing.Managing.expire.Goals as goal
 

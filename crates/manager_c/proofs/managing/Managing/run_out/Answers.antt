@@ -1,4 +1,4 @@
-use Rattle.lease_laws.proofs.Words.{◌∙◌, ◌≡◌, List, [], Key, Option, Some, ap, sym}
+use Rattle.lease_laws.proofs.Words.{◌∙◌, Key, Option, Some, ap, sym}
 use Rattle.lease_manager.specs.Outs.{decisions}
 use Rattle.lease_manager.specs.Table.{manager_of}
 use Rattle.manager_c.specs.Asked.{is_idle_for}

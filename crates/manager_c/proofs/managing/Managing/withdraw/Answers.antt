@@ -1,8 +1,4 @@
-use Rattle.lease_manager.specs.Requests.{request_like}
 use Rattle.lease_manager.specs.Table.{manager_of}
-use Rattle.lease_model.specs.server.Naming.{key_of}
-use Rattle.lease_state.specs.State.{state_of}
-use Rattle.std.proofs.Common.{None, Some}
 use Rattle.manager_c.proofs.Idle.{none_withdrawn, silent}
 use Rattle.manager_c.proofs.managing.Managing.withdraw.Goals as goal
 
