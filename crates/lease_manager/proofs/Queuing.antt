@@ -170,7 +170,8 @@ table_requeued table queues file queue changed =
     ∙ ap (with_queues (server_of table) (put (queue_at table.queues) file queue))
     (sym (map_put held_in (queue_at table.queues) file queue))
 
-pub held_changed : (before after : List Queue) (file : ℕ) (queue : List Tagged) → queue_at after ≡ put (queue_at before) file queue
+pub held_changed : (before after : List Queue) (file : ℕ) (queue : List Tagged)
+    → queue_at after ≡ put (queue_at before) file queue
     → IsQueuePut (held_at before) (held_at after) file (held_in queue)
 unfolding put
 held_changed before after file queue changed n =
@@ -180,7 +181,8 @@ pub held_more : (before after : List Queue) (file : ℕ) (one : Tagged)
     → queue_at after ≡ put (queue_at before) file (queue_at before file ++ one ∷ [])
     → IsQueuePut (held_at before) (held_at after) file (held_at before file ++ one.held ∷ [])
 held_more before after file one changed n = held_changed before after file (queue_at before file ++ one ∷ []) changed n
-    ∙ ap (λ q. if n == file then q else held_at before n) (map-append (λ (waiting : Tagged). waiting.held) (queue_at before file) (one ∷ []))
+    ∙ ap (λ q. if n == file then q else held_at before n)
+    (map-append (λ (waiting : Tagged). waiting.held) (queue_at before file) (one ∷ []))
 
 -- ---- tables where nothing is open
 

@@ -1,6 +1,5 @@
-use Rattle.lease_laws.proofs.Words.{◌++◌, ◌∙◌, ap, begun, held_of, sym}
+use Rattle.lease_laws.proofs.Words.{◌++◌, ◌∙◌, ap, begun, sym}
 use Rattle.manager_model.specs.Decisions.{told_of}
-use Rattle.manager_model.specs.Handling.{Tagged}
 use Rattle.lease_manager.specs.Findings.{outcome_of}
 use Rattle.lease_manager.specs.Lanes.{lane_like}
 use Rattle.lease_manager.specs.Outs.{handling_of, progress_of}

@@ -1,5 +1,4 @@
-use Rattle.lease_laws.proofs.Words.{◌∙◌, ◌≡◌, Open, Some, find, sym, true, values_of}
-use Rattle.lease_manager.specs.Filed.{has_id}
+use Rattle.lease_laws.proofs.Words.{◌∙◌, Open, sym, true, values_of}
 use Rattle.lease_manager.proofs.Filing.{find_filed, values_unset}
 use Rattle.lease_manager.proofs.LeftOpens.{waiting_again}
 use Rattle.lease_manager.proofs.tables.opens.Opens.connect_again.Goals as goal

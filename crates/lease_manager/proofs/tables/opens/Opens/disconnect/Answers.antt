@@ -1,5 +1,4 @@
-use Rattle.lease_laws.proofs.Words.{◌∙◌, ◌≡◌, Open, Some, false, find, sym, values_of}
-use Rattle.lease_manager.specs.Filed.{has_id}
+use Rattle.lease_laws.proofs.Words.{◌∙◌, Open, false, sym, values_of}
 use Rattle.lease_manager.proofs.Filing.{find_filed, values_unset}
 use Rattle.lease_manager.proofs.LeftOpens.{waiting_left}
 use Rattle.lease_manager.proofs.tables.opens.Opens.disconnect.Goals as goal

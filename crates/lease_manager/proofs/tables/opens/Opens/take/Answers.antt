@@ -1,4 +1,4 @@
-use Rattle.lease_laws.proofs.Words.{◌∙◌, ◌≡◌, Some, ap, find, sym, values_of, without}
+use Rattle.lease_laws.proofs.Words.{◌∙◌, ◌≡◌, ap, sym, values_of, without}
 use Rattle.lease_manager.specs.Filed.{AreFiled, has_id}
 use Rattle.lease_manager.proofs.Filing.{find_filed, filed_removed, left_removed, one_removed, in_order}
 use Rattle.lease_manager.proofs.LeftOpens.{waiting_taken}
