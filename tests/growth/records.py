@@ -46,6 +46,43 @@ def changed_by_another(count: int) -> str:
     return text(lines)
 
 
+def readers(count: int) -> int:
+    """How many clients read where a file is changed n times: one for 32 changes, but for the client that changes it."""
+    return min(CLIENTS - 1, max(1, count // 32))
+
+
+def changes_and_sendings(count: int, places: dict[int, list[int]]) -> list[str]:
+    """n changes of a file by the last client; messages are sent to these clients after so many of them."""
+    last = max(1, readers(count))
+    lines = ['start 1 61'] + [f'joined {client}' for client in (*range(1, last + 1), CLIENTS)]
+    lines += [f'believes {client} 1 R' for client in range(1, last + 1)]
+    for number in range(count + 1):
+        lines += [f'changed 1 {CLIENTS} {number} 0 61'] if number else []
+        lines += [f'sent {client}' for client in places.get(number, [])]
+    return lines
+
+
+def read_once(clients: range) -> list[str]:
+    """Each client takes its message and reads from its cache."""
+    return [line for client in clients for line in (f'took {client}', f'cachedread {client} 1 61')]
+
+
+def read_by_many(count: int) -> str:
+    """n changes of a file, after which many clients that read nothing before read it once each: the changes are to be put
+    once onto the file, and not once for each client."""
+    clients = range(1, readers(count) + 1)
+    return text(changes_and_sendings(count, {count: list(clients)}) + read_once(clients))
+
+
+def read_by_many_in_reverse(count: int) -> str:
+    """The same, and each client's message was sent at another place; the one that was sent last is taken first."""
+    clients = range(1, readers(count) + 1)
+    places: dict[int, list[int]] = {}
+    for client in clients:
+        places.setdefault(count * client // len(clients), []).append(client)
+    return text(changes_and_sendings(count, places) + read_once(clients[::-1]))
+
+
 def joined_among_many(count: int) -> str:
     """A client joins n times, among 255 clients that each have a belief of the last of 255 files:
     whether two clients' beliefs conflict is to be found without asking all clients of all files."""
@@ -91,6 +128,9 @@ RECORDS = [
     Family('judge-chosen-numbers', 'judge', chosen_numbers, 1024, 'write'),
     Family('judge-settled-one-by-one', 'judge', settled_one_by_one, 256, 'write'),
     Family('judge-changed-by-another', 'judge', changed_by_another, 256, 'write'),
+    Family('judge-read-by-many', 'judge', read_by_many, 1024, 'change', most_exponent=1.15),
+    Family('judge-read-by-many-in-reverse', 'judge', read_by_many_in_reverse, 1024, 'change',
+           most_exponent=1.15),
     Family('judge-joined-among-many', 'judge', joined_among_many, 16, 'line',
            most_instructions=10_000),
     Family('explain-rivals', 'judge --explain', rivals_of_the_last_file, 8128, 'belief', rule=1),

@@ -10,6 +10,7 @@ pub mod Holding
 pub mod Judges
 pub mod Keeping
 pub mod Knowing
+pub mod Marks
 pub mod OneCache
 pub mod Others
 pub mod Pending

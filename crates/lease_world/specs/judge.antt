@@ -7,6 +7,7 @@ pub mod Holders
 pub mod Judged
 pub mod Knows
 pub mod Lends
+pub mod Marks
 pub mod Seen
 pub mod Tables
 pub mod Told

@@ -23,6 +23,7 @@ mod file;
 mod files;
 mod holders;
 mod known;
+mod marks;
 mod numbers;
 mod snapshot;
 mod writes;

@@ -2,8 +2,13 @@
 use Rattle.lease_laws.proofs.Words.{◌++◌, ◌+◌, ◌∷◌, ◌≡◌, Fact, List, Patch, Some, ℕ, [], arith}
 use Rattle.lease_laws.proofs.Words.{is_started, length, start_of}
 use Rattle.lease_world.specs.judge.Knows.{KnowsFile}
-use Rattle.lease_world.specs.judge.Seen.{SeenFile, touched}
+use Rattle.lease_world.specs.judge.Seen.{SeenFile, file_in, touched}
+use Rattle.lease_world.specs.judge.Tables.{HasFile, HasSameFiles}
 use Rattle.lease_world.specs.judge.Told.{placed_changes, last_touch}
+
+-- a file that is lent, and is as it was afterwards
+pub put_back : (old new : List SeenFile) (file : ℕ) → HasFile old new file (file_in old file) → HasSameFiles old new
+put_back old new file has n = let e = has n in grind arith
 
 pub file_starts : (file : ℕ) (bytes : List ℕ) (seen : SeenFile) (past : List Fact) → KnowsFile file seen past
     → KnowsFile file (record seen { start = Some bytes }) (Fact.Start file bytes ∷ past)

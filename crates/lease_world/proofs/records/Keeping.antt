@@ -19,7 +19,7 @@ base-later : (file : SeenFile) (taken later : ℕ) (base : Option Snapshot) → 
     → IsBase file later base
 base-later file taken later None le is = tt
 base-later file taken later (Some base) le is =
-    let longer = before-longer taken later file.changes le in (is.0, is.1, omega (arith, is.2, longer))
+    let longer = before-longer taken later file.changes le in (is.0, (is.1.0, omega (arith, is.1.1, longer)))
 
 pub contents-later : (file : SeenFile) (taken later : ℕ) (cache : SeenCache) → taken ≤ later → HasContents file taken cache
     → HasContents file later cache
@@ -41,11 +41,13 @@ base-change : (file : SeenFile) (touches : Touches) (change : Change) (taken : �
     → IsBase file taken base → IsBase (record file { changes = file.changes ++ change ∷ []; touches = touches }) taken base
 base-change file touches change taken None le is = tt
 base-change file touches change taken (Some base) le is =
-    let within : base.applied ≤ length file.changes = let e = before-within taken file.changes in omega (arith, is.2, e) in (
+    let within : base.applied ≤ length file.changes = let e = before-within taken file.changes in omega (arith, is.1.1, e) in (
       is.0,
-      is.1 ∙ ap (λ (cs : List Change). patches (unwrap_or file.start []) (patches_of cs))
-          (sym (take-append-le base.applied file.changes (change ∷ []) within)),
-      rw (before-push taken file.changes change le) is.2,
+      (
+        is.1.0 ∙ ap (λ (cs : List Change). patches (unwrap_or file.start []) (patches_of cs))
+            (sym (take-append-le base.applied file.changes (change ∷ []) within)),
+        rw (before-push taken file.changes change le) is.1.1,
+      ),
     )
   where
     shorter : (b : Bool) (x : Change) (xs : List Change) (n : ℕ) → length xs ≤ n → length (if b then x ∷ xs else []) ≤ suc n

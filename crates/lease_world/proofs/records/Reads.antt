@@ -3,13 +3,19 @@ use Rattle.lease_laws.proofs.Words.{◌&&◌, ◌++◌, ◌∙◌, ◌∷◌, �
 use Rattle.lease_laws.proofs.Words.{believed, bytes_eq, content_at, false, filter, filter-append, has_joined, has_strayed}
 use Rattle.lease_laws.proofs.Words.{if◌then◌else◌, is_good, is_served, is_settled, is_some, is_stale_read, last_sending, length}
 use Rattle.lease_laws.proofs.Words.{not, option_map, patches, refl, sendings, start_of, subst, sym, takings, true, unanswered}
+use Rattle.std.specs.Prelude.{◌≢◌, MatchBool}
+use Rattle.lease_world.specs.judge.Added.{CachedReadAdds, KeepsHolders, ShowsAt}
 use Rattle.lease_world.specs.judge.Before.{before, patches_of, patches_waiting}
 use Rattle.lease_world.specs.declared.judging.covers.Layer.{Layer}
-use Rattle.lease_world.specs.judge.Caches.{base_at, IsCovered, IsShown}
+use Rattle.lease_world.specs.judge.Caches.{IsCovered, IsShown}
 use Rattle.lease_world.specs.judge.Clients.{Sees, taken_of}
 use Rattle.lease_world.specs.judge.Covers.{layers_at, stack_in}
 use Rattle.lease_world.specs.judge.Knows.{KnowsFile, KnowsCache, KnowsClient, IsBase, HasContents}
-use Rattle.lease_world.specs.judge.Seen.{Change, Snapshot, SeenFile, SeenCache, SeenClient, cache_in, is_open, is_good_client}
+use Rattle.lease_world.specs.judge.Seen.{Change, KeptFacts, Snapshot, SeenFile, SeenCache, SeenClient, cache_in, client_in}
+use Rattle.lease_world.specs.judge.Seen.{file_in, is_open, is_good_client}
+use Rattle.lease_world.specs.judge.Tables.{HasSameFiles, is_started_in}
+use Rattle.lease_world.specs.declared.verdict.Rule.{Rule}
+use Rattle.lease_world.specs.declared.verdict.Verdict.{Verdict}
 use Rattle.lease_world.specs.judge.Told.{placed_changes, pending, place_of, is_unsettled, write_of}
 use Rattle.lease_world.proofs.records.Caches.{cache_over}
 use Rattle.lease_world.proofs.records.Contents.{changes-told, unsettled-told, before-told}
@@ -82,14 +88,14 @@ brought-known client file place bytes seen f cache now same past is all k =
 
 -- whether these bytes are seen is whether they are the content at the sending place with the unanswered writes
 seen-same : (client file taken : ℕ) (bytes : List ℕ) (seen : SeenClient) (f : SeenFile) (cache now : SeenCache) (same : Bool)
-    (past place : List Fact) → IsShown f taken seen.settled bytes cache now same → KnowsClient client seen past
+    (past place : List Fact) (is : IsShown f taken seen.settled bytes cache now same) → KnowsClient client seen past
     → KnowsCache client file cache past → KnowsFile file f past → PartOf past place → place_of place ≡ taken
-    → (base_at f taken cache.base).bytes ≡ content_before f taken
+    → is.base.bytes ≡ content_before f taken
     → same ≡ bytes_eq bytes (patches (content_at file past place) (unanswered client file past))
 seen-same client file taken bytes seen f cache now same past place is all k kf part at based =
     let covers = covers_pending client file seen (record cache { base = now.base }) now past is.covered all
     (rebased client file cache now.base past k) in
-    shown_patched (is_open seen.settled) (base_at f taken cache.base).bytes bytes now.covers (pending client file past past) same
+    shown_patched (is_open seen.settled) is.base.bytes bytes now.covers (pending client file past past) same
     covers is.shown ∙ (ap (λ (b : List ℕ). bytes_eq bytes (patches b (patches_waiting (pending client file past past))))
     (based ∙ (ap (λ (n : ℕ). content_before f n) (sym at) ∙ content-told file f past place kf part))
     ∙ ap (λ (ps : List Patch). bytes_eq bytes (patches (content_at file past place) ps))
@@ -139,7 +145,8 @@ read-of-good client file taken bytes seen now f same past k kf held started good
     let is : same ≡ bytes_eq bytes (patches (content_at file past at.0) (unanswered client file past)) =
     seen-same client file taken bytes seen f (cache_in seen.caches file) (cache_in now.caches file) same past at.0 shown k
     (k.caches file) kf (last-part client past at.0 at.1) at.2
-    (brought_bytes f seen.taken taken (cache_in seen.caches file).base (omega (arith, value)) started held) in
+    (brought_bytes f taken (cache_in seen.caches file).base shown.base started
+    (subst (λ (n : ℕ). IsBase f n (cache_in seen.caches file).base) value held) shown.based) in
     rw (sym (good_told client seen past k) ∙ good, at.1, is) refl
 
 -- ---- the client afterwards
@@ -166,6 +173,33 @@ pub contents-read : (taken : ℕ) (bytes : List ℕ) (file : ℕ) (seen now : Se
     → Sees file f taken bytes seen now same → HasContents f seen.taken (cache_in now.caches file)
 contents-read taken bytes file seen now f same held started some (kept, (cached, shown)) =
     let value : seen.taken ≡ taken = taken_value seen.has_taken seen.taken taken some in
-    subst (λ (b : Option Snapshot). IsBase f seen.taken b) (sym shown.based)
-    (subst (λ (n : ℕ). IsBase f n (Some (base_at f taken (cache_in seen.caches file).base))) (sym value)
-    (brought_base f seen.taken taken (cache_in seen.caches file).base (omega (arith, value)) started held))
+    subst (λ (b : Option Snapshot). IsBase f seen.taken b) (sym shown.kept)
+    (subst (λ (n : ℕ). IsBase f n (Some shown.base)) (sym value)
+    (brought_base f taken (cache_in seen.caches file).base shown.base started
+    (subst (λ (n : ℕ). IsBase f n (cache_in seen.caches file).base) value held) shown.based))
+
+-- ---- how a read is told
+
+when_true : (b : Bool) (X Y : Type 0) → b ≡ true → X → MatchBool b X Y
+when_true b X Y e x = subst (λ (c : Bool). MatchBool c X Y) (sym e) x
+
+abbrev verdict_of : ℕ → Bool → Verdict
+verdict_of place same = if same then Verdict.Safe else Verdict.Unsafe place Rule.FreshCachedReads
+
+of_both : (place : ℕ) (same : Bool) → MatchBool same (verdict_of place same ≡ Verdict.Safe)
+    (verdict_of place same ≡ Verdict.Unsafe place Rule.FreshCachedReads)
+of_both place true = refl
+of_both place false = refl
+
+pub read_told : (place client file taken : ℕ) (bytes : List ℕ) (old new : KeptFacts) (same : Bool)
+    → is_started_in old.files file ≡ true → is_good_client (client_in old.clients client) ≡ true
+    → taken_of (client_in old.clients client) ≡ Some taken
+    → Sees file (file_in old.files file) taken bytes (client_in old.clients client) (client_in new.clients client) same
+    → ((n : ℕ) → n ≢ client → client_in new.clients n ≡ client_in old.clients n) → HasSameFiles old.files new.files
+    → KeepsHolders old new
+    → CachedReadAdds place client file bytes old new (verdict_of place same)
+read_told place client file taken bytes old new same started good some sees others files kept =
+    when_true (is_started_in old.files file) _ _ started
+    (when_true (is_good_client (client_in old.clients client)) _ _ good
+    (subst (λ (t : Option ℕ). ShowsAt place client file bytes old new (verdict_of place same) t) (sym some)
+    (same, ((sees, others), files), kept, of_both place same)))

@@ -4,8 +4,9 @@ use Rattle.lease_laws.proofs.Words.{cases_Bool, drop, false, if◌then◌else◌
 use Rattle.lease_laws.proofs.Words.{patches, refl, suc, sym, take, true, unwrap_or, zero}
 use Rattle.lease_state.proofs.PatchLemmas.{patches-append}
 use Rattle.lease_world.specs.judge.Before.{before, patches_of}
-use Rattle.lease_world.specs.judge.Caches.{moved, first_of, base_at}
+use Rattle.lease_world.specs.judge.Caches.{moved, first_of, IsBasedAt}
 use Rattle.lease_world.specs.judge.Knows.{IsBase}
+use Rattle.lease_world.specs.judge.Marks.{IsNearer}
 use Rattle.lease_world.specs.judge.Seen.{Change, Snapshot, SeenFile}
 
 -- ---- changes before places
@@ -53,35 +54,49 @@ moved-bytes : (file : SeenFile) (taken place : ℕ) (base : Snapshot) → taken 
 moved-bytes file taken place base le is =
     let first : List Change = take base.applied file.changes in
     let rest : List Change = before place (drop base.applied file.changes) in
-    ap (λ (bytes : List ℕ). patches bytes (patches_of rest)) is.1
+    ap (λ (bytes : List ℕ). patches bytes (patches_of rest)) is.1.0
     ∙ (sym (patches-append (unwrap_or file.start []) (patches_of first) (patches_of rest))
     ∙ (ap (λ (ps : List Patch). patches (unwrap_or file.start []) ps) (sym (map-append (λ (c : Change). c.patch) first rest))
     ∙ ap (λ (cs : List Change). patches (unwrap_or file.start []) (patches_of cs))
-    (advances taken place base.applied file.changes le is.2).0))
+    (advances taken place base.applied file.changes le is.1.1).0))
 
 pub moved-base : (file : SeenFile) (taken place : ℕ) (base : Snapshot) → taken ≤ place → IsBase file taken (Some base)
     → IsBase file place (Some (moved file.changes place base))
 moved-base file taken place base le is =
     let counted : (moved file.changes place base).applied ≡ length (before place file.changes) =
-    (advances taken place base.applied file.changes le is.2).1 in (
+    (advances taken place base.applied file.changes le is.1.1).1 in (
       is.0,
-      moved-bytes file taken place base le is ∙ ap (λ (cs : List Change). patches (unwrap_or file.start []) (patches_of cs))
-          (sym (take-before place file.changes) ∙ ap (λ (n : ℕ). take n file.changes) (sym counted)),
-      omega (arith, counted),
+      (
+        moved-bytes file taken place base le is ∙ ap (λ (cs : List Change). patches (unwrap_or file.start []) (patches_of cs))
+            (sym (take-before place file.changes) ∙ ap (λ (n : ℕ). take n file.changes) (sym counted)),
+        omega (arith, counted),
+      ),
     )
 
 -- ---- a base that is brought up
 
 first_base : (file : SeenFile) (taken : ℕ) → is_some file.start ≡ true → IsBase file taken (Some (first_of file))
-first_base file taken started = (started, refl, omega arith)
+first_base file taken started = (started, (refl, omega arith))
+
+first_known : (file : SeenFile) (taken : ℕ) (kept : Option Snapshot) → is_some file.start ≡ true → IsBase file taken kept
+    → IsBase file taken (Some (unwrap_or kept (first_of file)))
+first_known file taken (Some base) started is = is
+first_known file taken None started is = first_base file taken started
+
+nearer_known : (file : SeenFile) (place : ℕ) (base nearer : Snapshot) → is_some file.start ≡ true
+    → IsBase file place (Some base) → IsNearer file place base nearer → IsBase file place (Some nearer)
+nearer_known file place base nearer started is (inl e) = rw e is
+nearer_known file place base nearer started is (inr earlier) = (started, earlier)
 
 -- the file at the place
-pub brought_bytes : (file : SeenFile) (taken place : ℕ) (base : Option Snapshot) → taken ≤ place → is_some file.start ≡ true
-    → IsBase file taken base → (base_at file place base).bytes ≡ content_before file place
-brought_bytes file taken place (Some base) le started is = moved-bytes file taken place base le is
-brought_bytes file taken place None le started is = grind arith
+pub brought_bytes : (file : SeenFile) (place : ℕ) (kept : Option Snapshot) (base : Snapshot) → is_some file.start ≡ true
+    → IsBase file place kept → IsBasedAt file place kept base → base.bytes ≡ content_before file place
+brought_bytes file place kept base started is (nearer, near, e) = ap (λ (s : Snapshot). s.bytes) e
+    ∙ moved-bytes file place place nearer (omega arith)
+    (nearer_known file place (unwrap_or kept (first_of file)) nearer started (first_known file place kept started is) near)
 
-pub brought_base : (file : SeenFile) (taken place : ℕ) (base : Option Snapshot) → taken ≤ place → is_some file.start ≡ true
-    → IsBase file taken base → IsBase file place (Some (base_at file place base))
-brought_base file taken place (Some base) le started is = moved-base file taken place base le is
-brought_base file taken place None le started is = moved-base file taken place (first_of file) le (first_base file taken started)
+pub brought_base : (file : SeenFile) (place : ℕ) (kept : Option Snapshot) (base : Snapshot) → is_some file.start ≡ true
+    → IsBase file place kept → IsBasedAt file place kept base → IsBase file place (Some base)
+brought_base file place kept base started is (nearer, near, e) =
+    rw e (moved-base file place place nearer (omega arith)
+    (nearer_known file place (unwrap_or kept (first_of file)) nearer started (first_known file place kept started is) near))

@@ -3,6 +3,7 @@ use Rattle.std.specs.Prelude.{◌≡◌, ℕ, ◌+◌, Bool, Option, Some, List,
 use Rattle.lease_state.specs.Content.{patches}
 use Rattle.lease_world.specs.judge.Before.{before, patches_of}
 use Rattle.lease_world.specs.judge.Covers.{layers_at, stack_in, IsUncovered, EndsCovered, Shows}
+use Rattle.lease_world.specs.judge.Marks.{IsNearer}
 use Rattle.lease_world.specs.judge.Seen.{Change, Numbers, Snapshot, SeenFile, SeenCache, is_open}
 
 -- ---- the file
@@ -17,12 +18,10 @@ moved changes place base = record {
 abbrev pub first_of : SeenFile → Snapshot
 first_of file = record { bytes = unwrap_or file.start []; applied = 0 }
 
--- the file at the place
-abbrev pub base_at : SeenFile → ℕ → Option Snapshot → Snapshot
-base_at file place base = moved file.changes place (unwrap_or base (first_of file))
-
-abbrev pub based_at : SeenFile → ℕ → SeenCache → SeenCache
-based_at file place cache = record cache { base = Some (base_at file place cache.base) }
+-- The file at the place: brought there from where it is kept, or from another snapshot of it that is earlier than the place.
+abbrev pub IsBasedAt : SeenFile → ℕ → Option Snapshot → Snapshot → Type 0
+IsBasedAt file place kept base = (nearer : Snapshot) × IsNearer file place (unwrap_or kept (first_of file)) nearer
+    × (base ≡ moved file.changes place nearer)
 
 -- ---- the writes over it
 
@@ -39,7 +38,8 @@ pub record IsCovered (settled : Numbers) (old new : SeenCache) : Type 0 where
 -- The writes cover the file, which stands at the place; and the bytes are those that are seen, or not.
 pub record IsShown (file : SeenFile) (place : ℕ) (settled : Numbers) (bytes : List ℕ) (old new : SeenCache) (same : Bool)
     : Type 0 where
+  pub base : Snapshot
   pub covered : IsCovered settled (record old { base = new.base }) new
-  pub based : new.base ≡ Some (base_at file place old.base)
-  pub shown : MatchBool same (Shows (base_at file place old.base).bytes new.covers bytes)
-      (Shows (base_at file place old.base).bytes new.covers bytes → ⊥)
+  pub kept : new.base ≡ Some base
+  pub based : IsBasedAt file place old.base base
+  pub shown : MatchBool same (Shows base.bytes new.covers bytes) (Shows base.bytes new.covers bytes → ⊥)

@@ -1,17 +1,16 @@
 -- When what a judge keeps is what a record says.
 use Rattle.std.specs.Prelude.{◌≡◌, ⊤, ℕ, zero, suc, ◌+◌, ◌≤◌, Bool, true, false, Option, Some, None, List, [], ◌∷◌, ◌++◌, length}
-use Rattle.std.specs.Prelude.{take, drop, filter, is_some, unwrap_or, if◌then◌else◌}
+use Rattle.std.specs.Prelude.{drop, filter, is_some, unwrap_or, if◌then◌else◌}
 use Rattle.std.specs.Option.{option_map}
-use Rattle.lease_state.specs.Content.{patches}
 use Rattle.lease_state.specs.State.{State, nothing_cached}
 use Rattle.lease_model.specs.values.LeaseStates.{holds_any}
 use Rattle.lease_model.specs.records.Facts.{Fact}
 use Rattle.lease_model.specs.records.Past.{is_started, start_of, has_joined, is_served, has_strayed, is_good, sendings, takings}
 use Rattle.lease_model.specs.records.Past.{last_sending, is_settled, believed}
 use Rattle.lease_model.specs.records.Safe.{EachFact, WellFormed, OneWriteCache}
-use Rattle.lease_world.specs.judge.Before.{before, patches_of}
 use Rattle.lease_world.specs.judge.Clients.{taken_of}
 use Rattle.lease_world.specs.judge.Covers.{layers_at, stack_in}
+use Rattle.lease_world.specs.judge.Marks.{IsEarlier}
 use Rattle.lease_world.specs.judge.Seen.{KeptFacts, SeenFile, SeenCache, SeenClient, Snapshot, Holders, file_in, client_in, cache_in}
 use Rattle.lease_world.specs.judge.Seen.{holders_in, touched_by_others, write_in, has_settled}
 use Rattle.lease_world.specs.judge.Told.{placed_changes, last_touch, write_of, pending, place_of, sent_places, is_unsettled}
@@ -49,9 +48,8 @@ pub record KnowsClient (client : ℕ) (seen : SeenClient) (past : List Fact) : T
 -- the file at a place that isn't after this one
 abbrev pub IsBase : SeenFile → ℕ → Option Snapshot → Type 0
 IsBase file taken None = ⊤
-IsBase file taken (Some base) = (is_some file.start ≡ true)
-    × (base.bytes ≡ patches (unwrap_or file.start []) (patches_of (take base.applied file.changes)))
-    × (base.applied ≤ length (before taken file.changes))
+IsBase file taken (Some base) =
+    (is_some file.start ≡ true) × IsEarlier (unwrap_or file.start []) file.changes taken base
 
 -- what is kept of the file for a client
 abbrev pub HasContents : SeenFile → ℕ → SeenCache → Type 0

@@ -2,7 +2,7 @@ ghost use Rattle.std.specs.Prelude.{◌≡◌, ◌++◌, [], ◌∷◌, ℕ, fil
 ghost use Rattle.lease_state.specs.State.{state_of};
 ghost use Rattle.lease_world.specs.judge.Seen.{unseen_cache, is_open};
 ghost use Rattle.lease_world.specs.judge.Covers.{layers_at, stack_in};
-ghost use Rattle.lease_world.specs.judge.Caches.{based_at, IsCovered, IsShown};
+ghost use Rattle.lease_world.specs.judge.Caches.{IsBasedAt, IsCovered, IsShown};
 
 use crate::judging::covers::Covers;
 use crate::judging::file::FileSeen;
@@ -101,19 +101,19 @@ impl CacheSeen {
     /// `Memory` where there is none left for what the client sees.
     pub fn shows(
         &mut self,
-        file: &FileSeen,
+        file: &mut FileSeen,
         place: u64,
         settled: &Numbers,
         bytes: &[u8],
     ) -> Result<bool, Memory>
-        ensures { IfOk result (λ same. IsShown file.now place settled.now bytes.now self.old self.new same) }
+        ensures same { file.new ≡ file.old }
+        ensures shown { IfOk result (λ same. IsShown file.old place settled.now bytes.now self.old self.new same) }
     {
         self.cover(settled)?;
-        self.rebase(file, place)?;
-        match &self.base {
-            Some(base) => Ok(self.covers.shows(base.bytes(), bytes)),
-            None => Ok(false),
-        }
+        let base = base_at(self.base.take(), file, place)?;
+        let same = self.covers.shows(base.bytes(), bytes);
+        self.base = Some(base);
+        Ok(same)
     }
 
     // The client's writes that aren't settled cover the file, the last on top.
@@ -125,18 +125,18 @@ impl CacheSeen {
         self.covers.uncover(settled);
         Ok(())
     }
+}
 
-    // Moves the file forward to the place.
-    fn rebase(&mut self, file: &FileSeen, place: u64) -> Result<(), Memory>
-        ensures { OnOk result (self.new ≡ based_at file.now place self.old) }
-    {
-        let base = match self.base.take() {
-            Some(base) => base,
-            None => file.first(*self.fresh.allocator())?,
-        };
-        self.base = Some(base.moved(file.changes(), place)?);
-        Ok(())
-    }
+// The file at the place, from where it was kept, or from a mark where that is far away.
+fn base_at(kept: Option<Snapshot>, file: &mut FileSeen, place: u64) -> Result<Snapshot, Memory>
+    ensures same { file.new ≡ file.old }
+    ensures based { IfOk result (λ base. IsBasedAt file.old place kept base) }
+{
+    let base = match kept {
+        Some(base) => base,
+        None => file.first()?,
+    };
+    file.nearer(base, place)?.moved(file.changes(), place)
 }
 
 // The writes that aren't settled cover the file, in order.

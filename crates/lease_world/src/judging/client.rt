@@ -244,11 +244,12 @@ impl ClientSeen {
     pub fn sees(
         &mut self,
         number: FileNo,
-        file: &FileSeen,
+        file: &mut FileSeen,
         place: u64,
         bytes: &[u8],
     ) -> Result<bool, Memory>
-        ensures { IfOk result (λ same. Sees number.0 file.now place bytes.now self.old self.new same) }
+        ensures same { file.new ≡ file.old }
+        ensures sees { IfOk result (λ same. Sees number.0 file.old place bytes.now self.old self.new same) }
     {
         let cache = self.caches.get_mut(number)?;
         cache.shows(file, place, &self.settled, bytes)

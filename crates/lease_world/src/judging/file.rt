@@ -1,6 +1,8 @@
 ghost use Rattle.std.specs.Prelude.{◌≡◌, ◌++◌, [], ◌∷◌, Some, OnOk, IfOk, is_some, unwrap_or};
+ghost use Rattle.lease_world.specs.judge.Marks.{IsNearer};
 ghost use Rattle.lease_world.specs.judge.Seen.{untouched, touched, touched_by_others, unseen_file};
 
+use crate::judging::marks::{Mark, is_far, last_before, leave_marks};
 use crate::judging::snapshot::Snapshot;
 use lease_state::{Bytes, ClientNo, Memory, Patch};
 use std::alloc::Global;
@@ -92,9 +94,13 @@ pub struct FileSeen {
     start: Option<Bytes>,
     changes: Vec<Change>,
     touches: Touches,
+    /// In the order of their places.
+    marks: Vec<Mark>,
 }
 
 impl Model for FileSeen {
+    ghost use Rattle.std.specs.Prelude.{[], All, unwrap_or};
+    ghost use Rattle.lease_world.specs.judge.Marks.{IsMark};
     ghost use Rattle.lease_world.specs.judge.Seen as seen;
 
     ghost Value = { seen.SeenFile };
@@ -104,6 +110,8 @@ impl Model for FileSeen {
       changes = file.changes.items;
       touches = file.touches;
     } };
+
+    ghost invariant = { λ file. All (IsMark (unwrap_or file.start []) file.changes.items) file.marks.items };
 }
 
 impl FileSeen {
@@ -115,6 +123,7 @@ impl FileSeen {
             start: None,
             changes: Vec::new(alloc),
             touches: Touches::none(),
+            marks: Vec::new(alloc),
         }
     }
 
@@ -130,6 +139,7 @@ impl FileSeen {
         ensures { self.new ≡ record self.old { start = Some bytes } }
     {
         self.start = Some(bytes);
+        self.marks.clear();
     }
 
     /// A client opened the file at this place.
@@ -167,12 +177,12 @@ impl FileSeen {
     /// # Errors
     ///
     /// `Memory` where there is none left.
-    pub fn first(&self, alloc: Global) -> Result<Snapshot, Memory>
+    pub fn first(&self) -> Result<Snapshot, Memory>
         ensures { IfOk result (λ snapshot. snapshot ≡ record { bytes = unwrap_or self.now.start []; applied = 0 }) }
     {
         match &self.start {
             Some(bytes) => Snapshot::of(bytes),
-            None => Snapshot::of(&Bytes::new(Vec::new(alloc))),
+            None => Snapshot::of(&Bytes::new(Vec::new(*self.changes.allocator()))),
         }
     }
 
@@ -181,5 +191,36 @@ impl FileSeen {
         ensures { result.now ≡ self.now.changes }
     {
         self.changes.as_slice()
+    }
+
+    /// A snapshot of the file from which fewer changes lead to the place, where they are many: this one, or a copy of a mark.
+    /// Leaves marks on the way there.
+    ///
+    /// # Errors
+    ///
+    /// `Memory` where there is none left for a mark or for a copy.
+    pub fn nearer(&mut self, base: Snapshot, place: u64) -> Result<Snapshot, Memory>
+        ensures same { self.new ≡ self.old }
+        ensures nearer { IfOk result (λ nearer. IsNearer self.old place base nearer) }
+    {
+        if !is_far(&base, &self.changes, place) {
+            return Ok(base);
+        }
+        self.mark(place)?;
+        match last_before(&self.marks, place) {
+            Some(mark) if mark.applied() > base.applied() => mark.try_copy(),
+            _ => Ok(base),
+        }
+    }
+
+    // Leaves marks on the way from the last one to the place.
+    fn mark(&mut self, place: u64) -> Result<(), Memory>
+        ensures { self.new ≡ self.old }
+    {
+        let last = match self.marks.last() {
+            Some(mark) => mark.try_copy()?,
+            None => Mark::first(self.first()?),
+        };
+        leave_marks(&mut self.marks, &self.changes, last, place)
     }
 }

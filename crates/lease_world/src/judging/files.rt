@@ -40,13 +40,6 @@ impl Files {
         *self.seen.allocator()
     }
 
-    /// What is kept of a file, where something is.
-    pub fn get(&self, file: FileNo) -> Option<&FileSeen>
-        ensures { option_map (λ seen. seen.now) result ≡ slice_get self.now file.0 }
-    {
-        self.seen.get(usize::from(file.0))
-    }
-
     /// Whether the file was started.
     pub fn is_started(&self, file: FileNo) -> bool
         ensures { result ≡ is_started_in self.now file.0 }

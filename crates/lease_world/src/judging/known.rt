@@ -1,11 +1,15 @@
-ghost use Rattle.std.specs.Prelude.{◌≡◌, [], IfOk};
+ghost use Rattle.std.specs.Prelude.{◌≡◌, [], IfOk, OnOk};
 ghost use Rattle.lease_state.specs.State.{state_of};
 ghost use Rattle.lease_client.specs.Answers.{settlement_of};
 ghost use Rattle.lease_facts.specs.Facts.{fact_of};
 ghost use Rattle.lease_world.specs.judge.Added.{StartAdds, JoinedAdds, LeavingAdds, ExpiredAdds, StrayedAdds, SentAdds, TookAdds};
 ghost use Rattle.lease_world.specs.judge.Added.{OpenedAdds, ChangedAdds, WroteAdds, SettledAdds, BelievesAdds, CachedReadAdds};
 ghost use Rattle.lease_world.specs.judge.Added.{Adds};
+ghost use Rattle.lease_world.specs.judge.Clients.{Sees};
+ghost use Rattle.lease_world.specs.judge.Seen.{file_in};
+ghost use Rattle.lease_world.specs.judge.Tables.{HasSameFiles};
 
+use crate::judging::client::ClientSeen;
 use crate::judging::clients::Clients;
 use crate::judging::files::Files;
 use crate::judging::holders::FileHolders;
@@ -280,10 +284,7 @@ impl Known {
         ensures { IfOk result (λ verdict.
             CachedReadAdds place client.0 file.0 bytes.now self.old self.new verdict) }
     {
-        let Some(stood) = self.files.get(file) else {
-            return Ok(Verdict::Malformed { place });
-        };
-        if !stood.is_started() {
+        if !self.files.is_started(file) {
             return Ok(Verdict::Malformed { place });
         }
         let seen = self.clients.get_mut(client)?;
@@ -297,10 +298,26 @@ impl Known {
         let Some(taken) = seen.taken() else {
             return Ok(stale);
         };
-        if seen.sees(file, stood, taken, bytes)? {
+        if sees(&mut self.files, seen, file, taken, bytes)? {
             Ok(Verdict::Safe)
         } else {
             Ok(stale)
         }
     }
+}
+
+// Whether the client sees these bytes in the file. What is kept of the file stays the same, but for where it was copied.
+#[tactic(auto, using(crate::proofs::records::Files::put_back))]
+fn sees(
+    files: &mut Files,
+    client: &mut ClientSeen,
+    file: FileNo,
+    taken: u64,
+    bytes: &[u8],
+) -> Result<bool, Memory>
+    ensures files { OnOk result (HasSameFiles files.old files.new) }
+    ensures client { IfOk result (λ same. Sees file.0 (file_in files.old file.0) taken bytes.now client.old client.new same) }
+{
+    let stood = files.get_mut(file)?;
+    client.sees(file, stood, taken, bytes)
 }

@@ -1,5 +1,5 @@
-ghost use Rattle.std.specs.Prelude.{◌≡◌, ◌+◌, IfOk, length, drop};
-ghost use Rattle.lease_state.specs.Content.{patches};
+ghost use Rattle.std.specs.Prelude.{◌≡◌, ◌<◌, ◌+◌, ◌^◌, IfOk, OnOk, length, drop};
+ghost use Rattle.lease_state.specs.Content.{patch, patches};
 ghost use Rattle.lease_world.specs.judge.Before.{before, patches_of};
 
 use crate::judging::file::Change;
@@ -41,6 +41,44 @@ impl Snapshot {
         ensures { result.now ≡ self.now.bytes }
     {
         self.bytes.as_slice()
+    }
+
+    /// How many patches were put onto it.
+    pub fn applied(&self) -> usize
+        ensures { result ≡ self.now.applied }
+    {
+        self.applied
+    }
+
+    /// An equal snapshot in memory of its own.
+    ///
+    /// # Errors
+    ///
+    /// `Memory` where there is none left.
+    pub fn try_copy(&self) -> Result<Snapshot, Memory>
+        ensures { IfOk result (λ copy. copy ≡ self.now) }
+    {
+        Ok(Snapshot {
+            bytes: Vec::from_slice(*self.bytes.allocator(), self.bytes.as_slice())?,
+            applied: self.applied,
+        })
+    }
+
+    /// With the patch of one change more.
+    ///
+    /// # Errors
+    ///
+    /// `Memory` where the bytes grow and there is none left.
+    pub fn put(&mut self, change: &Change) -> Result<(), Memory>
+        requires { self.old.applied + 1 < 2 ^ 64 }
+        ensures { OnOk result (self.new ≡ record {
+          bytes = patch self.old.bytes change.now.patch;
+          applied = self.old.applied + 1;
+        }) }
+    {
+        change.patch.apply(&mut self.bytes)?;
+        self.applied += 1;
+        Ok(())
     }
 
     /// With the patches of the changes that follow, as long as they stand before the place.
