@@ -7,6 +7,7 @@ from tests.growth.family import Family
 HOLDERS = 14
 READ_HANDLES = 3
 FILE_BYTES = 4096
+LARGE_FILE_BYTES = 65_536
 # An open that is granted all it asks for, and a read that fills the cache.
 CACHING = ['open 1 1 rw rw RWH', 'serve 1', 'take 1', 'read 1 1', 'serve 1', 'take 1']
 
@@ -79,6 +80,24 @@ def large_cached_reads(count: int) -> str:
     return text(begun('61' * FILE_BYTES, 1) + CACHING + ['read 1 1'] * count)
 
 
+def through_and_read_by_another(count: int) -> str:
+    """Two clients may read a file from their caches; one writes through n times, and the other, which takes no message, reads n
+    times from its cache: a read is to cost what it gives, however often the file was changed."""
+    lines = begun('61', 2)
+    for client in (1, 2):
+        opening = [f'open {client} 1 rw rw RH', f'read {client} 1']
+        lines += [line for command in opening for line in (command, f'serve {client}', f'take {client}')]
+    for _ in range(count):
+        lines += ['write 1 1 0 61', 'serve 1', 'read 2 1']
+    return text(lines)
+
+
+def reads_not_taken(count: int) -> str:
+    """n reads of a file of 64 KiB without a lease, which are served and not taken: the replies are to share their bytes."""
+    opening = ['open 1 1 rw rw none', 'serve 1', 'take 1']
+    return text(begun('61' * LARGE_FILE_BYTES, 1) + opening + ['read 1 1', 'serve 1'] * count)
+
+
 SCHEDULES = [
     Family('replay-held-creates', 'replay', held_creates, 300, 'lease',
            facts={'sent 1': 2, f'sent {HOLDERS + 2}': 1}),
@@ -88,4 +107,8 @@ SCHEDULES = [
            facts={'wrote 1 1': 1, 'cachedread 1 1 61': 1}),
     Family('replay-large-cached-reads', 'replay', large_cached_reads, 600, 'read',
            facts={'cachedread 1 1': 1}, most_memory=FILE_BYTES),
+    Family('replay-through-and-read-by-another', 'replay', through_and_read_by_another, 400, 'write', most_exponent=1.15,
+           facts={'changed 1 1': 1, 'cachedread 2 1 61': 1}),
+    Family('replay-reads-not-taken', 'replay', reads_not_taken, 400, 'read', most_exponent=1.15,
+           facts={'sent 1': 1}, most_memory=FILE_BYTES),
 ]

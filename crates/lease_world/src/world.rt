@@ -23,6 +23,7 @@ ghost use Rattle.lease_model.specs.world.World.{first_world_under};
 use crate::copies::{copy_command, copy_request};
 use crate::obstacle::Obstacle;
 use crate::passage::Passage;
+use crate::world::contents::Contents;
 use crate::world::delivering::{deliver, tell_notes};
 use crate::world::link::Link;
 use crate::world::messages::Messages;
@@ -34,10 +35,12 @@ use share_server::{Out, Server};
 use std::alloc::Global;
 use std::marker::Model;
 
+mod contents;
 mod delivering;
 mod first;
 pub mod link;
 pub mod messages;
+mod replies;
 mod seat;
 
 /// A server, clients, and what lies between them, with the record of what happened, and the messages that it speaks of where
@@ -50,6 +53,8 @@ pub struct World {
     seats: Vec<Seat>,
     facts: Vec<Fact>,
     messages: Messages,
+    // What replies on their way share.
+    contents: Contents,
     // What clients give out, call by call.
     given: Given,
 }
@@ -93,6 +98,7 @@ impl World {
             seats,
             facts,
             messages,
+            contents: Contents::new(alloc),
             given: Given::new(alloc),
         })
     }
@@ -356,7 +362,13 @@ impl World {
         ensures { OnOk result (Delivers server outs.items self.old self.new) }
     {
         self.server = Some(server);
-        deliver(&mut self.seats, &mut self.facts, &mut self.messages, outs)?;
+        deliver(
+            &mut self.seats,
+            &mut self.facts,
+            &mut self.messages,
+            &mut self.contents,
+            outs,
+        )?;
         Ok(())
     }
 
@@ -460,7 +472,8 @@ impl World {
         ensures { OnOk result (Applies (model.Event.ClientTakes client.0) self.old self.new) }
     {
         let seat = &mut self.seats[place_of(client)];
-        match seat.pop_reply() {
+        let popped = seat.pop_reply()?;
+        match popped {
             Some(reply) => {
                 has_its_field(&reply);
                 self.keep(&reply)?;

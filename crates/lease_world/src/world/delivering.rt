@@ -4,6 +4,7 @@ ghost use Rattle.lease_model.specs.world.World as model;
 ghost use Rattle.lease_facts.specs.Facts.{fact_of};
 ghost use Rattle.lease_world.specs.world.Seats.{HasSeat, HasReplies, HasKept, fact_given, replies_among, with_replies};
 
+use crate::world::contents::Contents;
 use crate::world::messages::Messages;
 use crate::world::seat::Seat;
 use lease_client::{Given, Note};
@@ -21,6 +22,7 @@ pub fn deliver(
     seats: &mut Vec<Seat>,
     facts: &mut Vec<Fact>,
     messages: &mut Messages,
+    contents: &mut Contents,
     outs: Vec<Out>,
 ) -> Result<(), Memory>
     ensures replies { OnOk result (HasReplies seats.old.items seats.new.items outs.items) }
@@ -29,7 +31,7 @@ pub fn deliver(
     ensures kept { OnOk result (HasKept messages.old messages.new (replies_among outs.items)) }
 {
     for out in outs {
-        deliver_one(seats, facts, messages, out)?;
+        deliver_one(seats, facts, messages, contents, out)?;
     }
     Ok(())
 }
@@ -38,6 +40,7 @@ fn deliver_one(
     seats: &mut Vec<Seat>,
     facts: &mut Vec<Fact>,
     messages: &mut Messages,
+    contents: &mut Contents,
     out: Out,
 ) -> Result<(), Memory>
     ensures replies { OnOk result (HasReplies seats.old.items seats.new.items (out ∷ [])) }
@@ -48,7 +51,7 @@ fn deliver_one(
     let fact = match out {
         Out::Sent(client, reply) => {
             messages.push(&reply)?;
-            push_reply(seats, client, reply)?;
+            push_reply(seats, contents, client, reply)?;
             Fact::Sent(client)
         }
         Out::Opened(file, client) => Fact::Opened(file, client),
@@ -59,14 +62,19 @@ fn deliver_one(
 }
 
 // A reply is on its way to the client, if there is one of this number.
-fn push_reply(seats: &mut Vec<Seat>, client: ClientNo, reply: Reply) -> Result<(), Memory>
+fn push_reply(
+    seats: &mut Vec<Seat>,
+    contents: &mut Contents,
+    client: ClientNo,
+    reply: Reply,
+) -> Result<(), Memory>
     ensures seats { OnOk result (HasSeat seats.old.items seats.new.items client.0 (with_replies (reply ∷ []))) }
     ensures count { OnOk result (length seats.new.items ≡ length seats.old.items) }
 {
     let number = usize::from(client.0);
     if number >= 1 && number <= seats.len() {
         let seat = &mut seats[number - 1];
-        seat.push_reply(reply)?;
+        seat.push_reply(contents, reply)?;
     }
     Ok(())
 }

@@ -1,4 +1,4 @@
-ghost use Rattle.std.specs.Prelude.{◌≡◌, ◌++◌, [], ◌∷◌, ◌==◌, OnOk, MatchOption, length, drop};
+ghost use Rattle.std.specs.Prelude.{◌≡◌, ◌++◌, [], ◌∷◌, ◌==◌, OnOk, IfOk, MatchOption, length, drop};
 ghost use Rattle.lease_world.specs.world.Passages.{sent_noted};
 ghost use Rattle.lease_model.specs.client.Calls.{ClientCall};
 ghost use Rattle.lease_model.specs.messages.FromBytes.{reply_of};
@@ -9,7 +9,9 @@ ghost use Rattle.lease_world.specs.world.Seats.{is_link, queued, with_replies, w
 
 use crate::copies::copy_request;
 use crate::passage::Passage;
+use crate::world::contents::Contents;
 use crate::world::link::Link;
+use crate::world::replies::Replies;
 use lease_client::{Client, Command, Given};
 use lease_state::{ClientNo, Memory, Reply, Request};
 use std::alloc::Global;
@@ -23,7 +25,7 @@ pub struct Seat {
     client: Client,
     link: Link,
     requests: VecDeque<Request>,
-    replies: VecDeque<Reply>,
+    replies: Replies,
 }
 
 impl Model for Seat {
@@ -36,7 +38,7 @@ impl Model for Seat {
       client = seat.client;
       link = seat.link;
       requests = seat.requests.items;
-      replies = seat.replies.items;
+      replies = seat.replies;
     } };
 }
 
@@ -50,7 +52,7 @@ impl Seat {
             client,
             link: Link::Down,
             requests: VecDeque::new(alloc),
-            replies: VecDeque::new(alloc),
+            replies: Replies::new(alloc),
         }
     }
 
@@ -207,19 +209,22 @@ impl Seat {
     ///
     /// # Errors
     ///
-    /// `Memory` where there is none left for the queue.
-    pub fn push_reply(&mut self, reply: Reply) -> Result<(), Memory>
+    /// `Memory` where there is none left for it.
+    pub fn push_reply(&mut self, contents: &mut Contents, reply: Reply) -> Result<(), Memory>
         ensures { OnOk result (self.new ≡ with_replies (reply ∷ []) self.old) }
     {
-        self.replies.push_back(reply)?;
-        Ok(())
+        self.replies.push(contents, reply)
     }
 
     /// The oldest reply, which is taken; `None` where none is on its way.
-    pub fn pop_reply(&mut self) -> Option<Reply>
-        ensures { PopsReply result self.old self.new }
+    ///
+    /// # Errors
+    ///
+    /// `Memory` where there is none left for the bytes of a read.
+    pub fn pop_reply(&mut self) -> Result<Option<Reply>, Memory>
+        ensures { IfOk result (λ popped. PopsReply popped self.old self.new) }
     {
-        self.replies.pop_front()
+        self.replies.pop(*self.requests.allocator())
     }
 
     /// The oldest request, which is taken; `None` where none is on its way.

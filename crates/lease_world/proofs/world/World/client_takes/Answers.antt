@@ -1,4 +1,4 @@
-use Rattle.lease_laws.proofs.Words.{◌∙◌, ClientCall, None, Some, ap, length, length-set, on_ok_weaker, refl, reply_of, slice_set}
+use Rattle.lease_laws.proofs.Words.{◌∙◌, ClientCall, None, Some, ap, length, length-set, on_ok_weaker, refl, reply_of, rules, slice_set}
 use Rattle.lease_laws.proofs.Words.{subst, sym}
 use Rattle.lease_world.specs.contracts.world.World.{the_view}
 use Rattle.lease_world.specs.world.Seats.{IsPresent, PopsReply, StepsSeat}
@@ -16,7 +16,7 @@ returns-in_ok-take-in-Some c =
     subst (λ (w : CodeWorld). IsPresent c.args.client.0 w.seats) (sym c.self.view_is) c.requires in
     let popped : CodeWorld = record old { seats = slice_set old.seats c.place_of.result c.pop_reply.new.self } in
     let popping = seat_changed (PopsReply (Some c.in-Some.reply)) old.seats c.args.client.0 c.place_of.result
-    c.index_mut-seat.result.now c.pop_reply.new.self c.place_of.ensures there c.index_mut-seat.ensures.value c.in-Some.ensures in
+    c.index_mut-seat.result.now c.pop_reply.new.self c.place_of.ensures there c.index_mut-seat.ensures.value (search rules) in
     let told : CodeWorld = the_view c.self-in-Some.inside in
     let count = c.in_ok-tell-in-Some.ensures.count ∙ ap (λ (w : CodeWorld). length w.seats) c.in_ok-keep-in-Some.ensures.becomes
     ∙ length-set old.seats c.place_of.result c.pop_reply.new.self in
@@ -46,4 +46,4 @@ returns-in-None c =
     let popped : CodeWorld = record old { seats = slice_set old.seats c.place_of.result c.pop_reply.new.self } in
     rw (← c.self.view_is) (client_took_nothing old popped c.args.client.0 (refl, refl, refl)
     (seat_changed (PopsReply None) old.seats c.args.client.0 c.place_of.result c.index_mut-seat.result.now c.pop_reply.new.self
-    c.place_of.ensures there c.index_mut-seat.ensures.value c.in-None.ensures) there)
+    c.place_of.ensures there c.index_mut-seat.ensures.value (search rules)) there)
