@@ -1,5 +1,6 @@
 // Replays a schedule by hand in plain Rust, for bench/replay: the world, and of clients and lines what the schedules of
-// make_lines.py need, with the server of plain_server.rs and the judge of plain_judge.rs. Ends with 1 on any other line.
+// make_lines.py need, with the server of plain_server.rs and the judge of plain_judge.rs, which a second word `unjudged` leaves out.
+// Ends with 1 on any other line.
 use std::env;
 use std::fmt::Write;
 use std::fs;
@@ -377,6 +378,16 @@ fn push_fact(text: &mut String, fact: &Fact) {
     text.push('\n');
 }
 
+fn verdict_on(facts: &[Fact]) -> String {
+    let mut judge = Judge::default();
+    for fact in facts {
+        if judge.verdict.is_none() {
+            judge.take(fact.clone());
+        }
+    }
+    judge.verdict.unwrap_or_else(|| String::from("safe"))
+}
+
 fn main() {
     let path = env::args().nth(1).unwrap_or_default();
     let Ok(text) = fs::read_to_string(path) else { exit(1) };
@@ -411,13 +422,8 @@ fn main() {
     for event in events {
         world.step(event);
     }
-    let mut judge = Judge::default();
-    for fact in &world.facts {
-        if judge.verdict.is_none() {
-            judge.take(fact.clone());
-        }
-    }
-    let verdict = judge.verdict.unwrap_or_else(|| String::from("safe"));
+    let is_judged = env::args().nth(2).as_deref() != Some("unjudged");
+    let verdict = if is_judged { verdict_on(&world.facts) } else { String::from("safe") };
     if write_record(&world.facts, &verdict).is_err() {
         exit(1);
     }

@@ -6,7 +6,6 @@ use Rattle.leasecheck.specs.Printed.{IsTextOf, PrintsOf}
 use Rattle.leasecheck.specs.Recording.{recorded_text}
 use Rattle.leasecheck.specs.Refusals.{EndsWith, MayEnd, refusal_of}
 use Rattle.leasecheck.specs.Remarks.{IsRemark, Says}
-use Rattle.leasecheck.specs.Replayed.{status_of}
 use Rattle.leasecheck.specs.declared.failure.Failure.{Failure}
 use Rattle.leasecheck.specs.declared.refusal.Refusal.{Refusal}
 use Rattle.leasecheck.specs.declared.tasks.Task.{Task}
@@ -27,7 +26,7 @@ is_record (Record one) = true
 -- the exit status
 abbrev pub status_made : Made → ℕ
 status_made (Text printed) = printed.status
-status_made (Record one) = status_of one.verdict
+status_made (Record one) = 0
 
 -- ---- what a task answers
 

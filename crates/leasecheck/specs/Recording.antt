@@ -1,29 +1,22 @@
 -- A record whose text is written as it is made.
-use Rattle.std.specs.Prelude.{◌≡◌, ◌⊎◌, ◌++◌, ℕ, List, codes, Option}
+use Rattle.std.specs.Prelude.{◌≡◌, ◌⊎◌, ◌++◌, ℕ, List, Option}
 use Rattle.std.specs.Io.KnownBytes.{Appends}
 use Rattle.std.specs.String.{string_bytes}
 use Rattle.leasecheck.specs.Idle.{idle_line, record_told}
 use Rattle.leasecheck.specs.Refusals.{Begins}
-use Rattle.lease_texts.specs.Remarks.{rules_remark}
-use Rattle.leasecheck.specs.Replayed.{verdict_line}
+use Rattle.lease_texts.specs.Remarks.{safe_end}
 use Rattle.leasecheck.specs.declared.failure.Failure.{Failure}
-use Rattle.lease_state.specs.declared.rules.Rules.{Rules}
-use Rattle.lease_world.specs.declared.verdict.Verdict.{Verdict}
 use Rattle.leasecheck.specs.declared.failure.Failure.TheVariants as failure
 use Rattle.leasecheck.specs.declared.recording.Gathered.{Gathered}
 use Rattle.leasecheck.specs.declared.recording.Record.{Record}
-
--- what stands after the facts: a comment line with the rules, where they are others than the profile's, and one with the verdict
-abbrev pub end_of : Rules → Verdict → List ℕ
-end_of rules verdict = rules_remark rules.order rules.rise ++ (codes "# " ++ verdict_line verdict)
 
 -- the lines of the facts, each after the message that it speaks of, and those of the events that did nothing
 abbrev pub facts_told : Record → List ℕ
 facts_told one = record_told (idle_line one.lines.items) 0 one.facts.items one.messages.items one.idle.items
 
--- the same, and the end
+-- the same, and that they are safe
 abbrev pub recorded_text : Record → List ℕ
-recorded_text one = facts_told one ++ end_of one.rules one.verdict
+recorded_text one = facts_told one ++ safe_end one.rules
 
 -- a text is not written whole, but for a beginning: the writing failed, or there was no memory for what follows
 abbrev pub IsUnwritten : Failure → Option (List ℕ) → Option (List ℕ) → List ℕ → Type 0

@@ -4,27 +4,26 @@ ghost use Rattle.std.specs.String.{string_bytes};
 ghost use Rattle.std.specs.List.{flat_map};
 ghost use Rattle.leasecheck.specs.Idle.{idle_behind, idle_line, lines_of_fact};
 ghost use Rattle.leasecheck.specs.Messages.{messages_behind};
-ghost use Rattle.leasecheck.specs.Recording.{end_of, facts_told, recorded_text, IsUnwritten, HasGathered};
+ghost use Rattle.leasecheck.specs.Recording.{facts_told, recorded_text, IsUnwritten, HasGathered};
 ghost use Rattle.leasecheck.specs.Refusals.{Begins};
-ghost use Rattle.lease_texts.specs.Remarks.{rules_remark};
+ghost use Rattle.lease_texts.specs.Remarks.{rules_remark, safe_end};
 
 use crate::failure::Failure;
 use crate::idle::{push_all_idle, push_idle_before};
-use crate::judging::push_verdict;
 use crate::messages::push_lines_of;
 use crate::printing::{print_text, put};
 use lease_facts::Fact;
 use lease_state::{Order, Reply, Rise, Rules};
 use lease_texts::{Said, push_line};
-use lease_world::{Idle, Verdict};
+use lease_world::Idle;
 use std::alloc::{AllocError, Global};
 use std::io::Write;
 
 // How many bytes of a record's text gather before they are written.
 const BLOCK: usize = 65_536;
 
-/// A record, the messages that it speaks of, where they are wanted, the events that did nothing, where these are, with the
-/// numbers of the lines in which events stand, the rules of the server, and the verdict on it.
+/// The record of a run, which is safe, the messages that it speaks of, where they are wanted, the events that did nothing, where
+/// these are, with the numbers of the lines in which events stand, and the rules of the server.
 #[derive(Drop)]
 pub struct Record {
     pub facts: Vec<Fact>,
@@ -32,7 +31,6 @@ pub struct Record {
     pub lines: Vec<u64>,
     pub idle: Vec<Idle>,
     pub rules: Rules,
-    pub verdict: Verdict,
 }
 
 // What isn't written yet of a text that is told.
@@ -53,21 +51,20 @@ fn push_rules(text: &mut String, rules: Rules) -> Result<(), AllocError>
     }
 }
 
-// The rules and the verdict on a record after its text, with a sign that they are none of the facts.
-fn push_verdict_line(text: &mut String, rules: Rules, verdict: &Verdict) -> Result<(), AllocError>
-    ensures { OnOk result (string_bytes text.new ≡ string_bytes text.old ++ end_of rules verdict.now) }
+// What stands after the record of a run: the rules, and that it is safe, with a sign that this is none of the facts.
+fn push_safe(text: &mut String, rules: Rules) -> Result<(), AllocError>
+    ensures { OnOk result (string_bytes text.new ≡ string_bytes text.old ++ safe_end rules) }
 {
     push_rules(text, rules)?;
-    text.push_str("# ")?;
-    push_verdict(text, verdict)
+    text.push_str("# safe\n")
 }
 
 fn push_end(text: &mut String, recorded: &Record, idle: &[Idle]) -> Result<(), AllocError>
     ensures { OnOk result (string_bytes text.new ≡ string_bytes text.old
-        ++ (flat_map (idle_line recorded.now.lines.items) idle.now ++ end_of recorded.now.rules recorded.now.verdict)) }
+        ++ (flat_map (idle_line recorded.now.lines.items) idle.now ++ safe_end recorded.now.rules)) }
 {
     push_all_idle(text, recorded.lines.as_slice(), idle)?;
-    push_verdict_line(text, recorded.rules, &recorded.verdict)
+    push_safe(text, recorded.rules)
 }
 
 fn push_told<'a>(
@@ -122,7 +119,7 @@ impl Gathered {
     // The lines of the events that did nothing after all facts, of the rules and of the verdict.
     fn push_end(&mut self, recorded: &Record, idle: &[Idle]) -> Result<(), Failure>
         ensures line { OnOk result (string_bytes self.new.text ≡ string_bytes self.old.text
-            ++ (flat_map (idle_line recorded.now.lines.items) idle.now ++ end_of recorded.now.rules recorded.now.verdict)) }
+            ++ (flat_map (idle_line recorded.now.lines.items) idle.now ++ safe_end recorded.now.rules)) }
         ensures failed { IfErr result (λ failure. failure ≡ Failure.Memory) }
     {
         match push_end(&mut self.text, recorded, idle) {

@@ -1,8 +1,5 @@
 ghost use Rattle.std.specs.Prelude.{◌≡◌, ◌⊎◌, ℕ, List, [], true, false, if◌then◌else◌, map, Some, None, Ok, Err};
 ghost use Rattle.std.specs.Prelude.{IfOk, IfErr, MatchResult};
-ghost use Rattle.lease_model.specs.records.Safe.{Safe};
-ghost use Rattle.lease_facts.specs.Facts.{fact_of};
-ghost use Rattle.lease_world.specs.declared.verdict.Verdict.TheVariants as verdict;
 ghost use Rattle.lease_texts.specs.Drafts.{draft_of};
 ghost use Rattle.lease_texts.specs.Schedules.{schedule_in};
 ghost use Rattle.lease_texts.specs.Pieces.{lines_of};
@@ -16,10 +13,9 @@ use crate::idle::{event_lines, unsaid_is_plain};
 use crate::recording::Record;
 use crate::refusal::Refusal;
 use crate::tasks::Telling;
-use lease_laws::verdict_decides;
 use lease_state::{Reply, Rules};
 use lease_texts::{Schedule, TextFault, read_schedule};
-use lease_world::{RunFault, judge, run_explained_under, run_under, run_with_messages_under};
+use lease_world::{RunFault, run_explained_under, run_under, run_with_messages_under};
 use std::alloc::Global;
 
 pub(crate) fn not_run(fault: RunFault) -> Failure
@@ -32,7 +28,7 @@ pub(crate) fn not_run(fault: RunFault) -> Failure
 }
 
 // The record of a run with a server of these rules, with its messages where they are asked for, and with the events that did
-// nothing, which stand in these lines, where that is; and the verdict on it.
+// nothing, which stand in these lines, where that is.
 fn ran(
     alloc: Global,
     telling: Telling,
@@ -41,7 +37,6 @@ fn ran(
     lines: Vec<u64>,
 ) -> Result<Record, Refusal>
     ensures told { IfOk result (λ ran. Tells telling rules (draft_of schedule.now) lines.items (facts_told ran)) }
-    ensures safe { IfOk result (λ ran. ran.verdict ≡ verdict.Safe) }
     ensures rules { IfOk result (λ ran. ran.rules ≡ rules) }
     ensures refused { RefusesRun (draft_of schedule.now) result }
     ensures said { IfErr result (λ told. Says told (λ failure line. run_remark failure (draft_of schedule.now) ≡ Some line)) }
@@ -56,22 +51,18 @@ fn ran(
 fn ran_alone(alloc: Global, rules: Rules, schedule: &Schedule) -> Result<Record, Refusal>
     ensures told { IfOk result (λ ran. (lines : List ℕ)
         → Tells (record { messages = false; idle = false }) rules (draft_of schedule.now) lines (facts_told ran)) }
-    ensures safe { IfOk result (λ ran. ran.verdict ≡ verdict.Safe) }
     ensures rules { IfOk result (λ ran. ran.rules ≡ rules) }
     ensures refused { RefusesRun (draft_of schedule.now) result }
     ensures said { IfErr result (λ told. Says told (λ failure line. run_remark failure (draft_of schedule.now) ≡ Some line)) }
 {
-    verdict_decides();
     match run_under(alloc, rules, &schedule.setup, schedule.events.as_slice()) {
         Ok(facts) => {
-            let verdict = judge(alloc, facts.as_slice())?;
             Ok(Record {
                 facts,
                 messages: Vec::new(alloc),
                 lines: Vec::new(alloc),
                 idle: Vec::new(alloc),
                 rules,
-                verdict,
             })
         }
         Err(fault) => Err(Refusal::of_run(alloc, not_run(fault), schedule)),
@@ -81,22 +72,18 @@ fn ran_alone(alloc: Global, rules: Rules, schedule: &Schedule) -> Result<Record,
 fn ran_with_messages(alloc: Global, rules: Rules, schedule: &Schedule) -> Result<Record, Refusal>
     ensures told { IfOk result (λ ran. (lines : List ℕ)
         → Tells (record { messages = true; idle = false }) rules (draft_of schedule.now) lines (facts_told ran)) }
-    ensures safe { IfOk result (λ ran. ran.verdict ≡ verdict.Safe) }
     ensures rules { IfOk result (λ ran. ran.rules ≡ rules) }
     ensures refused { RefusesRun (draft_of schedule.now) result }
     ensures said { IfErr result (λ told. Says told (λ failure line. run_remark failure (draft_of schedule.now) ≡ Some line)) }
 {
-    verdict_decides();
     match run_with_messages_under(alloc, rules, &schedule.setup, schedule.events.as_slice()) {
         Ok((facts, messages)) => {
-            let verdict = judge(alloc, facts.as_slice())?;
             Ok(Record {
                 facts,
                 messages,
                 lines: Vec::new(alloc),
                 idle: Vec::new(alloc),
                 rules,
-                verdict,
             })
         }
         Err(fault) => Err(Refusal::of_run(alloc, not_run(fault), schedule)),
@@ -119,22 +106,18 @@ fn ran_explained(
 ) -> Result<Record, Refusal>
     ensures told { IfOk result (λ ran.
         Tells (record { messages = messages; idle = true }) rules (draft_of schedule.now) lines.items (facts_told ran)) }
-    ensures safe { IfOk result (λ ran. ran.verdict ≡ verdict.Safe) }
     ensures rules { IfOk result (λ ran. ran.rules ≡ rules) }
     ensures refused { RefusesRun (draft_of schedule.now) result }
     ensures said { IfErr result (λ told. Says told (λ failure line. run_remark failure (draft_of schedule.now) ≡ Some line)) }
 {
-    verdict_decides();
     match run_explained_under(alloc, rules, &schedule.setup, schedule.events.as_slice()) {
         Ok(told) => {
-            let verdict = judge(alloc, told.facts.as_slice())?;
             Ok(Record {
                 facts: told.facts,
                 messages: asked_for(alloc, messages, told.messages),
                 lines,
                 idle: told.idle,
                 rules,
-                verdict,
             })
         }
         Err(fault) => Err(Refusal::of_run(alloc, not_run(fault), schedule)),
@@ -169,8 +152,8 @@ fn schedule_of(alloc: Global, text: &[u8]) -> Result<Schedule, Refusal>
 }
 
 /// What `leasecheck replay` prints for the text of a schedule: the record of its run with a server of these rules, with its
-/// messages where they are asked for, and the events that did nothing where these are; and the verdict on it, which is that it
-/// is safe.
+/// messages where they are asked for, and the events that did nothing where these are. It is safe, by the contract of the run,
+/// and isn't judged once more.
 ///
 /// # Errors
 ///
@@ -183,7 +166,6 @@ pub fn replay(
     schedule: &[u8],
 ) -> Result<Record, Refusal>
     ensures printed { IfOk result (λ ran. Replays telling rules schedule.now (recorded_text ran)) }
-    ensures safe { IfOk result (λ ran. ran.verdict ≡ verdict.Safe) }
     ensures rules { IfOk result (λ ran. ran.rules ≡ rules) }
     ensures refused { RefusesReplay schedule.now result }
     ensures said { IfErr result (λ told. Says told (λ failure line. schedule_remark schedule.now failure ≡ Some line)) }

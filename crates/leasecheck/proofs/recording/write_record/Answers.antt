@@ -1,7 +1,8 @@
 use Rattle.lease_laws.proofs.Words.{◌++◌, ◌∙◌, ◌≡◌, List, ℕ, ap, append_assoc, flat_map, subst, sym}
 use Rattle.std.specs.Prelude.{IfErr}
 use Rattle.leasecheck.specs.Idle.{idle_line}
-use Rattle.leasecheck.specs.Recording.{HasGathered, IsUnwritten, end_of, recorded_text}
+use Rattle.leasecheck.specs.Recording.{HasGathered, IsUnwritten, recorded_text}
+use Rattle.lease_texts.specs.Remarks.{safe_end}
 use Rattle.leasecheck.specs.Refusals.{Begins}
 use Rattle.leasecheck.specs.declared.failure.Failure.TheVariants as failure
 use Rattle.leasecheck.proofs.Recorded.{gathered_more, unmade, unwritten_whole}
@@ -14,7 +15,7 @@ returns-in-Ok-push_end-clause-failed g c =
     let new = g.O.Write.contents c.print_text.new.out in
     let told = c.in-Ok.ensures.0 in
     let last : List ℕ = flat_map (idle_line c.args.recorded.now.lines.items) c.in-Ok.idle.now in
-    let end : List ℕ = end_of c.args.recorded.now.rules c.args.recorded.now.verdict in
+    let end : List ℕ = safe_end c.args.recorded.now.rules in
     let whole : told ++ (last ++ end) ≡ recorded_text c.args.recorded.now =
     sym (append_assoc told last end) ∙ ap (λ (t : List ℕ). t ++ end) c.in-Ok.ensures.2 in
     let has : HasGathered first current c.push_end.new.self (told ++ (last ++ end)) =
@@ -29,7 +30,7 @@ pub returns-clause-failed : goal.returns-clause-failed
 returns-clause-failed g c =
     let told = c.in-Ok.ensures.0 in
     let last : List ℕ = flat_map (idle_line c.args.recorded.now.lines.items) c.in-Ok.idle.now in
-    let end : List ℕ = end_of c.args.recorded.now.rules c.args.recorded.now.verdict in
+    let end : List ℕ = safe_end c.args.recorded.now.rules in
     unmade (g.O.Write.contents c.args.out.now) (g.O.Write.contents c.write_facts.new.out) c.write_facts.new.gathered told
     (last ++ end) (recorded_text c.args.recorded.now) c.in-Err-push_end.failure c.in-Ok.ensures.1 c.in-Err-push_end.ensures.failed
     (sym (append_assoc told last end) ∙ ap (λ (t : List ℕ). t ++ end) c.in-Ok.ensures.2)

@@ -6,8 +6,8 @@ use Rattle.leasecheck.proofs.Recorded.{told_alone}
 use Rattle.leasecheck.proofs.Told.{none_idle}
 use Rattle.leasecheck.proofs.replaying.ran_alone.Goals as goal
 
-pub returns-in_ok-verdict-in-Ok-clause-told : goal.returns-in_ok-verdict-in-Ok-clause-told
-returns-in_ok-verdict-in-Ok-clause-told c = λ lines. (
+pub returns-in-Ok-clause-told : goal.returns-in-Ok-clause-told
+returns-in-Ok-clause-told c = λ lines. (
   c.in-Ok.facts.items,
   search rules,
   ap₂ (λ (ms : List Reply) (js : List Idle). record_told (idle_line c.new-in-Ok.result.items) 0 c.in-Ok.facts.items ms js)

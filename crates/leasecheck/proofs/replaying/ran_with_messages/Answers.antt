@@ -4,8 +4,8 @@ use Rattle.leasecheck.specs.Idle.{idle_line, record_told}
 use Rattle.leasecheck.proofs.Told.{none_idle}
 use Rattle.leasecheck.proofs.replaying.ran_with_messages.Goals as goal
 
-pub returns-in_ok-verdict-in-Ok-clause-told : goal.returns-in_ok-verdict-in-Ok-clause-told
-returns-in_ok-verdict-in-Ok-clause-told c = λ lines. (
+pub returns-in-Ok-clause-told : goal.returns-in-Ok-clause-told
+returns-in-Ok-clause-told c = λ lines. (
   c.in-Ok.facts.items,
   search rules,
   (
