@@ -1,16 +1,11 @@
 -- Words of bytes above a separator, and the pieces that they are.
-use Rattle.std.proofs.Common.{◌&&◌, ◌++◌, ◌+◌, ◌-◌, ◌/◌, ◌%◌, ◌<◌, ◌==◌, ◌∷◌, ◌≡◌, Bool, List, ℕ, [], arith, false}
+use Rattle.std.proofs.Common.{◌++◌, ◌+◌, ◌-◌, ◌/◌, ◌%◌, ◌<◌, ◌==◌, ◌∷◌, ◌≡◌, Bool, List, ℕ, [], arith, false}
 use Rattle.std.proofs.Common.{if◌then◌else◌, nat_lt, refl, slice_index, suc, true, zero}
 use Rattle.std.proofs.lemmas.Bool.{and_parts}
 use Rattle.std.proofs.lemmas.Bool.Decides.{nat_tests}
 use Rattle.hex.specs.Hex.{IsBytes, encode_with, encode_lower, lower_digits}
 use Rattle.uuid.specs.Text.{by_index, hyphenated_text, lower}
-use Rattle.lease_texts.specs.Pieces.{pieces, longer}
-
--- each byte is above this one
-abbrev pub all_above : ℕ → List ℕ → Bool
-all_above low [] = true
-all_above low (byte ∷ bytes) = nat_lt low byte && all_above low bytes
+use Rattle.lease_texts.specs.Pieces.{all_above, pieces, longer}
 
 pub above-append : (low : ℕ) (one two : List ℕ) → all_above low one ≡ true → all_above low two ≡ true
     → all_above low (one ++ two) ≡ true

@@ -11,7 +11,7 @@ use Rattle.lease_state.specs.declared.request.Request.TheVariants as request
 use Rattle.lease_texts.specs.Kinds.{Kind, Line, Spoken, Telling, Value, Words, say}
 use Rattle.lease_texts.specs.Kinds.{word_for}
 use Rattle.lease_texts.specs.Lines.{line_text, spaced, text_for, told_in, words_for}
-use Rattle.lease_texts.specs.Pieces.{fields_of, lines_of}
+use Rattle.lease_texts.specs.Pieces.{all_above, fields_of, lines_of}
 use Rattle.lease_texts.specs.Reading.{is_passed_over}
 use Rattle.lease_texts.specs.Replies.{plain, reply_kinds, reply_said}
 use Rattle.lease_texts.specs.Requests.{plain_text, plain_words, request_kinds, request_said}
@@ -21,7 +21,7 @@ use Rattle.lease_texts.specs.Tables.{Tells, WordSays}
 use Rattle.lease_texts.specs.declared.kinds.Field.{Field}
 use Rattle.lease_texts.specs.declared.kinds.Field.TheVariants as field
 use Rattle.lease_texts.specs.declared.replies.Arrival.{Arrival}
-use Rattle.lease_texts.proofs.Bytes.{above-append, above-line, all_above, piece_first, piece_last}
+use Rattle.lease_texts.proofs.Bytes.{above-append, above-line, piece_first, piece_last}
 use Rattle.lease_texts.proofs.Tables.{reads_exactly, are_apart, of_one}
 use Rattle.lease_texts.proofs.Values.{word_above, word_back}
 

@@ -1,12 +1,13 @@
 -- Each fact and each part of a schedule is told by a row of its table.
-use Rattle.std.proofs.Common.{◌≡◌, ◌∷◌, [], refl, true}
+use Rattle.std.proofs.Common.{◌≡◌, ◌∷◌, [], None, codes, false, refl, true}
 use Rattle.lease_client.specs.declared.values.command.Command.TheVariants as command
 use Rattle.lease_facts.specs.declared.fact.Fact.{Fact}
 use Rattle.lease_facts.specs.declared.fact.Fact.TheVariants as fact
 use Rattle.lease_facts.specs.declared.setup.Event.TheVariants as event
 use Rattle.lease_texts.specs.Complaints.{complaint, fact_table, part_table}
 use Rattle.lease_texts.specs.FirstFaults.{ComplainsExactly}
-use Rattle.lease_texts.specs.Kinds.{say}
+use Rattle.lease_texts.specs.Kinds.{Words, begins, by_name, named, say}
+use Rattle.lease_texts.specs.Lines.{field_read}
 use Rattle.lease_texts.specs.Records.{fact_in, fact_kinds, fact_said}
 use Rattle.lease_texts.specs.Schedules.{part_in, part_kinds, part_said}
 use Rattle.lease_texts.specs.Tables.{AreReadBack, FieldSays, ReadsExactly}
@@ -57,6 +58,18 @@ facts_complained = complains_exactly fact_kinds fact_in fact_table refl facts_ap
 pub facts_back : AreReadBack fact_said fact_in
 unfolding fact_in
 facts_back = read_back fact_kinds fact_said facts_apart refl fact_row
+
+-- a line that begins with the word of no kind
+pub no_kind : (words : Words) → begins (codes "start") words ≡ false → begins (codes "joined") words ≡ false
+    → begins (codes "dropped") words ≡ false → begins (codes "expired") words ≡ false → begins (codes "sent") words ≡ false
+    → begins (codes "took") words ≡ false → begins (codes "opened") words ≡ false → begins (codes "changed") words ≡ false
+    → begins (codes "wrote") words ≡ false → begins (codes "settled") words ≡ false → begins (codes "believes") words ≡ false
+    → begins (codes "cachedread") words ≡ false → begins (codes "strayed") words ≡ false
+    → by_name field_read fact_kinds words ≡ None
+unfolding named
+no_kind [] start joined dropped expired sent took opened changed wrote settled believes cachedread strayed = refl
+no_kind (name ∷ words) start joined dropped expired sent took opened changed wrote settled believes cachedread strayed =
+    rw (start, joined, dropped, expired, sent, took, opened, changed, wrote, settled, believes, cachedread, strayed) refl
 
 -- ---- parts of schedules
 

@@ -23,7 +23,8 @@ use Rattle.lease_texts.specs.Words.{digits_word, of_word, rules_word, state_word
 use Rattle.lease_texts.specs.declared.kinds.Field.{Field}
 use Rattle.lease_texts.specs.declared.kinds.Field.TheVariants as field
 use Rattle.lease_texts.specs.declared.status.GivenStatus.{GivenStatus}
-use Rattle.lease_texts.proofs.Bytes.{all_above, above-append, hexadecimal_above, hyphenated_above}
+use Rattle.lease_texts.specs.Pieces.{all_above}
+use Rattle.lease_texts.proofs.Bytes.{above-append, hexadecimal_above, hyphenated_above}
 use Rattle.lease_texts.proofs.Cut.{bits_named}
 
 -- ---- numbers

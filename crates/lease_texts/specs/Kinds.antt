@@ -1,6 +1,6 @@
 -- Lines as rows of a table: what a field holds, the word that says a value and the one that is written for it, and what the
 -- fields of a kind of line tell.
-use Rattle.std.specs.Prelude.{ℕ, Bool, List, [], ◌∷◌, bytes_eq, if◌then◌else◌, Option, Some, None}
+use Rattle.std.specs.Prelude.{ℕ, Bool, false, List, [], ◌∷◌, bytes_eq, if◌then◌else◌, Option, Some, None}
 use Rattle.std.specs.Fmt.{decimal}
 use Rattle.std.specs.Option.{option_map}
 use Rattle.hex.specs.Hex.{encode_lower}
@@ -177,6 +177,11 @@ unfoldable pub named : {A : Type 0} → Reading → List (Kind A) → List ℕ �
 named read [] name words = None
 named read (kind ∷ kinds) name words =
     if bytes_eq name kind.name then taken read kind.fields kind.tells words else named read kinds name words
+
+-- whether the first word is this one
+abbrev pub begins : List ℕ → Words → Bool
+begins name [] = false
+begins name (word ∷ words) = bytes_eq word name
 
 -- by the kind that the first word names
 abbrev pub by_name : {A : Type 0} → Reading → List (Kind A) → Taking A

@@ -1,5 +1,5 @@
 -- Texts cut at each byte that separates their pieces.
-use Rattle.std.specs.Prelude.{ℕ, ◌==◌, List, [], ◌∷◌, Option, Some, None, if◌then◌else◌}
+use Rattle.std.specs.Prelude.{ℕ, ◌&&◌, ◌==◌, Bool, nat_lt, true, List, [], ◌∷◌, Option, Some, None, if◌then◌else◌}
 
 -- the byte stands before the first piece
 unfoldable pub longer : ℕ → List (List ℕ) → List (List ℕ)
@@ -24,3 +24,8 @@ lines_of text = pieces 10 [] text
 abbrev pub pieces_behind : ℕ → List (List ℕ) → Option (List ℕ) → List (List ℕ)
 pieces_behind separator last None = []
 pieces_behind separator last (Some rest) = pieces separator last rest
+
+-- each byte is above this one
+abbrev pub all_above : ℕ → List ℕ → Bool
+all_above low [] = true
+all_above low (byte ∷ bytes) = nat_lt low byte && all_above low bytes

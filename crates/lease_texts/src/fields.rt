@@ -1,16 +1,18 @@
-ghost use Rattle.std.specs.Prelude.{◌≡◌, ◌≢◌, ◌∷◌, [], MatchResult, MatchBool};
-ghost use Rattle.lease_texts.specs.Kinds.{word_read};
+ghost use Rattle.std.specs.Prelude.{◌≡◌, ◌≢◌, ◌∷◌, [], true, false, MatchResult, MatchBool};
+ghost use Rattle.lease_texts.specs.Fields.{ordinal_in};
+ghost use Rattle.lease_texts.specs.Kinds.{begins, one, word_read};
 ghost use Rattle.lease_texts.specs.Lines.{durable_in};
-ghost use Rattle.lease_texts.specs.Pieces.{fields_of};
+ghost use Rattle.lease_texts.specs.Pieces.{all_above, fields_of};
 ghost use Rattle.lease_texts.specs.Takes.{Takes};
 ghost use Rattle.lease_texts.specs.declared.kinds.Field.TheVariants as field;
 
 use crate::fault::LineFault;
+use crate::first::{after_word, first_ordinal};
 use crate::pieces::split_first;
 use crate::status::{GivenStatus, status_in};
 use crate::words::{
-    access_in, bytes_in, content_in, guid_in, number_in, offset_in, ordinal_in, outcome_in,
-    rules_in, share_in, sized_in, state_in, way_in,
+    access_in, bytes_in, content_in, guid_in, number_in, offset_in, outcome_in, rules_in, share_in,
+    sized_in, state_in, way_in,
 };
 use lease_client::Settlement;
 use lease_facts::is;
@@ -70,6 +72,23 @@ impl<'a> Fields<'a> {
         Ok(field)
     }
 
+    /// Takes the next field, where it is this word.
+    #[inline(always)]
+    pub(crate) fn takes(&mut self, word: &[u8]) -> bool
+        requires { all_above 32 word.now ≡ true }
+        ensures { MatchBool result (self.old ≡ word.now ∷ self.new)
+            ((self.new ≡ self.old) × (begins word.now self.old ≡ false)) }
+    {
+        let Some(rest) = self.rest else {
+            return false;
+        };
+        let Some(behind) = after_word(rest, word) else {
+            return false;
+        };
+        self.rest = behind;
+        true
+    }
+
     /// Refuses a line of which a field is left.
     pub fn end(&self) -> Result<(), LineFault>
         ensures { MatchResult result (λ _. self.now ≡ []) (λ fault. (fault ≡ LineFault.Refused) × (self.now ≢ [])) }
@@ -81,20 +100,37 @@ impl<'a> Fields<'a> {
         }
     }
 
+    // A number from 1 to 255.
+    #[inline(always)]
+    fn ordinal(&mut self) -> Result<u8, LineFault>
+        ensures { Takes (one ordinal_in) self.old self.new result }
+    {
+        let Some(rest) = self.rest else {
+            return Err(LineFault::Refused);
+        };
+        let Some((number, behind)) = first_ordinal(rest) else {
+            return Err(LineFault::Refused);
+        };
+        self.rest = behind;
+        Ok(number)
+    }
+
     /// The number of a client, from 1 to 255.
+    #[inline(always)]
+    #[tactic(auto, using(crate::proofs::Heads::client_taken, crate::proofs::Heads::no_client))]
     pub fn client(&mut self) -> Result<ClientNo, LineFault>
         ensures { Takes (word_read field.Client) self.old self.new result }
     {
-        let number = ordinal_in(self.next()?).ok_or(LineFault::Refused)?;
-        Ok(ClientNo(number))
+        Ok(ClientNo(self.ordinal()?))
     }
 
     /// The number of a file, from 1 to 255.
+    #[inline(always)]
+    #[tactic(auto, using(crate::proofs::Heads::file_taken, crate::proofs::Heads::no_file))]
     pub fn file(&mut self) -> Result<FileNo, LineFault>
         ensures { Takes (word_read field.File) self.old self.new result }
     {
-        let number = ordinal_in(self.next()?).ok_or(LineFault::Refused)?;
-        Ok(FileNo(number))
+        Ok(FileNo(self.ordinal()?))
     }
 
     /// A FileId, of at most 64 bits.
@@ -144,10 +180,17 @@ impl<'a> Fields<'a> {
         }
     }
 
-    /// The letters of a state in the order R, W, H, or `none`.
+    /// The letters of a state in the order R, W, H, or `none`. Mostly they end the line.
+    #[tactic(auto, using(crate::proofs::Heads::last_state))]
     pub fn state(&mut self) -> Result<LeaseState, LineFault>
         ensures { Takes (word_read field.State) self.old self.new result }
     {
+        if let Some(rest) = self.rest
+            && let Some(state) = state_in(rest)
+        {
+            self.rest = None;
+            return Ok(state);
+        }
         state_in(self.next()?).ok_or(LineFault::Refused)
     }
 

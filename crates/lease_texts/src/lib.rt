@@ -10,6 +10,7 @@
 mod complaints;
 mod fault;
 mod fields;
+mod first;
 mod kinds;
 mod laws;
 mod lines;

@@ -1,9 +1,9 @@
 //! Records as texts: a line for each fact.
 
-ghost use Rattle.std.specs.Prelude.{◌≡◌, ◌++◌, Some, None, MatchResult, OnOk, drop};
+ghost use Rattle.std.specs.Prelude.{◌≡◌, ◌++◌, Some, None, MatchResult, OnOk, codes, false};
 ghost use Rattle.std.specs.String.{string_bytes};
 ghost use Rattle.lease_texts.specs.Complaints.{fact_table, table_of};
-ghost use Rattle.lease_texts.specs.Kinds.{named};
+ghost use Rattle.lease_texts.specs.Kinds.{begins, by_name};
 ghost use Rattle.lease_texts.specs.Lines.{field_read};
 ghost use Rattle.lease_texts.specs.Records.{fact_in, fact_kinds, fact_line};
 ghost use Rattle.lease_texts.specs.Takes.{Takes, Reads};
@@ -14,7 +14,7 @@ use crate::kinds::Field::{Bytes, Client, Content, File, Number, Offset, Outcome,
 use crate::kinds::{Row, Table};
 use crate::said::line;
 use lease_client::SharedBytes;
-use lease_facts::{Fact, is};
+use lease_facts::Fact;
 use lease_state::Patch;
 use std::alloc::{AllocError, Global};
 
@@ -46,11 +46,48 @@ pub fn fact_table() -> Table
 
 // ---- reading
 
-#[tactic(auto, unfolding(crate::specs::Kinds::named, crate::specs::Kinds::taken))]
-fn read_later(alloc: Global, word: &[u8], fields: &mut Fields) -> Result<Fact, LineFault>
-    ensures { Takes (named field_read (drop 7 fact_kinds) word.now) fields.old fields.new result }
+// Facts of the kinds of which a record has fewer.
+#[inline(always)]
+#[tactic(auto, unfolding(crate::specs::Kinds::named, crate::specs::Kinds::taken), using(crate::proofs::Rows::no_kind))]
+fn read_rarer(alloc: Global, fields: &mut Fields) -> Result<Fact, LineFault>
+    requires sent { begins (codes "sent") fields.old ≡ false }
+    requires took { begins (codes "took") fields.old ≡ false }
+    requires believes { begins (codes "believes") fields.old ≡ false }
+    requires opened { begins (codes "opened") fields.old ≡ false }
+    requires changed { begins (codes "changed") fields.old ≡ false }
+    requires wrote { begins (codes "wrote") fields.old ≡ false }
+    requires settled { begins (codes "settled") fields.old ≡ false }
+    ensures { Takes (by_name field_read fact_kinds) fields.old fields.new result }
 {
-    if is(word, b"changed") {
+    if fields.takes(b"cachedread") {
+        let (client, file) = (fields.client()?, fields.file()?);
+        Ok(Fact::CachedRead(client, file, SharedBytes::new(fields.bytes(alloc)?)?))
+    } else if fields.takes(b"joined") {
+        Ok(Fact::Joined(fields.client()?))
+    } else if fields.takes(b"dropped") {
+        Ok(Fact::Dropped(fields.client()?))
+    } else if fields.takes(b"expired") {
+        Ok(Fact::Expired(fields.client()?, fields.file()?))
+    } else if fields.takes(b"start") {
+        Ok(Fact::Start(fields.file()?, fields.file_bytes(alloc)?))
+    } else if fields.takes(b"strayed") {
+        Ok(Fact::Strayed(fields.client()?))
+    } else {
+        Err(LineFault::Refused)
+    }
+}
+
+// Facts of writes, and of the rarer kinds.
+#[inline(always)]
+#[tactic(auto, unfolding(crate::specs::Kinds::named, crate::specs::Kinds::taken))]
+fn read_write(alloc: Global, fields: &mut Fields) -> Result<Fact, LineFault>
+    requires sent { begins (codes "sent") fields.old ≡ false }
+    requires took { begins (codes "took") fields.old ≡ false }
+    requires believes { begins (codes "believes") fields.old ≡ false }
+    requires opened { begins (codes "opened") fields.old ≡ false }
+    ensures { Takes (by_name field_read fact_kinds) fields.old fields.new result }
+{
+    if fields.takes(b"changed") {
         let (file, client) = (fields.file()?, fields.client()?);
         let number = fields.number()?;
         let patch = Patch {
@@ -58,7 +95,7 @@ fn read_later(alloc: Global, word: &[u8], fields: &mut Fields) -> Result<Fact, L
             bytes: fields.bytes(alloc)?,
         };
         Ok(Fact::Changed(file, client, number, patch))
-    } else if is(word, b"wrote") {
+    } else if fields.takes(b"wrote") {
         let (client, file) = (fields.client()?, fields.file()?);
         let number = fields.number()?;
         let patch = Patch {
@@ -66,41 +103,29 @@ fn read_later(alloc: Global, word: &[u8], fields: &mut Fields) -> Result<Fact, L
             bytes: fields.bytes(alloc)?,
         };
         Ok(Fact::Wrote(client, file, number, patch, fields.way()?))
-    } else if is(word, b"settled") {
+    } else if fields.takes(b"settled") {
         Ok(Fact::Settled(fields.client()?, fields.number()?, fields.outcome()?))
-    } else if is(word, b"believes") {
-        Ok(Fact::Believes(fields.client()?, fields.file()?, fields.state()?))
-    } else if is(word, b"cachedread") {
-        let (client, file) = (fields.client()?, fields.file()?);
-        Ok(Fact::CachedRead(client, file, SharedBytes::new(fields.bytes(alloc)?)?))
-    } else if is(word, b"strayed") {
-        Ok(Fact::Strayed(fields.client()?))
     } else {
-        Err(LineFault::Refused)
+        read_rarer(alloc, fields)
     }
 }
 
-// The fact of a kind, by its word and the fields after it.
+// The fact that the fields of a line are, which may go on. The kinds of which a record has most are tried first.
+#[inline(always)]
 #[tactic(auto, unfolding(crate::specs::Kinds::named, crate::specs::Kinds::taken))]
-fn read_named(alloc: Global, word: &[u8], fields: &mut Fields) -> Result<Fact, LineFault>
-    ensures { Takes (named field_read fact_kinds word.now) fields.old fields.new result }
+fn read_kind(alloc: Global, fields: &mut Fields) -> Result<Fact, LineFault>
+    ensures { Takes (by_name field_read fact_kinds) fields.old fields.new result }
 {
-    if is(word, b"start") {
-        Ok(Fact::Start(fields.file()?, fields.file_bytes(alloc)?))
-    } else if is(word, b"joined") {
-        Ok(Fact::Joined(fields.client()?))
-    } else if is(word, b"dropped") {
-        Ok(Fact::Dropped(fields.client()?))
-    } else if is(word, b"expired") {
-        Ok(Fact::Expired(fields.client()?, fields.file()?))
-    } else if is(word, b"sent") {
+    if fields.takes(b"sent") {
         Ok(Fact::Sent(fields.client()?))
-    } else if is(word, b"took") {
+    } else if fields.takes(b"took") {
         Ok(Fact::Took(fields.client()?))
-    } else if is(word, b"opened") {
+    } else if fields.takes(b"believes") {
+        Ok(Fact::Believes(fields.client()?, fields.file()?, fields.state()?))
+    } else if fields.takes(b"opened") {
         Ok(Fact::Opened(fields.file()?, fields.client()?))
     } else {
-        read_later(alloc, word, fields)
+        read_write(alloc, fields)
     }
 }
 
@@ -114,8 +139,7 @@ pub fn read_fact(alloc: Global, line: &[u8]) -> Result<Fact, LineFault>
     ensures { Reads fact_in line.now result }
 {
     let mut fields = Fields::of(line);
-    let word = fields.next()?;
-    let fact = read_named(alloc, word, &mut fields)?;
+    let fact = read_kind(alloc, &mut fields)?;
     fields.end()?;
     Ok(fact)
 }

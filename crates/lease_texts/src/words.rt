@@ -66,7 +66,7 @@ pub(crate) fn ordinal_in(digits: &[u8]) -> Option<u8>
 }
 
 #[tactic(auto, unfolding(crate::specs::Fields::number_in, crate::specs::Fields::number_after))]
-fn ordinal_digit(digit: u8) -> Option<u8>
+pub(crate) fn ordinal_digit(digit: u8) -> Option<u8>
     ensures { result ≡ ordinal_in (digit ∷ []) }
 {
     if digit.is_ascii_digit() && digit != b'0' {
