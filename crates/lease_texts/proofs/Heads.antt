@@ -99,7 +99,8 @@ no_tail (byte ∷ word) = ap (λ (w : List ℕ). byte ∷ w) (no_tail word)
 
 pub whole_line : (word line head tail : List ℕ) → all_above 32 word ≡ true → line ≡ head ++ tail
     → bytes_eq head word ≡ true → length tail < 1 → pieces 32 ([] ∷ []) line ≡ word ∷ []
-whole_line word line head [] above is same none = ap fields (same_line word line head [] is same ∙ no_tail word) ∙ piece_last 32 word above
+whole_line word line head [] above is same none =
+    ap fields (same_line word line head [] is same ∙ no_tail word) ∙ piece_last 32 word above
 whole_line word line head (byte ∷ tail) above is same none = absurd (omega (arith, none))
 
 pub word_first : (word line head tail : List ℕ) → all_above 32 word ≡ true → line ≡ head ++ tail

@@ -134,6 +134,7 @@ fn read_kind(alloc: Global, fields: &mut Fields) -> Result<Fact, LineFault>
 /// # Errors
 ///
 /// `Refused` where the line is none, and `Memory` where there is none left for what it holds.
+#[inline(always)]
 #[tactic(auto, unfolding(crate::specs::Records::fact_in, crate::specs::Lines::told_in))]
 pub fn read_fact(alloc: Global, line: &[u8]) -> Result<Fact, LineFault>
     ensures { Reads fact_in line.now result }
