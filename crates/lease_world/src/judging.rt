@@ -86,6 +86,7 @@ impl Judge {
     ///
     /// Those of `take`. The judge has forgotten all facts then, as a new one.
     // docs/DECISIONS.md: "A judge takes a fact in two ways".
+    #[inline(always)]
     pub fn add(&mut self, fact: &Fact) -> Result<(), Memory>
         ensures judged { OnOk result (JudgesOneMore self.old (fact_of fact.now) self.new) }
         ensures forgotten { OnErr result (HasJudged self.new []) }

@@ -10,6 +10,8 @@ use Rattle.lease_facts.specs.declared.fact.Fact.{Fact}
 use Rattle.lease_world.specs.declared.verdict.Verdict.{Verdict}
 use Rattle.lease_world.specs.judge.Judged.{Judging, HasJudged}
 use Rattle.lease_texts.specs.Pieces.{lines_of}
+use Rattle.lease_texts.specs.declared.fault.LineFault.{LineFault}
+use Rattle.lease_texts.specs.declared.fault.LineFault.TheVariants.{Refused}
 use Rattle.lease_texts.specs.Reading.{reads_on}
 use Rattle.lease_texts.specs.Records.{with_line, record_in}
 use Rattle.leasecheck.specs.FileFaults.{reading_failure}
@@ -17,6 +19,8 @@ use Rattle.leasecheck.specs.Known.{OfBytes}
 use Rattle.leasecheck.specs.declared.failure.Failure.{Failure}
 use Rattle.leasecheck.specs.declared.failure.Failure.TheVariants as failure
 use Rattle.leasecheck.specs.declared.judging.Progress.{Progress}
+use Rattle.leasecheck.specs.declared.judging.Stop.{Stop}
+use Rattle.leasecheck.specs.declared.judging.Stop.TheVariants as stop
 use Rattle.leasecheck.specs.declared.refusal.Refusal.{Refusal}
 use Rattle.leasecheck.specs.LineRemarks.{fact_remark, line_among}
 
@@ -62,11 +66,6 @@ Judges known answer = OfBytes known (λ text. JudgesText text answer)
 
 -- ---- lines
 
--- what a call gives that changes a value in its place
-abbrev pub changed_to : {S T E : Type 0} → S → Result T E → Result S E
-changed_to state (Ok done) = Ok state
-changed_to state (Err e) = Err e
-
 -- The lines were read: the judge was given their facts, and what follows is read after them.
 pub record HasRead (progress : Progress) (lines : List (List ℕ)) : Type 0 where
   pub facts : List Fact
@@ -74,12 +73,17 @@ pub record HasRead (progress : Progress) (lines : List (List ℕ)) : Type 0 wher
   pub read : (more : List (List ℕ)) → reads_on with_line 1 [] (lines ++ more) ≡ reads_on with_line progress.number facts more
   pub counted : progress.number ≡ length lines + 1
 
--- A judge of these facts takes a line, which is told by its number where it is refused.
-abbrev pub TakesLine : List Fact → List ℕ → ℕ → Result Judging Refusal → Type 0
-TakesLine facts line number answer = MatchResult answer
-    (λ judge. (more : List Fact) × (with_line facts line ≡ Some more) × HasJudged judge (map fact_of more))
-    (λ told. (told ≡ bare failure.Memory)
-    ⊎ ((with_line facts line ≡ None) × (told.failure ≡ failure.Line number) × SaysLine number line told))
+-- A judge of these facts takes a line, or it is refused.
+abbrev pub TakesLine : {A : Type 0} → List Fact → List ℕ → Judging → Result A LineFault → Type 0
+TakesLine facts line judge answer = MatchResult answer
+    (λ _. (more : List Fact) × (with_line facts line ≡ Some more) × HasJudged judge (map fact_of more))
+    (λ fault. fault ≡ Refused → with_line facts line ≡ None)
+
+-- What is told where the line of this number isn't taken.
+abbrev pub TellsStop : ℕ → List ℕ → Stop → Refusal → Type 0
+TellsStop number line stop.Lines told = told ≡ bare failure.Lines
+TellsStop number line stop.Memory told = told ≡ bare failure.Memory
+TellsStop number line stop.Refused told = (told.failure ≡ failure.Line number) × SaysLine number line told
 
 -- Lines are read after those that were, or one of them is refused.
 abbrev pub ReadsMore : List (List ℕ) → List (List ℕ) → Result Progress Refusal → Type 0

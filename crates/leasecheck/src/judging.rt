@@ -1,16 +1,19 @@
-ghost use Rattle.std.specs.Prelude.{◌≡◌, ◌++◌, ◌∷◌, [], List, ℕ, map, IfOk, IfErr, OnOk, ◌<◌, ◌≤◌, length, take};
+ghost use Rattle.std.specs.Prelude.{◌≡◌, ◌++◌, ◌∷◌, [], List, ℕ, Err, map, IfOk, IfErr, OnOk, MatchResult};
+ghost use Rattle.std.specs.Prelude.{◌<◌, ◌≤◌, length, take};
 ghost use Rattle.std.specs.Io.KnownBytes.{Consumes, IsAtEnd};
 ghost use Rattle.std.specs.String.{string_bytes};
 ghost use Rattle.lease_facts.specs.Facts.{fact_of};
 ghost use Rattle.lease_facts.specs.declared.fact.Fact.{Fact};
 ghost use Rattle.lease_world.specs.judge.Judged.{HasJudged};
 ghost use Rattle.lease_texts.specs.Pieces.{lines_of};
-ghost use Rattle.leasecheck.specs.Judging.{changed_to, HasRead, HasReadText, TakesLine, ReadsMore, ReadsBlock, JudgesText};
+ghost use Rattle.leasecheck.specs.Judging.{HasRead, HasReadText, TakesLine, TellsStop, ReadsMore, ReadsBlock, JudgesText};
 ghost use Rattle.leasecheck.specs.Judging.{IsUnread, Judges};
+ghost use Rattle.leasecheck.specs.declared.refusal.Refusal.{Refusal};
 ghost use Rattle.leasecheck.specs.Replayed.{verdict_line, status_of};
 
 use crate::failure::Failure;
 use crate::refusal::Refusal;
+use lease_state::Memory;
 use lease_texts::{LineFault, first_line, is_passed_over, read_fact};
 use lease_world::{Judge, Verdict};
 use memchr::{memchr, memrchr};
@@ -27,6 +30,15 @@ struct Progress {
     number: u64,
 }
 
+// Why a line isn't taken.
+#[derive(Clone, Copy, Debug)]
+enum Stop {
+    /// There is no number for it.
+    Lines,
+    Memory,
+    Refused,
+}
+
 impl Progress {
     fn new(alloc: Global) -> Progress
         ensures { HasRead result [] }
@@ -38,22 +50,35 @@ impl Progress {
     }
 
     // Takes a line, in place.
-    fn take_line(&mut self, alloc: Global, line: &[u8]) -> Result<(), Refusal>
+    #[inline(always)]
+    fn take_line(&mut self, alloc: Global, line: &[u8]) -> Result<(), Stop>
         ensures { (lines : List (List ℕ)) → HasRead self.old lines
-            → ReadsMore lines (line.now ∷ []) (changed_to self.new result) }
+            → MatchResult result (λ _. HasRead self.new (lines ++ line.now ∷ []))
+            (λ stop. (told : Refusal) → TellsStop self.new.number line.now stop told
+            → ReadsMore lines (line.now ∷ []) (Err told)) }
     {
         if self.number == u64::MAX {
-            return Err(Refusal {
-                failure: Failure::Lines,
-                second: None,
-            });
+            return Err(Stop::Lines);
         }
-        match take_fact(alloc, &mut self.judge, line, self.number) {
+        match take_fact(alloc, &mut self.judge, line) {
             Ok(()) => {
                 self.number += 1;
                 Ok(())
             }
-            Err(refusal) => Err(refusal),
+            Err(LineFault::Memory) => Err(Stop::Memory),
+            Err(LineFault::Refused) => Err(Stop::Refused),
+        }
+    }
+
+    // What is told of the next line, which isn't taken.
+    #[inline(never)]
+    fn refusal(&self, alloc: Global, line: &[u8], stop: Stop) -> Refusal
+        ensures { TellsStop self.now.number line.now stop result }
+    {
+        match stop {
+            Stop::Lines => Refusal::bare(Failure::Lines),
+            Stop::Memory => Refusal::bare(Failure::Memory),
+            Stop::Refused => Refusal::of_fact(alloc, self.number, line),
         }
     }
 
@@ -67,7 +92,7 @@ impl Progress {
             let (line, behind) = first_line(rest);
             match progress.take_line(alloc, line) {
                 Ok(()) => rest = behind,
-                Err(refusal) => return Err(refusal),
+                Err(stop) => return Err(progress.refusal(alloc, line, stop)),
             }
         }
         Ok(progress)
@@ -131,24 +156,21 @@ impl Progress {
     }
 }
 
-// The judge takes the line of this number.
-fn take_fact(alloc: Global, judge: &mut Judge, line: &[u8], number: u64) -> Result<(), Refusal>
-    ensures { (facts : List Fact) → HasJudged judge.old (map fact_of facts)
-        → TakesLine facts line.now number (changed_to judge.new result) }
+// The judge takes a line.
+#[inline(always)]
+fn take_fact(alloc: Global, judge: &mut Judge, line: &[u8]) -> Result<(), LineFault>
+    ensures { (facts : List Fact) → HasJudged judge.old (map fact_of facts) → TakesLine facts line.now judge.new result }
 {
     if is_passed_over(line) {
         return Ok(());
     }
-    match read_fact(alloc, line) {
-        Ok(fact) => {
-            judge.add(&fact)?;
-            Ok(())
-        }
-        Err(LineFault::Refused) => Err(Refusal::of_fact(alloc, number, line)),
-        Err(LineFault::Memory) => Err(Refusal {
-            failure: Failure::Memory,
-            second: None,
-        }),
+    let read = read_fact(alloc, line);
+    match &read {
+        Ok(fact) => match judge.add(fact) {
+            Ok(()) => Ok(()),
+            Err(Memory) => Err(LineFault::Memory),
+        },
+        Err(fault) => Err(*fault),
     }
 }
 

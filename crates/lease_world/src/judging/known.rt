@@ -64,6 +64,7 @@ impl Known {
     /// # Errors
     ///
     /// `Memory` where there is none left for what is kept; the same holds of each call below.
+    #[inline(always)]
     pub fn add(&mut self, place: u64, fact: &Fact) -> Result<Verdict, Memory>
         ensures { IfOk result (λ verdict. Adds place (fact_of fact.now) self.old self.new verdict) }
     {

@@ -17,5 +17,5 @@ loop-rest-preserved c = λ lines has.
 pub returns-in-Err : goal.returns-in-Err
 returns-in-Err c = λ lines has.
     let so_far = c.loop-rest.invariant lines has in
-    stop_at c.in-Err.refusal c.first_line.result.0.now c.first_line.result.1.now c.loop-rest.rest.now c.args.text.now lines
-    so_far.0 (c.in-Err.ensures (lines ++ so_far.0) so_far.1) c.first_line.ensures.lines so_far.2
+    stop_at c.refusal.result c.first_line.result.0.now c.first_line.result.1.now c.loop-rest.rest.now c.args.text.now lines
+    so_far.0 (c.in-Err.ensures (lines ++ so_far.0) so_far.1 c.refusal.result c.refusal.ensures) c.first_line.ensures.lines so_far.2
