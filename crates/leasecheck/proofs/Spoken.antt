@@ -1,12 +1,12 @@
 -- Machines that answered some lines of a text.
-use Rattle.lease_laws.proofs.Words.{◌++◌, ◌+◌, ◌==◌, ◌∙◌, ◌∷◌, ◌≡◌, ◌≢◌, Appends, Bool, Err, IfSome, List, None, Ok, Option, Some}
-use Rattle.lease_laws.proofs.Words.{ℕ, [], ap, append-nil, append_assoc, arith, false, if◌then◌else◌, length, length-append}
-use Rattle.lease_laws.proofs.Words.{nat_tests, refl, subst, sym, true}
+use Rattle.lease_laws.proofs.Words.{◌++◌, ◌+◌, ◌==◌, ◌^◌, ◌∙◌, ◌∷◌, ◌≡◌, ◌≢◌, ◌≤◌, Appends, Bool, Err, IfSome, List, None, Ok}
+use Rattle.lease_laws.proofs.Words.{Option, Some, ℕ, [], ap, append-nil, append_assoc, arith, false, if◌then◌else◌, length}
+use Rattle.lease_laws.proofs.Words.{length-append, nat_tests, refl, subst, sym, true}
 use Rattle.std.specs.Io.BufRead.{take_through, drop_through}
 use Rattle.lease_lines.specs.ClientTables.{Answered}
 use Rattle.lease_lines.specs.Machines.{Machines, answered, reasons, spoken, transcript}
 use Rattle.lease_texts.specs.Pieces.{lines_of, pieces, longer}
-use Rattle.leasecheck.specs.Conversing.{Converses, GivesLine, HasBegun, HasSpoken}
+use Rattle.leasecheck.specs.Conversing.{Converses, GivesLine, HasBegun, HasSpoken, HasTooMany}
 use Rattle.leasecheck.specs.Refusals.{Begins}
 use Rattle.leasecheck.specs.declared.failure.Failure.{Failure}
 use Rattle.leasecheck.proofs.Puts.{appends_more}
@@ -284,6 +284,15 @@ breaks_off T whole left new start now number first old written faults told after
         subst (λ ls. Begins first written (transcript start 1 ls) × Begins faults after (reasons start 1 ls))
         (sym (had.2 ∙ (ap (λ t. so_far.lines ++ lines_of t) same ∙ ap (λ ls. so_far.lines ++ ls) cut)))
         (so (lines_of (drop_through 10 text)))
+
+-- numbers run out only for as many lines
+pub runs_out : (whole left : Option (List ℕ)) (start now : Machines) (number : ℕ)
+    (first old faults told : Option (List ℕ)) → IsSoFar whole left start now number first old faults told
+    → 2 ^ 64 ≤ number + 1 → HasTooMany whole
+runs_out None left start now number first old faults told so_far last = tt
+runs_out (Some all) left start now number first old faults told so_far last =
+    let all_counted = ap (λ (ls : List (List ℕ)). length ls) so_far.known.2 in
+    omega (arith, last, all_counted, so_far.was.1, length-append {A = List ℕ})
 
 -- what was given is nothing, or something
 pub none_left : (bytes : List ℕ) → (length bytes == 0) ≡ true → bytes ≡ []

@@ -1,5 +1,5 @@
 -- Machines that answer what a reader gives, line by line.
-use Rattle.std.specs.Prelude.{◌≡◌, ◌⊎◌, ℕ, List, Option, Some, None, Result, MatchResult, IfSome}
+use Rattle.std.specs.Prelude.{◌≡◌, ◌⊎◌, ◌+◌, ◌^◌, ◌≤◌, ℕ, List, length, Option, Some, None, Result, MatchResult, IfSome}
 use Rattle.std.specs.Io.BufRead.{take_through, drop_through}
 use Rattle.std.specs.Io.KnownBytes.{Appends}
 use Rattle.lease_lines.specs.ClientTables.{Answered}
@@ -25,9 +25,17 @@ abbrev pub Converses : {T : Type 0} → Machines → Option (List ℕ) → Optio
 Converses machines None old new faults told answer = (lines : List (List ℕ)) × Answers machines lines old new faults told answer
 Converses machines (Some text) old new faults told answer = Answers machines (lines_of text) old new faults told answer
 
+-- what keeps a line from being answered: there was no memory, or a write failed
+abbrev pub EndsAnswering : Failure → Type 0
+EndsAnswering failure = (failure ≡ Memory) ⊎ (failure ≡ Output)
+
+-- there are more lines than numbers of 64 bits, where it is known which there are
+abbrev pub HasTooMany : Option (List ℕ) → Type 0
+HasTooMany known = IfSome known (λ text. 2 ^ 64 ≤ length (lines_of text) + 2)
+
 -- what ends machines before their input does
-abbrev pub EndsSpeaking : Failure → Type 0
-EndsSpeaking failure = (failure ≡ Memory) ⊎ FailsReading failure ⊎ (failure ≡ Output) ⊎ (failure ≡ Lines)
+abbrev pub EndsSpeaking : Option (List ℕ) → Failure → Type 0
+EndsSpeaking known failure = EndsAnswering failure ⊎ FailsReading failure ⊎ ((failure ≡ Lines) × HasTooMany known)
 
 -- a reader gave a line with its line feed, or nothing at its end
 abbrev pub GivesLine : Option (List ℕ) → Option (List ℕ) → List ℕ → Type 0

@@ -3,7 +3,7 @@ ghost use Rattle.std.specs.Io.KnownBytes.{Appends};
 ghost use Rattle.std.specs.String.{string_bytes};
 ghost use Rattle.lease_lines.specs.Machines.{answered};
 ghost use Rattle.lease_lines.specs.Tables.{machines_of};
-ghost use Rattle.leasecheck.specs.Conversing.{Converses, EndsSpeaking, GivesLine, HasBegun, HasSpoken};
+ghost use Rattle.leasecheck.specs.Conversing.{Converses, EndsAnswering, EndsSpeaking, GivesLine, HasBegun, HasSpoken};
 ghost use Rattle.leasecheck.specs.FileFaults.{FailsReading};
 ghost use Rattle.leasecheck.specs.Refusals.{Begins};
 ghost use Rattle.leasecheck.specs.declared.failure.Failure.{Failure};
@@ -60,7 +60,7 @@ fn answer_line<O: Write, F: Write>(
         (O.contents out.new) (F.contents faults.old) (F.contents faults.new))
         (λ _. HasBegun (answered (machines_of machines) number line.now) (O.contents out.old) (O.contents out.new)
         (F.contents faults.old) (F.contents faults.new)) }
-    ensures failed { IfErr result EndsSpeaking }
+    ensures failed { IfErr result EndsAnswering }
 {
     match machines.answer(alloc, number, line) {
         Ok((machines, answer)) => match print_answer(&answer, out, faults) {
@@ -87,7 +87,7 @@ pub fn converse<I: BufRead, O: Write, F: Write>(
 ) -> Result<(), Failure>
     ensures answered { Converses (machines_of machines) (I.remaining input.old) (O.contents out.old) (O.contents out.new)
         (F.contents faults.old) (F.contents faults.new) result }
-    ensures failed { IfErr result EndsSpeaking }
+    ensures failed { IfErr result (EndsSpeaking (I.remaining input.old)) }
 {
     let mut machines = machines;
     for number in 1..u64::MAX {

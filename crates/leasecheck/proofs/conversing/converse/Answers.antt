@@ -1,7 +1,7 @@
-use Rattle.lease_laws.proofs.Words.{◌∙◌, subst, sym}
+use Rattle.lease_laws.proofs.Words.{◌∙◌, arith, inr, refl, subst, sym}
 use Rattle.lease_lines.specs.Tables.{machines_of}
 use Rattle.leasecheck.specs.Conversing.{GivesLine}
-use Rattle.leasecheck.proofs.Spoken.{begins, goes_on, ends, stops, breaks_off, none_left, some_left}
+use Rattle.leasecheck.proofs.Spoken.{begins, goes_on, ends, stops, breaks_off, none_left, runs_out, some_left}
 use Rattle.leasecheck.proofs.conversing.converse.Goals as goal
 
 pub loop-number-init : goal.loop-number-init
@@ -49,3 +49,11 @@ loop-number-preserved g c =
 pub returns-clause-answered : goal.returns-clause-answered
 returns-clause-answered g c = stops _ (g.I.Read.remaining c.args.input.now) _ (machines_of c.args.machines) _ c.loop-number.number
     (g.O.Write.contents c.args.out.now) _ (g.F.Write.contents c.args.faults.now) _ _ c.loop-number.invariant
+
+pub returns-clause-failed : goal.returns-clause-failed
+returns-clause-failed g c = inr (inr (
+  refl,
+  runs_out (g.I.Read.remaining c.args.input.now) _ (machines_of c.args.machines) _ c.loop-number.number
+      (g.O.Write.contents c.args.out.now) _ (g.F.Write.contents c.args.faults.now) _ c.loop-number.invariant
+      (omega (arith, c.loop-number-test.false)),
+))
