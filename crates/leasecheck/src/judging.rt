@@ -6,8 +6,9 @@ ghost use Rattle.lease_facts.specs.Facts.{fact_of};
 ghost use Rattle.lease_facts.specs.declared.fact.Fact.{Fact};
 ghost use Rattle.lease_world.specs.judge.Judged.{HasJudged};
 ghost use Rattle.lease_texts.specs.Pieces.{lines_of};
+ghost use Rattle.leasecheck.specs.FileFaults.{reading_failure};
 ghost use Rattle.leasecheck.specs.Judging.{HasRead, HasReadText, TakesLine, TellsStop, ReadsMore, ReadsBlock, JudgesText};
-ghost use Rattle.leasecheck.specs.Judging.{IsUnread, Judges};
+ghost use Rattle.leasecheck.specs.Judging.{bare, IsUnread, Judges};
 ghost use Rattle.leasecheck.specs.declared.refusal.Refusal.{Refusal};
 ghost use Rattle.leasecheck.specs.Replayed.{verdict_line, status_of};
 
@@ -176,7 +177,8 @@ fn take_fact(alloc: Global, judge: &mut Judge, line: &[u8]) -> Result<(), LineFa
 
 // What is refused where a read fails.
 fn unread(kind: ErrorKind) -> Refusal
-    ensures { IsUnread result }
+    ensures exact { result ≡ bare (reading_failure kind) }
+    ensures unread { IsUnread result }
 {
     Refusal {
         failure: Failure::of_reading(kind),
