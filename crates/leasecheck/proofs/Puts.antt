@@ -35,13 +35,18 @@ puts_more first old new text left part count n is cut had has = (
   appends_more first old new part (take count left) had has,
 )
 
--- a text and a beginning of another one behind it
-pub begins_behind : {T E : Type 0} (first old new : Option (List ℕ)) (line second : List ℕ) (answer : Result T E)
-    → Appends first old line → Puts old new second answer → Begins first new (line ++ second)
-begins_behind first old new line second (Ok value) had has =
-    (line ++ second, [], sym (append-nil (line ++ second)), appends_more first old new line second had has)
-begins_behind first old new line second (Err e) had (part, rest, is, has) =
+-- a text that is put after another one
+pub puts_behind : {T E : Type 0} (first old new : Option (List ℕ)) (line second : List ℕ) (answer : Result T E)
+    → Appends first old line → Puts old new second answer → Puts first new (line ++ second) answer
+puts_behind first old new line second (Ok value) had has = appends_more first old new line second had has
+puts_behind first old new line second (Err e) had (part, rest, is, has) =
     (line ++ part, rest, ap (λ t. line ++ t) is ∙ sym (append_assoc line part rest), appends_more first old new line part had has)
+
+-- what was put is written whole or a beginning of it
+pub begins_of : {T E : Type 0} (old new : Option (List ℕ)) (text : List ℕ) (answer : Result T E) → Puts old new text answer
+    → Begins old new text
+begins_of old new text (Ok value) has = (text, [], sym (append-nil text), has)
+begins_of old new text (Err e) begins = begins
 
 pub begins_longer : (old new : Option (List ℕ)) (line second : List ℕ) → Begins old new line → Begins old new (line ++ second)
 begins_longer old new line second (part, rest, is, has) =

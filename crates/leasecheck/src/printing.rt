@@ -306,7 +306,8 @@ fn line_of(failure: Failure) -> Option<ArrayString<LINE>>
 
 // One line for a failure.
 pub(crate) fn tell_failure<F: Write>(failure: Failure, faults: &mut F) -> Result<(), Failure>
-    ensures { Puts (F.contents faults.old) (F.contents faults.new) (failure_line failure) result }
+    ensures told { Puts (F.contents faults.old) (F.contents faults.new) (failure_line failure) result }
+    ensures failed { IfErr result (λ why. why ≡ Failure.Output) }
 {
     match line_of(failure) {
         Some(line) => put(line.as_str().as_bytes(), faults),
@@ -325,7 +326,9 @@ fn second_bytes(refusal: &Refusal) -> &[u8]
 
 // The line of a failure, and the second line where there is one.
 pub(crate) fn tell_refusal<F: Write>(refusal: &Refusal, faults: &mut F) -> Result<(), Failure>
-    ensures { Begins (F.contents faults.old) (F.contents faults.new) (failure_line refusal.now.failure ++ second_of refusal.now) }
+    ensures told { Puts (F.contents faults.old) (F.contents faults.new)
+        (failure_line refusal.now.failure ++ second_of refusal.now) result }
+    ensures failed { IfErr result (λ why. why ≡ Failure.Output) }
 {
     tell_failure(refusal.failure, faults)?;
     put(second_bytes(refusal), faults)
