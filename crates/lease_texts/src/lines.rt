@@ -23,7 +23,9 @@ fn near_feed(text: &[u8]) -> Option<usize>
     ensures { IfSome result (λ place. (place < 32) × (slice_index text.now place ≡ 10)
         × ((i : ℕ) → i < place → slice_index text.now i ≢ 10)) }
 {
-    let feeds = u8x32::from_slice(text).simd_eq(u8x32::splat(b'\n')).to_bitmask();
+    let feeds = u8x32::from_slice(text)
+        .simd_eq(u8x32::splat(b'\n'))
+        .to_bitmask();
     if feeds == 0 {
         return None;
     }
