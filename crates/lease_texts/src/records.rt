@@ -1,6 +1,6 @@
 //! Records as texts: a line for each fact.
 
-ghost use Rattle.std.specs.Prelude.{◌≡◌, ◌++◌, Some, None, MatchResult, OnOk, codes, false};
+ghost use Rattle.std.specs.Prelude.{◌≡◌, ◌++◌, OnOk, codes, false};
 ghost use Rattle.std.specs.String.{string_bytes};
 ghost use Rattle.lease_texts.specs.Complaints.{fact_table, table_of};
 ghost use Rattle.lease_texts.specs.Kinds.{begins, by_name};

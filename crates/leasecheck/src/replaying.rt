@@ -1,5 +1,5 @@
-ghost use Rattle.std.specs.Prelude.{◌≡◌, ◌⊎◌, ℕ, List, [], true, false, if◌then◌else◌, map, Some, None, Ok, Err};
-ghost use Rattle.std.specs.Prelude.{IfOk, IfErr, MatchResult};
+ghost use Rattle.std.specs.Prelude.{◌≡◌, ◌⊎◌, ℕ, List, [], true, false, if◌then◌else◌, Some, Ok, Err};
+ghost use Rattle.std.specs.Prelude.{IfOk, IfErr};
 ghost use Rattle.lease_texts.specs.Drafts.{draft_of};
 ghost use Rattle.lease_texts.specs.Schedules.{schedule_in};
 ghost use Rattle.lease_texts.specs.Pieces.{lines_of};

@@ -1,6 +1,5 @@
-ghost use Rattle.std.specs.Prelude.{◌≡◌, ◌<◌, [], OnOk, IfOk, vec_len, slice_get};
+ghost use Rattle.std.specs.Prelude.{◌≡◌, ◌<◌, [], OnOk, IfOk, vec_len};
 ghost use Rattle.std.specs.Borrow.{sem};
-ghost use Rattle.std.specs.Option.{option_map};
 ghost use Rattle.lease_world.specs.judge.Lends.{LendsFile};
 ghost use Rattle.lease_world.specs.judge.Seen.{file_in};
 ghost use Rattle.lease_world.specs.judge.Tables.{HasSameFiles, is_started_in};

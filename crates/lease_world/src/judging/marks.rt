@@ -1,4 +1,4 @@
-ghost use Rattle.std.specs.Prelude.{◌≡◌, ◌<◌, ◌+◌, ◌^◌, List, ℕ, All, IfOk, IfSome, OnOk, length, get_or};
+ghost use Rattle.std.specs.Prelude.{◌≡◌, ◌<◌, ◌+◌, ◌^◌, List, ℕ, All, IfOk, IfSome, OnOk};
 ghost use Rattle.lease_world.specs.judge.Marks.{IsMark, IsEarlier, marked_with};
 
 use crate::judging::file::Change;

@@ -1,11 +1,11 @@
-ghost use Rattle.std.specs.Prelude.{◌≡◌, ◌++◌, [], ◌∷◌, ◌==◌, OnOk, IfOk, MatchOption, length, drop};
+ghost use Rattle.std.specs.Prelude.{◌≡◌, ◌++◌, [], ◌∷◌, ◌==◌, OnOk, IfOk, length, drop};
 ghost use Rattle.lease_world.specs.world.Passages.{sent_noted};
 ghost use Rattle.lease_model.specs.client.Calls.{ClientCall};
 ghost use Rattle.lease_model.specs.messages.FromBytes.{reply_of};
 ghost use Rattle.lease_client.specs.Answers.{command_of};
 ghost use Rattle.lease_client.specs.Known.{client_of};
 ghost use Rattle.lease_model.specs.client.Commanded.{commanded};
-ghost use Rattle.lease_world.specs.world.Seats.{is_link, queued, with_replies, with_requests, PopsRequest, PopsReply, StepsSeat};
+ghost use Rattle.lease_world.specs.world.Seats.{is_link, with_replies, with_requests, PopsRequest, PopsReply, StepsSeat};
 
 use crate::copies::copy_request;
 use crate::passage::Passage;
