@@ -1,7 +1,7 @@
 -- The word that is written for a value says that value, and has no space in it.
 use Rattle.std.proofs.Common.{◌&&◌, ◌*◌, ◌++◌, ◌+◌, ◌/◌, ◌%◌, ◌<◌, ◌==◌, ◌^◌, ◌∙◌, ◌∷◌, ◌≡◌, ◌≤◌, All, Bool, List, None, Option}
-use Rattle.std.proofs.Common.{Some, ℕ, [], ap, arith, bytes_eq, codes, decimal, false, inl, length, nat_le, nat_lt, option_map, refl}
-use Rattle.std.proofs.Common.{slice_index, subst, suc, sym, true, zero}
+use Rattle.std.proofs.Common.{Some, ℕ, [], ap, arith, bytes_eq, codes, decimal, false, inl, length, nat_le, nat_lt, option_map}
+use Rattle.std.proofs.Common.{refl, slice_index, subst, suc, sym, true, zero}
 use Rattle.std.proofs.lemmas.Bool.Decides.{nat_tests}
 use Rattle.std.proofs.lemmas.Fmt.{decimal_by_steps, decimal_digit, decimal_nonempty, first_decimal}
 use Rattle.std.proofs.lemmas.List.{get_or_default}

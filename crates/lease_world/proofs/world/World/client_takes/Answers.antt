@@ -1,5 +1,5 @@
-use Rattle.lease_laws.proofs.Words.{◌∙◌, ClientCall, None, Some, ap, length, length-set, on_ok_weaker, refl, reply_of, rules, slice_set}
-use Rattle.lease_laws.proofs.Words.{subst, sym}
+use Rattle.lease_laws.proofs.Words.{◌∙◌, ClientCall, None, Some, ap, length, length-set, on_ok_weaker, refl, reply_of, rules}
+use Rattle.lease_laws.proofs.Words.{slice_set, subst, sym}
 use Rattle.lease_world.specs.contracts.world.World.{the_view}
 use Rattle.lease_world.specs.world.Seats.{IsPresent, PopsReply, StepsSeat}
 use Rattle.lease_world.specs.world.Stands.{CodeWorld}
