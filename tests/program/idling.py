@@ -72,7 +72,9 @@ class ExplainedWorld(MachineWorld):
         if event.kind is EventKind.CONNECT:
             return {Link.DOWN: "", Link.UP: f"client {client} is connected",
                     Link.CUT: f"client {client} hasn't noticed that its connection was lost"}[link]
-        return "" if link is Link.UP else f"client {client} isn't connected"
+        if event.kind in (EventKind.CUT, EventKind.RAW) and link is not Link.UP:
+            return f"client {client} isn't connected"
+        return ""
 
     def of_timer(self, event: Event) -> str:
         client, file = event.client, int(event.words[0])

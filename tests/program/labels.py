@@ -15,7 +15,6 @@ from smblease.values import LeaseState
 from tests.program.explaining import Fact, bytes_of
 
 LOOKS = {"dropped": "loss", "expired": "loss", "changed": "accepted", "cachedread": "cachedread", "strayed": "stray"}
-DEEDS = {"joined": "joins", "dropped": "loses its connection", "strayed": "strays", "took": "takes a message"}
 PLAIN = {ReadFailed: "not read", Closed: "closed", CloseFailed: "not closed", AcknowledgeDone: "acknowledgment accepted",
          AcknowledgeFailed: "acknowledgment refused"}
 
@@ -59,6 +58,11 @@ def message_label(reply: Reply) -> str:
     return PLAIN[type(reply)]
 
 
+def deed(fact: Fact) -> str:
+    """What its client does, in the words that stand behind the client's name."""
+    return fact.in_words().removeprefix(f"client {fact.client} ")
+
+
 def fact_label(fact: Fact, message: Optional[str]) -> str:
     """`message` is the one that the fact speaks of, in the words of a record's comment."""
     kind, words = fact.kind, fact.words
@@ -67,7 +71,7 @@ def fact_label(fact: Fact, message: Optional[str]) -> str:
         "start": lambda: f"file {words[1]}: {count(bytes_of(words[2]))}",
         "expired": lambda: f"break of client {words[1]} timed out, file {words[2]}",
         "sent": lambda: f"to client {words[1]}: {said or 'message'}",
-        "took": lambda: said or DEEDS[kind],
+        "took": lambda: said or deed(fact),
         "opened": lambda: f"opens file {words[1]} for client {words[2]}",
         "changed": lambda: f"file {words[1]}: write {words[3]} of client {words[2]}",
         "wrote": lambda: f"write {words[3]} of file {words[2]}, {'buffered' if words[6] == 'buffered' else 'sent on'}",
@@ -75,7 +79,7 @@ def fact_label(fact: Fact, message: Optional[str]) -> str:
         "believes": lambda: f"believes {words[3]} of file {words[2]}",
         "cachedread": lambda: f"cached read of file {words[2]}",
     }
-    return labels[kind]() if kind in labels else DEEDS[kind]
+    return labels[kind]() if kind in labels else deed(fact)
 
 
 def request_label(words: str) -> str:

@@ -114,18 +114,7 @@ pub described-same : (fact : Fact) (past : List Fact) (clients : Clients) → cl
     → Describes (fact ∷ past) clients
 unfolding has_joined is_served has_strayed clients_named
 described-same (Fact.Start file bytes) past clients about is = record { named = is.named; standings = is.standings }
-described-same (Fact.Joined client) past clients about is = let no : ⊥ = cc in absurd no
-described-same (Fact.Dropped client) past clients about is = let no : ⊥ = cc in absurd no
-described-same (Fact.Expired client file) past clients about is = let no : ⊥ = cc in absurd no
-described-same (Fact.Sent client) past clients about is = let no : ⊥ = cc in absurd no
-described-same (Fact.Took client) past clients about is = let no : ⊥ = cc in absurd no
-described-same (Fact.Opened file client) past clients about is = let no : ⊥ = cc in absurd no
-described-same (Fact.Changed file client number patch) past clients about is = let no : ⊥ = cc in absurd no
-described-same (Fact.Wrote client file number patch buffered) past clients about is = let no : ⊥ = cc in absurd no
-described-same (Fact.Settled client number outcome) past clients about is = let no : ⊥ = cc in absurd no
-described-same (Fact.Believes client file state) past clients about is = let no : ⊥ = cc in absurd no
-described-same (Fact.CachedRead client file bytes) past clients about is = let no : ⊥ = cc in absurd no
-described-same (Fact.Strayed client) past clients about is = let no : ⊥ = cc in absurd no
+described-same (_) past clients about is = let no : ⊥ = cc in absurd no
 
 named-kept : (clients : List ClientNo) (client : ClientNo) (named : Bool)
     → named ≡ list_any (λ other. other == client.0) (numbers clients)

@@ -1,5 +1,6 @@
 -- Facts in words.
-use Rattle.std.specs.Prelude.{ℕ, ◌++◌, Bool, true, false, List, [], Option, Some, codes, if◌then◌else◌, nat_le, length, take}
+use Rattle.std.specs.Prelude.{ℕ, ◌++◌, Bool, true, false, List, [], Option, Some, None, codes, if◌then◌else◌, nat_le, length}
+use Rattle.std.specs.Prelude.{take}
 use Rattle.std.specs.Fmt.{decimal}
 use Rattle.hex.specs.Hex.{encode_lower}
 use Rattle.lease_state.specs.State.{state_of}
@@ -43,10 +44,18 @@ abbrev pub way_words : Bool → List ℕ
 way_words true = codes ", buffered"
 way_words false = codes ", sent on"
 
--- what a client does, where that is all that a fact says
-abbrev pub deed_words : FactKind → Option ClientNo → List ℕ
-deed_words (kind.Client told) (Some client) = codes "client " ++ (decimal client.0 ++ (codes " " ++ client_deed told))
-deed_words _ _ = []
+-- what the client does that a fact is about, where that is all that the fact says
+abbrev pub kind_deed : FactKind → List ℕ
+kind_deed (kind.Client told) = client_deed told
+kind_deed _ = []
+
+abbrev pub fact_deed : Fact → List ℕ
+fact_deed told = kind_deed (kind_of told)
+
+-- the same behind the client's name
+abbrev pub deed_words : Option ClientNo → List ℕ → List ℕ
+deed_words None deed = []
+deed_words (Some client) deed = codes "client " ++ (decimal client.0 ++ (codes " " ++ deed))
 
 -- a fact in words
 abbrev pub fact_words : Fact → List ℕ
@@ -67,4 +76,4 @@ fact_words (fact.Believes client file state) =
     codes "client " ++ (decimal client.0 ++ (codes " believes " ++ (state_word (state_of state) ++ (codes " of file " ++
     decimal file.0))))
 fact_words (fact.CachedRead client file bytes) = read_words client.0 file.0 ++ shown_bytes bytes
-fact_words other = deed_words (kind_of other) (client_of other)
+fact_words other = deed_words (client_of other) (fact_deed other)

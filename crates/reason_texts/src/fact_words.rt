@@ -1,12 +1,13 @@
 ghost use Rattle.std.specs.Prelude.{◌≡◌, ◌++◌, OnOk, ◌≤◌, length, take};
 ghost use Rattle.std.specs.String.{string_bytes};
 ghost use Rattle.reason_texts.specs.FactWords.{shown_bytes, shown_patch, changed_words, wrote_words, started_words, read_words};
-ghost use Rattle.reason_texts.specs.FactWords.{way_words, deed_words, fact_words};
+ghost use Rattle.reason_texts.specs.FactWords.{way_words, deed_words, fact_deed, fact_words};
+ghost use Rattle.lease_facts.specs.Facts.{client_of};
 ghost use Rattle.lease_facts.specs.declared.fact.Fact.TheVariants as fact;
 
 use lease_client::Settlement;
 use lease_facts::{Fact, FactKind};
-use lease_state::{ClientNo, Patch};
+use lease_state::Patch;
 use lease_texts::{digits_of, outcome_word, state_letters};
 use std::alloc::{AllocError, Global};
 
@@ -87,15 +88,27 @@ fn push_read(text: &mut String, client: u8, file: u8) -> Result<(), AllocError>
     )
 }
 
-// What a client does, where that is all that a fact says.
-fn push_deed(text: &mut String, kind: FactKind, client: Option<ClientNo>) -> Result<(), AllocError>
-    ensures { OnOk result (string_bytes text.new ≡ string_bytes text.old ++ deed_words kind client) }
+/// Adds what the client does that a fact is about, where that is all that the fact says.
+pub fn push_deed(text: &mut String, fact: &Fact) -> Result<(), AllocError>
+    ensures { OnOk result (string_bytes text.new ≡ string_bytes text.old ++ fact_deed fact.now) }
 {
-    let (FactKind::Client(told), Some(client)) = (kind, client) else {
+    match fact.kind() {
+        FactKind::Client(told) => text.push_str(told.deed()),
+        _ => Ok(()),
+    }
+}
+
+// The same behind the client's name.
+fn push_named_deed(text: &mut String, fact: &Fact) -> Result<(), AllocError>
+    ensures { OnOk result (string_bytes text.new
+        ≡ string_bytes text.old ++ deed_words (client_of fact.now) (fact_deed fact.now)) }
+{
+    let Some(client) = fact.client() else {
         return Ok(());
     };
-    let (client, deed) = (client.0, told.deed());
-    write!(text, "client {client} {deed}")
+    let client = client.0;
+    write!(text, "client {client} ")?;
+    push_deed(text, fact)
 }
 
 /// Adds a fact in words.
@@ -146,6 +159,6 @@ pub fn push_fact_words(alloc: Global, text: &mut String, fact: &Fact) -> Result<
             push_read(text, client.0, file.0)?;
             push_bytes(alloc, text, bytes.as_slice())
         }
-        _ => push_deed(text, fact.kind(), fact.client()),
+        _ => push_named_deed(text, fact),
     }
 }

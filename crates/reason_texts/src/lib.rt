@@ -9,6 +9,6 @@ mod places;
 mod reason_words;
 
 pub use explained::{push_explanation, push_reasoned};
-pub use fact_words::push_fact_words;
+pub use fact_words::{push_deed, push_fact_words};
 pub use placed::{Placed, read_placed};
 pub use places::bad_places;

@@ -2,11 +2,8 @@
 use Rattle.std.specs.Prelude.{◌≡◌, ◌⊎◌, ℕ, ◌++◌, ◌==◌, Bool, List, [], codes, length, take, if◌then◌else◌, Option, Some, None}
 use Rattle.std.specs.Prelude.{IsSome, is_some, Result, Ok, Err}
 use Rattle.std.specs.Fmt.{decimal}
-use Rattle.lease_facts.specs.Facts.{client_deed, kind_of}
 use Rattle.lease_facts.specs.declared.fact.Fact.{Fact}
 use Rattle.lease_facts.specs.declared.fact.Fact.TheVariants as fact
-use Rattle.lease_facts.specs.declared.fact.FactKind.{FactKind}
-use Rattle.lease_facts.specs.declared.fact.FactKind.TheVariants as kind
 use Rattle.lease_state.specs.State.{state_of}
 use Rattle.lease_state.specs.declared.number.ClientNo.{ClientNo}
 use Rattle.lease_state.specs.declared.reply.Reply.{Reply}
@@ -21,6 +18,7 @@ use Rattle.lease_wire.specs.Notification.{IsNotification, Notice}
 use Rattle.lease_wire.specs.WireFaults.{message_fault}
 use Rattle.lease_wire.specs.declared.create.Direction.TheVariants as Direction
 use Rattle.lease_wire.specs.declared.fault.WireFault.{WireFault}
+use Rattle.reason_texts.specs.FactWords.{fact_deed}
 use Rattle.record_pictures.specs.declared.shape.Look.{Look}
 use Rattle.record_pictures.specs.declared.shape.Look.TheVariants as look
 
@@ -29,10 +27,6 @@ bytes_words count = if count == 1 then codes "1 byte" else decimal count ++ code
 
 abbrev pub way_words : Bool → List ℕ
 way_words buffered = if buffered then codes "buffered" else codes "sent on"
-
-abbrev pub deed_words : FactKind → List ℕ
-deed_words (kind.Client told) = client_deed told
-deed_words _ = []
 
 abbrev pub expired_words : ℕ → ℕ → List ℕ
 expired_words client file = codes "break of client " ++ (decimal client ++ (codes " timed out, file " ++ decimal file))
@@ -54,7 +48,7 @@ fact_label (fact.Settled client number outcome) =
 fact_label (fact.Believes client file state) =
     codes "believes " ++ (state_word (state_of state) ++ (codes " of file " ++ decimal file.0))
 fact_label (fact.CachedRead client file bytes) = codes "cached read of file " ++ decimal file.0
-fact_label told = deed_words (kind_of told)
+fact_label told = fact_deed told
 
 -- ---- of a message
 

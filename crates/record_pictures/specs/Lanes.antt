@@ -56,17 +56,19 @@ index_of clients number = some_index (position (is_numbered number) clients)
 abbrev pub lane_of : List ClientNo → ℕ → ℕ
 lane_of clients number = lane_at (length clients) (index_of clients number)
 
--- the lane of a fact: what a client does is on its own, what the server does on the server's
+-- the lane of a client that a fact is about
+abbrev pub own_lane : List ClientNo → Option ClientNo → ℕ
+own_lane clients None = left_of_server (length clients)
+own_lane clients (Some client) = lane_of clients client.0
+
+-- the lane of a fact: what the server does is on the server's, what a client does on its own
 abbrev pub fact_lane : List ClientNo → Fact → ℕ
-fact_lane clients (fact.Joined client) = lane_of clients client.0
-fact_lane clients (fact.Dropped client) = lane_of clients client.0
-fact_lane clients (fact.Took client) = lane_of clients client.0
-fact_lane clients (fact.Wrote client file number patch buffered) = lane_of clients client.0
-fact_lane clients (fact.Settled client number outcome) = lane_of clients client.0
-fact_lane clients (fact.Believes client file state) = lane_of clients client.0
-fact_lane clients (fact.CachedRead client file bytes) = lane_of clients client.0
-fact_lane clients (fact.Strayed client) = lane_of clients client.0
-fact_lane clients _ = left_of_server (length clients)
+fact_lane clients (fact.Start file bytes) = left_of_server (length clients)
+fact_lane clients (fact.Expired client file) = left_of_server (length clients)
+fact_lane clients (fact.Sent client) = left_of_server (length clients)
+fact_lane clients (fact.Opened file client) = left_of_server (length clients)
+fact_lane clients (fact.Changed file client number patch) = left_of_server (length clients)
+fact_lane clients told = own_lane clients (client_of told)
 
 -- ---- the names of the lanes
 

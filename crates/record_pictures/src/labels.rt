@@ -4,16 +4,17 @@ ghost use Rattle.lease_state.specs.State.{state_of};
 ghost use Rattle.lease_texts.specs.Words.{state_word};
 ghost use Rattle.lease_wire.specs.Gathering.{value_of};
 ghost use Rattle.lease_wire.specs.declared.create.Direction.TheVariants as way;
-ghost use Rattle.record_pictures.specs.Labels.{answer_words, bytes_words, deed_words, durable_words, expired_words};
+ghost use Rattle.record_pictures.specs.Labels.{answer_words, bytes_words, durable_words, expired_words};
 ghost use Rattle.record_pictures.specs.Labels.{granted_words, opened_words, wanted_words, way_words};
 ghost use Rattle.std.specs.Option.{option_map};
 ghost use Rattle.record_pictures.specs.Labels.{fact_label, IsAcknowledgmentLabel, IsBreakLabel, IsLabel, IsMessageLabel};
 ghost use Rattle.record_pictures.specs.Labels.{IsRequestLabel};
 
-use lease_facts::{Fact, FactKind};
+use lease_facts::Fact;
 use lease_state::{Bytes, LeaseState, Reply, Request};
 use lease_texts::{outcome_word, state_letters};
 use lease_wire::{Acknowledgment, Notification, read_create, read_create_reply};
+use reason_texts::push_deed;
 use std::alloc::{AllocError, Global};
 
 fn push_count(text: &mut String, bytes: usize) -> Result<(), AllocError>
@@ -166,16 +167,7 @@ fn push_fact(text: &mut String, fact: &Fact) -> Result<(), AllocError>
             let file = file.0;
             write!(text, "cached read of file {file}")
         }
-        _ => push_deed(text, fact.kind()),
-    }
-}
-
-fn push_deed(text: &mut String, kind: FactKind) -> Result<(), AllocError>
-    ensures { OnOk result (string_bytes text.new ≡ string_bytes text.old ++ deed_words kind) }
-{
-    match kind {
-        FactKind::Client(told) => text.push_str(told.deed()),
-        _ => Ok(()),
+        _ => push_deed(text, fact),
     }
 }
 

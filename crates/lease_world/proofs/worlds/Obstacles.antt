@@ -186,11 +186,4 @@ pub no_command : (event : code_event.Event)
     → ((client : ClientNo) (command : code_command.Command) → event ≡ code_event.TheVariants.App client command → ⊥)
     → is_command (event_of event) ≡ false
 no_command (code_event.TheVariants.App client command) none = absurd (none client command refl)
-no_command (code_event.TheVariants.ServerTakes client) none = refl
-no_command (code_event.TheVariants.ClientTakes client) none = refl
-no_command (code_event.TheVariants.Cut client) none = refl
-no_command (code_event.TheVariants.Notice client) none = refl
-no_command (code_event.TheVariants.Connect client) none = refl
-no_command (code_event.TheVariants.Expire client file) none = refl
-no_command (code_event.TheVariants.Scavenge client file) none = refl
-no_command (code_event.TheVariants.Raw client request) none = refl
+no_command event none = refl

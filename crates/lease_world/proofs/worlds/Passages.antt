@@ -1,14 +1,11 @@
 -- What becomes of requests on their way, by worlds of the code.
-use Rattle.lease_laws.proofs.Words.{◌&&◌, ◌++◌, ◌+◌, ◌-◌, ◌<◌, ◌≤◌, ◌∙◌, ◌∷◌, ◌≡◌, Bool, Call, ClientCall, Event, Fact, Link}
-use Rattle.lease_laws.proofs.Words.{List, None}
-use Rattle.lease_laws.proofs.Words.{Option, Progress, Reply, Request, Some, Step, World, ℕ, [], after, ap, append-nil}
-use Rattle.lease_laws.proofs.Words.{T, append_assoc, and_parts, leb→le, applied, arith, breaking, called, client_called}
-use Rattle.lease_laws.proofs.Words.{client_of, client_takes}
-use Rattle.lease_laws.proofs.Words.{connect_over, cut_over, drop, false, get_or, happened, happens, has_client, has_file}
-use Rattle.lease_laws.proofs.Words.{if◌then◌else◌, kept, length, length-drop, length-map}
-use Rattle.lease_laws.proofs.Words.{machine_key, map, map-append, nat_le}
-use Rattle.lease_laws.proofs.Words.{nat_lt, notice_over, put, refl, request_of, requests_sent, scavenged, served}
-use Rattle.lease_laws.proofs.Words.{server_takes, stepped_in, strayed_over, subst, suc, sym, take, timer_expired, true, zero}
+use Rattle.lease_laws.proofs.Words.{◌&&◌, ◌++◌, ◌+◌, ◌-◌, ◌<◌, ◌≤◌, ◌∙◌, ◌∷◌, ◌≡◌, Bool, Event, List, Progress, Request, Step}
+use Rattle.lease_laws.proofs.Words.{T, World, ℕ, [], after, and_parts, ap, append-nil, append_assoc, arith, called, client_called}
+use Rattle.lease_laws.proofs.Words.{client_of, drop, false, get_or, happens, if◌then◌else◌, leb→le, length, length-drop}
+use Rattle.lease_laws.proofs.Words.{length-map, map, map-append, nat_le, nat_lt, put, refl, request_of, requests_sent, served}
+use Rattle.lease_laws.proofs.Words.{stepped_in, subst, suc, sym, take, true, zero}
+use Rattle.lease_laws.proofs.world.Kept.{IsKept, kept_forms}
+use Rattle.lease_laws.proofs.world.cases.Events.{kept_by_event}
 use Rattle.std.proofs.lemmas.List.{get_or-drop}
 use Rattle.lease_facts.specs.Setups.{event_client, event_of}
 use Rattle.lease_facts.specs.declared.setup.Event as code_event
@@ -32,106 +29,27 @@ stepped_counts : (world : World) (client : ℕ) (step : Step) → (stepped_in wo
 stepped_counts world client step = ap (λ (w : World). w.count) (notes_told
     (requests_sent (record world { clients = put world.clients client step.client }) client step.requests) client step.notes).same
 
-server_counts : (world : World) (client : ℕ) (queue : List Request) → (server_takes world client queue).count ≡ world.count
-server_counts world client [] = refl
-server_counts world client (request ∷ queue) =
-    served_counts (record world { requests = put world.requests client queue })
-    (called world.server (Call.Receive client request))
-
-client_counts : (world : World) (client : ℕ) (queue : List Reply) → (client_takes world client queue).count ≡ world.count
-client_counts world client [] = refl
-client_counts world client (reply ∷ queue) =
-    stepped_counts (happened (record world { replies = put world.replies client queue }) (Fact.Took client)) client
-    (client_called (world.clients client) (ClientCall.Taken reply))
-
-cut_counts : (world : World) (client : ℕ) (link : Link) → (cut_over world client link).count ≡ world.count
-cut_counts world client Link.Down = refl
-cut_counts world client Link.Cut = refl
-cut_counts world client Link.Up = served_counts
-    (happened
-    (record world {
-      links = put world.links client Link.Cut;
-      requests = put world.requests client [];
-      replies = put world.replies client [];
-    })
-    (Fact.Dropped client)) (called world.server (Call.Cut client))
-
-notice_counts : (world : World) (client : ℕ) (link : Link) → (notice_over world client link).count ≡ world.count
-notice_counts world client Link.Down = refl
-notice_counts world client Link.Up = refl
-notice_counts world client Link.Cut = stepped_counts (record world { links = put world.links client Link.Down }) client
-    (client_called (world.clients client) ClientCall.Noticed)
-
-connect_counts : (world : World) (client : ℕ) (link : Link) → (connect_over world client link).count ≡ world.count
-connect_counts world client Link.Up = refl
-connect_counts world client Link.Cut = refl
-connect_counts world client Link.Down =
-    let up : World = happened (record world { links = put world.links client Link.Up }) (Fact.Joined client) in
-    stepped_counts (served up (called world.server (Call.Join client))) client
-    (client_called (world.clients client) ClientCall.Connected) ∙ served_counts up (called world.server (Call.Join client))
-
-scavenge_counts : (world : World) (found : Option ℕ) → (scavenged world found).count ≡ world.count
-scavenge_counts world None = refl
-scavenge_counts world (Some file_id) = served_counts world (called world.server (Call.Scavenge file_id))
-
-stray_counts : (world : World) (client : ℕ) (request : Request) (link : Link)
-    → (strayed_over world client request link).count ≡ world.count
-stray_counts world client request Link.Down = refl
-stray_counts world client request Link.Cut = refl
-stray_counts world client request Link.Up = refl
-
-either_counts : (b c : Bool) (world other : World) → other.count ≡ world.count
-    → (if b then (if c then other else world) else world).count ≡ world.count
-either_counts true true world other e = e
-either_counts true false world other e = refl
-either_counts false c world other e = refl
-
-applied_counts : (world : World) (event : Event) → (applied world event).count ≡ world.count
-applied_counts world (Event.App client command) =
-    stepped_counts world client (client_called (world.clients client) (ClientCall.Commanded command))
-applied_counts world (Event.ServerTakes client) = server_counts world client (world.requests client)
-applied_counts world (Event.ClientTakes client) = client_counts world client (world.replies client)
-applied_counts world (Event.Cut client) = cut_counts world client (world.links client)
-applied_counts world (Event.Notice client) = notice_counts world client (world.links client)
-applied_counts world (Event.Connect client) = connect_counts world client (world.links client)
-applied_counts world (Event.Expire client file) =
-    either_counts (has_file world.server file) (breaking world.server (machine_key world client file)) world
-    (timer_expired world client file)
-    (served_counts (happened world (Fact.Expired client file))
-    (called world.server (Call.Expire (machine_key world client file))))
-applied_counts world (Event.Scavenge client file) = scavenge_counts world (kept world.server client file)
-applied_counts world (Event.Raw client request) = stray_counts world client request (world.links client)
+counts_kept : (count : ℕ) → IsKept (λ (w : World). w.count ≡ count)
+counts_kept count = record {
+  messages = λ w requests replies links same. same;
+  fact = λ w fact is same. same;
+  call = λ w call same. served_counts w (called w.server call) ∙ same;
+  step = λ w client call same. stepped_counts w client (client_called (w.clients client) call) ∙ same;
+}
 
 happens_counts : (world : World) (event : Event) → (happens world event).count ≡ world.count
-happens_counts world event = go (has_client world (client_of event))
-  where
-    go : (b : Bool) → (if b then applied world event else world).count ≡ world.count
-    go true = applied_counts world event
-    go false = refl
+happens_counts world event = kept_by_event (λ (w : World). w.count ≡ world.count)
+    (kept_forms (λ (w : World). w.count ≡ world.count) (counts_kept world.count)) world event refl
 
 -- ---- of one event
 
 whose : (event : code_event.Event) → (event_client event).0 ≡ client_of (event_of event)
 whose (code_event.TheVariants.App client command) = refl
-whose (code_event.TheVariants.ServerTakes client) = refl
-whose (code_event.TheVariants.ClientTakes client) = refl
-whose (code_event.TheVariants.Cut client) = refl
-whose (code_event.TheVariants.Notice client) = refl
-whose (code_event.TheVariants.Connect client) = refl
-whose (code_event.TheVariants.Expire client file) = refl
-whose (code_event.TheVariants.Scavenge client file) = refl
-whose (code_event.TheVariants.Raw client request) = refl
+whose event = refl
 
 gone_meant : (event : code_event.Event) (facts : ℕ) → passage_meant (gone_noted event facts) ≡ gone (event_of event) facts
-gone_meant (code_event.TheVariants.App client command) facts = refl
 gone_meant (code_event.TheVariants.ServerTakes client) facts = refl
-gone_meant (code_event.TheVariants.ClientTakes client) facts = refl
-gone_meant (code_event.TheVariants.Cut client) facts = refl
-gone_meant (code_event.TheVariants.Notice client) facts = refl
-gone_meant (code_event.TheVariants.Connect client) facts = refl
-gone_meant (code_event.TheVariants.Expire client file) facts = refl
-gone_meant (code_event.TheVariants.Scavenge client file) facts = refl
-gone_meant (code_event.TheVariants.Raw client request) facts = refl
+gone_meant event facts = refl
 
 sent_meant : (client : ClientNo) (facts waiting : ℕ) (queue : List code_request.Request)
     → map passage_meant (sent_noted client facts (drop waiting queue))
