@@ -1,14 +1,11 @@
 -- A client that is put back into its place.
 use Rattle.std.proofs.Common.{◌≡◌, ℕ, zero, suc, ◌-◌, ◌≤◌, ◌++◌, List, [], ◌∷◌, map, Some, sym, ap, ◌∙◌, arith, slice_get}
 use Rattle.std.proofs.Common.{slice_set, slice_index_or}
-use Rattle.std.proofs.lemmas.List.{map-set, set-set}
 use Rattle.lease_client.specs.Known.{Known, client_of}
-use Rattle.lease_model.specs.client.Calls.{client_called}
-use Rattle.lease_model.specs.client.State.{Client}
-use Rattle.lease_lines.specs.ClientAnswers.{step_text}
-use Rattle.lease_lines.specs.ClientLines.{other_of, call_of}
+use Rattle.lease_model.specs.client.{Calls.client_called, State.Client}
+use Rattle.lease_lines.specs.{ClientLines.other_of, ClientLines.call_of, declared.client_lines.Asked.Asked}
 use Rattle.lease_lines.specs.ClientTables.{HasStepped, HasAsked, client_at, with_client_at}
-use Rattle.lease_lines.specs.declared.client_lines.Asked.{Asked}
+use Rattle.{std.proofs.lemmas.List.map-set, std.proofs.lemmas.List.set-set, lease_lines.specs.ClientAnswers.step_text}
 
 -- what is got from the images of a list is the image of what the list has there
 got_mapped : {A B : Type 0} (f : A → B) (xs : List A) (place : ℕ) (one : B) (d : A) → slice_get (map f xs) place ≡ Some one

@@ -1,10 +1,7 @@
 -- Why a line is none for machines is its first fault.
 use Rattle.std.proofs.Common.{◌≡◌, refl, true}
-use Rattle.lease_texts.specs.Complaints.{complaint}
-use Rattle.lease_texts.specs.FirstFaults.{ComplainsExactly}
-use Rattle.lease_texts.specs.Tables.{FieldSays}
-use Rattle.lease_texts.proofs.FirstFaults.{complains_exactly}
-use Rattle.lease_texts.proofs.Tables.{are_apart, reads_exactly}
+use Rattle.lease_texts.specs.{Complaints.complaint, FirstFaults.ComplainsExactly, Tables.FieldSays}
+use Rattle.lease_texts.proofs.{FirstFaults.complains_exactly, Tables.are_apart, Tables.reads_exactly}
 use Rattle.lease_lines.specs.ClientLines.{client_kinds, client_line_in, client_table}
 use Rattle.lease_lines.specs.ServerLines.{server_kinds, server_line_in, server_table}
 

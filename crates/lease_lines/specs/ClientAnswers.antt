@@ -1,19 +1,13 @@
 -- What client machines answer: the requests of a step, its notes, and the answer, a line each.
 use Rattle.std.specs.Prelude.{ℕ, ◌++◌, Bool, true, false, List, [], ◌∷◌, codes, map, Option}
-use Rattle.std.specs.Fmt.{decimal}
-use Rattle.std.specs.List.{flat_map}
-use Rattle.lease_model.specs.client.Commands.{Answer, Refusal, Settlement, Note}
-use Rattle.lease_model.specs.client.Step.{Step}
-use Rattle.lease_model.specs.messages.ToBytes.{request_written}
-use Rattle.lease_state.specs.declared.request.Request.{Request}
-use Rattle.lease_texts.specs.Kinds.{line, say}
-use Rattle.lease_texts.specs.Lines.{line_text, spaced}
-use Rattle.lease_texts.specs.Statuses.{given_word}
-use Rattle.lease_texts.specs.Words.{digits_word, state_word, way_word}
-use Rattle.lease_texts.specs.declared.kinds.Field.TheVariants as field
+use Rattle.std.specs.{Fmt.decimal, List.flat_map}
+use Rattle.lease_model.specs.client.{Commands.Answer, Commands.Refusal, Commands.Settlement, Commands.Note, Step.Step}
+use Rattle.lease_texts.specs.{Kinds.line, Kinds.say, Lines.line_text, Requests.spaced, Statuses.given_word, Words.digits_word}
+use Rattle.lease_texts.specs.{Words.state_word, Words.way_word, declared.kinds.Field.Field}
+use Rattle.{lease_model.specs.messages.ToBytes.request_written, lease_state.specs.declared.request.Request.Request}
 
 abbrev pub request_line : Request → List ℕ
-request_line request = line_text (line (codes "request") (say field.Request request ∷ []))
+request_line request = line_text (line (codes "request") (say Field.Request request ∷ []))
 
 abbrev pub settlement_word : Settlement → List ℕ
 settlement_word Settlement.Done = codes "done"

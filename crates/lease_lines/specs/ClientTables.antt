@@ -1,20 +1,12 @@
 -- Client machines that are given lines.
 use Rattle.std.specs.Prelude.{◌≡◌, ℕ, zero, suc, Bool, true, false, ◌++◌, List, [], ◌∷◌, length, nat_lt, bytes_eq, if◌then◌else◌}
 use Rattle.std.specs.Prelude.{Option, Some, None, slice_get, slice_set}
-use Rattle.std.specs.List.{list_any}
-use Rattle.std.specs.String.{string_bytes}
-use Rattle.lease_model.specs.client.Calls.{client_called}
-use Rattle.lease_model.specs.client.State.{Client, new_client}
-use Rattle.lease_model.specs.client.Step.{Step}
-use Rattle.lease_texts.specs.Complaints.{Complaint, complaint}
-use Rattle.lease_texts.specs.Reading.{is_passed_over}
-use Rattle.lease_lines.specs.ClientAnswers.{step_text}
+use Rattle.lease_model.specs.client.{Calls.client_called, State.Client, State.new_client, Step.Step}
+use Rattle.lease_texts.specs.{Complaints.Complaint, Complaints.complaint, Reading.is_passed_over}
 use Rattle.lease_lines.specs.ClientLines.{client_line_in, client_place, client_table, other_of, call_of}
 use Rattle.lease_lines.specs.Refused.{fault_line, lack_line, place_line}
-use Rattle.lease_lines.specs.declared.client_lines.Asked.{Asked}
-use Rattle.lease_lines.specs.declared.refusals.Answer.{Answer}
-use Rattle.lease_lines.specs.declared.client_lines.ClientLine.{ClientLine}
-use Rattle.lease_lines.specs.declared.client_lines.ClientLine.TheVariants as line
+use Rattle.lease_lines.specs.declared.{client_lines.Asked.Asked, refusals.Answer.Answer, client_lines.ClientLine.ClientLine}
+use Rattle.{std.specs.List.list_any, std.specs.String.string_bytes, lease_lines.specs.ClientAnswers.step_text}
 
 -- what a line comes to: the machines after it, and what is answered
 pub record Told (A : Type 0) : Type 0 where
@@ -75,9 +67,10 @@ abbrev pub on_client : Clients → ℕ → Option ℕ → (Client → Step) → 
 on_client clients number other call = called clients number other call (client_at clients.clients number)
 
 unfoldable pub line_told : Clients → ClientLine → Option (Told Clients)
-line_told clients (line.Files count) = with_files clients count clients.files
-line_told clients (line.Client guid) = with_client clients guid clients.files
-line_told clients (line.Asks client asked) = on_client clients client.0 (other_of asked) (λ c. client_called c (call_of asked))
+line_told clients (ClientLine.Files count) = with_files clients count clients.files
+line_told clients (ClientLine.Client guid) = with_client clients guid clients.files
+line_told clients (ClientLine.Asks client asked) =
+    on_client clients client.0 (other_of asked) (λ c. client_called c (call_of asked))
 
 -- what a line is answered: the machines after it, the text, and why it is refused where it is
 pub record Answered (A : Type 0) : Type 0 where

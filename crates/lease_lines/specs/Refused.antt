@@ -1,7 +1,6 @@
 -- A line that is refused: what it is answered, and why it is refused.
 use Rattle.std.specs.Prelude.{ℕ, ◌++◌, List, [], ◌∷◌, codes, Option, Some, None}
-use Rattle.std.specs.Fmt.{decimal}
-use Rattle.lease_texts.specs.Complaints.{Complaint, complaint_line}
+use Rattle.{std.specs.Fmt.decimal, lease_texts.specs.Complaints.Complaint, lease_texts.specs.Complaints.complaint_line}
 
 abbrev pub fault_line : ℕ → List ℕ
 fault_line number = codes "fault line " ++ decimal number ++ 10 ∷ []

@@ -1,24 +1,16 @@
 -- What a server answers: what a call gives out, a line each, and what it comes to.
 use Rattle.std.specs.Prelude.{ℕ, ◌++◌, Bool, true, false, List, [], ◌∷◌, codes, map, Option, Some, None}
-use Rattle.std.specs.Fmt.{decimal}
-use Rattle.std.specs.List.{flat_map}
+use Rattle.std.specs.{Fmt.decimal, List.flat_map}
+use Rattle.lease_texts.specs.{Lines.line_text, Records.fact_line, Replies.plain, Words.digits_word, declared.kinds.Field.Field}
+use Rattle.share_server.specs.{Written.out_written, declared.values.out.Out.Out}
+use Rattle.{lease_texts.specs.Kinds.line, lease_texts.specs.Kinds.say, lease_facts.specs.declared.fact.Fact.Fact}
 use Rattle.lease_model.specs.messages.Replies as model
-use Rattle.lease_facts.specs.declared.fact.Fact.TheVariants as fact
-use Rattle.lease_texts.specs.Kinds.{line, say}
-use Rattle.lease_texts.specs.Lines.{line_text}
-use Rattle.lease_texts.specs.Records.{fact_line}
-use Rattle.lease_texts.specs.Replies.{plain}
-use Rattle.lease_texts.specs.Words.{digits_word}
-use Rattle.lease_texts.specs.declared.kinds.Field.TheVariants as field
-use Rattle.share_server.specs.Written.{out_written}
-use Rattle.share_server.specs.declared.values.out.Out.{Out}
-use Rattle.share_server.specs.declared.values.out.Out.TheVariants as out
 
 abbrev pub out_line : Out → List ℕ
-out_line (out.Sent client reply) =
-    line_text (line (codes "sent") (say field.Client client ∷ say field.Reply (plain reply) ∷ []))
-out_line (out.Opened file client) = fact_line (fact.Opened file client)
-out_line (out.Changed file client number patch) = fact_line (fact.Changed file client number patch)
+out_line (Out.Sent client reply) =
+    line_text (line (codes "sent") (say Field.Client client ∷ say Field.Reply (plain reply) ∷ []))
+out_line (Out.Opened file client) = fact_line (Fact.Opened file client)
+out_line (Out.Changed file client number patch) = fact_line (Fact.Changed file client number patch)
 
 -- in the machine's order
 abbrev pub out_lines : List model.Out → List ℕ

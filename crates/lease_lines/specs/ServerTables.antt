@@ -1,27 +1,16 @@
 -- A server that is given lines.
 use Rattle.std.specs.Prelude.{ℕ, ◌++◌, Bool, not, List, [], ◌∷◌, length, nat_lt, if◌then◌else◌, Option, Some, None}
-use Rattle.std.specs.List.{list_any}
-use Rattle.lease_state.specs.Rules.{profile_rules}
-use Rattle.lease_state.specs.declared.rules.Rules.{Rules}
-use Rattle.lease_model.specs.server.Calls.{called, is_left_behind}
-use Rattle.lease_model.specs.server.Naming.{key_of}
-use Rattle.lease_model.specs.server.Progress.{Progress}
-use Rattle.lease_model.specs.server.Queries as queries
-use Rattle.lease_model.specs.server.State.{Server, new_server, new_server_under}
-use Rattle.lease_texts.specs.Complaints.{complaint}
-use Rattle.lease_texts.specs.Reading.{is_passed_over}
+use Rattle.lease_state.specs.{Rules.profile_rules, declared.rules.Rules.Rules}
+use Rattle.lease_model.specs.server.{Naming.key_of, Progress.Progress, State.Server, State.new_server, State.new_server_under}
+use Rattle.lease_texts.specs.{Complaints.complaint, Reading.is_passed_over}
 use Rattle.lease_lines.specs.ClientTables.{Answered, Told, answered_as, quietly, unanswered}
 use Rattle.lease_lines.specs.ServerAnswers.{out_lines, answer, done_word, yes_word, fid_words, bytes_words}
 use Rattle.lease_lines.specs.ServerLines.{call_of, server_line_in, server_place, server_table}
-use Rattle.lease_lines.specs.declared.server_lines.Query.{Query}
-use Rattle.lease_lines.specs.declared.server_lines.Query.TheVariants as query
-use Rattle.lease_lines.specs.declared.server_lines.ServerCall.{ServerCall}
-use Rattle.lease_lines.specs.declared.server_lines.ServerCall.TheVariants as call
-use Rattle.lease_lines.specs.declared.server_lines.ServerLine.{ServerLine}
-use Rattle.lease_lines.specs.declared.server_lines.ServerLine.TheVariants as line
+use Rattle.lease_lines.specs.declared.server_lines.{Query.Query, ServerCall.ServerCall, ServerLine.ServerLine}
+use Rattle.{std.specs.List.list_any, lease_model.specs.server.Calls.called, lease_model.specs.server.Calls.is_left_behind}
+use Rattle.lease_model.specs.server.Queries as queries
 
--- the server's rules are told first, where they aren't the profile's, and then files; with the first other line the
--- server begins
+-- the server's rules are told first, where they aren't the profile's, and then files; with the first other line the server begins
 pub data Stage : Type 0 where
   Fresh : Stage
   Filling : (rules : Rules) (files : List (List ℕ)) → Stage
@@ -54,26 +43,27 @@ after_call applies after = record {
 -- whether a call changes anything: a client joins that isn't connected, one that is sends or is lost, a lease is breaking, or an
 -- open waits for its client
 abbrev pub applies : Server → ServerCall → Bool
-applies server (call.Join client) = not (server.present client.0)
-applies server (call.Cut client) = server.present client.0
-applies server (call.Expire client key) = queries.breaking server (key_of client.0 key.0)
-applies server (call.Scavenge fid) = list_any (is_left_behind fid.0) server.opens
-applies server (call.Receive client request) = server.present client.0
+applies server (ServerCall.Join client) = not (server.present client.0)
+applies server (ServerCall.Cut client) = server.present client.0
+applies server (ServerCall.Expire client key) = queries.breaking server (key_of client.0 key.0)
+applies server (ServerCall.Scavenge fid) = list_any (is_left_behind fid.0) server.opens
+applies server (ServerCall.Receive client request) = server.present client.0
 
 abbrev pub found : Server → Query → List ℕ
-found server (query.Breaking client key) = yes_word (queries.breaking server (key_of client.0 key.0))
-found server (query.Kept client file) = fid_words (queries.kept server client.0 file.0)
-found server (query.Content file) = bytes_words (queries.content server file.0)
+found server (Query.Breaking client key) = yes_word (queries.breaking server (key_of client.0 key.0))
+found server (Query.Kept client file) = fid_words (queries.kept server client.0 file.0)
+found server (Query.Content file) = bytes_words (queries.content server file.0)
 
 -- a question, which changes nothing
 abbrev pub asked : Server → Query → Told Stage
 asked server query = record { state = Stage.Serving server; text = answer (found server query) }
 
 unfoldable pub line_told : Stage → ServerLine → Option (Told Stage)
-line_told stage (line.Rules rules) = with_rules stage rules
-line_told stage (line.File content) = with_file stage content
-line_told stage (line.Call call) = Some (after_call (applies (server_in stage) call) (called (server_in stage) (call_of call)))
-line_told stage (line.Query query) = Some (asked (server_in stage) query)
+line_told stage (ServerLine.Rules rules) = with_rules stage rules
+line_told stage (ServerLine.File content) = with_file stage content
+line_told stage (ServerLine.Call call) =
+    Some (after_call (applies (server_in stage) call) (called (server_in stage) (call_of call)))
+line_told stage (ServerLine.Query query) = Some (asked (server_in stage) query)
 
 -- a line of this number comes
 unfoldable pub server_answered : Stage → ℕ → List ℕ → Answered Stage

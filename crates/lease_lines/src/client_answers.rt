@@ -1,13 +1,9 @@
 ghost use Rattle.std.specs.Prelude.{◌≡◌, ◌++◌, OnOk, IfOk, None, map};
-ghost use Rattle.std.specs.List.{flat_map};
-ghost use Rattle.std.specs.String.{string_bytes};
+ghost use Rattle.lease_client.specs.{Known.client_of, Answers.answer_of, Answers.note_of, Answers.refusal_of, Steps.IsStep};
+ghost use Rattle.lease_lines.specs.ClientAnswers.{request_line, note_line, refusal_word, answer_words, answer_line, step_text};
+ghost use Rattle.{std.specs.List.flat_map, std.specs.String.string_bytes, lease_texts.specs.Records.fact_line};
 ghost use Rattle.lease_model.specs.client.Commands as model;
 ghost use Rattle.lease_model.specs.client.Step as steps;
-ghost use Rattle.lease_client.specs.Known.{client_of};
-ghost use Rattle.lease_texts.specs.Records.{fact_line};
-ghost use Rattle.lease_client.specs.Answers.{answer_of, note_of, refusal_of};
-ghost use Rattle.lease_client.specs.Steps.{IsStep};
-ghost use Rattle.lease_lines.specs.ClientAnswers.{request_line, note_line, refusal_word, answer_words, answer_line, step_text};
 
 use lease_client::{Answer, Client, Note, Refusal, Step};
 use lease_facts::Fact;
@@ -37,9 +33,7 @@ fn fact_noted(client: ClientNo, note: Note) -> Fact
 {
     match note {
         Note::Settled(number, outcome) => Fact::Settled(client, number, outcome),
-        Note::Wrote(file, number, patch, buffered) => {
-            Fact::Wrote(client, file, number, patch, buffered)
-        }
+        Note::Wrote(file, number, patch, way) => Fact::Wrote(client, file, number, patch, way),
         Note::Believes(file, state) => Fact::Believes(client, file, state),
         Note::CachedRead(file, bytes) => Fact::CachedRead(client, file, bytes),
     }
@@ -80,11 +74,7 @@ fn push_bytes(text: &mut String, bytes: &Bytes, cached: bool) -> Result<(), Allo
     write!(text, "bytes {digits} {source}")
 }
 
-fn push_answer_words(
-    text: &mut String,
-    answer: &Answer,
-    other: Option<u32>,
-) -> Result<(), AllocError>
+fn push_words(text: &mut String, answer: &Answer, other: Option<u32>) -> Result<(), AllocError>
     ensures { OnOk result (string_bytes text.new ≡ string_bytes text.old ++ answer_words other (answer_of answer.now)) }
 {
     match answer {
@@ -103,13 +93,12 @@ fn push_answer_words(
     }
 }
 
-/// Adds the line of an answer. Where it reports a failure, `other` is the number of a status that
-/// was given by its number.
+/// Adds the line of an answer. Where it reports a failure, `other` is the number of a status that was given by its number.
 pub fn push_answer(text: &mut String, answer: &Answer, other: Option<u32>) -> Result<(), AllocError>
     ensures { OnOk result (string_bytes text.new ≡ string_bytes text.old ++ answer_line other (answer_of answer.now)) }
 {
     text.push_str("answer ")?;
-    push_answer_words(text, answer, other)?;
+    push_words(text, answer, other)?;
     text.push_str("\n")
 }
 

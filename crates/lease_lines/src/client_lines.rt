@@ -1,8 +1,5 @@
-ghost use Rattle.std.specs.Prelude.{◌≡◌, Some, None, MatchResult, drop};
-ghost use Rattle.lease_texts.specs.Complaints.{table_of};
-ghost use Rattle.lease_texts.specs.Kinds.{named};
-ghost use Rattle.lease_texts.specs.Lines.{field_read};
-ghost use Rattle.lease_texts.specs.Takes.{Takes, Reads};
+ghost use Rattle.std.specs.Prelude.{◌≡◌, None, drop};
+ghost use Rattle.lease_texts.specs.{Complaints.table_of, Kinds.named, Lines.field_read, Takes.Takes, Takes.Reads};
 ghost use Rattle.lease_lines.specs.ClientLines.{app, client_kinds, client_line_in, client_place, client_table, other_of};
 
 use lease_client::Command;
@@ -79,10 +76,7 @@ const LINES: &[Row] = &[
 pub fn client_table() -> Table
     ensures { table_of result ≡ client_table }
 {
-    Table {
-        word: "a kind of line",
-        rows: LINES,
-    }
+    Table("a kind of line", LINES)
 }
 
 fn app(client: ClientNo, command: Command) -> ClientLine
@@ -130,19 +124,16 @@ fn read_command(alloc: Global, word: &[u8], fields: &mut Fields) -> Result<Clien
 fn read_named(alloc: Global, word: &[u8], fields: &mut Fields) -> Result<ClientLine, LineFault>
     ensures { Takes (named field_read client_kinds word.now) fields.old fields.new result }
 {
-    if is(word, b"files") {
-        Ok(ClientLine::Files(fields.file()?.0))
-    } else if is(word, b"client") {
-        Ok(ClientLine::Client(fields.guid()?))
-    } else if is(word, b"connect") {
-        Ok(ClientLine::Asks(fields.client()?, Asked::Connect))
-    } else if is(word, b"notice") {
-        Ok(ClientLine::Asks(fields.client()?, Asked::Notice))
-    } else if is(word, b"take") {
-        let client = fields.client()?;
-        Ok(ClientLine::Asks(client, Asked::Take(read_arrival(alloc, fields)?)))
-    } else {
-        read_command(alloc, word, fields)
+    match word {
+        _ if is(word, b"files") => Ok(ClientLine::Files(fields.file()?.0)),
+        _ if is(word, b"client") => Ok(ClientLine::Client(fields.guid()?)),
+        _ if is(word, b"connect") => Ok(ClientLine::Asks(fields.client()?, Asked::Connect)),
+        _ if is(word, b"notice") => Ok(ClientLine::Asks(fields.client()?, Asked::Notice)),
+        _ if is(word, b"take") => {
+            let client = fields.client()?;
+            Ok(ClientLine::Asks(client, Asked::Take(read_arrival(alloc, fields)?)))
+        }
+        _ => read_command(alloc, word, fields),
     }
 }
 

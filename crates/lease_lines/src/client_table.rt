@@ -1,14 +1,9 @@
 ghost use Rattle.std.specs.Prelude.{◌≡◌, ◌≤◌, ◌&&◌, nat_le, nat_lt, bytes_eq, [], None, IfOk, IsOk, OnOk, length, map};
-ghost use Rattle.std.specs.List.{list_any};
-ghost use Rattle.std.specs.String.{string_bytes};
-ghost use Rattle.lease_client.specs.Known.{client_of};
-ghost use Rattle.lease_client.specs.Steps.{IsStep};
-ghost use Rattle.lease_model.specs.client.Calls.{client_called};
-ghost use Rattle.lease_lines.specs.ClientLines.{call_of, client_place};
-ghost use Rattle.lease_lines.specs.Tables.{clients_of};
+ghost use Rattle.lease_client.specs.{Known.client_of, Steps.IsStep};
+ghost use Rattle.lease_lines.specs.{ClientLines.call_of, ClientLines.client_place, Tables.clients_of, Refused.place_line};
 ghost use Rattle.lease_lines.specs.ClientTables.{no_clients, with_new, with_files, with_client, line_told, or_fault};
 ghost use Rattle.lease_lines.specs.ClientTables.{client_answered, HasStepped, HasAsked, IsAnswered, Takes};
-ghost use Rattle.lease_lines.specs.Refused.{place_line};
+ghost use Rattle.{std.specs.List.list_any, std.specs.String.string_bytes, lease_model.specs.client.Calls.client_called};
 
 use crate::client_answers::push_step;
 use crate::client_lines::{Asked, ClientLine, client_table, read_client_line};

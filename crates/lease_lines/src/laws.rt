@@ -1,9 +1,6 @@
-//! What is true of machine lines by their tables: a public function whose contract carries the law.
-//! It does nothing.
+//! What is true of machine lines by their tables: a public function whose contract carries the law. It does nothing.
 
-ghost use Rattle.lease_texts.specs.Complaints.{complaint};
-ghost use Rattle.lease_texts.specs.FirstFaults.{ComplainsExactly};
-ghost use Rattle.lease_texts.specs.Tables.{FieldSays};
+ghost use Rattle.lease_texts.specs.{Complaints.complaint, FirstFaults.ComplainsExactly, Tables.FieldSays};
 ghost use Rattle.lease_lines.specs.ClientLines.{client_kinds, client_line_in, client_table};
 ghost use Rattle.lease_lines.specs.ServerLines.{server_kinds, server_line_in, server_table};
 

@@ -1,9 +1,7 @@
 ghost use Rattle.std.specs.Prelude.{◌≡◌, IfOk, []};
-ghost use Rattle.lease_lines.specs.ClientTables.{IsAnswered, no_clients};
-ghost use Rattle.lease_lines.specs.Machines.{answered};
+ghost use Rattle.lease_lines.specs.{ClientTables.IsAnswered, ClientTables.no_clients, Machines.answered, Tables.machines_of};
 ghost use Rattle.lease_lines.specs.Machines as rules;
 ghost use Rattle.lease_lines.specs.ServerTables as tables;
-ghost use Rattle.lease_lines.specs.Tables.{machines_of};
 
 use crate::client_table::ClientTable;
 use crate::refusals::Answer;

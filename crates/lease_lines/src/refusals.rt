@@ -1,7 +1,6 @@
 ghost use Rattle.std.specs.Prelude.{◌≡◌, IfOk, []};
-ghost use Rattle.std.specs.String.{string_bytes};
-ghost use Rattle.lease_texts.specs.Complaints.{complaint, table_of};
 ghost use Rattle.lease_lines.specs.Refused.{fault_line, lack_line, place_line};
+ghost use Rattle.{std.specs.String.string_bytes, lease_texts.specs.Complaints.complaint, lease_texts.specs.Complaints.table_of};
 
 use lease_state::Memory;
 use lease_texts::{LineFault, Table, complaint_about, push_complaint_line};
@@ -41,10 +40,8 @@ impl Answer {
         ensures text { string_bytes result.text ≡ [] }
         ensures reason { string_bytes result.reason ≡ [] }
     {
-        Answer {
-            text: String::new(alloc),
-            reason: String::new(alloc),
-        }
+        let (text, reason) = (String::new(alloc), String::new(alloc));
+        Answer { text, reason }
     }
 
     /// The answer to a line of this number that is none of a table.

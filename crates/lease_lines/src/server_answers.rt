@@ -1,7 +1,5 @@
 ghost use Rattle.std.specs.Prelude.{◌≡◌, ◌++◌, OnOk};
-ghost use Rattle.std.specs.List.{flat_map};
-ghost use Rattle.std.specs.Option.{option_map};
-ghost use Rattle.std.specs.String.{string_bytes};
+ghost use Rattle.std.specs.{List.flat_map, Option.option_map, String.string_bytes};
 ghost use Rattle.lease_lines.specs.ServerAnswers.{out_line, answer, done_word, yes_word, fid_words, bytes_words};
 
 use lease_facts::Fact;

@@ -1,8 +1,5 @@
-ghost use Rattle.std.specs.Prelude.{◌≡◌, Some, None, MatchResult, drop};
-ghost use Rattle.lease_texts.specs.Complaints.{table_of};
-ghost use Rattle.lease_texts.specs.Kinds.{named};
-ghost use Rattle.lease_texts.specs.Lines.{field_read};
-ghost use Rattle.lease_texts.specs.Takes.{Takes, Reads};
+ghost use Rattle.std.specs.Prelude.{◌≡◌, drop};
+ghost use Rattle.lease_texts.specs.{Complaints.table_of, Kinds.named, Lines.field_read, Takes.Takes, Takes.Reads};
 ghost use Rattle.lease_lines.specs.ServerLines.{server_kinds, server_line_in, server_place, server_table};
 
 use lease_state::{ClientNo, FileId, FileNo, LeaseKey};
@@ -76,10 +73,7 @@ const LINES: &[Row] = &[
 pub fn server_table() -> Table
     ensures { table_of result ≡ server_table }
 {
-    Table {
-        word: "a kind of line",
-        rows: LINES,
-    }
+    Table("a kind of line", LINES)
 }
 
 #[tactic(auto, unfolding(lease_texts::specs::Kinds::named, lease_texts::specs::Kinds::taken))]
@@ -104,20 +98,16 @@ fn read_later(alloc: Global, word: &[u8], fields: &mut Fields) -> Result<ServerL
 fn read_named(alloc: Global, word: &[u8], fields: &mut Fields) -> Result<ServerLine, LineFault>
     ensures { Takes (named field_read server_kinds word.now) fields.old fields.new result }
 {
-    if is(word, b"rules") {
-        Ok(ServerLine::Rules(fields.rules()?))
-    } else if is(word, b"file") {
-        Ok(ServerLine::File(fields.content(alloc)?))
-    } else if is(word, b"join") {
-        Ok(ServerLine::Call(ServerCall::Join(fields.client()?)))
-    } else if is(word, b"cut") {
-        Ok(ServerLine::Call(ServerCall::Cut(fields.client()?)))
-    } else if is(word, b"expire") {
-        Ok(ServerLine::Call(ServerCall::Expire(fields.client()?, fields.key()?)))
-    } else if is(word, b"scavenge") {
-        Ok(ServerLine::Call(ServerCall::Scavenge(fields.file_id()?)))
-    } else {
-        read_later(alloc, word, fields)
+    match word {
+        _ if is(word, b"rules") => Ok(ServerLine::Rules(fields.rules()?)),
+        _ if is(word, b"file") => Ok(ServerLine::File(fields.content(alloc)?)),
+        _ if is(word, b"join") => Ok(ServerLine::Call(ServerCall::Join(fields.client()?))),
+        _ if is(word, b"cut") => Ok(ServerLine::Call(ServerCall::Cut(fields.client()?))),
+        _ if is(word, b"expire") => {
+            Ok(ServerLine::Call(ServerCall::Expire(fields.client()?, fields.key()?)))
+        }
+        _ if is(word, b"scavenge") => Ok(ServerLine::Call(ServerCall::Scavenge(fields.file_id()?))),
+        _ => read_later(alloc, word, fields),
     }
 }
 

@@ -1,17 +1,11 @@
 ghost use Rattle.std.specs.Prelude.{◌≡◌, ◌++◌, [], None, IfOk, IsOk, OnOk};
-ghost use Rattle.std.specs.String.{string_bytes};
-ghost use Rattle.lease_model.specs.server.Progress.{Progress};
-ghost use Rattle.share_server.specs.Outs.{IsAfter};
-ghost use Rattle.share_server.specs.Table.{server_of};
-ghost use Rattle.lease_lines.specs.ClientTables.{IsAnswered, Takes, or_fault};
-ghost use Rattle.lease_lines.specs.Refused.{place_line};
-ghost use Rattle.lease_lines.specs.ServerAnswers.{answer};
-ghost use Rattle.lease_lines.specs.ServerLines.{call_of, server_place};
+ghost use Rattle.lease_model.specs.server.{Progress.Progress, Calls.called};
+ghost use Rattle.lease_lines.specs.{ClientTables.IsAnswered, ClientTables.Takes, ClientTables.or_fault, Refused.place_line};
+ghost use Rattle.lease_lines.specs.{ServerAnswers.answer, ServerLines.call_of, ServerLines.server_place, Tables.stage_of};
 ghost use Rattle.lease_lines.specs.ServerTables.{after_call, applies, found, server_in, with_file, with_rules, line_told};
 ghost use Rattle.lease_lines.specs.ServerTables.{server_answered};
+ghost use Rattle.{std.specs.String.string_bytes, share_server.specs.Outs.IsAfter, share_server.specs.Table.server_of};
 ghost use Rattle.lease_lines.specs.ServerTables as tables;
-ghost use Rattle.lease_lines.specs.Tables.{stage_of};
-ghost use Rattle.lease_model.specs.server.Calls.{called};
 
 use crate::refusals::Answer;
 use crate::server_answers::{push_content, push_done, push_fid, push_outs, push_yes};

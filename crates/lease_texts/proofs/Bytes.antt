@@ -1,7 +1,6 @@
 -- Words of bytes above a separator, and the pieces that they are.
-use Rattle.std.proofs.Common.{◌++◌, ◌+◌, ◌-◌, ◌/◌, ◌%◌, ◌<◌, ◌==◌, ◌∷◌, ◌≡◌, Bool, List, ℕ, [], arith, false}
-use Rattle.std.proofs.Common.{if◌then◌else◌, nat_lt, refl, slice_index, suc, true, zero}
-use Rattle.std.proofs.lemmas.Bool.{and_parts}
+use Rattle.std.proofs.Common.{◌++◌, ◌+◌, ◌-◌, ◌/◌, ◌%◌, ◌<◌, ◌∷◌, ◌≡◌, Bool, List, ℕ, [], arith, if◌then◌else◌, nat_lt, refl}
+use Rattle.std.proofs.Common.{slice_index, suc, true, zero}
 use Rattle.std.proofs.lemmas.Bool.Decides.{nat_tests}
 use Rattle.hex.specs.Hex.{IsBytes, encode_with, encode_lower, lower_digits}
 use Rattle.uuid.specs.Text.{by_index, hyphenated_text, lower}
@@ -11,37 +10,28 @@ pub above-append : (low : ℕ) (one two : List ℕ) → all_above low one ≡ tr
     → all_above low (one ++ two) ≡ true
 above-append low [] two first second = second
 above-append low (byte ∷ one) two first second =
-    let parts = and_parts (nat_lt low byte) (all_above low one) first in
-    rw (parts.0) (above-append low one two parts.1 second)
+    let rest = above-append low one two (grind (arith, first)) second in grind (arith, first)
 
 -- words are parts of lines
 pub above-line : (word : List ℕ) → all_above 32 word ≡ true → all_above 10 word ≡ true
 above-line [] above = refl
 above-line (byte ∷ word) above =
-    let parts = and_parts (nat_lt 32 byte) (all_above 32 word) above in
-    let here : nat_lt 10 byte ≡ true = grind (arith, nat_tests, parts.0) in
-    rw here (above-line word parts.1)
+    let rest = above-line word (grind (arith, above)) in grind (arith, nat_tests, above)
 
 -- what stands before a separator is the first piece
 pub piece_first : (separator : ℕ) (last : List (List ℕ)) (word rest : List ℕ) → all_above separator word ≡ true
     → pieces separator last (word ++ separator ∷ rest) ≡ word ∷ pieces separator last rest
 unfolding pieces longer
-piece_first separator last [] rest above =
-    let same : (separator == separator) ≡ true = grind (arith, nat_tests) in
-    rw same refl
+piece_first separator last [] rest above = grind (arith, nat_tests)
 piece_first separator last (byte ∷ word) rest above =
-    let parts = and_parts (nat_lt separator byte) (all_above separator word) above in
-    let other : (byte == separator) ≡ false = grind (arith, nat_tests, parts.0) in
-    rw (other, piece_first separator last word rest parts.1) refl
+    let later = piece_first separator last word rest (grind (arith, above)) in grind (arith, nat_tests, above)
 
 -- what has no separator is the last
 pub piece_last : (separator : ℕ) (word : List ℕ) → all_above separator word ≡ true → pieces separator ([] ∷ []) word ≡ word ∷ []
 unfolding pieces longer
 piece_last separator [] above = refl
 piece_last separator (byte ∷ word) above =
-    let parts = and_parts (nat_lt separator byte) (all_above separator word) above in
-    let other : (byte == separator) ≡ false = grind (arith, nat_tests, parts.0) in
-    rw (other, piece_last separator word parts.1) refl
+    let later = piece_last separator word (grind (arith, above)) in grind (arith, nat_tests, above)
 
 -- ---- digits
 

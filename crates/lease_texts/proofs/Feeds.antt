@@ -1,12 +1,10 @@
 -- Line feeds among the first bytes of a text.
-use Rattle.std.proofs.Common.{◌%◌, ◌<◌, ◌∙◌, ◌≡◌, ◌≢◌, ◌≤◌, ◌^◌, ◌⊎◌, Bool, List, ℕ, ap, arith, cond, eqb, false, get_or}
-use Rattle.std.proofs.Common.{inl, inr, length, map, nat_lt, refl, replicate, slice_index, sym, take, true, w64, w8}
-use Rattle.std.specs.Int.{bit_at, trailing_zeros}
-use Rattle.std.specs.Simd.Lanes.{mask_l, top, zip2}
+use Rattle.std.proofs.Common.{◌%◌, ◌<◌, ◌∙◌, ◌≡◌, ◌≢◌, ◌≤◌, ◌^◌, Bool, List, ℕ, ap, arith, cond, eqb, false, get_or, length, map}
+use Rattle.std.proofs.Common.{replicate, slice_index, sym, take, w64, w8}
 use Rattle.std.proofs.lemmas.Bool.Decides.{eqb_tells, nat_tests}
-use Rattle.std.proofs.lemmas.List.{get_or-replicate, get_or_past}
-use Rattle.std.proofs.lemmas.Nat.Bits.{bit_at-trailing_zeros}
+use Rattle.std.proofs.lemmas.{List.get_or-replicate, List.get_or_past, Nat.Bits.bit_at-trailing_zeros}
 use Rattle.std.proofs.lemmas.Simd.{bit_mask_l, get_or-chunk, get_or-zip2, length-chunk, length-zip2, mask_l-mod, tops_compared}
+use Rattle.std.specs.{Int.bit_at, Int.trailing_zeros, Simd.Lanes.mask_l, Simd.Lanes.top, Simd.Lanes.zip2}
 
 -- which of the first 32 bytes are line feeds
 abbrev feeds : List ℕ → List Bool
@@ -38,28 +36,13 @@ abbrev bit : Bool → ℕ
 bit b = cond b 1 0
 
 within : (text : List ℕ) (k : ℕ) → length (feeds text) ≡ 32 → cond {A = ℕ} (get_or (feeds text) k false) 1 0 ≡ 1 → k < 32
-within text k long set = by_place (nat_lt k 32) refl
-  where
-    by_place : (b : Bool) → nat_lt k 32 ≡ b → k < 32
-    by_place true is = grind (arith, nat_tests, is)
-    by_place false is =
-        let past : 32 ≤ k = grind (arith, nat_tests, is) in
-        let none = get_or_past (feeds text) k false (omega (arith, long, past)) in
-        absurd (omega (arith, ap bit (sym none) ∙ set))
+within text k long set = let none = get_or_past (feeds text) k false in grind (arith, nat_tests, set)
 
 is_feed : (byte : ℕ) → cond {A = ℕ} (eqb byte 10) 1 0 ≡ 1 → byte ≡ 10
-is_feed byte set = by_test (eqb_tells byte 10)
-  where
-    by_test : ((eqb byte 10 ≡ true) × (byte ≡ 10)) ⊎ ((eqb byte 10 ≡ false) × (byte ≢ 10)) → byte ≡ 10
-    by_test (inl found) = found.1
-    by_test (inr other) = absurd (omega (arith, ap bit (sym other.0) ∙ set))
+is_feed byte set = let tells = eqb_tells byte 10 in grind (arith, set)
 
 no_feed : (byte : ℕ) → byte ≡ 10 → cond {A = ℕ} (eqb byte 10) 1 0 ≡ 0 → ⊥
-no_feed byte same clear = by_test (eqb_tells byte 10)
-  where
-    by_test : ((eqb byte 10 ≡ true) × (byte ≡ 10)) ⊎ ((eqb byte 10 ≡ false) × (byte ≢ 10)) → ⊥
-    by_test (inl found) = omega (arith, ap bit (sym found.0) ∙ clear)
-    by_test (inr other) = other.1 same
+no_feed byte same clear = let tells = eqb_tells byte 10 in grind (arith, clear)
 
 pub lowest_feed : (text : List ℕ) (m : ℕ) → 32 ≤ length text → m ≡ mask_l (feeds text) → m ≢ 0 → m < 2 ^ 64
     → (trailing_zeros w64 m < 32) × (slice_index text (trailing_zeros w64 m) ≡ 10)

@@ -1,37 +1,24 @@
 -- A complaint about a line by a table whose kinds have names of their own is of the first field that no line has.
-use Rattle.std.proofs.Common.{◌&&◌, ◌++◌, ◌+◌, ◌∙◌, ◌∷◌, ◌≡◌, ◌↔◌, Bool, List, None, Option, Some, ℕ, [], ap, arith}
-use Rattle.std.proofs.Common.{append-nil, append_assoc, bytes_eq, codes, false, if◌then◌else◌, inl, inr, map, not, refl, subst}
-use Rattle.std.proofs.Common.{suc, sym, true, zero, ◌||◌}
+use Rattle.std.proofs.Common.{◌&&◌, ◌++◌, ◌+◌, ◌∙◌, ◌∷◌, ◌≡◌, ◌↔◌, Bool, List, None, Option, Some, ℕ, [], ap, arith, append-nil}
+use Rattle.std.proofs.Common.{append_assoc, bytes_eq, codes, false, if◌then◌else◌, inl, map, not, refl, subst, suc, sym, true}
+use Rattle.std.proofs.Common.{zero}
+use Rattle.std.proofs.lemmas.{Bool.and_parts, Slice.Eq.bytes_eq-Decides}
 use Rattle.std.specs.Prelude.{is_some, length, drop}
-use Rattle.std.specs.Option.{option_map}
-use Rattle.std.specs.List.{list_all, list_any}
-use Rattle.std.proofs.lemmas.Bool.{and_parts}
-use Rattle.std.proofs.lemmas.Slice.Eq.{bytes_eq-Decides}
-use Rattle.hex.specs.Hex.{IsBytes}
-use Rattle.lease_client.specs.declared.values.note.Settlement.TheVariants as settlement
-use Rattle.lease_state.specs.declared.access.Access.TheVariants as access
-use Rattle.lease_state.specs.declared.access.Share.TheVariants as share
-use Rattle.lease_state.specs.declared.reply.Reply.TheVariants as reply
-use Rattle.lease_state.specs.declared.request.Request.TheVariants as request
-use Rattle.lease_state.specs.declared.status.Status.TheVariants as status
-use Rattle.lease_state.specs.Rules.{profile_rules}
-use Rattle.lease_texts.specs.Complaints as complaints
+use Rattle.std.specs.{Option.option_map, List.list_all, List.list_any}
+use Rattle.lease_state.specs.{Rules.profile_rules, declared.access.Access.Access, declared.access.Share.Share}
+use Rattle.lease_state.specs.{declared.reply.Reply.Reply, declared.request.Request.Request, declared.status.Status.Status}
+use Rattle.lease_texts.specs.{Fields.state_of_wire, Lines.words_for, Pieces.fields_of, Statuses.known, Replies.plain}
+use Rattle.lease_texts.specs.{Replies.reply_kinds, Requests.request_kinds, declared.kinds.Field.Field}
 use Rattle.lease_texts.specs.Complaints.{Complaint, Expected, Row, Table, fields_behind, if_fits, is_nil, leaves, leaves_table}
 use Rattle.lease_texts.specs.Complaints.{or_goes_on, reply_table, request_table, row, stands}
-use Rattle.lease_texts.specs.Fields.{number_in, ordinal_in, sized_in, state_of_wire}
 use Rattle.lease_texts.specs.FirstFaults.{AreTold, Begin, ComplainsExactly, IsFirstFault, NoneHas, first_of, is_expected, is_name}
 use Rattle.lease_texts.specs.Kinds.{Kind, Telling, Value, Words, client_no, file_id, file_no, lease_key, value_in}
-use Rattle.lease_texts.specs.Lines.{words_for}
-use Rattle.lease_texts.specs.Pieces.{fields_of}
-use Rattle.lease_texts.specs.Replies.{plain, reply_kinds}
-use Rattle.lease_texts.specs.Requests.{request_kinds}
-use Rattle.lease_texts.specs.Statuses.{known}
 use Rattle.lease_texts.specs.Tables.{CanBeSaid, FieldSays, HasBytes, IsOneOf, ReadsExactly, Say, Saying, Tells, WordSays}
-use Rattle.lease_texts.specs.declared.kinds.Field.{Field}
-use Rattle.lease_texts.specs.declared.kinds.Field.TheVariants as field
-use Rattle.lease_texts.proofs.ReadBack.{field_says}
-use Rattle.lease_texts.proofs.Tables.{are_apart, no_more, none_told, of_one, one_of_a_name, replies_apart, requests_apart}
-use Rattle.lease_texts.proofs.Tables.{same_parts}
+use Rattle.lease_texts.proofs.Tables.{is_of, kind_at, kind_of, are_apart, no_more, none_told, of_one, one_of_a_name}
+use Rattle.lease_texts.proofs.Tables.{replies_apart, requests_apart, same_parts}
+use Rattle.lease_texts.proofs.ReadBack.{are_placed, field_says, is_plain}
+use Rattle.{lease_client.specs.declared.values.note.Settlement.Settlement, hex.specs.Hex.IsBytes}
+use Rattle.lease_texts.specs.Complaints as complaints
 
 -- ---- words that fields say
 
@@ -55,28 +42,8 @@ told_filled says (field ∷ fields) telling words (value, behind, said, more) =
 
 -- ---- tables that complaints are about
 
--- one word says the field
-abbrev is_plain : Field → Bool
-is_plain field.Durable = false
-is_plain field.Request = false
-is_plain field.Reply = false
-is_plain other = true
-
--- what may be missing, and what takes all that is left, stands last
-abbrev pub are_placed : List Field → Bool
-are_placed [] = true
-are_placed (field ∷ fields) = (is_plain field || is_nil fields) && are_placed fields
-
-placed_behind : (field : Field) (fields : List Field) → are_placed (field ∷ fields) ≡ true → are_placed fields ≡ true
-placed_behind field fields placed = (and_parts (is_plain field || is_nil fields) (are_placed fields) placed).1
-
 abbrev pub all_placed : {A : Type 0} → List (Kind A) → Bool
 all_placed kinds = not (is_nil kinds) && list_all (λ (kind : Kind _). are_placed kind.fields) kinds
-
-each_placed : {A : Type 0} (kinds : List (Kind A)) → all_placed kinds ≡ true
-    → list_all (λ (kind : Kind A). are_placed kind.fields) kinds ≡ true
-each_placed {A} kinds placed =
-    (and_parts (not (is_nil kinds)) (list_all (λ (kind : Kind A). are_placed kind.fields) kinds) placed).1
 
 abbrev all_plain : {A : Type 0} → List (Kind A) → Bool
 all_plain kinds = list_all (λ (kind : Kind _). list_all is_plain kind.fields) kinds
@@ -100,34 +67,34 @@ has_zeros : (count : ℕ) → HasBytes count (zeros count)
 has_zeros count = (zeros_count count, zeros_bytes count)
 
 sample : (field : Field) → (value : Value field) × CanBeSaid field value
-sample field.Client = (client_no 1, (omega arith, omega arith))
-sample field.File = (file_no 1, (omega arith, omega arith))
-sample field.FileId = (file_id 0, omega arith)
-sample field.Number = (0, omega arith)
-sample field.Offset = (0, omega arith)
-sample field.Bytes = ([], zeros_bytes 0)
-sample field.Content = ([], (zeros_bytes 0, omega arith))
-sample field.State = (state_of_wire 0, omega arith)
-sample field.Access = (access.Read, tt)
-sample field.Share = (share.Nothing, tt)
-sample field.Rules = (profile_rules, tt)
-sample field.Way = (true, tt)
-sample field.Outcome = (settlement.Done, tt)
-sample field.Guid = (zeros 16, has_zeros 16)
-sample field.Message = (zeros 36, has_zeros 36)
-sample field.Key = (lease_key (zeros 16), has_zeros 16)
-sample field.Notification = (zeros 44, has_zeros 44)
-sample field.Status = (known status.Unsuccessful, refl)
-sample field.Durable = (false, tt)
-sample field.Request = (request.Close (file_id 0), (omega arith, tt))
-sample field.Reply = (plain (reply.Closed (file_id 0)), ((omega arith, tt), refl))
+sample Field.Client = (client_no 1, (omega arith, omega arith))
+sample Field.File = (file_no 1, (omega arith, omega arith))
+sample Field.FileId = (file_id 0, omega arith)
+sample Field.Number = (0, omega arith)
+sample Field.Offset = (0, omega arith)
+sample Field.Bytes = ([], zeros_bytes 0)
+sample Field.Content = ([], (zeros_bytes 0, omega arith))
+sample Field.State = (state_of_wire 0, omega arith)
+sample Field.Access = (Access.Read, tt)
+sample Field.Share = (Share.Nothing, tt)
+sample Field.Rules = (profile_rules, tt)
+sample Field.Way = (true, tt)
+sample Field.Outcome = (Settlement.Done, tt)
+sample Field.Guid = (zeros 16, has_zeros 16)
+sample Field.Message = (zeros 36, has_zeros 36)
+sample Field.Key = (lease_key (zeros 16), has_zeros 16)
+sample Field.Notification = (zeros 44, has_zeros 44)
+sample Field.Status = (known Status.Unsuccessful, refl)
+sample Field.Durable = (false, tt)
+sample Field.Request = (Request.Close (file_id 0), (omega arith, tt))
+sample Field.Reply = (plain (Reply.Closed (file_id 0)), ((omega arith, tt), refl))
 
 -- fields in their places can all be said
 completed : (fields : List Field) → are_placed fields ≡ true → (words : Words) × Fill FieldSays fields words
 completed [] placed = ([], refl)
-completed (field.Durable ∷ []) placed = ([], (false, [], (refl, refl), refl))
-completed (field.Durable ∷ next ∷ fields) placed = let c : ⊥ = cc in absurd c
-completed (field ∷ fields) placed = let rest = completed fields (placed_behind field fields placed) in
+completed (Field.Durable ∷ []) placed = ([], (false, [], (refl, refl), refl))
+completed (Field.Durable ∷ next ∷ fields) placed = let c : ⊥ = cc in absurd c
+completed (field ∷ fields) placed = let rest = completed fields (grind (arith, placed)) in
     let one = sample field in
     (words_for field one.0 ++ rest.0, (one.0, rest.0, field_says field one.0 rest.0 one.1 tt, rest.1))
 
@@ -152,9 +119,9 @@ may_lead Are word (Some fields) (placed, same) =
 
 plain_says : (field : Field) → is_plain field ≡ true → (words : Words) (value : Value field) (rest : Words)
     → FieldSays field words value rest ↔ WordSays field words value rest
-plain_says field.Durable alone words value rest = let c : ⊥ = cc in absurd c
-plain_says field.Request alone words value rest = let c : ⊥ = cc in absurd c
-plain_says field.Reply alone words value rest = let c : ⊥ = cc in absurd c
+plain_says Field.Durable alone words value rest = let c : ⊥ = cc in absurd c
+plain_says Field.Request alone words value rest = let c : ⊥ = cc in absurd c
+plain_says Field.Reply alone words value rest = let c : ⊥ = cc in absurd c
 plain_says other alone words value rest = (λ said. said, λ said. said)
 
 fill_plain : (fields : List Field) → list_all is_plain fields ≡ true → (words : Words)
@@ -189,29 +156,11 @@ one_leads field fields word alone placed = by_value (value_in field word) refl
 
 -- ---- the word that names a kind
 
--- the kind of a name, where the table has one
-abbrev HasName : {A : Type 0} → Option (List Field) → List (Kind A) → List ℕ → Type 0
-HasName {A} None kinds name = (kind : Kind A) → IsOneOf kinds kind → name ≡ kind.name → ⊥
-HasName {A} (Some fields) kinds name = (kind : Kind A) × IsOneOf kinds kind × (name ≡ kind.name) × (fields ≡ kind.fields)
-
-by_row : {A : Type 0} (kinds : List (Kind A)) (name : List ℕ) → HasName (fields_behind (map row kinds) name) kinds name
+fields_of_kind : {A : Type 0} (kinds : List (Kind A)) (name : List ℕ)
+    → fields_behind (map row kinds) name ≡ option_map (λ (kind : Kind A). kind.fields) (kind_of kinds name)
 unfolding fields_behind
-by_row [] name = λ kind is same. is
-by_row {A} (one ∷ kinds) name = by_name (bytes_eq name one.name) refl (by_row kinds name)
-  where
-    later : (got : Option (List Field)) → bytes_eq name one.name ≡ false → HasName got kinds name → HasName got (one ∷ kinds) name
-    later None other never = λ kind is same.
-        elim is as (λ _. ⊥) [
-          | inl first ↦ let yet = (bytes_eq-Decides name one.name).1 (same ∙ ap (λ (k : Kind A). k.name) first) in
-              let c : ⊥ = cc in c
-          | inr behind ↦ never kind behind same
-        ]
-    later (Some fields) other (kind, is, same, are) = (kind, inr is, same, are)
-
-    by_name : (b : Bool) → bytes_eq name one.name ≡ b → HasName (fields_behind (map row kinds) name) kinds name
-        → HasName (if b then Some one.fields else fields_behind (map row kinds) name) (one ∷ kinds) name
-    by_name true same others = (one, inl refl, (bytes_eq-Decides name one.name).0 same, refl)
-    by_name false other others = later (fields_behind (map row kinds) name) other others
+fields_of_kind [] name = refl
+fields_of_kind (one ∷ kinds) name = let later = fields_of_kind kinds name in grind arith
 
 -- what a saying and that of lines have alike
 abbrev Alike : {A : Type 0} → Saying → List (Kind A) → Type 0
@@ -221,24 +170,29 @@ Alike {A} says kinds = (kind : Kind A) → IsOneOf kinds kind → (words : Words
 table_leads : {A : Type 0} (says : Saying) (kinds : List (Kind A)) → are_apart kinds ≡ true
     → list_all (λ (kind : Kind A). are_placed kind.fields) kinds ≡ true → Alike says kinds → (word : List ℕ)
     → Leads (fields_behind (map row kinds) word) (AreTold says kinds) word
-table_leads {A} says kinds apart placed alike word = by_kind (fields_behind (map row kinds) word) (by_row kinds word)
+table_leads {A} says kinds apart placed alike word =
+    subst (λ (to : Option (List Field)). Leads to (AreTold says kinds) word) (sym (fields_of_kind kinds word))
+    (by_kind (kind_of kinds word) refl)
   where
-    by_kind : (got : Option (List Field)) → HasName got kinds word → Leads got (AreTold says kinds) word
-    by_kind None never = λ words (told, tells). never tells.kind tells.is_one (same_parts tells.are).0
-    by_kind (Some fields) (kind, is, named, same) = (
-      ap are_placed same ∙ of_one (λ (kind : Kind A). are_placed kind.fields) kinds kind placed is,
+    by_kind : (got : Option (Kind A)) → kind_of kinds word ≡ got
+        → Leads (option_map (λ (kind : Kind A). kind.fields) got) (AreTold says kinds) word
+    by_kind None none = λ words (told, tells). none_told tells.kind (sym none
+        ∙ ap (λ (n : List ℕ). kind_of kinds n) (same_parts tells.are).0 ∙ kind_at kinds tells.kind apart tells.is_one)
+    by_kind (Some kind) is = let found = is_of kinds word kind is in (
+      of_one (λ (kind : Kind A). are_placed kind.fields) kinds kind placed found.0,
       λ words. (
         λ (told, tells).
             let parts = same_parts tells.are in
-            let one = one_of_a_name kinds tells.kind kind apart tells.is_one is (sym parts.0 ∙ named) in
-            let filled = (alike tells.kind tells.is_one tells.behind).0
-            (fill_told says tells.kind.fields tells.kind.tells tells.behind told tells.say) in
-            subst (λ (w : Words). Fill FieldSays fields w) (sym parts.1)
-            (subst (λ (fs : List Field). Fill FieldSays fs tells.behind) (ap (λ (k : Kind A). k.fields) one ∙ sym same) filled),
+            let one = one_of_a_name kinds tells.kind kind apart tells.is_one found.0 (sym parts.0 ∙ found.1) in
+            subst (λ (w : Words). Fill FieldSays kind.fields w) (sym parts.1)
+            (subst (λ (k : Kind A). Fill FieldSays k.fields tells.behind) one
+            ((alike tells.kind tells.is_one tells.behind).0
+            (fill_told says tells.kind.fields tells.kind.tells tells.behind told tells.say))),
         λ filled.
-            let all = told_filled says kind.fields kind.tells words
-            ((alike kind is words).1 (subst (λ (fs : List Field). Fill FieldSays fs words) same filled)) in
-            (all.0, record { kind = kind; is_one = is; behind = words; are = ap (λ (n : List ℕ). n ∷ words) named; say = all.1 }),
+            let all = told_filled says kind.fields kind.tells words ((alike kind found.0 words).1 filled) in (
+              all.0,
+              record { kind = kind; is_one = found.0; behind = words; are = ap (λ (n : List ℕ). n ∷ words) found.1; say = all.1 },
+            ),
       ),
     )
 
@@ -266,16 +220,16 @@ plain_leads {A} kinds apart placed alone word =
       ),
     )
 
-durable_leads : (word : List ℕ) → Leads (complaints.behind field.Durable word []) (Fill FieldSays (field.Durable ∷ [])) word
+durable_leads : (word : List ℕ) → Leads (complaints.behind Field.Durable word []) (Fill FieldSays (Field.Durable ∷ [])) word
 durable_leads word = by_word (bytes_eq word (codes "durable")) refl
   where
-    said_it : (words behind : Words) (durable : Bool) → FieldSays field.Durable (word ∷ words) durable behind
+    said_it : (words behind : Words) (durable : Bool) → FieldSays Field.Durable (word ∷ words) durable behind
         → word ∷ words ≡ codes "durable" ∷ behind
     said_it words behind true are = are
     said_it words behind false (are, _) = no_more are
 
     by_word : (b : Bool) → bytes_eq word (codes "durable") ≡ b
-        → Leads (if_fits (is_some (if b then Some true else None)) []) (Fill FieldSays (field.Durable ∷ [])) word
+        → Leads (if_fits (is_some (if b then Some true else None)) []) (Fill FieldSays (Field.Durable ∷ [])) word
     by_word true same = (
       refl,
       λ words. (
@@ -287,28 +241,21 @@ durable_leads word = by_word (bytes_eq word (codes "durable")) refl
         let same = (bytes_eq-Decides word (codes "durable")).1 (same_parts (said_it words behind durable said)).0 in
         let c : ⊥ = cc in c
 
-is_mapped : {X Y : Type 0} (f : X → Y) (o : Option X) → is_some o ≡ is_some (option_map f o)
-is_mapped f None = refl
-is_mapped f (Some x) = refl
-
 says_is : (field : Field) (word : List ℕ) → is_plain field ≡ true → complaints.says field word ≡ is_some (value_in field word)
-says_is field.Client word alone = is_mapped client_no (ordinal_in word)
-says_is field.File word alone = is_mapped file_no (ordinal_in word)
-says_is field.FileId word alone = is_mapped file_id (number_in word)
-says_is field.Key word alone = is_mapped lease_key (sized_in 16 word)
-says_is other word alone = refl
+says_is Field.Client word alone = grind arith
+says_is other word alone = grind arith
 
 field_leads : (field : Field) (fields : List Field) (word : List ℕ) → are_placed (field ∷ fields) ≡ true
     → Leads (complaints.behind field word fields) (Fill FieldSays (field ∷ fields)) word
-field_leads field.Durable [] word placed = durable_leads word
-field_leads field.Request [] word placed = plain_leads request_kinds requests_apart refl refl word
-field_leads field.Reply [] word placed = plain_leads reply_kinds replies_apart refl refl word
-field_leads field.Durable (next ∷ fields) word placed = let c : ⊥ = cc in absurd c
-field_leads field.Request (next ∷ fields) word placed = let c : ⊥ = cc in absurd c
-field_leads field.Reply (next ∷ fields) word placed = let c : ⊥ = cc in absurd c
+field_leads Field.Durable [] word placed = durable_leads word
+field_leads Field.Request [] word placed = plain_leads request_kinds requests_apart refl refl word
+field_leads Field.Reply [] word placed = plain_leads reply_kinds replies_apart refl refl word
+field_leads Field.Durable (next ∷ fields) word placed = let c : ⊥ = cc in absurd c
+field_leads Field.Request (next ∷ fields) word placed = let c : ⊥ = cc in absurd c
+field_leads Field.Reply (next ∷ fields) word placed = let c : ⊥ = cc in absurd c
 field_leads other fields word placed =
     subst (λ (b : Bool). Leads (if_fits b fields) (Fill FieldSays (other ∷ fields)) word) (sym (says_is other word refl))
-    (one_leads other fields word refl (placed_behind other fields placed))
+    (one_leads other fields word refl (grind (arith, placed)))
 
 -- ---- what is expected
 
@@ -316,27 +263,16 @@ is_named : (rows : List Row) (word : List ℕ)
     → is_some (fields_behind rows word) ≡ list_any (λ (row : Row). bytes_eq word row.name) rows
 unfolding fields_behind
 is_named [] word = refl
-is_named (one ∷ rows) word = by_name (bytes_eq word one.name) (is_named rows word)
-  where
-    by_name : (b : Bool) → is_some (fields_behind rows word) ≡ list_any (λ (row : Row). bytes_eq word row.name) rows
-        → is_some (if b then Some one.fields else fields_behind rows word)
-        ≡ (b || list_any (λ (row : Row). bytes_eq word row.name) rows)
-    by_name true others = refl
-    by_name false others = others
+is_named (one ∷ rows) word = let later = is_named rows word in grind arith
 
 if_some : (b : Bool) (fields : List Field) → is_some (if_fits b fields) ≡ b
-if_some true fields = refl
-if_some false fields = refl
+if_some b fields = grind arith
 
 is_behind : (field : Field) (fields : List Field) (word : List ℕ)
     → is_some (complaints.behind field word fields) ≡ is_expected (Expected.Holds field) word
-is_behind field.Durable fields word = by_word (bytes_eq word (codes "durable"))
-  where
-    by_word : (b : Bool) → is_some (if_fits (is_some (if b then Some true else None)) fields) ≡ b
-    by_word true = refl
-    by_word false = refl
-is_behind field.Request fields word = is_named request_table.rows word
-is_behind field.Reply fields word = is_named reply_table.rows word
+is_behind Field.Durable fields word = grind arith
+is_behind Field.Request fields word = is_named request_table.rows word
+is_behind Field.Reply fields word = is_named reply_table.rows word
 is_behind other fields word = if_some (complaints.says other word) fields ∙ says_is other word refl
 
 field_may : (field : Field) (fields : List Field) (word : List ℕ) → are_placed (field ∷ fields) ≡ true
@@ -404,13 +340,13 @@ on_from Are number expected word words None never begins may more =
 on_from Are number expected word words (Some fields) (placed, same) begins may more =
     a_word_on Are (Fill FieldSays fields) number word words (leaves (number + 1) fields words) same (more fields placed)
 
-no_words : (one : Field) (fields : List Field) → (one ≡ field.Durable → ⊥) → Fill FieldSays (one ∷ fields) [] → ⊥
-no_words field.Durable fields other filled = other refl
-no_words field.Request fields other (value, behind, tells, more) = no_more (sym tells.are)
-no_words field.Reply fields other (value, behind, tells, more) = no_more (sym tells.are)
+no_words : (one : Field) (fields : List Field) → (one ≡ Field.Durable → ⊥) → Fill FieldSays (one ∷ fields) [] → ⊥
+no_words Field.Durable fields other filled = other refl
+no_words Field.Request fields other (value, behind, tells, more) = no_more (sym tells.are)
+no_words Field.Reply fields other (value, behind, tells, more) = no_more (sym tells.are)
 no_words other fields differs (value, behind, (word, are, is), more) = no_more (sym are)
 
-ends : (number : ℕ) (one : Field) (fields : List Field) → are_placed (one ∷ fields) ≡ true → (one ≡ field.Durable → ⊥)
+ends : (number : ℕ) (one : Field) (fields : List Field) → are_placed (one ∷ fields) ≡ true → (one ≡ Field.Durable → ⊥)
     → IsFirstFault (Fill FieldSays (one ∷ fields)) number []
     (record { field = number; expected = Expected.Holds one; found = None; is_last = true })
 ends number one fields placed other = at_once (Fill FieldSays (one ∷ fields)) number (Expected.Holds one) []
@@ -420,8 +356,8 @@ follows : (words : Words) (number : ℕ) (fields : List Field) → are_placed fi
     → Follows (leaves number fields words) (Fill FieldSays fields) number words
 unfolding leaves
 follows [] number [] placed = refl
-follows [] number (field.Durable ∷ []) placed = (false, [], (refl, refl), refl)
-follows [] number (field.Durable ∷ next ∷ fields) placed = let c : ⊥ = cc in absurd c
+follows [] number (Field.Durable ∷ []) placed = (false, [], (refl, refl), refl)
+follows [] number (Field.Durable ∷ next ∷ fields) placed = let c : ⊥ = cc in absurd c
 follows [] number (field ∷ fields) placed = ends number field fields placed (λ same. cc)
 follows (word ∷ words) number [] placed = at_once (Fill FieldSays []) number Expected.End (word ∷ words) ([], refl)
     (λ (rest, are). no_more are) (λ other. (λ (rest, are). no_more are, λ is. let c : ⊥ = cc in absurd c))
@@ -450,7 +386,7 @@ table_follows {A} kinds names rows apart placed = go
 
     leads : (word : List ℕ) → Leads (fields_behind names.rows word) (AreTold FieldSays kinds) word
     leads word = subst (λ (rs : List Row). Leads (fields_behind rs word) (AreTold FieldSays kinds) word) (sym rows)
-        (table_leads FieldSays kinds apart (each_placed kinds placed)
+        (table_leads FieldSays kinds apart (grind (arith, placed))
         (λ kind is words. (λ filled. filled, λ filled. filled)) word)
 
     go : (words : Words) → Follows (leaves_table names words) (AreTold FieldSays kinds) 1 words

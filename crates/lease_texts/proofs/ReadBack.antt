@@ -1,42 +1,24 @@
 -- What is written by a table is read back by it.
-use Rattle.std.proofs.Common.{◌&&◌, ◌++◌, ◌∙◌, ◌∷◌, ◌≡◌, Bool, List, ℕ, [], ap, append-nil, append_assoc, arith}
-use Rattle.std.proofs.Common.{drop, false, flat_map, inl, inr, map, not, refl, subst, suc, sym, true, zero}
+use Rattle.std.proofs.Common.{◌&&◌, ◌++◌, ◌∙◌, ◌∷◌, ◌≡◌, Bool, List, ℕ, [], ap, append-nil, append_assoc, arith, false, Some}
+use Rattle.std.proofs.Common.{◌||◌, map, not, refl, subst, sym, true}
 use Rattle.std.proofs.lemmas.Bool.{and_parts}
-use Rattle.std.specs.List.{list_all}
-use Rattle.std.specs.Prelude.{⊤}
-use Rattle.lease_state.specs.declared.reply.Reply.{Reply}
-use Rattle.lease_state.specs.declared.reply.Reply.TheVariants as reply
-use Rattle.lease_state.specs.declared.request.Request.{Request}
-use Rattle.lease_state.specs.declared.request.Request.TheVariants as request
-use Rattle.lease_texts.specs.Kinds.{Kind, Line, Spoken, Telling, Value, Words, say}
-use Rattle.lease_texts.specs.Kinds.{word_for}
-use Rattle.lease_texts.specs.Lines.{line_text, spaced, text_for, told_in, words_for}
-use Rattle.lease_texts.specs.Pieces.{all_above, fields_of, lines_of}
-use Rattle.lease_texts.specs.Reading.{is_passed_over}
-use Rattle.lease_texts.specs.Replies.{plain, reply_kinds, reply_said}
-use Rattle.lease_texts.specs.Requests.{plain_text, plain_words, request_kinds, request_said}
-use Rattle.lease_texts.specs.Tables.{AreReadBack, CanBeSaid, Each, EachHasWord, FieldSays, HasWord, IsOneOf, Say}
-use Rattle.lease_texts.specs.Statuses.{known}
-use Rattle.lease_texts.specs.Tables.{Tells, WordSays}
-use Rattle.lease_texts.specs.declared.kinds.Field.{Field}
-use Rattle.lease_texts.specs.declared.kinds.Field.TheVariants as field
-use Rattle.lease_texts.specs.declared.replies.Arrival.{Arrival}
+use Rattle.lease_state.specs.declared.{reply.Reply.Reply, request.Request.Request}
+use Rattle.lease_texts.specs.Kinds.{Kind, Line, Spoken, Telling, Value, Words, kind, word_for}
+use Rattle.lease_texts.specs.{Lines.line_text, Lines.spoken_words, Lines.told_in, Lines.words_for, Pieces.all_above}
+use Rattle.lease_texts.specs.{Pieces.fields_of, Pieces.lines_of, Reading.is_passed_over, Replies.plain, Replies.reply_kinds}
+use Rattle.lease_texts.specs.{Replies.reply_said, declared.kinds.Field.Field, declared.replies.Arrival.Arrival, Complaints.is_nil}
+use Rattle.lease_texts.specs.Requests.{spaced, plain_words, request_kinds, request_said}
+use Rattle.lease_texts.specs.Tables.{AreReadBack, CanBeSaid, Each, EachHasWord, FieldSays, IsOneOf, Say, Tells, WordSays}
+use Rattle.lease_texts.proofs.Tables.{is_of, kind_of, reads_exactly, are_apart, of_one}
 use Rattle.lease_texts.proofs.Bytes.{above-append, above-line, piece_first, piece_last}
-use Rattle.lease_texts.proofs.Tables.{reads_exactly, are_apart, of_one}
-use Rattle.lease_texts.proofs.Values.{word_above, word_back}
+use Rattle.std.specs.Prelude.{⊤}
+use Rattle.{std.specs.List.list_all, lease_texts.proofs.Values.word_above, lease_texts.proofs.Values.word_back}
 
 -- ---- words behind spaces
 
 -- no word has a space in it
 abbrev AreWords : Words → Type 0
 AreWords words = Each (λ word. all_above 32 word ≡ true) words
-
-spaced-append : (first second : Words) → spaced (first ++ second) ≡ spaced first ++ spaced second
-spaced-append [] second = refl
-spaced-append (word ∷ first) second = ap (λ (t : List ℕ). 32 ∷ word ++ t) (spaced-append first second) ∙ sym_assoc
-  where
-    sym_assoc : (32 ∷ word ++ (spaced first ++ spaced second)) ≡ ((32 ∷ word ++ spaced first) ++ spaced second)
-    sym_assoc = simp append_assoc
 
 fields_spaced : (name : List ℕ) (words : Words) → all_above 32 name ≡ true → AreWords words
     → fields_of (name ++ spaced words) ≡ name ∷ words
@@ -54,32 +36,6 @@ words_join (word ∷ first) second (here, are) also = (here, words_join first se
 
 -- ---- what is written of fields
 
-plain_spaced : (spoken : List Spoken) → flat_map (λ (one : Spoken). 32 ∷ word_for one.field one.value) spoken
-    ≡ spaced (map (λ (one : Spoken). word_for one.field one.value) spoken)
-plain_spaced [] = refl
-plain_spaced (one ∷ others) = ap (λ (t : List ℕ). 32 ∷ word_for one.field one.value ++ t) (plain_spaced others)
-
-text_spaced : (field : Field) (value : Value field) → text_for field value ≡ spaced (words_for field value)
-unfolding plain_text
-text_spaced field.Durable true = refl
-text_spaced field.Durable false = refl
-text_spaced field.Request asked =
-    ap (λ (t : List ℕ). 32 ∷ (request_said asked).name ++ t) (plain_spaced (request_said asked).spoken)
-text_spaced field.Reply told =
-    ap (λ (t : List ℕ). 32 ∷ (reply_said told.reply).name ++ t) (plain_spaced (reply_said told.reply).spoken)
-text_spaced other value = ap (λ (t : List ℕ). 32 ∷ t) (sym (append-nil (word_for other value)))
-
--- the words of fields
-abbrev pub spoken_words : List Spoken → Words
-spoken_words spoken = flat_map (λ (one : Spoken). words_for one.field one.value) spoken
-
-texts_spaced : (spoken : List Spoken)
-    → flat_map (λ (one : Spoken). text_for one.field one.value) spoken ≡ spaced (spoken_words spoken)
-texts_spaced [] = refl
-texts_spaced (one ∷ others) = ap (λ (t : List ℕ). t ++ flat_map (λ (one : Spoken). text_for one.field one.value) others)
-    (text_spaced one.field one.value) ∙ ap (λ (t : List ℕ). spaced (words_for one.field one.value) ++ t) (texts_spaced others)
-    ∙ sym (spaced-append (words_for one.field one.value) (spoken_words others))
-
 plain_words_are : (spoken : List Spoken) → EachHasWord spoken
     → AreWords (map (λ (one : Spoken). word_for one.field one.value) spoken)
 plain_words_are [] has = tt
@@ -92,10 +48,10 @@ reply_name_above : (told : Reply) → all_above 32 (reply_said told).name ≡ tr
 reply_name_above told = grind arith
 
 words_are : (field : Field) (value : Value field) → CanBeSaid field value → AreWords (words_for field value)
-words_are field.Durable true can = (refl, tt)
-words_are field.Durable false can = tt
-words_are field.Request asked can = (request_name_above asked, plain_words_are (request_said asked).spoken can)
-words_are field.Reply told (can, _) = (reply_name_above told.reply, plain_words_are (reply_said told.reply).spoken can)
+words_are Field.Durable true can = (refl, tt)
+words_are Field.Durable false can = tt
+words_are Field.Request asked can = (request_name_above asked, plain_words_are (request_said asked).spoken can)
+words_are Field.Reply told (can, _) = (reply_name_above told.reply, plain_words_are (reply_said told.reply).spoken can)
 words_are other value can = (word_above other value can, tt)
 
 all_words : (spoken : List Spoken) → Each (λ (one : Spoken). CanBeSaid one.field one.value) spoken
@@ -106,126 +62,106 @@ all_words (one ∷ others) (here, can) =
 
 -- ---- rows that say it
 
--- what may be missing stands last
-abbrev pub MayStand : {X : Type 0} → Field → List X → Type 0
-MayStand field.Durable behind = behind ≡ []
-MayStand other behind = ⊤
+-- one word says the field
+abbrev pub is_plain : Field → Bool
+is_plain Field.Durable = false
+is_plain Field.Request = false
+is_plain Field.Reply = false
+is_plain other = true
 
--- The fields with their values tell it.
-abbrev pub IsSaidBy : {A : Type 0} (fields : List Field) → Telling A fields → List Spoken → A → Type 0
-IsSaidBy [] telling [] told = telling ≡ told
-IsSaidBy [] telling (one ∷ others) told = ⊥
-IsSaidBy (field ∷ fields) telling [] told = ⊥
-IsSaidBy (field ∷ fields) telling (one ∷ others) told =
-    (value : Value field) × (one ≡ say field value) × MayStand field others × IsSaidBy fields (telling value) others told
+-- what may be missing, and what takes all that is left, stands last
+abbrev pub are_placed : List Field → Bool
+are_placed [] = true
+are_placed (field ∷ fields) = (is_plain field || is_nil fields) && are_placed fields
+
+-- the fields of a line, and what a kind of these fields tells by their values
+abbrev pub spoken_fields : List Spoken → List Field
+spoken_fields spoken = map (λ (one : Spoken). one.field) spoken
+
+abbrev pub told_by : {A : Type 0} (spoken : List Spoken) → Telling A (spoken_fields spoken) → A
+told_by [] telling = telling
+told_by (one ∷ others) telling = told_by others (telling one.value)
 
 -- The line is that of a kind of the table, which tells it.
 pub record HasRow {A : Type 0} (kinds : List (Kind A)) (said : Line) (told : A) : Type 0 where
-  pub kind : Kind A
-  pub is_one : IsOneOf kinds kind
-  pub named : said.name ≡ kind.name
-  pub is_said : IsSaidBy kind.fields kind.tells said.spoken told
+  pub tells : Telling A (spoken_fields said.spoken)
+  pub is_one : IsOneOf kinds (kind said.name (spoken_fields said.spoken) tells)
+  pub is_told : told_by said.spoken tells ≡ told
+  pub placed : are_placed (spoken_fields said.spoken) ≡ true
 
-one_at : {X : Type 0} (xs : List X) (place : ℕ) {x : X} {rest : List X} → drop place xs ≡ x ∷ rest → IsOneOf xs x
-one_at [] place e = nothing place e
-  where
-    nothing : {X Y : Type 0} (place : ℕ) {x : X} {rest : List X} → drop place [] ≡ x ∷ rest → Y
-    nothing zero e = let c : ⊥ = cc in absurd c
-    nothing (suc place) e = let c : ⊥ = cc in absurd c
-one_at {X} (y ∷ ys) zero {x} {rest} e = inl (same e)
-  where
-    same : y ∷ ys ≡ x ∷ rest → x ≡ y
-    same e = cc
-one_at (y ∷ ys) (suc place) e = inr (one_at ys place e)
-
-pub row_at : {A : Type 0} (kinds : List (Kind A)) (place : ℕ) {said : Line} {told : A} {kind : Kind A} {rest : List (Kind A)}
-    → drop place kinds ≡ kind ∷ rest → said.name ≡ kind.name → IsSaidBy kind.fields kind.tells said.spoken told
-    → HasRow kinds said told
-row_at kinds place {kind = kind} e named is =
-    record { kind = kind; is_one = one_at kinds place e; named = named; is_said = is }
+pub row_by : {A : Type 0} (kinds : List (Kind A)) {said : Line} {told : A} {tells : Telling A (spoken_fields said.spoken)}
+    → kind_of kinds said.name ≡ Some (kind said.name (spoken_fields said.spoken) tells) → told_by said.spoken tells ≡ told
+    → are_placed (spoken_fields said.spoken) ≡ true → HasRow kinds said told
+row_by kinds {said} {told} {tells} e is placed =
+    record { tells = tells; is_one = (is_of kinds said.name _ e).0; is_told = is; placed = placed }
 
 -- ---- words that say it
 
-plain_says : {A : Type 0} (fields : List Field) (telling : Telling A fields) (spoken : List Spoken) (told : A) (rest : Words)
-    → IsSaidBy fields telling spoken told → EachHasWord spoken
-    → Say WordSays fields telling (map (λ (one : Spoken). word_for one.field one.value) spoken ++ rest) told rest
-plain_says [] telling [] told rest is has = (refl, is)
-plain_says [] telling (one ∷ others) told rest is has = absurd is
-plain_says (field ∷ fields) telling [] told rest is has = absurd is
-plain_says (field ∷ fields) telling (one ∷ others) told rest (value, same, may, is) (here, has) =
-    let word = word_for field value in
-    let written = ap (λ (s : Spoken). word_for s.field s.value) same in
-    let behind = map (λ (one : Spoken). word_for one.field one.value) others ++ rest in
-    let said : HasWord field value = subst (λ (s : Spoken). HasWord s.field s.value) same here in (
-      value,
-      behind,
-      (word, ap (λ (w : List ℕ). w ∷ behind) written, word_back field value said),
-      plain_says fields (telling value) others told rest is has,
-    )
+plain_says : (A : Type 0) (spoken : List Spoken) (telling : Telling A (spoken_fields spoken)) (rest : Words) → EachHasWord spoken
+    → Say WordSays (spoken_fields spoken) telling (map (λ (one : Spoken). word_for one.field one.value) spoken ++ rest)
+    (told_by spoken telling) rest
+plain_says A [] telling rest has = (refl, refl)
+plain_says A (one ∷ others) telling rest (here, has) = (
+  one.value,
+  map (λ (one : Spoken). word_for one.field one.value) others ++ rest,
+  (word_for one.field one.value, refl, word_back one.field one.value here),
+  plain_says A others (telling one.value) rest has,
+)
 
 request_row : (asked : Request) → HasRow request_kinds (request_said asked) asked
-request_row (request.Create file access share contexts) = row_at request_kinds 0 refl refl
-    (file, refl, tt, (access, refl, tt, (share, refl, tt, (contexts, refl, tt, refl))))
-request_row (request.Read fid) = row_at request_kinds 1 refl refl (fid, refl, tt, refl)
-request_row (request.Close fid) = row_at request_kinds 2 refl refl (fid, refl, tt, refl)
-request_row (request.Write fid number patch) = row_at request_kinds 3 refl refl
-    (fid, refl, tt, (number, refl, tt, (patch.offset, refl, tt, (patch.bytes, refl, tt, refl))))
-request_row (request.Ack message) = row_at request_kinds 4 refl refl (message, refl, tt, refl)
+request_row (Request.Read fid) = row_by request_kinds refl refl refl
+request_row other = row_by request_kinds refl refl refl
 
 reply_row : (told : Reply) → HasRow reply_kinds (reply_said told) (plain told)
-reply_row (reply.Created file fid contexts) =
-    row_at reply_kinds 0 refl refl (file, refl, tt, (fid, refl, tt, (contexts, refl, tt, refl)))
-reply_row (reply.CreateFailed file status) = row_at reply_kinds 1 refl refl (file, refl, tt, (known status, refl, tt, refl))
-reply_row (reply.ReadDone fid bytes) = row_at reply_kinds 2 refl refl (fid, refl, tt, (bytes, refl, tt, refl))
-reply_row (reply.ReadFailed fid status) = row_at reply_kinds 3 refl refl (fid, refl, tt, (known status, refl, tt, refl))
-reply_row (reply.WriteDone fid number) = row_at reply_kinds 4 refl refl (fid, refl, tt, (number, refl, tt, refl))
-reply_row (reply.WriteFailed fid number status) =
-    row_at reply_kinds 5 refl refl (fid, refl, tt, (number, refl, tt, (known status, refl, tt, refl)))
-reply_row (reply.Closed fid) = row_at reply_kinds 6 refl refl (fid, refl, tt, refl)
-reply_row (reply.CloseFailed fid status) = row_at reply_kinds 7 refl refl (fid, refl, tt, (known status, refl, tt, refl))
-reply_row (reply.Break message) = row_at reply_kinds 8 refl refl (message, refl, tt, refl)
-reply_row (reply.AckDone message) = row_at reply_kinds 9 refl refl (message, refl, tt, refl)
-reply_row (reply.AckFailed status) = row_at reply_kinds 10 refl refl (known status, refl, tt, refl)
+reply_row (Reply.Closed fid) = row_by reply_kinds refl refl refl
+reply_row other = row_by reply_kinds refl refl refl
 
 -- what is said by a row of a table of plain kinds
 row_says : {A : Type 0} {kinds : List (Kind A)} {said : Line} {told : A} → HasRow kinds said told → EachHasWord said.spoken
     → (rest : Words) → Tells WordSays kinds (plain_words said ++ rest) told rest
 row_says {A} {kinds} {said} {told} row can rest =
+    let fields = spoken_fields said.spoken in
     let behind = map (λ (one : Spoken). word_for one.field one.value) said.spoken ++ rest in record {
-      kind = row.kind;
+      kind = kind said.name fields row.tells;
       is_one = row.is_one;
       behind = behind;
-      are = ap (λ (n : List ℕ). n ∷ behind) row.named;
-      say = plain_says row.kind.fields row.kind.tells said.spoken told rest row.is_said can;
+      are = refl;
+      say = subst (λ (t : A). Say WordSays fields row.tells behind t rest) row.is_told
+          (plain_says A said.spoken row.tells rest can);
     }
+
+-- what may be missing stands last
+abbrev pub MayStand : Field → Words → Type 0
+MayStand Field.Durable behind = behind ≡ []
+MayStand other behind = ⊤
 
 pub field_says : (field : Field) (value : Value field) (rest : Words) → CanBeSaid field value → MayStand field rest
     → FieldSays field (words_for field value ++ rest) value rest
-field_says field.Durable true rest can ends = refl
-field_says field.Durable false rest can ends = (ends, ends)
-field_says field.Request asked rest can ends = row_says (request_row asked) can rest
-field_says field.Reply told rest (can, is) ends =
+field_says Field.Durable true rest can ends = refl
+field_says Field.Durable false rest can ends = (ends, ends)
+field_says Field.Request asked rest can ends = row_says (request_row asked) can rest
+field_says Field.Reply told rest (can, is) ends =
     subst (λ (t : Arrival). Tells WordSays reply_kinds (plain_words (reply_said told.reply) ++ rest) t rest) (sym is)
     (row_says (reply_row told.reply) can rest)
 field_says other value rest can ends = (word_for other value, refl, word_back other value can)
 
-nothing_behind : (field : Field) (others : List Spoken) → MayStand field others → MayStand field (spoken_words others)
-nothing_behind field.Durable others ends = ap (λ (all : List Spoken). spoken_words all) ends
-nothing_behind other others ends = tt
+nothing_behind : (field : Field) (others : List Spoken) → (is_plain field || is_nil (spoken_fields others)) ≡ true
+    → MayStand field (spoken_words others)
+nothing_behind Field.Durable [] placed = refl
+nothing_behind Field.Durable (one ∷ others) placed = let c : ⊥ = cc in absurd c
+nothing_behind other others placed = tt
 
-says_back : {A : Type 0} (fields : List Field) (telling : Telling A fields) (spoken : List Spoken) (told : A)
-    → IsSaidBy fields telling spoken told → Each (λ (one : Spoken). CanBeSaid one.field one.value) spoken
-    → Say FieldSays fields telling (spoken_words spoken) told []
-says_back [] telling [] told is can = (refl, is)
-says_back [] telling (one ∷ others) told is can = absurd is
-says_back (field ∷ fields) telling [] told is can = absurd is
-says_back (field ∷ fields) telling (one ∷ others) told (value, same, may, is) (here, can) =
-    let said : CanBeSaid field value = subst (λ (s : Spoken). CanBeSaid s.field s.value) same here in
-    let behind = spoken_words others in
-    let first : FieldSays field (words_for one.field one.value ++ behind) value behind =
-    subst (λ (s : Spoken). FieldSays field (words_for s.field s.value ++ behind) value behind) (sym same)
-    (field_says field value behind said (nothing_behind field others may)) in
-    (value, behind, first, says_back fields (telling value) others told is can)
+says_back : (A : Type 0) (spoken : List Spoken) (telling : Telling A (spoken_fields spoken))
+    → are_placed (spoken_fields spoken) ≡ true → Each (λ (one : Spoken). CanBeSaid one.field one.value) spoken
+    → Say FieldSays (spoken_fields spoken) telling (spoken_words spoken) (told_by spoken telling) []
+says_back A [] telling placed can = (refl, refl)
+says_back A (one ∷ others) telling placed (here, can) =
+    let parts = and_parts (is_plain one.field || is_nil (spoken_fields others)) _ placed in (
+      one.value,
+      spoken_words others,
+      field_says one.field one.value (spoken_words others) here (nothing_behind one.field others parts.0),
+      says_back A others (telling one.value) parts.1 can,
+    )
 
 -- ---- lines
 
@@ -236,36 +172,33 @@ is_name name = all_above 32 name && not (is_passed_over name)
 abbrev pub are_names : {A : Type 0} → List (Kind A) → Bool
 are_names kinds = list_all (λ (kind : Kind _). is_name kind.name) kinds
 
-is_false : (b : Bool) → not b ≡ true → b ≡ false
-is_false b e = grind arith
-
-begins : (name rest : List ℕ) → is_passed_over name ≡ false → is_passed_over (name ++ rest) ≡ false
+begins : (name rest : List ℕ) → not (is_passed_over name) ≡ true → is_passed_over (name ++ rest) ≡ false
 begins name rest counts = grind arith
-
-pub line_written : (said : Line) → line_text said ≡ (said.name ++ spaced (spoken_words said.spoken)) ++ 10 ∷ []
-unfolding line_text
-line_written said = ap (λ (t : List ℕ). said.name ++ t ++ 10 ∷ []) (texts_spaced said.spoken)
 
 pub read_back : {A : Type 0} (kinds : List (Kind A)) (said : A → Line) → are_apart kinds ≡ true → are_names kinds ≡ true
     → ((told : A) → HasRow kinds (said told) told) → AreReadBack said (told_in kinds)
+unfolding line_text
 read_back {A} kinds said apart names rows told can = record {
   line = line;
-  written = line_written (said told);
-  is_line = λ rest. ap (λ (whole : List ℕ). lines_of (whole ++ rest)) (line_written (said told))
-      ∙ ap (λ (whole : List ℕ). lines_of whole) (append_assoc line (10 ∷ []) rest) ∙ piece_first 10 [] line rest
+  written = refl;
+  is_line = λ rest. ap (λ (whole : List ℕ). lines_of whole) (append_assoc line (10 ∷ []) rest) ∙ piece_first 10 [] line rest
       (above-append 10 (said told).name (spaced words) (above-line (said told).name good.0) (spaced_above words are));
-  counts = begins (said told).name (spaced words) (is_false (is_passed_over (said told).name) good.1);
+  counts = begins (said told).name (spaced words) good.1;
   says = ((reads_exactly kinds apart).told line told).1 (record {
-    kind = row.kind;
+    kind = kind (said told).name fields row.tells;
     is_one = row.is_one;
     behind = words;
-    are = fields_spaced (said told).name words good.0 are ∙ ap (λ (n : List ℕ). n ∷ words) row.named;
-    say = says_back row.kind.fields row.kind.tells (said told).spoken told row.is_said can;
+    are = fields_spaced (said told).name words good.0 are;
+    say = subst (λ (t : A). Say FieldSays fields row.tells words t []) row.is_told
+        (says_back A (said told).spoken row.tells row.placed can);
   });
 }
   where
     row : HasRow kinds (said told) told
     row = rows told
+
+    fields : List Field
+    fields = spoken_fields (said told).spoken
 
     words : Words
     words = spoken_words (said told).spoken
@@ -277,5 +210,4 @@ read_back {A} kinds said apart names rows told can = record {
     are = all_words (said told).spoken can
 
     good : (all_above 32 (said told).name ≡ true) × (not (is_passed_over (said told).name) ≡ true)
-    good = and_parts _ _ (ap is_name (rows told).named
-        ∙ of_one (λ (kind : Kind A). is_name kind.name) kinds (rows told).kind names (rows told).is_one)
+    good = and_parts _ _ (of_one (λ (kind : Kind A). is_name kind.name) kinds _ names (rows told).is_one)

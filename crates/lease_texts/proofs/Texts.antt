@@ -1,21 +1,16 @@
 -- The text of a record and that of a schedule are read back as them.
 use Rattle.std.proofs.Common.{◌++◌, ◌+◌, ◌∙◌, ◌∷◌, ◌≡◌, List, Option, Some, ℕ, [], ap, append-nil, append_assoc, arith, flat_map}
-use Rattle.std.proofs.Common.{false, length, map, refl, subst, suc, sym}
-use Rattle.std.proofs.lemmas.Grind.{flat_map-append}
-use Rattle.std.proofs.lemmas.List.Folds.{flat_map-map}
-use Rattle.lease_facts.specs.declared.fact.Fact.{Fact}
-use Rattle.lease_facts.specs.declared.setup.Event.{Event}
-use Rattle.lease_texts.specs.Pieces.{pieces, lines_of}
-use Rattle.lease_texts.specs.Reading.{is_passed_over, reads_on}
-use Rattle.lease_texts.specs.Records as records
+use Rattle.std.proofs.Common.{false, length, map, refl, subst, sym}
+use Rattle.std.proofs.lemmas.{Grind.flat_map-append, List.Folds.flat_map-map}
+use Rattle.lease_facts.specs.declared.{fact.Fact.Fact, setup.Event.Event}
+use Rattle.lease_texts.specs.{Pieces.pieces, Pieces.lines_of, Reading.is_passed_over, Reading.reads_on, declared.parts.Part.Part}
 use Rattle.lease_texts.specs.Records.{fact_in, fact_line, fact_said, record_in, record_text, with_fact}
-use Rattle.lease_texts.specs.Schedules as schedules
-use Rattle.lease_texts.specs.Schedules.{Draft, part_in, part_line, part_said, schedule_in, schedule_text, with_part}
+use Rattle.lease_texts.specs.Schedules.{Draft, part_in, part_line, schedule_in, schedule_text, with_part}
 use Rattle.lease_texts.specs.Laws.{CanBeScheduled, RecordsAreReadBack, SchedulesAreReadBack, TextsGoOn}
 use Rattle.lease_texts.specs.Tables.{CanBeWritten, Each, IsReadAs}
-use Rattle.lease_texts.specs.declared.parts.Part.{Part}
-use Rattle.lease_texts.specs.declared.parts.Part.TheVariants as part
 use Rattle.lease_texts.proofs.Rows.{facts_back, parts_back}
+use Rattle.lease_texts.specs.Records as records
+use Rattle.lease_texts.specs.Schedules as schedules
 
 -- ---- lines one after the other
 
@@ -35,17 +30,12 @@ lines_add : {A S : Type 0} (with_line : S → List ℕ → Option S) (add : S �
     → reads_on with_line number state (lines_of (flat_map text all ++ rest))
     ≡ reads_on with_line (number + length all) last (lines_of rest)
 unfolding reads_on
-lines_add with_line add read counts text [] each state last same number rest =
-    let zero_more : number + 0 ≡ number = omega arith in
-    rw zero_more (ap (λ (s : _). reads_on with_line number s (lines_of rest)) same)
+lines_add with_line add read counts text [] each state last same number rest = grind arith
 lines_add with_line add read counts text (one ∷ others) (is, each) state last (next, added, more) number rest =
     let here : with_line state is.line ≡ Some next = counts state is.line is.counts ∙ rw is.says added in
-    let behind = flat_map text others ++ rest in
-    let later : number + 1 + length others ≡ number + suc (length others) = omega arith in
-    ap (λ (t : List ℕ). reads_on with_line number state (lines_of t)) (append_assoc (text one) (flat_map text others) rest)
-    ∙ ap (λ (lines : List (List ℕ)). reads_on with_line number state lines) (is.is_line behind)
-    ∙ rw here (lines_add with_line add read counts text others each next last more (number + 1) rest)
-    ∙ ap (λ (n : ℕ). reads_on with_line n last (lines_of rest)) later
+    let parts = append_assoc (text one) (flat_map text others) rest in
+    let cut = is.is_line (flat_map text others ++ rest) in
+    let later = lines_add with_line add read counts text others each next last more (number + 1) rest in grind arith
 
 -- ---- records
 
@@ -98,60 +88,33 @@ adds_both [] second state middle last same more = subst (λ (s : Draft). Adds wi
 adds_both (one ∷ first) second state middle last (next, added, others) more =
     (next, added, adds_both first second next middle last others more)
 
-files_add : (before files : List (List ℕ)) → Adds with_part (drafted before [] []) (map part.File files)
-    (drafted (before ++ files) [] [])
-unfolding with_part
-files_add before [] = ap (λ (all : List (List ℕ)). drafted all [] []) (sym (append-nil before))
-files_add before (one ∷ files) = (
-  drafted (before ++ one ∷ []) [] [],
-  refl,
-  subst (λ (all : List (List ℕ)). Adds with_part (drafted (before ++ one ∷ []) [] []) (map part.File files) (drafted all [] []))
-      (append_assoc before (one ∷ []) files) (files_add (before ++ one ∷ []) files),
-)
-
-clients_add : (files before clients : List (List ℕ)) → Adds with_part (drafted files before []) (map part.Client clients)
-    (drafted files (before ++ clients) [])
-unfolding with_part
-clients_add files before [] = ap (λ (all : List (List ℕ)). drafted files all []) (sym (append-nil before))
-clients_add files before (one ∷ clients) = (
-  drafted files (before ++ one ∷ []) [],
-  refl,
-  subst (λ (all : List (List ℕ)). Adds with_part (drafted files (before ++ one ∷ []) []) (map part.Client clients)
-      (drafted files all []))
-      (append_assoc before (one ∷ []) clients) (clients_add files (before ++ one ∷ []) clients),
-)
-
-events_add : (files clients : List (List ℕ)) (before events : List Event)
-    → Adds with_part (drafted files clients before) (map part.Happens events) (drafted files clients (before ++ events))
-unfolding with_part
-events_add files clients before [] = ap (λ (all : List Event). drafted files clients all) (sym (append-nil before))
-events_add files clients before (one ∷ events) = (
-  drafted files clients (before ++ one ∷ []),
-  refl,
-  subst (λ (all : List Event). Adds with_part (drafted files clients (before ++ one ∷ [])) (map part.Happens events)
-      (drafted files clients all))
-      (append_assoc before (one ∷ []) events) (events_add files clients (before ++ one ∷ []) events),
+-- what is wrapped is added to its list
+list_adds : {X : Type 0} (wrap : X → Part) (draft : List X → Draft)
+    → ((before : List X) (one : X) → with_part (draft before) (Some (wrap one)) ≡ Some (draft (before ++ one ∷ [])))
+    → (before xs : List X) → Adds with_part (draft before) (map wrap xs) (draft (before ++ xs))
+list_adds wrap draft adds before [] = ap draft (sym (append-nil before))
+list_adds {X} wrap draft adds before (one ∷ xs) = (
+  draft (before ++ one ∷ []),
+  adds before one,
+  subst (λ (all : List X). Adds with_part (draft (before ++ one ∷ [])) (map wrap xs) (draft all))
+      (append_assoc before (one ∷ []) xs) (list_adds wrap draft adds (before ++ one ∷ []) xs),
 )
 
 -- the parts of a schedule
 abbrev parts_of : Draft → List Part
-parts_of draft = (map part.File draft.files ++ map part.Client draft.clients) ++ map part.Happens draft.events
+parts_of draft = (map Part.File draft.files ++ map Part.Client draft.clients) ++ map Part.Happens draft.events
 
 parts_add : (draft : Draft) → Adds with_part (drafted [] [] []) (parts_of draft) draft
-parts_add draft = adds_both (map part.File draft.files ++ map part.Client draft.clients) (map part.Happens draft.events)
-    (drafted [] [] []) (drafted draft.files draft.clients []) draft
-    (adds_both (map part.File draft.files) (map part.Client draft.clients) (drafted [] [] []) (drafted draft.files [] [])
-    (drafted draft.files draft.clients []) (files_add [] draft.files) (clients_add draft.files [] draft.clients))
-    (events_add draft.files draft.clients [] draft.events)
+unfolding with_part
+parts_add draft =
+    let files = list_adds Part.File (λ all. drafted all [] []) (λ before one. refl) [] draft.files in
+    let clients = list_adds Part.Client (λ all. drafted draft.files all []) (λ before one. refl) [] draft.clients in
+    let events = list_adds Part.Happens (λ all. drafted draft.files draft.clients all) (λ before one. refl) [] draft.events in
+    adds_both (map Part.File draft.files ++ map Part.Client draft.clients) (map Part.Happens draft.events) _ _ draft
+    (adds_both (map Part.File draft.files) (map Part.Client draft.clients) _ _ _ files clients) events
 
 text_of_parts : (draft : Draft) → schedule_text draft ≡ flat_map part_line (parts_of draft)
-text_of_parts draft = sym (flat_map-append part_line (map part.File draft.files ++ map part.Client draft.clients)
-    (map part.Happens draft.events) ∙ rw (
-      flat_map-append part_line (map part.File draft.files) (map part.Client draft.clients),
-      flat_map-map part_line part.File draft.files,
-      flat_map-map part_line part.Client draft.clients,
-      flat_map-map part_line part.Happens draft.events,
-    ) refl)
+text_of_parts draft = grind (arith, flat_map-append, flat_map-map)
 
 each_back : {X : Type 0} (P : X → Type 0) (wrap : X → Part) (xs : List X) → Each P xs
     → ((x : X) → P x → IsReadAs part_in (part_line (wrap x)) (wrap x))
@@ -165,14 +128,10 @@ each_join P (x ∷ first) second (here, each) also = (here, each_join P first se
 
 parts_are_back : (draft : Draft) → CanBeScheduled draft
     → Each (λ (one : Part). IsReadAs part_in (part_line one) one) (parts_of draft)
-parts_are_back draft can =
-    let back = λ (one : Part) (may : CanBeWritten (part_said one)). parts_back one may in
-    each_join (λ (one : Part). IsReadAs part_in (part_line one) one) (map part.File draft.files ++ map part.Client draft.clients)
-    (map part.Happens draft.events)
-    (each_join (λ (one : Part). IsReadAs part_in (part_line one) one) (map part.File draft.files) (map part.Client draft.clients)
-    (each_back _ part.File draft.files can.files (λ content may. back (part.File content) may))
-    (each_back _ part.Client draft.clients can.clients (λ guid may. back (part.Client guid) may)))
-    (each_back _ part.Happens draft.events can.events (λ one may. back (part.Happens one) may))
+parts_are_back draft can = each_join _ _ _
+    (each_join _ _ _ (each_back _ Part.File draft.files can.files (λ content may. parts_back (Part.File content) may))
+    (each_back _ Part.Client draft.clients can.clients (λ guid may. parts_back (Part.Client guid) may)))
+    (each_back _ Part.Happens draft.events can.events (λ one may. parts_back (Part.Happens one) may))
 
 pub schedules_back : SchedulesAreReadBack
 unfolding reads_on pieces

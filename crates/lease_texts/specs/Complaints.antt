@@ -1,23 +1,13 @@
 -- Where a line leaves the table of its kinds: what is expected in each field, and the first field that holds something else.
 use Rattle.std.specs.Prelude.{ℕ, ◌+◌, ◌==◌, ◌++◌, Bool, true, false, if◌then◌else◌, List, [], ◌∷◌, codes, bytes_eq, map, take}
 use Rattle.std.specs.Prelude.{Option, Some, None, is_some}
-use Rattle.std.specs.Fmt.{decimal}
-use Rattle.std.specs.List.{list_any}
-use Rattle.std.specs.Option.{option_copied}
 use Rattle.lease_texts.specs.Fields.{number_in, ordinal_in, sized_in}
-use Rattle.lease_texts.specs.Kinds.{Kind, Words, value_in}
-use Rattle.lease_texts.specs.Lines.{durable_word}
-use Rattle.lease_texts.specs.Pieces.{fields_of}
-use Rattle.lease_texts.specs.Quoting.{quoted}
-use Rattle.lease_texts.specs.Records.{fact_kinds}
-use Rattle.lease_texts.specs.Replies.{reply_kinds}
-use Rattle.lease_texts.specs.Requests.{request_kinds}
-use Rattle.lease_texts.specs.Schedules.{part_kinds}
+use Rattle.lease_texts.specs.{Kinds.Kind, Kinds.Words, Kinds.value_in, Pieces.fields_of, Quoting.quoted, Records.fact_kinds}
+use Rattle.lease_texts.specs.{Replies.reply_kinds, Requests.request_kinds, Schedules.part_kinds, declared.kinds.Field.Field}
+use Rattle.{std.specs.Fmt.decimal, std.specs.List.list_any, std.specs.Option.option_copied, lease_texts.specs.Lines.durable_word}
 use Rattle.lease_texts.specs.declared.complaints.finding.Complaint as code
 use Rattle.lease_texts.specs.declared.complaints.expected.Expected as expectations
 use Rattle.lease_texts.specs.declared.complaints.expected.Expected.TheVariants as expected
-use Rattle.lease_texts.specs.declared.kinds.Field.{Field}
-use Rattle.lease_texts.specs.declared.kinds.Field.TheVariants as field
 use Rattle.lease_texts.specs.declared.kinds.Row as rows
 use Rattle.lease_texts.specs.declared.kinds.Table as tables
 
@@ -56,7 +46,7 @@ abbrev pub row_of : rows.Row → Row
 row_of one = record { name = one.0.now; fields = one.1.now }
 
 abbrev pub table_of : tables.Table → Table
-table_of one = record { word = one.word.now; rows = map row_of one.rows.now }
+table_of one = record { word = one.0.now; rows = map row_of one.1.now }
 
 unfoldable pub fields_behind : List Row → List ℕ → Option (List Field)
 fields_behind [] word = None
@@ -70,17 +60,17 @@ if_fits false rest = None
 
 -- whether a word says a value of a field that takes one
 abbrev pub says : Field → List ℕ → Bool
-says field.Client word = is_some (ordinal_in word)
-says field.File word = is_some (ordinal_in word)
-says field.FileId word = is_some (number_in word)
-says field.Key word = is_some (sized_in 16 word)
+says Field.Client word = is_some (ordinal_in word)
+says Field.File word = is_some (ordinal_in word)
+says Field.FileId word = is_some (number_in word)
+says Field.Key word = is_some (sized_in 16 word)
 says other word = is_some (value_in other word)
 
 -- the fields that are expected after a word, where the word is one that was expected
 abbrev pub behind : Field → List ℕ → List Field → Option (List Field)
-behind field.Request word rest = fields_behind request_table.rows word
-behind field.Reply word rest = fields_behind reply_table.rows word
-behind field.Durable word rest = if_fits (is_some (durable_word word)) rest
+behind Field.Request word rest = fields_behind request_table.rows word
+behind Field.Reply word rest = fields_behind reply_table.rows word
+behind Field.Durable word rest = if_fits (is_some (durable_word word)) rest
 behind other word rest = if_fits (says other word) rest
 
 -- what is expected in a field: the word of a kind in a table, what the field holds, or no more
@@ -121,7 +111,7 @@ stands number expected word words = record { field = number; expected = expected
 -- a line may end where no more is expected, or a word that it may lack
 abbrev pub at_end : ℕ → List Field → Option Complaint
 at_end number [] = None
-at_end number (field.Durable ∷ rest) = None
+at_end number (Field.Durable ∷ rest) = None
 at_end number (one ∷ rest) =
     Some (record { field = number; expected = Expected.Holds one; found = None; is_last = true })
 
@@ -159,32 +149,31 @@ abbrev pub table_words : Table → List ℕ
 table_words kinds = kinds.word ++ codes ", which is " ++ listed (map (λ row. row.name) kinds.rows)
 
 abbrev pub held_words : Field → List ℕ
-held_words field.Client = codes "a client, which is a number from 1 to 255 without leading zeros"
-held_words field.File = codes "a file, which is a number from 1 to 255 without leading zeros"
-held_words field.FileId = codes "a FileId, which is a number of at most 64 bits without leading zeros"
-held_words field.Number = codes "the number of a write, of at most 64 bits without leading zeros"
-held_words field.Offset = codes "an offset, which is a number of at most 32 bits without leading zeros"
-held_words field.Bytes = codes "bytes, of two hexadecimal digits each, or - for none"
-held_words field.Content = codes "at most 1048576 bytes, of two hexadecimal digits each, or - for none"
-held_words field.State = codes "a state, which is none or letters of RWH in that order"
-held_words field.Access = codes "an access, which is r, w or rw"
-held_words field.Share = codes "what is shared, which is -, r, w or rw"
-held_words field.Rules = codes "rules, which are by-client or by-key, a comma, and as-free or whole"
-held_words field.Way = codes "the way of a write, which is buffered or through"
-held_words field.Outcome = codes "an outcome, which is done, failed, unknown or lost"
-held_words field.Guid = codes "a GUID of 32 hexadecimal digits, hyphenated, in braces or as a URN"
-held_words field.Message = codes "an acknowledgment of 36 bytes, which are 72 hexadecimal digits"
-held_words field.Durable = codes "the word durable or the line's end"
-held_words field.Key = codes "a lease key of 16 bytes, which are 32 hexadecimal digits"
-held_words field.Notification = codes "a notification of 44 bytes, which are 88 hexadecimal digits"
-held_words field.Status = codes "a status, which is a name that begins with STATUS_ or 8 hexadecimal digits"
-held_words field.Request = []
-held_words field.Reply = []
+held_words Field.Client = codes "a client, which is a number from 1 to 255 without leading zeros"
+held_words Field.File = codes "a file, which is a number from 1 to 255 without leading zeros"
+held_words Field.FileId = codes "a FileId, which is a number of at most 64 bits without leading zeros"
+held_words Field.Number = codes "the number of a write, of at most 64 bits without leading zeros"
+held_words Field.Offset = codes "an offset, which is a number of at most 32 bits without leading zeros"
+held_words Field.Bytes = codes "bytes, of two hexadecimal digits each, or - for none"
+held_words Field.Content = codes "at most 1048576 bytes, of two hexadecimal digits each, or - for none"
+held_words Field.State = codes "a state, which is none or letters of RWH in that order"
+held_words Field.Access = codes "an access, which is r, w or rw"
+held_words Field.Share = codes "what is shared, which is -, r, w or rw"
+held_words Field.Rules = codes "rules, which are by-client or by-key, a comma, and as-free or whole"
+held_words Field.Way = codes "the way of a write, which is buffered or through"
+held_words Field.Outcome = codes "an outcome, which is done, failed, unknown or lost"
+held_words Field.Guid = codes "a GUID of 32 hexadecimal digits, hyphenated, in braces or as a URN"
+held_words Field.Message = codes "an acknowledgment of 36 bytes, which are 72 hexadecimal digits"
+held_words Field.Durable = codes "the word durable or the line's end"
+held_words Field.Key = codes "a lease key of 16 bytes, which are 32 hexadecimal digits"
+held_words Field.Notification = codes "a notification of 44 bytes, which are 88 hexadecimal digits"
+held_words Field.Status = codes "a status, which is a name that begins with STATUS_ or 8 hexadecimal digits"
+held_words other = []
 
 -- a table is for what takes all that is left
 abbrev pub field_words : Field → List ℕ
-field_words field.Request = table_words request_table
-field_words field.Reply = table_words reply_table
+field_words Field.Request = table_words request_table
+field_words Field.Reply = table_words reply_table
 field_words other = held_words other
 
 abbrev pub expected_words : Expected → List ℕ

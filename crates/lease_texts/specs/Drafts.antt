@@ -1,9 +1,6 @@
 -- Schedules of the code as the definitions see them, and how a refused line is told.
 use Rattle.std.specs.Prelude.{◌≡◌, ℕ, Result, Err}
-use Rattle.lease_texts.specs.Schedules.{Draft}
-use Rattle.lease_texts.specs.declared.fault.TextFault.{TextFault}
-use Rattle.lease_texts.specs.declared.fault.TextFault.TheVariants as fault
-use Rattle.lease_texts.specs.declared.schedule.Schedule.{Schedule}
+use Rattle.lease_texts.specs.{Schedules.Draft, declared.fault.TextFault.TextFault, declared.schedule.Schedule.Schedule}
 
 abbrev pub draft_of : Schedule → Draft
 draft_of schedule = record {
@@ -14,4 +11,4 @@ draft_of schedule = record {
 
 -- the fault tells the first line of a text that is refused
 abbrev pub RefusesLine : {S : Type 0} → Result S ℕ → TextFault → Type 0
-RefusesLine read told = (number : ℕ) × (read ≡ Err number) × (told ≡ fault.Line number)
+RefusesLine read told = (number : ℕ) × (read ≡ Err number) × (told ≡ TextFault.Line number)

@@ -1,20 +1,11 @@
 -- What the words of a line say.
 use Rattle.std.specs.Prelude.{ℕ, ◌+◌, ◌-◌, ◌*◌, ◌^◌, ◌==◌, ◌&&◌, Bool, true, false, nat_le, nat_lt, List, [], ◌∷◌, length, codes}
-use Rattle.std.specs.Prelude.{bytes_eq, if◌then◌else◌, Option, Some, None}
-use Rattle.std.specs.Result.{result_ok}
-use Rattle.hex.specs.Hex.{decode_of, decode_sized}
+use Rattle.std.specs.Prelude.{bytes_eq, if◌then◌else◌, map, Option, Some, None}
 use Rattle.lease_client.specs.declared.values.note.Settlement.{Settlement}
-use Rattle.lease_client.specs.declared.values.note.Settlement.TheVariants as settlement
-use Rattle.lease_state.specs.declared.access.Access.{Access}
-use Rattle.lease_state.specs.declared.access.Access.TheVariants as access
-use Rattle.lease_state.specs.declared.rules.Order.{Order}
-use Rattle.lease_state.specs.declared.rules.Rise.{Rise}
-use Rattle.lease_state.specs.declared.rules.Rules.{Rules}
-use Rattle.lease_state.specs.declared.access.Share.{Share}
-use Rattle.lease_state.specs.declared.access.Share.TheVariants as share
-use Rattle.lease_state.specs.declared.content.TheConstants.{FILE_LIMIT}
-use Rattle.lease_state.specs.declared.state.LeaseState.{LeaseState}
-use Rattle.lease_texts.specs.Words.{access_word, of_word, outcome_word, rules_word, share_word, way_word}
+use Rattle.lease_state.specs.declared.{access.Access.Access, rules.Order.Order, rules.Rise.Rise, rules.Rules.Rules}
+use Rattle.lease_state.specs.declared.{access.Share.Share, content.TheConstants.FILE_LIMIT, state.LeaseState.LeaseState}
+use Rattle.lease_texts.specs.Words.{access_word, of_word, outcome_word, rules_word, share_word, state_word, way_word}
+use Rattle.{std.specs.Result.result_ok, hex.specs.Hex.decode_of, hex.specs.Hex.decode_sized, lease_state.specs.State.state_of}
 
 -- a decimal number of 64 bits, without sign and without leading zeros
 abbrev pub digit_behind : ℕ → ℕ → Option ℕ
@@ -38,10 +29,10 @@ bytes_in [] = None
 bytes_in (first ∷ digits) = if bytes_eq (first ∷ digits) (codes "-") then Some [] else result_ok (decode_of (first ∷ digits))
 
 abbrev pub access_in : List ℕ → Option Access
-access_in word = of_word access_word (access.Read ∷ access.Write ∷ access.ReadWrite ∷ []) word
+access_in word = of_word access_word (Access.Read ∷ Access.Write ∷ Access.ReadWrite ∷ []) word
 
 abbrev pub share_in : List ℕ → Option Share
-share_in word = of_word share_word (share.Nothing ∷ share.Read ∷ share.Write ∷ share.ReadWrite ∷ []) word
+share_in word = of_word share_word (Share.Nothing ∷ Share.Read ∷ Share.Write ∷ Share.ReadWrite ∷ []) word
 
 abbrev pub rules : Order → Rise → Rules
 rules order rise = record { order = order; rise = rise }
@@ -54,24 +45,15 @@ rules_in word = of_word rules_word (rules Order.ByClient Rise.AsFree ∷ rules O
 abbrev pub state_of_wire : ℕ → LeaseState
 state_of_wire bits = record { 0 = bits }
 
-unfoldable pub state_in : List ℕ → Option LeaseState
-state_in field =
-    if bytes_eq field (codes "none") then Some (state_of_wire 0)
-    else if bytes_eq field (codes "R") then Some (state_of_wire 1)
-    else if bytes_eq field (codes "H") then Some (state_of_wire 2)
-    else if bytes_eq field (codes "RH") then Some (state_of_wire 3)
-    else if bytes_eq field (codes "W") then Some (state_of_wire 4)
-    else if bytes_eq field (codes "RW") then Some (state_of_wire 5)
-    else if bytes_eq field (codes "WH") then Some (state_of_wire 6)
-    else if bytes_eq field (codes "RWH") then Some (state_of_wire 7)
-    else None
+abbrev pub state_in : List ℕ → Option LeaseState
+state_in word = of_word (λ state. state_word (state_of state)) (map state_of_wire (0 ∷ 1 ∷ 2 ∷ 3 ∷ 4 ∷ 5 ∷ 6 ∷ 7 ∷ [])) word
 
 abbrev pub way_in : List ℕ → Option Bool
 way_in word = of_word way_word (true ∷ false ∷ []) word
 
 abbrev pub outcome_in : List ℕ → Option Settlement
 outcome_in word =
-    of_word outcome_word (settlement.Done ∷ settlement.Failed ∷ settlement.Unknown ∷ settlement.Lost ∷ []) word
+    of_word outcome_word (Settlement.Done ∷ Settlement.Failed ∷ Settlement.Unknown ∷ Settlement.Lost ∷ []) word
 
 -- as many bytes as a message has
 abbrev pub sized_in : ℕ → List ℕ → Option (List ℕ)

@@ -1,27 +1,20 @@
 -- What a complaint about a line has to say: the first field that no line of its table has.
 use Rattle.std.specs.Prelude.{◌≡◌, ◌↔◌, ◌+◌, ◌++◌, ℕ, Bool, true, false, List, [], ◌∷◌, length, drop, bytes_eq, codes, is_some}
 use Rattle.std.specs.Prelude.{Option, Some, None}
-use Rattle.std.specs.List.{list_any}
 use Rattle.lease_texts.specs.Complaints.{Complaint, Expected, Row, Table, is_nil, reply_table, request_table}
-use Rattle.lease_texts.specs.Kinds.{Kind, Words, value_in}
-use Rattle.lease_texts.specs.Pieces.{fields_of}
-use Rattle.lease_texts.specs.Tables.{Saying, Tells}
-use Rattle.lease_texts.specs.declared.kinds.Field.TheVariants as field
-
--- some kinds of words
-abbrev pub WordsThat : Type 1
-WordsThat = Words → Type 0
+use Rattle.lease_texts.specs.{Kinds.Kind, Kinds.Words, Kinds.value_in, Tables.Saying, Tables.Tells, declared.kinds.Field.Field}
+use Rattle.{std.specs.List.list_any, lease_texts.specs.Pieces.fields_of}
 
 -- the words of a whole line tell something by the table
-abbrev pub AreTold : {A : Type 0} → Saying → List (Kind A) → WordsThat
+abbrev pub AreTold : {A : Type 0} → Saying → List (Kind A) → Words → Type 0
 AreTold {A} says kinds words = (told : A) × Tells says kinds words told []
 
 -- with some words behind them they are such
-abbrev pub Begin : WordsThat → WordsThat
+abbrev pub Begin : (Words → Type 0) → Words → Type 0
 Begin Are words = (rest : Words) × Are (words ++ rest)
 
 -- No line has the field that stands there, behind those before it; or none ends there.
-abbrev pub NoneHas : WordsThat → Words → Words → Type 0
+abbrev pub NoneHas : (Words → Type 0) → Words → Words → Type 0
 NoneHas Are before [] = Are before → ⊥
 NoneHas Are before (word ∷ words) = Begin Are (before ++ word ∷ []) → ⊥
 
@@ -35,9 +28,9 @@ is_name kinds word = list_any (λ (row : Row). bytes_eq word row.name) kinds.row
 -- the word is one of those that were expected
 abbrev pub is_expected : Expected → List ℕ → Bool
 is_expected (Expected.Names kinds) word = is_name kinds word
-is_expected (Expected.Holds field.Durable) word = bytes_eq word (codes "durable")
-is_expected (Expected.Holds field.Request) word = is_name request_table word
-is_expected (Expected.Holds field.Reply) word = is_name reply_table word
+is_expected (Expected.Holds Field.Durable) word = bytes_eq word (codes "durable")
+is_expected (Expected.Holds Field.Request) word = is_name request_table word
+is_expected (Expected.Holds Field.Reply) word = is_name reply_table word
 is_expected (Expected.Holds other) word = is_some (value_in other word)
 is_expected Expected.End word = false
 

@@ -1,55 +1,42 @@
 -- Lines as rows of a table: what a field holds, the word that says a value and the one that is written for it, and what the
 -- fields of a kind of line tell.
 use Rattle.std.specs.Prelude.{ℕ, Bool, false, List, [], ◌∷◌, bytes_eq, if◌then◌else◌, Option, Some, None}
-use Rattle.std.specs.Fmt.{decimal}
-use Rattle.std.specs.Option.{option_map}
-use Rattle.hex.specs.Hex.{encode_lower}
-use Rattle.uuid.specs.Text.{parsed, hyphenated_text, lower}
+use Rattle.std.specs.{Fmt.decimal, Option.option_map}
 use Rattle.lease_client.specs.declared.values.note.Settlement.{Settlement}
-use Rattle.lease_state.specs.State.{state_of}
-use Rattle.lease_state.specs.declared.access.Access as accesses
-use Rattle.lease_state.specs.declared.access.Share as shares
-use Rattle.lease_state.specs.declared.number.ClientNo.{ClientNo}
-use Rattle.lease_state.specs.declared.number.FileId as file_ids
-use Rattle.lease_state.specs.declared.number.FileNo.{FileNo}
-use Rattle.lease_state.specs.declared.key.LeaseKey.{LeaseKey}
-use Rattle.lease_state.specs.declared.request.Request as requests
-use Rattle.lease_state.specs.declared.state.LeaseState.{LeaseState}
-use Rattle.lease_state.specs.declared.rules.Rules.{Rules}
+use Rattle.lease_state.specs.{State.state_of, declared.number.ClientNo.ClientNo, declared.number.FileNo.FileNo}
+use Rattle.lease_state.specs.{declared.key.LeaseKey.LeaseKey, declared.state.LeaseState.LeaseState, declared.rules.Rules.Rules}
 use Rattle.lease_texts.specs.Fields.{ordinal_in, number_in, offset_in, bytes_in, content_in, access_in, share_in, rules_in}
 use Rattle.lease_texts.specs.Fields.{state_in, way_in, outcome_in, sized_in}
 use Rattle.lease_texts.specs.Statuses.{given_word, status_in}
 use Rattle.lease_texts.specs.Words.{state_word, digits_word, access_word, share_word, rules_word, outcome_word, way_word}
-use Rattle.lease_texts.specs.declared.kinds.Field.{Field}
-use Rattle.lease_texts.specs.declared.kinds.Field.TheVariants as field
-use Rattle.lease_texts.specs.declared.replies.Arrival.{Arrival}
-use Rattle.lease_texts.specs.declared.status.GivenStatus.{GivenStatus}
+use Rattle.lease_texts.specs.declared.{kinds.Field.Field, replies.Arrival.Arrival, status.GivenStatus.GivenStatus}
+use Rattle.{hex.specs.Hex.encode_lower, uuid.specs.Text.parsed, uuid.specs.Text.hyphenated_text, uuid.specs.Text.lower}
+use Rattle.lease_state.specs.declared.access.Access as accesses
+use Rattle.lease_state.specs.declared.access.Share as shares
+use Rattle.lease_state.specs.declared.number.FileId as file_ids
+use Rattle.lease_state.specs.declared.request.Request as requests
 
 -- ---- fields
 
 -- the values that a field may have
 abbrev pub Value : Field → Type 0
-Value field.Client = ClientNo
-Value field.File = FileNo
-Value field.FileId = file_ids.FileId
-Value field.Number = ℕ
-Value field.Offset = ℕ
-Value field.Bytes = List ℕ
-Value field.Content = List ℕ
-Value field.State = LeaseState
-Value field.Access = accesses.Access
-Value field.Share = shares.Share
-Value field.Rules = Rules
-Value field.Way = Bool
-Value field.Outcome = Settlement
-Value field.Guid = List ℕ
-Value field.Message = List ℕ
-Value field.Key = LeaseKey
-Value field.Notification = List ℕ
-Value field.Status = GivenStatus
-Value field.Durable = Bool
-Value field.Request = requests.Request
-Value field.Reply = Arrival
+Value Field.Client = ClientNo
+Value Field.File = FileNo
+Value Field.FileId = file_ids.FileId
+Value Field.Number = ℕ
+Value Field.Offset = ℕ
+Value Field.State = LeaseState
+Value Field.Access = accesses.Access
+Value Field.Share = shares.Share
+Value Field.Rules = Rules
+Value Field.Way = Bool
+Value Field.Outcome = Settlement
+Value Field.Key = LeaseKey
+Value Field.Status = GivenStatus
+Value Field.Durable = Bool
+Value Field.Request = requests.Request
+Value Field.Reply = Arrival
+Value other = List ℕ
 
 abbrev pub client_no : ℕ → ClientNo
 client_no number = record { 0 = number }
@@ -65,51 +52,47 @@ lease_key bytes = record { 0 = bytes }
 
 -- the value that a word says, where the field takes one word
 abbrev pub value_in : (field : Field) → List ℕ → Option (Value field)
-value_in field.Client word = option_map client_no (ordinal_in word)
-value_in field.File word = option_map file_no (ordinal_in word)
-value_in field.FileId word = option_map file_id (number_in word)
-value_in field.Number word = number_in word
-value_in field.Offset word = offset_in word
-value_in field.Bytes word = bytes_in word
-value_in field.Content word = content_in word
-value_in field.State word = state_in word
-value_in field.Access word = access_in word
-value_in field.Share word = share_in word
-value_in field.Rules word = rules_in word
-value_in field.Way word = way_in word
-value_in field.Outcome word = outcome_in word
-value_in field.Guid word = parsed word
-value_in field.Message word = sized_in 36 word
-value_in field.Key word = option_map lease_key (sized_in 16 word)
-value_in field.Notification word = sized_in 44 word
-value_in field.Status word = status_in word
-value_in field.Durable word = None
-value_in field.Request word = None
-value_in field.Reply word = None
+value_in Field.Client word = option_map client_no (ordinal_in word)
+value_in Field.File word = option_map file_no (ordinal_in word)
+value_in Field.FileId word = option_map file_id (number_in word)
+value_in Field.Number word = number_in word
+value_in Field.Offset word = offset_in word
+value_in Field.Bytes word = bytes_in word
+value_in Field.Content word = content_in word
+value_in Field.State word = state_in word
+value_in Field.Access word = access_in word
+value_in Field.Share word = share_in word
+value_in Field.Rules word = rules_in word
+value_in Field.Way word = way_in word
+value_in Field.Outcome word = outcome_in word
+value_in Field.Guid word = parsed word
+value_in Field.Message word = sized_in 36 word
+value_in Field.Key word = option_map lease_key (sized_in 16 word)
+value_in Field.Notification word = sized_in 44 word
+value_in Field.Status word = status_in word
+value_in other word = None
 
 -- the word that is written for it
 abbrev pub word_for : (field : Field) → Value field → List ℕ
-word_for field.Client client = decimal client.0
-word_for field.File file = decimal file.0
-word_for field.FileId fid = decimal fid.0
-word_for field.Number number = decimal number
-word_for field.Offset offset = decimal offset
-word_for field.Bytes bytes = digits_word bytes
-word_for field.Content bytes = digits_word bytes
-word_for field.State state = state_word (state_of state)
-word_for field.Access access = access_word access
-word_for field.Share share = share_word share
-word_for field.Rules rules = rules_word rules
-word_for field.Way buffered = way_word buffered
-word_for field.Outcome outcome = outcome_word outcome
-word_for field.Guid guid = hyphenated_text lower guid
-word_for field.Message message = encode_lower message
-word_for field.Key key = encode_lower key.0
-word_for field.Notification message = encode_lower message
-word_for field.Status given = given_word given.other given.status
-word_for field.Durable durable = []
-word_for field.Request asked = []
-word_for field.Reply told = []
+word_for Field.Client client = decimal client.0
+word_for Field.File file = decimal file.0
+word_for Field.FileId fid = decimal fid.0
+word_for Field.Number number = decimal number
+word_for Field.Offset offset = decimal offset
+word_for Field.Bytes bytes = digits_word bytes
+word_for Field.Content bytes = digits_word bytes
+word_for Field.State state = state_word (state_of state)
+word_for Field.Access access = access_word access
+word_for Field.Share share = share_word share
+word_for Field.Rules rules = rules_word rules
+word_for Field.Way buffered = way_word buffered
+word_for Field.Outcome outcome = outcome_word outcome
+word_for Field.Guid guid = hyphenated_text lower guid
+word_for Field.Message message = encode_lower message
+word_for Field.Key key = encode_lower key.0
+word_for Field.Notification message = encode_lower message
+word_for Field.Status given = given_word given.other given.status
+word_for other value = []
 
 -- ---- reading
 

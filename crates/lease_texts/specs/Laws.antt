@@ -2,13 +2,10 @@
 use Rattle.std.specs.Prelude.{◌≡◌, ◌+◌, ◌++◌, ℕ, List, length, Ok}
 use Rattle.lease_facts.specs.declared.fact.Fact.{Fact}
 use Rattle.lease_texts.specs.Complaints.{complaint, fact_table, part_table}
-use Rattle.lease_texts.specs.FirstFaults.{ComplainsExactly}
-use Rattle.lease_texts.specs.Pieces.{lines_of}
-use Rattle.lease_texts.specs.Reading.{reads_on}
+use Rattle.lease_texts.specs.{FirstFaults.ComplainsExactly, Pieces.lines_of, Reading.reads_on, declared.parts.Part.Part}
 use Rattle.lease_texts.specs.Records.{fact_in, fact_kinds, fact_said, record_in, record_text, with_line}
 use Rattle.lease_texts.specs.Schedules.{Draft, part_in, part_kinds, part_said, schedule_in, schedule_text}
 use Rattle.lease_texts.specs.Tables.{AreReadBack, CanBeWritten, Each, FieldSays, ReadsExactly}
-use Rattle.lease_texts.specs.declared.parts.Part.TheVariants as part
 
 -- What is read in a line is the fact, or the part of a schedule, that the line tells.
 abbrev pub LinesTellFacts : Type 0
@@ -44,9 +41,9 @@ TextsGoOn = (facts : List Fact) (rest : List ℕ) → Each CanBeTold facts
 
 -- Lines can say the schedule.
 pub record CanBeScheduled (draft : Draft) : Type 0 where
-  pub files : Each (λ content. CanBeWritten (part_said (part.File content))) draft.files
-  pub clients : Each (λ guid. CanBeWritten (part_said (part.Client guid))) draft.clients
-  pub events : Each (λ happening. CanBeWritten (part_said (part.Happens happening))) draft.events
+  pub files : Each (λ content. CanBeWritten (part_said (Part.File content))) draft.files
+  pub clients : Each (λ guid. CanBeWritten (part_said (Part.Client guid))) draft.clients
+  pub events : Each (λ happening. CanBeWritten (part_said (Part.Happens happening))) draft.events
 
 abbrev pub SchedulesAreReadBack : Type 0
 SchedulesAreReadBack = (draft : Draft) → CanBeScheduled draft → schedule_in (schedule_text draft) ≡ Ok draft

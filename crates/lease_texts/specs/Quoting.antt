@@ -1,8 +1,7 @@
 -- Bytes as they are quoted to a reader.
 use Rattle.std.specs.Prelude.{ℕ, ◌++◌, ◌==◌, nat_le, nat_lt, Bool, not, ◌&&◌, ◌||◌, if◌then◌else◌, List, [], ◌∷◌, length, take}
 use Rattle.std.specs.Prelude.{codes}
-use Rattle.std.specs.List.{flat_map}
-use Rattle.hex.specs.Hex.{encode_lower}
+use Rattle.{std.specs.List.flat_map, hex.specs.Hex.encode_lower}
 
 -- a printable byte of ASCII, other than a quotation mark or a backslash
 abbrev pub is_plain : ℕ → Bool

@@ -1,53 +1,48 @@
 -- Records as texts: a row for each kind of fact, the line of each fact, and what a line tells.
 use Rattle.std.specs.Prelude.{ℕ, ◌++◌, List, [], ◌∷◌, codes, if◌then◌else◌, Option, Some, None, Result}
-use Rattle.std.specs.List.{flat_map}
-use Rattle.lease_facts.specs.declared.fact.Fact.{Fact}
-use Rattle.lease_facts.specs.declared.fact.Fact.TheVariants as fact
-use Rattle.lease_texts.specs.Kinds.{Kind, Line, kind, line, say}
-use Rattle.lease_texts.specs.Lines.{line_text, told_in}
-use Rattle.lease_texts.specs.Pieces.{lines_of}
-use Rattle.lease_texts.specs.Reading.{reads_on, is_passed_over}
-use Rattle.lease_texts.specs.declared.kinds.Field.TheVariants as field
+use Rattle.lease_texts.specs.{Kinds.Kind, Kinds.Line, Kinds.kind, Kinds.line, Kinds.say, Lines.line_text, Lines.told_in}
+use Rattle.lease_texts.specs.{Pieces.lines_of, Reading.reads_on, Reading.is_passed_over, declared.kinds.Field.Field}
+use Rattle.{std.specs.List.flat_map, lease_facts.specs.declared.fact.Fact.Fact}
 
 abbrev pub fact_kinds : List (Kind Fact)
 fact_kinds =
-    kind (codes "start") (field.File ∷ field.Content ∷ []) fact.Start
-    ∷ kind (codes "joined") (field.Client ∷ []) fact.Joined
-    ∷ kind (codes "dropped") (field.Client ∷ []) fact.Dropped
-    ∷ kind (codes "expired") (field.Client ∷ field.File ∷ []) fact.Expired
-    ∷ kind (codes "sent") (field.Client ∷ []) fact.Sent
-    ∷ kind (codes "took") (field.Client ∷ []) fact.Took
-    ∷ kind (codes "opened") (field.File ∷ field.Client ∷ []) fact.Opened
-    ∷ kind (codes "changed") (field.File ∷ field.Client ∷ field.Number ∷ field.Offset ∷ field.Bytes ∷ [])
-    (λ file client number offset bytes. fact.Changed file client number (record { offset = offset; bytes = bytes }))
-    ∷ kind (codes "wrote") (field.Client ∷ field.File ∷ field.Number ∷ field.Offset ∷ field.Bytes ∷ field.Way ∷ [])
+    kind (codes "start") (Field.File ∷ Field.Content ∷ []) Fact.Start
+    ∷ kind (codes "joined") (Field.Client ∷ []) Fact.Joined
+    ∷ kind (codes "dropped") (Field.Client ∷ []) Fact.Dropped
+    ∷ kind (codes "expired") (Field.Client ∷ Field.File ∷ []) Fact.Expired
+    ∷ kind (codes "sent") (Field.Client ∷ []) Fact.Sent
+    ∷ kind (codes "took") (Field.Client ∷ []) Fact.Took
+    ∷ kind (codes "opened") (Field.File ∷ Field.Client ∷ []) Fact.Opened
+    ∷ kind (codes "changed") (Field.File ∷ Field.Client ∷ Field.Number ∷ Field.Offset ∷ Field.Bytes ∷ [])
+    (λ file client number offset bytes. Fact.Changed file client number (record { offset = offset; bytes = bytes }))
+    ∷ kind (codes "wrote") (Field.Client ∷ Field.File ∷ Field.Number ∷ Field.Offset ∷ Field.Bytes ∷ Field.Way ∷ [])
     (λ client file number offset bytes buffered.
-    fact.Wrote client file number (record { offset = offset; bytes = bytes }) buffered)
-    ∷ kind (codes "settled") (field.Client ∷ field.Number ∷ field.Outcome ∷ []) fact.Settled
-    ∷ kind (codes "believes") (field.Client ∷ field.File ∷ field.State ∷ []) fact.Believes
-    ∷ kind (codes "cachedread") (field.Client ∷ field.File ∷ field.Bytes ∷ []) fact.CachedRead
-    ∷ kind (codes "strayed") (field.Client ∷ []) fact.Strayed
+    Fact.Wrote client file number (record { offset = offset; bytes = bytes }) buffered)
+    ∷ kind (codes "settled") (Field.Client ∷ Field.Number ∷ Field.Outcome ∷ []) Fact.Settled
+    ∷ kind (codes "believes") (Field.Client ∷ Field.File ∷ Field.State ∷ []) Fact.Believes
+    ∷ kind (codes "cachedread") (Field.Client ∷ Field.File ∷ Field.Bytes ∷ []) Fact.CachedRead
+    ∷ kind (codes "strayed") (Field.Client ∷ []) Fact.Strayed
     ∷ []
 
 abbrev pub fact_said : Fact → Line
-fact_said (fact.Start file bytes) = line (codes "start") (say field.File file ∷ say field.Content bytes ∷ [])
-fact_said (fact.Joined client) = line (codes "joined") (say field.Client client ∷ [])
-fact_said (fact.Dropped client) = line (codes "dropped") (say field.Client client ∷ [])
-fact_said (fact.Expired client file) = line (codes "expired") (say field.Client client ∷ say field.File file ∷ [])
-fact_said (fact.Sent client) = line (codes "sent") (say field.Client client ∷ [])
-fact_said (fact.Took client) = line (codes "took") (say field.Client client ∷ [])
-fact_said (fact.Opened file client) = line (codes "opened") (say field.File file ∷ say field.Client client ∷ [])
-fact_said (fact.Changed file client number patch) = line (codes "changed") (say field.File file ∷ say field.Client client
-    ∷ say field.Number number ∷ say field.Offset patch.offset ∷ say field.Bytes patch.bytes ∷ [])
-fact_said (fact.Wrote client file number patch buffered) = line (codes "wrote") (say field.Client client ∷ say field.File file
-    ∷ say field.Number number ∷ say field.Offset patch.offset ∷ say field.Bytes patch.bytes ∷ say field.Way buffered ∷ [])
-fact_said (fact.Settled client number outcome) =
-    line (codes "settled") (say field.Client client ∷ say field.Number number ∷ say field.Outcome outcome ∷ [])
-fact_said (fact.Believes client file state) =
-    line (codes "believes") (say field.Client client ∷ say field.File file ∷ say field.State state ∷ [])
-fact_said (fact.CachedRead client file bytes) =
-    line (codes "cachedread") (say field.Client client ∷ say field.File file ∷ say field.Bytes bytes ∷ [])
-fact_said (fact.Strayed client) = line (codes "strayed") (say field.Client client ∷ [])
+fact_said (Fact.Start file bytes) = line (codes "start") (say Field.File file ∷ say Field.Content bytes ∷ [])
+fact_said (Fact.Joined client) = line (codes "joined") (say Field.Client client ∷ [])
+fact_said (Fact.Dropped client) = line (codes "dropped") (say Field.Client client ∷ [])
+fact_said (Fact.Expired client file) = line (codes "expired") (say Field.Client client ∷ say Field.File file ∷ [])
+fact_said (Fact.Sent client) = line (codes "sent") (say Field.Client client ∷ [])
+fact_said (Fact.Took client) = line (codes "took") (say Field.Client client ∷ [])
+fact_said (Fact.Opened file client) = line (codes "opened") (say Field.File file ∷ say Field.Client client ∷ [])
+fact_said (Fact.Changed file client number patch) = line (codes "changed") (say Field.File file ∷ say Field.Client client
+    ∷ say Field.Number number ∷ say Field.Offset patch.offset ∷ say Field.Bytes patch.bytes ∷ [])
+fact_said (Fact.Wrote client file number patch buffered) = line (codes "wrote") (say Field.Client client ∷ say Field.File file
+    ∷ say Field.Number number ∷ say Field.Offset patch.offset ∷ say Field.Bytes patch.bytes ∷ say Field.Way buffered ∷ [])
+fact_said (Fact.Settled client number outcome) =
+    line (codes "settled") (say Field.Client client ∷ say Field.Number number ∷ say Field.Outcome outcome ∷ [])
+fact_said (Fact.Believes client file state) =
+    line (codes "believes") (say Field.Client client ∷ say Field.File file ∷ say Field.State state ∷ [])
+fact_said (Fact.CachedRead client file bytes) =
+    line (codes "cachedread") (say Field.Client client ∷ say Field.File file ∷ say Field.Bytes bytes ∷ [])
+fact_said (Fact.Strayed client) = line (codes "strayed") (say Field.Client client ∷ [])
 
 -- the line of a fact, with its line feed
 abbrev pub fact_line : Fact → List ℕ

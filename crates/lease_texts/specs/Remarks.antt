@@ -1,18 +1,12 @@
 -- Comment lines behind the record of a run.
 use Rattle.std.specs.Prelude.{ℕ, ◌++◌, List, [], ◌∷◌, codes}
-use Rattle.lease_state.specs.declared.rules.Order.{Order}
-use Rattle.lease_state.specs.declared.rules.Order.TheVariants as order
-use Rattle.lease_state.specs.declared.rules.Rise.{Rise}
-use Rattle.lease_state.specs.declared.rules.Rise.TheVariants as rise
-use Rattle.lease_state.specs.declared.rules.Rules.{Rules}
-use Rattle.lease_texts.specs.Kinds.{line, say}
-use Rattle.lease_texts.specs.Lines.{line_text}
-use Rattle.lease_texts.specs.declared.kinds.Field.TheVariants as field
+use Rattle.lease_state.specs.declared.rules.{Order.Order, Rise.Rise, Rules.Rules}
+use Rattle.lease_texts.specs.{Kinds.line, Kinds.say, Lines.line_text, declared.kinds.Field.Field}
 
 -- the rules of a server, where they aren't the profile's
 abbrev pub rules_remark : Order → Rise → List ℕ
-rules_remark order.ByClient rise.AsFree = []
-rules_remark by how = line_text (line (codes "# rules") (say field.Rules (record { order = by; rise = how }) ∷ []))
+rules_remark Order.ByClient Rise.AsFree = []
+rules_remark by how = line_text (line (codes "# rules") (say Field.Rules (record { order = by; rise = how }) ∷ []))
 
 -- what stands behind the record of a run that is safe
 abbrev pub safe_end : Rules → List ℕ

@@ -1,67 +1,58 @@
 -- Schedules as texts: a row for each kind of line, the line of each part, and what a whole text asks for.
 use Rattle.std.specs.Prelude.{ℕ, ◌++◌, List, [], ◌∷◌, codes, if◌then◌else◌, Option, Some, None, Result}
-use Rattle.std.specs.List.{flat_map}
-use Rattle.lease_client.specs.declared.values.command.Command.{Command}
-use Rattle.lease_client.specs.declared.values.command.Command.TheVariants as command
-use Rattle.lease_facts.specs.declared.setup.Event.{Event}
-use Rattle.lease_facts.specs.declared.setup.Event.TheVariants as event
-use Rattle.lease_state.specs.declared.number.ClientNo.{ClientNo}
-use Rattle.lease_texts.specs.Kinds.{Kind, Line, kind, line, say}
-use Rattle.lease_texts.specs.Lines.{line_text, told_in}
-use Rattle.lease_texts.specs.Pieces.{lines_of}
-use Rattle.lease_texts.specs.Reading.{reads_on, is_passed_over}
-use Rattle.lease_texts.specs.declared.kinds.Field.TheVariants as field
-use Rattle.lease_texts.specs.declared.parts.Part.{Part}
-use Rattle.lease_texts.specs.declared.parts.Part.TheVariants as part
+use Rattle.lease_texts.specs.{Kinds.Kind, Kinds.Line, Kinds.kind, Kinds.line, Kinds.say, Lines.line_text, Lines.told_in}
+use Rattle.lease_texts.specs.{Reading.reads_on, Reading.is_passed_over, declared.kinds.Field.Field, Pieces.lines_of}
+use Rattle.{lease_client.specs.declared.values.command.Command.Command, lease_state.specs.declared.number.ClientNo.ClientNo}
+use Rattle.{lease_texts.specs.declared.parts.Part.Part, std.specs.List.flat_map, lease_facts.specs.declared.setup.Event.Event}
 
 -- what an application asks
 abbrev pub app : ClientNo → Command → Part
-app client asked = part.Happens (event.App client asked)
+app client asked = Part.Happens (Event.App client asked)
 
 abbrev pub part_kinds : List (Kind Part)
 part_kinds =
-    kind (codes "file") (field.Content ∷ []) part.File
-    ∷ kind (codes "client") (field.Guid ∷ []) part.Client
+    kind (codes "file") (Field.Content ∷ []) Part.File
+    ∷ kind (codes "client") (Field.Guid ∷ []) Part.Client
     ∷ kind (codes "open")
-    (field.Client ∷ field.File ∷ field.Access ∷ field.Share ∷ field.State ∷ field.Durable ∷ [])
-    (λ client file access share want durable. app client (command.Open file access share want durable))
-    ∷ kind (codes "close") (field.Client ∷ field.File ∷ []) (λ client file. app client (command.Close file))
-    ∷ kind (codes "read") (field.Client ∷ field.File ∷ []) (λ client file. app client (command.Read file))
-    ∷ kind (codes "flush") (field.Client ∷ field.File ∷ []) (λ client file. app client (command.Flush file))
-    ∷ kind (codes "write") (field.Client ∷ field.File ∷ field.Offset ∷ field.Bytes ∷ [])
-    (λ client file offset bytes. app client (command.Write file (record { offset = offset; bytes = bytes })))
-    ∷ kind (codes "serve") (field.Client ∷ []) (λ client. part.Happens (event.ServerTakes client))
-    ∷ kind (codes "take") (field.Client ∷ []) (λ client. part.Happens (event.ClientTakes client))
-    ∷ kind (codes "cut") (field.Client ∷ []) (λ client. part.Happens (event.Cut client))
-    ∷ kind (codes "notice") (field.Client ∷ []) (λ client. part.Happens (event.Notice client))
-    ∷ kind (codes "connect") (field.Client ∷ []) (λ client. part.Happens (event.Connect client))
-    ∷ kind (codes "expire") (field.Client ∷ field.File ∷ []) (λ client file. part.Happens (event.Expire client file))
-    ∷ kind (codes "scavenge") (field.Client ∷ field.File ∷ []) (λ client file. part.Happens (event.Scavenge client file))
-    ∷ kind (codes "raw") (field.Client ∷ field.Request ∷ []) (λ client asked. part.Happens (event.Raw client asked))
+    (Field.Client ∷ Field.File ∷ Field.Access ∷ Field.Share ∷ Field.State ∷ Field.Durable ∷ [])
+    (λ client file access share want durable. app client (Command.Open file access share want durable))
+    ∷ kind (codes "close") (Field.Client ∷ Field.File ∷ []) (λ client file. app client (Command.Close file))
+    ∷ kind (codes "read") (Field.Client ∷ Field.File ∷ []) (λ client file. app client (Command.Read file))
+    ∷ kind (codes "flush") (Field.Client ∷ Field.File ∷ []) (λ client file. app client (Command.Flush file))
+    ∷ kind (codes "write") (Field.Client ∷ Field.File ∷ Field.Offset ∷ Field.Bytes ∷ [])
+    (λ client file offset bytes. app client (Command.Write file (record { offset = offset; bytes = bytes })))
+    ∷ kind (codes "serve") (Field.Client ∷ []) (λ client. Part.Happens (Event.ServerTakes client))
+    ∷ kind (codes "take") (Field.Client ∷ []) (λ client. Part.Happens (Event.ClientTakes client))
+    ∷ kind (codes "cut") (Field.Client ∷ []) (λ client. Part.Happens (Event.Cut client))
+    ∷ kind (codes "notice") (Field.Client ∷ []) (λ client. Part.Happens (Event.Notice client))
+    ∷ kind (codes "connect") (Field.Client ∷ []) (λ client. Part.Happens (Event.Connect client))
+    ∷ kind (codes "expire") (Field.Client ∷ Field.File ∷ []) (λ client file. Part.Happens (Event.Expire client file))
+    ∷ kind (codes "scavenge") (Field.Client ∷ Field.File ∷ []) (λ client file. Part.Happens (Event.Scavenge client file))
+    ∷ kind (codes "raw") (Field.Client ∷ Field.Request ∷ []) (λ client asked. Part.Happens (Event.Raw client asked))
     ∷ []
 
 abbrev pub event_said : Event → Line
-event_said (event.App client (command.Open file access share want durable)) = line (codes "open") (say field.Client client
-    ∷ say field.File file ∷ say field.Access access ∷ say field.Share share ∷ say field.State want
-    ∷ say field.Durable durable ∷ [])
-event_said (event.App client (command.Close file)) = line (codes "close") (say field.Client client ∷ say field.File file ∷ [])
-event_said (event.App client (command.Read file)) = line (codes "read") (say field.Client client ∷ say field.File file ∷ [])
-event_said (event.App client (command.Write file patch)) = line (codes "write")
-    (say field.Client client ∷ say field.File file ∷ say field.Offset patch.offset ∷ say field.Bytes patch.bytes ∷ [])
-event_said (event.App client (command.Flush file)) = line (codes "flush") (say field.Client client ∷ say field.File file ∷ [])
-event_said (event.ServerTakes client) = line (codes "serve") (say field.Client client ∷ [])
-event_said (event.ClientTakes client) = line (codes "take") (say field.Client client ∷ [])
-event_said (event.Cut client) = line (codes "cut") (say field.Client client ∷ [])
-event_said (event.Notice client) = line (codes "notice") (say field.Client client ∷ [])
-event_said (event.Connect client) = line (codes "connect") (say field.Client client ∷ [])
-event_said (event.Expire client file) = line (codes "expire") (say field.Client client ∷ say field.File file ∷ [])
-event_said (event.Scavenge client file) = line (codes "scavenge") (say field.Client client ∷ say field.File file ∷ [])
-event_said (event.Raw client asked) = line (codes "raw") (say field.Client client ∷ say field.Request asked ∷ [])
+event_said (Event.App client (Command.Open file access share want durable)) = line (codes "open") (say Field.Client client
+    ∷ say Field.File file ∷ say Field.Access access ∷ say Field.Share share ∷ say Field.State want
+    ∷ say Field.Durable durable ∷ [])
+event_said (Event.App client (Command.Close file)) = line (codes "close") (say Field.Client client ∷ say Field.File file ∷ [])
+event_said (Event.App client (Command.Read file)) = line (codes "read") (say Field.Client client ∷ say Field.File file ∷ [])
+event_said (Event.App client (Command.Write file patch)) = line (codes "write")
+    (say Field.Client client ∷ say Field.File file ∷ say Field.Offset patch.offset ∷ say Field.Bytes patch.bytes ∷ [])
+event_said (Event.App client (Command.Flush file)) = line (codes "flush") (say Field.Client client ∷ say Field.File file ∷ [])
+event_said (Event.ServerTakes client) = line (codes "serve") (say Field.Client client ∷ [])
+event_said (Event.ClientTakes client) = line (codes "take") (say Field.Client client ∷ [])
+event_said (Event.Cut client) = line (codes "cut") (say Field.Client client ∷ [])
+event_said (Event.Notice client) = line (codes "notice") (say Field.Client client ∷ [])
+event_said (Event.Connect client) = line (codes "connect") (say Field.Client client ∷ [])
+event_said (Event.Expire client file) = line (codes "expire") (say Field.Client client ∷ say Field.File file ∷ [])
+event_said (Event.Scavenge client file) = line (codes "scavenge") (say Field.Client client ∷ say Field.File file ∷ [])
+event_said (Event.Raw client asked) = line (codes "raw") (say Field.Client client ∷ say Field.Request asked ∷ [])
 
 abbrev pub part_said : Part → Line
-part_said (part.File content) = line (codes "file") (say field.Content content ∷ [])
-part_said (part.Client guid) = line (codes "client") (say field.Guid guid ∷ [])
-part_said (part.Happens happening) = event_said happening
+part_said (Part.File content) = line (codes "file") (say Field.Content content ∷ [])
+part_said (Part.Client guid) = line (codes "client") (say Field.Guid guid ∷ [])
+part_said (Part.Happens happening) = event_said happening
 
 -- what a line adds to a schedule
 unfoldable pub part_in : List ℕ → Option Part
@@ -80,9 +71,9 @@ before_events (event ∷ events) draft = None
 
 unfoldable pub with_part : Draft → Option Part → Option Draft
 with_part draft None = None
-with_part draft (Some (part.File content)) = before_events draft.events (record draft { files = draft.files ++ content ∷ [] })
-with_part draft (Some (part.Client guid)) = before_events draft.events (record draft { clients = draft.clients ++ guid ∷ [] })
-with_part draft (Some (part.Happens happening)) = Some (record draft { events = draft.events ++ happening ∷ [] })
+with_part draft (Some (Part.File content)) = before_events draft.events (record draft { files = draft.files ++ content ∷ [] })
+with_part draft (Some (Part.Client guid)) = before_events draft.events (record draft { clients = draft.clients ++ guid ∷ [] })
+with_part draft (Some (Part.Happens happening)) = Some (record draft { events = draft.events ++ happening ∷ [] })
 
 unfoldable pub with_line : Draft → List ℕ → Option Draft
 with_line draft line = if is_passed_over line then Some draft else with_part draft (part_in line)
@@ -98,11 +89,11 @@ part_line one = line_text (part_said one)
 -- the lines of a setup: of its files, then of its clients
 abbrev pub setup_lines : List (List ℕ) → List (List ℕ) → List ℕ
 setup_lines files clients =
-    flat_map (λ content. part_line (part.File content)) files ++ flat_map (λ guid. part_line (part.Client guid)) clients
+    flat_map (λ content. part_line (Part.File content)) files ++ flat_map (λ guid. part_line (Part.Client guid)) clients
 
 -- the line of an event
 abbrev pub event_line : Event → List ℕ
-event_line happening = part_line (part.Happens happening)
+event_line happening = part_line (Part.Happens happening)
 
 -- the text of a schedule
 abbrev pub schedule_text : Draft → List ℕ

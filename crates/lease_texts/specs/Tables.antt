@@ -1,17 +1,11 @@
 -- What tables of lines have to be, and what is true of each line then.
-use Rattle.std.specs.Prelude.{◌≡◌, ◌↔◌, ◌⊎◌, ◌<◌, ◌≤◌, ◌^◌, ⊤, ℕ, Bool, true, false, List, [], ◌∷◌, ◌++◌, length, codes}
-use Rattle.std.specs.Prelude.{Option, Some, None}
-use Rattle.hex.specs.Hex.{IsBytes}
-use Rattle.lease_state.specs.declared.content.TheConstants.{FILE_LIMIT}
+use Rattle.std.specs.Prelude.{◌≡◌, ◌↔◌, ◌⊎◌, ◌<◌, ◌≤◌, ◌^◌, ⊤, ℕ, Bool, true, false, List, [], ◌∷◌, ◌++◌, length, codes, Option}
+use Rattle.std.specs.Prelude.{Some, None}
 use Rattle.lease_texts.specs.Kinds.{Kind, Line, Spoken, Telling, Value, Words, value_in}
-use Rattle.lease_texts.specs.Lines.{line_text}
-use Rattle.lease_texts.specs.Pieces.{fields_of, lines_of}
-use Rattle.lease_texts.specs.Reading.{is_passed_over}
+use Rattle.lease_texts.specs.{Lines.line_text, Pieces.fields_of, Pieces.lines_of, Reading.is_passed_over, Requests.request_kinds}
+use Rattle.lease_texts.specs.{Requests.request_said, Statuses.known, declared.kinds.Field.Field}
 use Rattle.lease_texts.specs.Replies.{plain, reply_kinds, reply_said}
-use Rattle.lease_texts.specs.Requests.{request_kinds, request_said}
-use Rattle.lease_texts.specs.Statuses.{known}
-use Rattle.lease_texts.specs.declared.kinds.Field.{Field}
-use Rattle.lease_texts.specs.declared.kinds.Field.TheVariants as field
+use Rattle.{hex.specs.Hex.IsBytes, lease_state.specs.declared.content.TheConstants.FILE_LIMIT}
 
 abbrev pub IsOneOf : {X : Type 0} → List X → X → Type 0
 IsOneOf [] x = ⊥
@@ -52,9 +46,9 @@ DurableSays words true rest = words ≡ codes "durable" ∷ rest
 DurableSays words false rest = (words ≡ []) × (rest ≡ [])
 
 abbrev pub FieldSays : Saying
-FieldSays field.Durable words durable rest = DurableSays words durable rest
-FieldSays field.Request words asked rest = Tells WordSays request_kinds words asked rest
-FieldSays field.Reply words told rest = Tells WordSays reply_kinds words told rest
+FieldSays Field.Durable words durable rest = DurableSays words durable rest
+FieldSays Field.Request words asked rest = Tells WordSays request_kinds words asked rest
+FieldSays Field.Reply words told rest = Tells WordSays reply_kinds words told rest
 FieldSays other words value rest = WordSays other words value rest
 
 -- What a whole line tells, between single spaces.
@@ -72,18 +66,6 @@ pub record ReadsExactly {A : Type 0} (kinds : List (Kind A)) (read : List ℕ �
 
 -- ---- what can be written
 
--- the number of a client or of a file
-abbrev pub IsOrdinal : ℕ → Type 0
-IsOrdinal number = (1 ≤ number) × (number < 256)
-
--- what fits the number of a write
-abbrev pub IsNumber : ℕ → Type 0
-IsNumber number = number < 2 ^ 64
-
--- the first bytes of a file
-abbrev pub IsFile : List ℕ → Type 0
-IsFile content = IsBytes content × (length content ≤ FILE_LIMIT)
-
 abbrev pub HasBytes : ℕ → List ℕ → Type 0
 HasBytes count bytes = (length bytes ≡ count) × IsBytes bytes
 
@@ -91,22 +73,22 @@ HasBytes count bytes = (length bytes ≡ count) × IsBytes bytes
 -- a state has no bits but those with a letter, a GUID and a key have 16 bytes, an acknowledgment 36 and a notification 44, and a
 -- status has a name.
 abbrev pub HasWord : (field : Field) → Value field → Type 0
-HasWord field.Client client = IsOrdinal client.0
-HasWord field.File file = IsOrdinal file.0
-HasWord field.FileId fid = IsNumber fid.0
-HasWord field.Number number = IsNumber number
-HasWord field.Offset offset = offset < 2 ^ 32
-HasWord field.Bytes bytes = IsBytes bytes
-HasWord field.Content bytes = IsFile bytes
-HasWord field.State state = state.0 < 8
-HasWord field.Guid guid = HasBytes 16 guid
-HasWord field.Message message = HasBytes 36 message
-HasWord field.Key key = HasBytes 16 key.0
-HasWord field.Notification message = HasBytes 44 message
-HasWord field.Status given = given ≡ known given.status
-HasWord field.Durable durable = ⊥
-HasWord field.Request asked = ⊥
-HasWord field.Reply told = ⊥
+HasWord Field.Client client = (1 ≤ client.0) × (client.0 < 256)
+HasWord Field.File file = (1 ≤ file.0) × (file.0 < 256)
+HasWord Field.FileId fid = fid.0 < 2 ^ 64
+HasWord Field.Number number = number < 2 ^ 64
+HasWord Field.Offset offset = offset < 2 ^ 32
+HasWord Field.Bytes bytes = IsBytes bytes
+HasWord Field.Content bytes = IsBytes bytes × (length bytes ≤ FILE_LIMIT)
+HasWord Field.State state = state.0 < 8
+HasWord Field.Guid guid = HasBytes 16 guid
+HasWord Field.Message message = HasBytes 36 message
+HasWord Field.Key key = HasBytes 16 key.0
+HasWord Field.Notification message = HasBytes 44 message
+HasWord Field.Status given = given ≡ known given.status
+HasWord Field.Durable durable = ⊥
+HasWord Field.Request asked = ⊥
+HasWord Field.Reply told = ⊥
 HasWord other value = ⊤
 
 abbrev pub EachHasWord : List Spoken → Type 0
@@ -114,9 +96,9 @@ EachHasWord spoken = Each (λ one. HasWord one.field one.value) spoken
 
 -- requests and replies are said by several words, and a durable open by one or none
 abbrev pub CanBeSaid : (field : Field) → Value field → Type 0
-CanBeSaid field.Durable durable = ⊤
-CanBeSaid field.Request asked = EachHasWord (request_said asked).spoken
-CanBeSaid field.Reply told = EachHasWord (reply_said told.reply).spoken × (told ≡ plain told.reply)
+CanBeSaid Field.Durable durable = ⊤
+CanBeSaid Field.Request asked = EachHasWord (request_said asked).spoken
+CanBeSaid Field.Reply told = EachHasWord (reply_said told.reply).spoken × (told ≡ plain told.reply)
 CanBeSaid other value = HasWord other value
 
 -- a line can say it

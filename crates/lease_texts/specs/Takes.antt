@@ -1,8 +1,7 @@
 -- What a call takes from the words of a line.
 use Rattle.std.specs.Prelude.{◌≡◌, List, ℕ, Option, Some, None, Result, MatchResult}
 use Rattle.lease_texts.specs.Kinds.{Taking, Words}
-use Rattle.lease_texts.specs.declared.fault.LineFault.{LineFault}
-use Rattle.lease_texts.specs.declared.fault.LineFault.TheVariants.{Refused}
+use Rattle.lease_texts.specs.declared.fault.LineFault.{LineFault, TheVariants.Refused}
 
 -- A call answers with what the words say, and leaves the others; it refuses words that say nothing. For want of
 -- memory it may fail at any words.

@@ -1,16 +1,8 @@
 -- The words that are written for values.
 use Rattle.std.specs.Prelude.{ℕ, Bool, true, false, List, [], ◌∷◌, codes, bytes_eq, if◌then◌else◌, Option, Some, None}
-use Rattle.hex.specs.Hex.{encode_lower}
-use Rattle.lease_client.specs.declared.values.note.Settlement.{Settlement}
-use Rattle.lease_client.specs.declared.values.note.Settlement.TheVariants as settlement
-use Rattle.lease_state.specs.State.{State}
-use Rattle.lease_state.specs.declared.access.Access.{Access}
-use Rattle.lease_state.specs.declared.access.Access.TheVariants as access
-use Rattle.lease_state.specs.declared.access.Share.{Share}
-use Rattle.lease_state.specs.declared.access.Share.TheVariants as share
-use Rattle.lease_state.specs.declared.rules.Order.{Order}
-use Rattle.lease_state.specs.declared.rules.Rise.{Rise}
-use Rattle.lease_state.specs.declared.rules.Rules.{Rules}
+use Rattle.lease_state.specs.{State.State, declared.access.Access.Access, declared.access.Share.Share, declared.rules.Order.Order}
+use Rattle.lease_state.specs.{declared.rules.Rise.Rise, declared.rules.Rules.Rules}
+use Rattle.{hex.specs.Hex.encode_lower, lease_client.specs.declared.values.note.Settlement.Settlement}
 
 -- the value with this word, among some of which each has one
 unfoldable pub of_word : {X : Type 0} → (X → List ℕ) → List X → List ℕ → Option X
@@ -37,15 +29,15 @@ digits_word [] = codes "-"
 digits_word (byte ∷ bytes) = encode_lower (byte ∷ bytes)
 
 abbrev pub access_word : Access → List ℕ
-access_word access.Read = codes "r"
-access_word access.Write = codes "w"
-access_word access.ReadWrite = codes "rw"
+access_word Access.Read = codes "r"
+access_word Access.Write = codes "w"
+access_word Access.ReadWrite = codes "rw"
 
 abbrev pub share_word : Share → List ℕ
-share_word share.Nothing = codes "-"
-share_word share.Read = codes "r"
-share_word share.Write = codes "w"
-share_word share.ReadWrite = codes "rw"
+share_word Share.Nothing = codes "-"
+share_word Share.Read = codes "r"
+share_word Share.Write = codes "w"
+share_word Share.ReadWrite = codes "rw"
 
 abbrev pub rules_word : Rules → List ℕ
 rules_word rules = word rules.order rules.rise
@@ -57,10 +49,10 @@ rules_word rules = word rules.order rules.rise
     word Order.ByKey Rise.Whole = codes "by-key,whole"
 
 abbrev pub outcome_word : Settlement → List ℕ
-outcome_word settlement.Done = codes "done"
-outcome_word settlement.Failed = codes "failed"
-outcome_word settlement.Unknown = codes "unknown"
-outcome_word settlement.Lost = codes "lost"
+outcome_word Settlement.Done = codes "done"
+outcome_word Settlement.Failed = codes "failed"
+outcome_word Settlement.Unknown = codes "unknown"
+outcome_word Settlement.Lost = codes "lost"
 
 -- the way of a write
 abbrev pub way_word : Bool → List ℕ

@@ -1,4 +1,5 @@
 ghost use Rattle.std.specs.Prelude.{◌≡◌};
+ghost use Rattle.lease_texts.specs.declared.fault.LineFault.TheVariants as fault;
 
 use lease_state::Memory;
 use std::alloc::{AllocError, AllocFailed};
@@ -13,8 +14,6 @@ pub enum LineFault {
 }
 
 impl From<AllocError> for LineFault {
-    ghost use Rattle.lease_texts.specs.declared.fault.LineFault.TheVariants as fault;
-
     ghost from_gives = { λ _ e. e ≡ fault.Memory };
 
     fn from(_error: AllocError) -> LineFault {
@@ -23,8 +22,6 @@ impl From<AllocError> for LineFault {
 }
 
 impl<T: Drop> From<AllocFailed<T>> for LineFault {
-    ghost use Rattle.lease_texts.specs.declared.fault.LineFault.TheVariants as fault;
-
     ghost from_gives = { λ _ e. e ≡ fault.Memory };
 
     fn from(_error: AllocFailed<T>) -> LineFault {
@@ -42,8 +39,6 @@ pub enum TextFault {
 }
 
 impl From<Memory> for LineFault {
-    ghost use Rattle.lease_texts.specs.declared.fault.LineFault.TheVariants as fault;
-
     ghost from_gives = { λ _ e. e ≡ fault.Memory };
 
     fn from(_error: Memory) -> LineFault {

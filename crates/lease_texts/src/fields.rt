@@ -1,10 +1,6 @@
 ghost use Rattle.std.specs.Prelude.{◌≡◌, ◌≢◌, ◌∷◌, [], true, false, MatchResult, MatchBool};
-ghost use Rattle.lease_texts.specs.Fields.{ordinal_in};
-ghost use Rattle.lease_texts.specs.Kinds.{begins, one, word_read};
-ghost use Rattle.lease_texts.specs.Lines.{durable_in};
-ghost use Rattle.lease_texts.specs.Pieces.{all_above, fields_of};
-ghost use Rattle.lease_texts.specs.Takes.{Takes};
-ghost use Rattle.lease_texts.specs.declared.kinds.Field.TheVariants as field;
+ghost use Rattle.lease_texts.specs.{Fields.ordinal_in, Kinds.begins, Kinds.one, Kinds.word_read, Lines.durable_in};
+ghost use Rattle.lease_texts.specs.{Pieces.all_above, Pieces.fields_of, Takes.Takes, declared.kinds.Field.Field};
 
 use crate::fault::LineFault;
 use crate::first::{after_word, first_ordinal};
@@ -117,25 +113,25 @@ impl<'a> Fields<'a> {
 
     /// The number of a client, from 1 to 255.
     #[inline(always)]
-    #[tactic(auto, using(crate::proofs::Heads::client_taken, crate::proofs::Heads::no_client))]
+    #[tactic(auto, using(crate::proofs::Heads::ordinal_taken, crate::proofs::Heads::no_ordinal))]
     pub fn client(&mut self) -> Result<ClientNo, LineFault>
-        ensures { Takes (word_read field.Client) self.old self.new result }
+        ensures { Takes (word_read Field.Client) self.old self.new result }
     {
         Ok(ClientNo(self.ordinal()?))
     }
 
     /// The number of a file, from 1 to 255.
     #[inline(always)]
-    #[tactic(auto, using(crate::proofs::Heads::file_taken, crate::proofs::Heads::no_file))]
+    #[tactic(auto, using(crate::proofs::Heads::ordinal_taken, crate::proofs::Heads::no_ordinal))]
     pub fn file(&mut self) -> Result<FileNo, LineFault>
-        ensures { Takes (word_read field.File) self.old self.new result }
+        ensures { Takes (word_read Field.File) self.old self.new result }
     {
         Ok(FileNo(self.ordinal()?))
     }
 
     /// A FileId, of at most 64 bits.
     pub fn file_id(&mut self) -> Result<FileId, LineFault>
-        ensures { Takes (word_read field.FileId) self.old self.new result }
+        ensures { Takes (word_read Field.FileId) self.old self.new result }
     {
         let number = number_in(self.next()?).ok_or(LineFault::Refused)?;
         Ok(FileId(number))
@@ -143,47 +139,44 @@ impl<'a> Fields<'a> {
 
     /// A decimal number of at most 64 bits, without sign and without leading zeros.
     pub fn number(&mut self) -> Result<u64, LineFault>
-        ensures { Takes (word_read field.Number) self.old self.new result }
+        ensures { Takes (word_read Field.Number) self.old self.new result }
     {
         number_in(self.next()?).ok_or(LineFault::Refused)
     }
 
     /// A number of at most 32 bits.
     pub fn offset(&mut self) -> Result<u32, LineFault>
-        ensures { Takes (word_read field.Offset) self.old self.new result }
+        ensures { Takes (word_read Field.Offset) self.old self.new result }
     {
         offset_in(self.next()?).ok_or(LineFault::Refused)
     }
 
     /// Bytes as hexadecimal digits of either case, at least two, or a hyphen for none.
     pub fn bytes(&mut self, alloc: Global) -> Result<Bytes, LineFault>
-        ensures { Takes (word_read field.Bytes) self.old self.new result }
+        ensures { Takes (word_read Field.Bytes) self.old self.new result }
     {
         bytes_in(alloc, self.next()?)
     }
 
     /// Such bytes, no more than a file holds.
     pub fn file_bytes(&mut self, alloc: Global) -> Result<Bytes, LineFault>
-        ensures { Takes (word_read field.Content) self.old self.new result }
+        ensures { Takes (word_read Field.Content) self.old self.new result }
     {
         content_in(alloc, self.next()?)
     }
 
     /// The content of a file.
     pub fn content(&mut self, alloc: Global) -> Result<Content, LineFault>
-        ensures { Takes (word_read field.Content) self.old self.new result }
+        ensures { Takes (word_read Field.Content) self.old self.new result }
     {
-        let bytes = self.file_bytes(alloc)?;
-        match Content::new(bytes.into_vec()) {
-            Ok(content) => Ok(content),
-            Err(_) => Err(LineFault::Refused),
-        }
+        let content = Content::new(self.file_bytes(alloc)?.into_vec());
+        content.ok().ok_or(LineFault::Refused)
     }
 
     /// The letters of a state in the order R, W, H, or `none`. Mostly they end the line.
     #[tactic(auto, using(crate::proofs::Heads::last_state))]
     pub fn state(&mut self) -> Result<LeaseState, LineFault>
-        ensures { Takes (word_read field.State) self.old self.new result }
+        ensures { Takes (word_read Field.State) self.old self.new result }
     {
         if let Some(rest) = self.rest
             && let Some(state) = state_in(rest)
@@ -196,56 +189,56 @@ impl<'a> Fields<'a> {
 
     /// What an open may do: `r`, `w` or `rw`.
     pub fn access(&mut self) -> Result<Access, LineFault>
-        ensures { Takes (word_read field.Access) self.old self.new result }
+        ensures { Takes (word_read Field.Access) self.old self.new result }
     {
         access_in(self.next()?).ok_or(LineFault::Refused)
     }
 
     /// The rules of a server: `by-client` or `by-key`, a comma, and `as-free` or `whole`.
     pub fn rules(&mut self) -> Result<Rules, LineFault>
-        ensures { Takes (word_read field.Rules) self.old self.new result }
+        ensures { Takes (word_read Field.Rules) self.old self.new result }
     {
         rules_in(self.next()?).ok_or(LineFault::Refused)
     }
 
     /// What an open lets others do: `-`, `r`, `w` or `rw`.
     pub fn share(&mut self) -> Result<Share, LineFault>
-        ensures { Takes (word_read field.Share) self.old self.new result }
+        ensures { Takes (word_read Field.Share) self.old self.new result }
     {
         share_in(self.next()?).ok_or(LineFault::Refused)
     }
 
     /// The way of a write: true where it is buffered.
     pub fn way(&mut self) -> Result<bool, LineFault>
-        ensures { Takes (word_read field.Way) self.old self.new result }
+        ensures { Takes (word_read Field.Way) self.old self.new result }
     {
         way_in(self.next()?).ok_or(LineFault::Refused)
     }
 
     /// What became of a write.
     pub fn outcome(&mut self) -> Result<Settlement, LineFault>
-        ensures { Takes (word_read field.Outcome) self.old self.new result }
+        ensures { Takes (word_read Field.Outcome) self.old self.new result }
     {
         outcome_in(self.next()?).ok_or(LineFault::Refused)
     }
 
     /// A GUID as 32 digits, hyphenated, in braces or as a URN.
     pub fn guid(&mut self) -> Result<[u8; 16], LineFault>
-        ensures { Takes (word_read field.Guid) self.old self.new result }
+        ensures { Takes (word_read Field.Guid) self.old self.new result }
     {
         guid_in(self.next()?).ok_or(LineFault::Refused)
     }
 
     /// An acknowledgment's 36 bytes.
     pub fn message(&mut self) -> Result<[u8; 36], LineFault>
-        ensures { Takes (word_read field.Message) self.old self.new result }
+        ensures { Takes (word_read Field.Message) self.old self.new result }
     {
         sized_in(self.next()?).ok_or(LineFault::Refused)
     }
 
     /// A lease key, as the 32 digits of its bytes.
     pub fn key(&mut self) -> Result<LeaseKey, LineFault>
-        ensures { Takes (word_read field.Key) self.old self.new result }
+        ensures { Takes (word_read Field.Key) self.old self.new result }
     {
         let key = sized_in(self.next()?).ok_or(LineFault::Refused)?;
         Ok(LeaseKey(key))
@@ -253,14 +246,14 @@ impl<'a> Fields<'a> {
 
     /// A lease break notification's 44 bytes.
     pub fn notification(&mut self) -> Result<[u8; 44], LineFault>
-        ensures { Takes (word_read field.Notification) self.old self.new result }
+        ensures { Takes (word_read Field.Notification) self.old self.new result }
     {
         sized_in(self.next()?).ok_or(LineFault::Refused)
     }
 
     /// A status, by its name or by the eight hexadecimal digits of its number.
     pub fn status(&mut self) -> Result<GivenStatus, LineFault>
-        ensures { Takes (word_read field.Status) self.old self.new result }
+        ensures { Takes (word_read Field.Status) self.old self.new result }
     {
         status_in(self.next()?).ok_or(LineFault::Refused)
     }

@@ -2,8 +2,7 @@
 
 ghost use Rattle.std.specs.Prelude.{◌≡◌, ◌∷◌, [], false, true, MatchOption};
 ghost use Rattle.std.specs.Option.{option_copied, option_map};
-ghost use Rattle.lease_texts.specs.Fields.{ordinal_in};
-ghost use Rattle.lease_texts.specs.Kinds.{begins, one, with_rest};
+ghost use Rattle.lease_texts.specs.{Fields.ordinal_in, Kinds.begins, Kinds.one, Kinds.with_rest};
 ghost use Rattle.lease_texts.specs.Pieces.{all_above, fields_of, pieces_behind};
 
 use crate::pieces::split_first;
@@ -12,6 +11,7 @@ use lease_facts::is;
 
 /// What follows the first field, where that is this word.
 #[inline(always)]
+#[tactic(auto, using(crate::proofs::Heads::first_word))]
 pub(crate) fn after_word<'a>(line: &'a [u8], word: &[u8]) -> Option<Option<&'a [u8]>>
     requires { all_above 32 word.now ≡ true }
     ensures { MatchOption result (begins word.now (fields_of line.now) ≡ false)
@@ -57,6 +57,7 @@ fn any_ordinal(line: &[u8]) -> Option<(u8, Option<&[u8]>)>
 
 /// The first field as the number of a client or of a file, and what follows it. Most are of one digit.
 #[inline(always)]
+#[tactic(auto, using(crate::proofs::Heads::digit_alone, crate::proofs::Heads::digit_first))]
 pub(crate) fn first_ordinal(line: &[u8]) -> Option<(u8, Option<&[u8]>)>
     ensures { one ordinal_in (fields_of line.now)
         ≡ option_map (λ got. (got.0, pieces_behind 32 ([] ∷ []) (option_copied got.1))) result }

@@ -40,10 +40,6 @@ pub enum Field {
 #[derive(Clone, Copy, Debug)]
 pub struct Row(pub &'static str, pub &'static [Field]);
 
-/// A table of kinds, each of which has a name of its own.
+/// A table of kinds, each of which has a name of its own: what is said of a word that is to name one of them, and the kinds.
 #[derive(Clone, Copy, Debug)]
-pub struct Table {
-    /// What is said of a word that is to name one of them.
-    pub word: &'static str,
-    pub rows: &'static [Row],
-}
+pub struct Table(pub &'static str, pub &'static [Row]);

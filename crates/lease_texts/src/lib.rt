@@ -1,10 +1,9 @@
 //! Schedules and records as texts: a line for each event and for each fact.
 //!
-//! `read_schedule` gives the setup and the events of a run, and `push_setup` and `push_event` write
-//! their lines. `read_fact` gives the fact that a line of a record is, and `push_fact` writes that
-//! line. A line is cut into `Fields`, which are read one after the other, as the row of its kind in
-//! a `Table` has them; `complaint_about` says what a line lacks to be one of a table. docs/FORMATS.md
-//! has every line.
+//! `read_schedule` gives the setup and the events of a run, and `push_setup` and `push_event` write their lines. `read_fact`
+//! gives the fact that a line of a record is, and `push_fact` writes that line. A line is cut into `Fields`, which are read one
+//! after the other, as the row of its kind in a `Table` has them; `complaint_about` says what a line lacks to be one of a table.
+//! docs/FORMATS.md has every line.
 #![tactic(auto)]
 
 mod complaints;

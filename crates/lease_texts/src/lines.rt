@@ -1,7 +1,6 @@
 ghost use Rattle.std.specs.Prelude.{◌≡◌, ◌≢◌, ◌∷◌, ◌<◌, ◌≤◌, ℕ, [], length, slice_index, IfSome};
 ghost use Rattle.memchr.specs.Find.{IsFirstByte, is_byte};
-ghost use Rattle.lease_texts.specs.Pieces.{lines_of};
-ghost use Rattle.lease_texts.specs.Reading.{is_passed_over};
+ghost use Rattle.lease_texts.specs.{Pieces.lines_of, Reading.is_passed_over};
 
 use memchr::memchr;
 use std::simd::prelude::*;

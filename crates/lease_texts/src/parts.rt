@@ -1,13 +1,9 @@
 //! The lines of schedules: files, clients, and what happens.
 
-ghost use Rattle.std.specs.Prelude.{◌≡◌, ◌++◌, Some, None, MatchResult, OnOk, drop};
+ghost use Rattle.std.specs.Prelude.{◌≡◌, ◌++◌, OnOk, drop};
 ghost use Rattle.std.specs.String.{string_bytes};
-ghost use Rattle.lease_facts.specs.declared.setup.Event.TheVariants as event;
-ghost use Rattle.lease_texts.specs.Complaints.{part_table, table_of};
-ghost use Rattle.lease_texts.specs.Kinds.{named};
-ghost use Rattle.lease_texts.specs.Lines.{field_read};
-ghost use Rattle.lease_texts.specs.Schedules.{app, event_line, part_in, part_kinds, part_line};
-ghost use Rattle.lease_texts.specs.Takes.{Takes, Reads};
+ghost use Rattle.lease_texts.specs.{Kinds.named, Lines.field_read, Takes.Takes, Takes.Reads, Schedules.app, Schedules.event_line};
+ghost use Rattle.lease_texts.specs.{Schedules.part_in, Schedules.part_kinds, Complaints.part_table, Complaints.table_of};
 
 use crate::fault::LineFault;
 use crate::fields::Fields;
@@ -54,10 +50,7 @@ const PARTS: &[Row] = &[
 pub fn part_table() -> Table
     ensures { table_of result ≡ part_table }
 {
-    Table {
-        word: "a kind of line",
-        rows: PARTS,
-    }
+    Table("a kind of line", PARTS)
 }
 
 // ---- reading
@@ -72,25 +65,17 @@ fn app(client: ClientNo, command: Command) -> Part
 fn read_event(alloc: Global, word: &[u8], fields: &mut Fields) -> Result<Part, LineFault>
     ensures { Takes (named field_read (drop 7 part_kinds) word.now) fields.old fields.new result }
 {
-    if is(word, b"serve") {
-        Ok(Part::Happens(Event::ServerTakes(fields.client()?)))
-    } else if is(word, b"take") {
-        Ok(Part::Happens(Event::ClientTakes(fields.client()?)))
-    } else if is(word, b"cut") {
-        Ok(Part::Happens(Event::Cut(fields.client()?)))
-    } else if is(word, b"notice") {
-        Ok(Part::Happens(Event::Notice(fields.client()?)))
-    } else if is(word, b"connect") {
-        Ok(Part::Happens(Event::Connect(fields.client()?)))
-    } else if is(word, b"expire") {
-        Ok(Part::Happens(Event::Expire(fields.client()?, fields.file()?)))
-    } else if is(word, b"scavenge") {
-        Ok(Part::Happens(Event::Scavenge(fields.client()?, fields.file()?)))
-    } else if is(word, b"raw") {
-        Ok(Part::Happens(Event::Raw(fields.client()?, read_request(alloc, fields)?)))
-    } else {
-        Err(LineFault::Refused)
-    }
+    Ok(Part::Happens(match word {
+        _ if is(word, b"serve") => Event::ServerTakes(fields.client()?),
+        _ if is(word, b"take") => Event::ClientTakes(fields.client()?),
+        _ if is(word, b"cut") => Event::Cut(fields.client()?),
+        _ if is(word, b"notice") => Event::Notice(fields.client()?),
+        _ if is(word, b"connect") => Event::Connect(fields.client()?),
+        _ if is(word, b"expire") => Event::Expire(fields.client()?, fields.file()?),
+        _ if is(word, b"scavenge") => Event::Scavenge(fields.client()?, fields.file()?),
+        _ if is(word, b"raw") => Event::Raw(fields.client()?, read_request(alloc, fields)?),
+        _ => return Err(LineFault::Refused),
+    }))
 }
 
 #[tactic(auto, unfolding(crate::specs::Kinds::named, crate::specs::Kinds::taken))]
@@ -120,10 +105,8 @@ fn read_command(alloc: Global, word: &[u8], fields: &mut Fields) -> Result<Part,
         Ok(app(client, Command::Flush { file }))
     } else if is(word, b"write") {
         let (client, file) = (fields.client()?, fields.file()?);
-        let patch = Patch {
-            offset: fields.offset()?,
-            bytes: fields.bytes(alloc)?,
-        };
+        let (offset, bytes) = (fields.offset()?, fields.bytes(alloc)?);
+        let patch = Patch { offset, bytes };
         Ok(app(client, Command::Write { file, patch }))
     } else {
         read_event(alloc, word, fields)
@@ -135,12 +118,10 @@ fn read_command(alloc: Global, word: &[u8], fields: &mut Fields) -> Result<Part,
 fn read_named(alloc: Global, word: &[u8], fields: &mut Fields) -> Result<Part, LineFault>
     ensures { Takes (named field_read part_kinds word.now) fields.old fields.new result }
 {
-    if is(word, b"file") {
-        Ok(Part::File(fields.content(alloc)?))
-    } else if is(word, b"client") {
-        Ok(Part::Client(fields.guid()?))
-    } else {
-        read_command(alloc, word, fields)
+    match word {
+        _ if is(word, b"file") => Ok(Part::File(fields.content(alloc)?)),
+        _ if is(word, b"client") => Ok(Part::Client(fields.guid()?)),
+        _ => read_command(alloc, word, fields),
     }
 }
 
@@ -164,7 +145,7 @@ pub fn read_part(alloc: Global, line: &[u8]) -> Result<Part, LineFault>
 
 // What an application asks of a client.
 fn push_command(text: &mut String, client: ClientNo, command: &Command) -> Result<(), AllocError>
-    ensures { OnOk result (string_bytes text.new ≡ string_bytes text.old ++ event_line (event.App client command.now)) }
+    ensures { OnOk result (string_bytes text.new ≡ string_bytes text.old ++ event_line (Event.App client command.now)) }
 {
     match command {
         Command::Open {

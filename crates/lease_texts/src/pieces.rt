@@ -1,9 +1,9 @@
-ghost use Rattle.std.specs.Prelude.{◌≡◌, ◌==◌, ◌∷◌, [], List, ℕ};
-ghost use Rattle.std.specs.List.{position};
-ghost use Rattle.std.specs.Option.{option_copied};
+ghost use Rattle.std.specs.Prelude.{◌≡◌, ◌==◌, ◌∷◌, []};
+ghost use Rattle.std.specs.{Option.option_copied, List.position};
 ghost use Rattle.lease_texts.specs.Pieces.{pieces, pieces_behind};
 
 /// What stands before the first separator, and what follows it; all, and nothing, where there is none.
+#[tactic(auto, using(crate::proofs::Cut::separator_at, crate::proofs::Cut::no_separator))]
 pub fn split_first(separator: u8, bytes: &[u8]) -> (&[u8], Option<&[u8]>)
     ensures { pieces separator ([] ∷ []) bytes.now ≡ result.0.now ∷ pieces_behind separator ([] ∷ []) (option_copied result.1) }
 {

@@ -1,6 +1,5 @@
-ghost use Rattle.std.specs.Prelude.{◌≡◌, ◌++◌, ◌∷◌, [], take, codes, OnOk};
-ghost use Rattle.std.specs.List.{flat_map};
-ghost use Rattle.std.specs.String.{string_bytes};
+ghost use Rattle.std.specs.Prelude.{◌≡◌, ◌++◌, [], take, OnOk};
+ghost use Rattle.std.specs.{List.flat_map, String.string_bytes};
 ghost use Rattle.lease_texts.specs.Quoting.{is_plain, escaped, quoted, quoted_end};
 
 use std::alloc::{AllocError, Global};

@@ -2,11 +2,8 @@
 
 ghost use Rattle.std.specs.Prelude.{◌≡◌, ◌++◌, OnOk, codes, false};
 ghost use Rattle.std.specs.String.{string_bytes};
-ghost use Rattle.lease_texts.specs.Complaints.{fact_table, table_of};
-ghost use Rattle.lease_texts.specs.Kinds.{begins, by_name};
-ghost use Rattle.lease_texts.specs.Lines.{field_read};
-ghost use Rattle.lease_texts.specs.Records.{fact_in, fact_kinds, fact_line};
-ghost use Rattle.lease_texts.specs.Takes.{Takes, Reads};
+ghost use Rattle.lease_texts.specs.{Complaints.fact_table, Complaints.table_of, Kinds.begins, Kinds.by_name, Lines.field_read};
+ghost use Rattle.lease_texts.specs.{Records.fact_in, Records.fact_kinds, Records.fact_line, Takes.Takes, Takes.Reads};
 
 use crate::fault::LineFault;
 use crate::fields::Fields;
@@ -38,10 +35,7 @@ const FACTS: &[Row] = &[
 pub fn fact_table() -> Table
     ensures { table_of result ≡ fact_table }
 {
-    Table {
-        word: "a kind of fact",
-        rows: FACTS,
-    }
+    Table("a kind of fact", FACTS)
 }
 
 // ---- reading

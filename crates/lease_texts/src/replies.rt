@@ -1,12 +1,9 @@
 //! Messages of the server as words.
 
-ghost use Rattle.std.specs.Prelude.{◌≡◌, ◌++◌, Some, None, MatchResult, OnOk, drop};
+ghost use Rattle.std.specs.Prelude.{◌≡◌, ◌++◌, None, OnOk, drop};
 ghost use Rattle.std.specs.String.{string_bytes};
-ghost use Rattle.lease_texts.specs.Complaints.{reply_table, table_of};
-ghost use Rattle.lease_texts.specs.Kinds.{named, word_read};
-ghost use Rattle.lease_texts.specs.Replies.{arrival_in, reply_kinds, reply_said};
-ghost use Rattle.lease_texts.specs.Requests.{plain_text};
-ghost use Rattle.lease_texts.specs.Takes.{Takes};
+ghost use Rattle.lease_texts.specs.{Kinds.named, Kinds.word_read, Requests.plain_text, Takes.Takes, Replies.arrival_in};
+ghost use Rattle.lease_texts.specs.{Replies.reply_kinds, Replies.reply_said, Complaints.reply_table, Complaints.table_of};
 
 use crate::fault::LineFault;
 use crate::fields::Fields;
@@ -45,10 +42,7 @@ const REPLIES: &[Row] = &[
 pub fn reply_table() -> Table
     ensures { table_of result ≡ reply_table }
 {
-    Table {
-        word: "a message of the server",
-        rows: REPLIES,
-    }
+    Table("a message of the server", REPLIES)
 }
 
 // A message, with the number of a status that the rules don't have.
@@ -90,14 +84,12 @@ fn read_written(word: &[u8], fields: &mut Fields) -> Result<Arrival, LineFault>
     } else if is(word, b"writefailed") {
         let (fid, number) = (fields.file_id()?, fields.number()?);
         let GivenStatus { status, other } = fields.status()?;
-        Ok(given(
-            other,
-            Reply::WriteFailed {
-                fid,
-                number,
-                status,
-            },
-        ))
+        let failure = Reply::WriteFailed {
+            fid,
+            number,
+            status,
+        };
+        Ok(given(other, failure))
     } else {
         read_later(word, fields)
     }
@@ -110,14 +102,12 @@ fn read_named(alloc: Global, word: &[u8], fields: &mut Fields) -> Result<Arrival
 {
     if is(word, b"created") {
         let (file, fid, contexts) = (fields.file()?, fields.file_id()?, fields.bytes(alloc)?);
-        Ok(given(
-            None,
-            Reply::Created {
-                file,
-                fid,
-                contexts,
-            },
-        ))
+        let created = Reply::Created {
+            file,
+            fid,
+            contexts,
+        };
+        Ok(given(None, created))
     } else if is(word, b"createfailed") {
         let (file, GivenStatus { status, other }) = (fields.file()?, fields.status()?);
         Ok(given(other, Reply::CreateFailed { file, status }))

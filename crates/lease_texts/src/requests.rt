@@ -1,11 +1,9 @@
 //! Requests in a client's name as words, after the client.
 
-ghost use Rattle.std.specs.Prelude.{◌≡◌, ◌++◌, Some, None, MatchResult, OnOk};
+ghost use Rattle.std.specs.Prelude.{◌≡◌, ◌++◌, OnOk};
 ghost use Rattle.std.specs.String.{string_bytes};
-ghost use Rattle.lease_texts.specs.Complaints.{request_table, table_of};
-ghost use Rattle.lease_texts.specs.Kinds.{named, word_read};
+ghost use Rattle.lease_texts.specs.{Complaints.request_table, Complaints.table_of, Kinds.named, Kinds.word_read, Takes.Takes};
 ghost use Rattle.lease_texts.specs.Requests.{plain_text, request_in, request_kinds, request_said};
-ghost use Rattle.lease_texts.specs.Takes.{Takes};
 
 use crate::fault::LineFault;
 use crate::fields::Fields;
@@ -28,10 +26,7 @@ const REQUESTS: &[Row] = &[
 pub fn request_table() -> Table
     ensures { table_of result ≡ request_table }
 {
-    Table {
-        word: "a request",
-        rows: REQUESTS,
-    }
+    Table("a request", REQUESTS)
 }
 
 #[tactic(auto, unfolding(crate::specs::Kinds::named, crate::specs::Kinds::taken))]

@@ -1,14 +1,10 @@
 //! Lines that are written: a word, and what the fields after it hold.
 
-ghost use Rattle.std.specs.Prelude.{◌≡◌, ◌++◌, ◌∷◌, [], OnOk, map, codes};
-ghost use Rattle.std.specs.String.{string_bytes};
-ghost use Rattle.hex.specs.Hex.{encode_lower};
-ghost use Rattle.uuid.specs.Text.{hyphenated_text, lower};
-ghost use Rattle.lease_texts.specs.Kinds.{line};
-ghost use Rattle.lease_texts.specs.Lines.{line_text};
-ghost use Rattle.lease_texts.specs.Requests.{plain_text};
-ghost use Rattle.lease_texts.specs.Words.{digits_word};
+ghost use Rattle.std.specs.Prelude.{◌≡◌, ◌++◌, ◌∷◌, [], OnOk, map};
+ghost use Rattle.lease_texts.specs.{Kinds.line, Lines.line_text, Requests.plain_text, Words.digits_word};
 ghost use Rattle.lease_texts.specs.Written.{said_text, said_word, spoken_of, texts_behind, words_behind};
+ghost use Rattle.hex.specs.Hex.{encode_lower};
+ghost use Rattle.{std.specs.String.string_bytes, uuid.specs.Text.hyphenated_text, uuid.specs.Text.lower};
 
 use crate::replies::push_reply;
 use crate::requests::push_request;
@@ -91,10 +87,11 @@ fn push_guid(text: &mut String, guid: &[u8; 16]) -> Result<(), AllocError>
     text.push_str(digits)
 }
 
-// The word of a field that takes one.
-fn push_word(text: &mut String, said: &Said<'_>) -> Result<(), AllocError>
-    ensures { OnOk result (string_bytes text.new ≡ string_bytes text.old ++ said_word said.now) }
+// The word of a field that takes one, behind a space.
+fn push_plain_field(text: &mut String, said: &Said<'_>) -> Result<(), AllocError>
+    ensures { OnOk result (string_bytes text.new ≡ string_bytes text.old ++ 32 ∷ said_word said.now) }
 {
+    text.push_str(" ")?;
     match said {
         Said::Client(client) => push_number(text, u64::from(client.0)),
         Said::File(file) => push_number(text, u64::from(file.0)),
@@ -114,13 +111,6 @@ fn push_word(text: &mut String, said: &Said<'_>) -> Result<(), AllocError>
         Said::Status(status) => text.push_str(status_word(*status)),
         Said::Durable(_) | Said::Request(_) | Said::Reply(_) => Ok(()),
     }
-}
-
-fn push_plain_field(text: &mut String, said: &Said<'_>) -> Result<(), AllocError>
-    ensures { OnOk result (string_bytes text.new ≡ string_bytes text.old ++ 32 ∷ said_word said.now) }
-{
-    text.push_str(" ")?;
-    push_word(text, said)
 }
 
 fn push_plain_fields(text: &mut String, said: &[Said<'_>]) -> Result<(), AllocError>

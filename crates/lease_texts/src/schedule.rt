@@ -1,12 +1,9 @@
 //! Whole schedules: the setup of a run, and its events.
 
-ghost use Rattle.std.specs.Prelude.{◌≡◌, ◌⊎◌, ◌+◌, ◌++◌, Some, None, Ok, Err, [], MatchResult, OnOk, length, ℕ};
-ghost use Rattle.std.specs.List.{flat_map};
-ghost use Rattle.std.specs.String.{string_bytes};
-ghost use Rattle.lease_texts.specs.Drafts.{draft_of, RefusesLine};
-ghost use Rattle.lease_texts.specs.Reading.{is_passed_over};
+ghost use Rattle.std.specs.Prelude.{◌≡◌, ◌⊎◌, ◌+◌, ◌++◌, Some, None, Ok, Err, [], MatchResult, OnOk};
+ghost use Rattle.std.specs.{List.flat_map, String.string_bytes};
+ghost use Rattle.lease_texts.specs.{Drafts.draft_of, Drafts.RefusesLine, Reading.is_passed_over};
 ghost use Rattle.lease_texts.specs.Schedules.{part_line, setup_lines, with_part, with_line, schedule_in};
-ghost use Rattle.lease_texts.specs.declared.parts.Part.TheVariants as part;
 
 use crate::fault::{LineFault, TextFault};
 use crate::lines::{first_line, is_passed_over};
@@ -27,13 +24,9 @@ impl Schedule {
     fn new(alloc: Global) -> Schedule
         ensures { draft_of result ≡ record { files = []; clients = []; events = [] } }
     {
-        Schedule {
-            setup: Setup {
-                files: Vec::new(alloc),
-                clients: Vec::new(alloc),
-            },
-            events: Vec::new(alloc),
-        }
+        let (files, clients, events) = (Vec::new(alloc), Vec::new(alloc), Vec::new(alloc));
+        let setup = Setup { files, clients };
+        Schedule { setup, events }
     }
 
     // Files and clients stand before the first event.
@@ -92,7 +85,7 @@ pub fn read_schedule(alloc: Global, text: &[u8]) -> Result<Schedule, TextFault>
 
 fn push_files(text: &mut String, files: &[Content]) -> Result<(), AllocError>
     ensures { OnOk result (string_bytes text.new
-        ≡ string_bytes text.old ++ flat_map (λ content. part_line (part.File content)) files.now) }
+        ≡ string_bytes text.old ++ flat_map (λ content. part_line (Part.File content)) files.now) }
 {
     for content in files {
         line!(text, "file", Content: content.bytes())?;
@@ -102,7 +95,7 @@ fn push_files(text: &mut String, files: &[Content]) -> Result<(), AllocError>
 
 fn push_clients(text: &mut String, guids: &[[u8; 16]]) -> Result<(), AllocError>
     ensures { OnOk result (string_bytes text.new
-        ≡ string_bytes text.old ++ flat_map (λ guid. part_line (part.Client guid)) guids.now) }
+        ≡ string_bytes text.old ++ flat_map (λ guid. part_line (Part.Client guid)) guids.now) }
 {
     for guid in guids {
         line!(text, "client", Guid: guid)?;

@@ -1,7 +1,6 @@
-ghost use Rattle.std.specs.Prelude.{◌≡◌, ◌++◌, Some, None, IfOk, OnOk};
+ghost use Rattle.std.specs.Prelude.{◌≡◌, ◌++◌, Some, None, OnOk};
 ghost use Rattle.std.specs.String.{string_bytes};
 ghost use Rattle.lease_texts.specs.Statuses.{status_word, given_word, status_named, status_numbered, status_in, known_or_other};
-ghost use Rattle.lease_texts.specs.Statuses.{numbered};
 
 use hex::FromHex;
 use lease_facts::is;
@@ -51,29 +50,20 @@ pub fn push_given(text: &mut String, status: Status, other: Option<u32>) -> Resu
 fn status_named(field: &[u8]) -> Option<Status>
     ensures { result ≡ status_named field.now }
 {
-    if is(field, b"STATUS_UNSUCCESSFUL") {
-        Some(Status::Unsuccessful)
-    } else if is(field, b"STATUS_INVALID_PARAMETER") {
-        Some(Status::InvalidParameter)
-    } else if is(field, b"STATUS_ACCESS_DENIED") {
-        Some(Status::AccessDenied)
-    } else if is(field, b"STATUS_OBJECT_NAME_NOT_FOUND") {
-        Some(Status::ObjectNameNotFound)
-    } else if is(field, b"STATUS_SHARING_VIOLATION") {
-        Some(Status::SharingViolation)
-    } else if is(field, b"STATUS_INSUFFICIENT_RESOURCES") {
-        Some(Status::InsufficientResources)
-    } else if is(field, b"STATUS_REQUEST_NOT_ACCEPTED") {
-        Some(Status::RequestNotAccepted)
-    } else if is(field, b"STATUS_FILE_CLOSED") {
-        Some(Status::FileClosed)
-    } else {
-        None
-    }
+    Some(match field {
+        _ if is(field, b"STATUS_UNSUCCESSFUL") => Status::Unsuccessful,
+        _ if is(field, b"STATUS_INVALID_PARAMETER") => Status::InvalidParameter,
+        _ if is(field, b"STATUS_ACCESS_DENIED") => Status::AccessDenied,
+        _ if is(field, b"STATUS_OBJECT_NAME_NOT_FOUND") => Status::ObjectNameNotFound,
+        _ if is(field, b"STATUS_SHARING_VIOLATION") => Status::SharingViolation,
+        _ if is(field, b"STATUS_INSUFFICIENT_RESOURCES") => Status::InsufficientResources,
+        _ if is(field, b"STATUS_REQUEST_NOT_ACCEPTED") => Status::RequestNotAccepted,
+        _ if is(field, b"STATUS_FILE_CLOSED") => Status::FileClosed,
+        _ => return None,
+    })
 }
 
 // The status of a number, where the rules have it.
-#[tactic(auto, unfolding(crate::specs::Statuses::status_numbered))]
 fn status_numbered(number: u32) -> Option<Status>
     ensures { result ≡ status_numbered number }
 {
@@ -90,18 +80,18 @@ fn status_numbered(number: u32) -> Option<Status>
     }
 }
 
+fn given(status: Status, other: Option<u32>) -> GivenStatus
+    ensures { result ≡ record { status = status; other = other } }
+{
+    GivenStatus { status, other }
+}
+
 fn known_or_other(number: u32) -> GivenStatus
     ensures { result ≡ known_or_other number (status_numbered number) }
 {
     match status_numbered(number) {
-        Some(status) => GivenStatus {
-            status,
-            other: None,
-        },
-        None => GivenStatus {
-            status: Status::Unsuccessful,
-            other: Some(number),
-        },
+        Some(status) => given(status, None),
+        None => given(Status::Unsuccessful, Some(number)),
     }
 }
 
@@ -110,13 +100,8 @@ pub(crate) fn status_in(field: &[u8]) -> Option<GivenStatus>
     ensures { result ≡ status_in field.now }
 {
     if let Some(status) = status_named(field) {
-        return Some(GivenStatus {
-            status,
-            other: None,
-        });
+        return Some(given(status, None));
     }
-    match <[u8; 4] as FromHex>::from_hex(field) {
-        Ok(digits) => Some(known_or_other(u32::from_be_bytes(digits))),
-        Err(_) => None,
-    }
+    let digits = <[u8; 4] as FromHex>::from_hex(field).ok()?;
+    Some(known_or_other(u32::from_be_bytes(digits)))
 }

@@ -1,14 +1,11 @@
 //! Words: the value that a word says, and the word that is written for a value.
 
 ghost use Rattle.std.specs.Prelude.{◌≡◌, ◌<◌, ◌≤◌, ◌+◌, ◌++◌, ◌∷◌, [], Some, None, IfOk, OnOk};
-ghost use Rattle.std.specs.Fmt.{decimal};
-ghost use Rattle.std.specs.String.{string_bytes};
-ghost use Rattle.lease_state.specs.State.{state_of};
+ghost use Rattle.std.specs.{Fmt.decimal, String.string_bytes};
 ghost use Rattle.lease_texts.specs.Fields.{number_in, number_after, digit_behind, ordinal_in, offset_in, bytes_in, content_in};
 ghost use Rattle.lease_texts.specs.Fields.{access_in, rules_in, share_in, state_in, way_in, outcome_in, sized_in};
-ghost use Rattle.lease_texts.specs.Takes.{Reads};
 ghost use Rattle.lease_texts.specs.Words.{state_word, digits_word, access_word, share_word, rules_word, outcome_word};
-ghost use Rattle.uuid.specs.Text.{parsed};
+ghost use Rattle.{lease_state.specs.State.state_of, lease_texts.specs.Takes.Reads, uuid.specs.Text.parsed};
 
 use crate::fault::LineFault;
 use hex::{FromHex, FromHexError};
@@ -91,7 +88,7 @@ fn push_digit(text: &mut String, digit: u8) -> Result<(), AllocError>
 }
 
 // The digits of a number. A line has some short ones, and a formatter costs several times what their digits do.
-#[tactic(auto, using(crate::proofs::Digits::decimal_one, crate::proofs::Digits::decimal_last))]
+#[tactic(auto, using(crate::proofs::Values::decimal_one, crate::proofs::Values::decimal_last))]
 pub(crate) fn push_number(text: &mut String, number: u64) -> Result<(), AllocError>
     ensures { OnOk result (string_bytes text.new ≡ string_bytes text.old ++ decimal number) }
 {
@@ -188,16 +185,12 @@ pub(crate) fn access_word(access: Access) -> &'static str
 pub fn rules_in(word: &[u8]) -> Option<Rules>
     ensures { result ≡ rules_in word.now }
 {
-    let (order, rise) = if is(word, b"by-client,as-free") {
-        (Order::ByClient, Rise::AsFree)
-    } else if is(word, b"by-client,whole") {
-        (Order::ByClient, Rise::Whole)
-    } else if is(word, b"by-key,as-free") {
-        (Order::ByKey, Rise::AsFree)
-    } else if is(word, b"by-key,whole") {
-        (Order::ByKey, Rise::Whole)
-    } else {
-        return None;
+    let (order, rise) = match word {
+        _ if is(word, b"by-client,as-free") => (Order::ByClient, Rise::AsFree),
+        _ if is(word, b"by-client,whole") => (Order::ByClient, Rise::Whole),
+        _ if is(word, b"by-key,as-free") => (Order::ByKey, Rise::AsFree),
+        _ if is(word, b"by-key,whole") => (Order::ByKey, Rise::Whole),
+        _ => return None,
     };
     Some(Rules { order, rise })
 }
@@ -238,6 +231,7 @@ pub(crate) fn share_word(share: Share) -> &'static str
 }
 
 // The state of a number up to 7.
+#[tactic(auto, using(crate::proofs::Cut::state_named))]
 fn state_of_wire(bits: u32) -> LeaseState
     requires { bits ≤ 7 }
     ensures { result ≡ record { 0 = bits } }
@@ -245,7 +239,7 @@ fn state_of_wire(bits: u32) -> LeaseState
     LeaseState::from_wire(bits)
 }
 
-#[tactic(auto, unfolding(crate::specs::Fields::state_in))]
+#[tactic(auto, unfolding(crate::specs::Words::of_word))]
 pub(crate) fn state_in(word: &[u8]) -> Option<LeaseState>
     ensures { result ≡ state_in word.now }
 {
@@ -285,12 +279,10 @@ pub fn state_letters(state: LeaseState) -> &'static str
 pub(crate) fn way_in(word: &[u8]) -> Option<bool>
     ensures { result ≡ way_in word.now }
 {
-    if is(word, b"buffered") {
-        Some(true)
-    } else if is(word, b"through") {
-        Some(false)
-    } else {
-        None
+    match word {
+        _ if is(word, b"buffered") => Some(true),
+        _ if is(word, b"through") => Some(false),
+        _ => None,
     }
 }
 
@@ -298,16 +290,12 @@ pub(crate) fn way_in(word: &[u8]) -> Option<bool>
 pub(crate) fn outcome_in(word: &[u8]) -> Option<Settlement>
     ensures { result ≡ outcome_in word.now }
 {
-    if is(word, b"done") {
-        Some(Settlement::Done)
-    } else if is(word, b"failed") {
-        Some(Settlement::Failed)
-    } else if is(word, b"unknown") {
-        Some(Settlement::Unknown)
-    } else if is(word, b"lost") {
-        Some(Settlement::Lost)
-    } else {
-        None
+    match word {
+        _ if is(word, b"done") => Some(Settlement::Done),
+        _ if is(word, b"failed") => Some(Settlement::Failed),
+        _ if is(word, b"unknown") => Some(Settlement::Unknown),
+        _ if is(word, b"lost") => Some(Settlement::Lost),
+        _ => None,
     }
 }
 

@@ -351,11 +351,11 @@ fn one_line_is_read(rt: HostRuntime) -> Result<(), Fail> {
 
 #[test]
 fn tables_have_the_lines_of_their_kinds(rt: HostRuntime) -> Result<(), Fail> {
-    let rows = request_table().rows;
+    let rows = request_table().1;
     assert_eq!(rt; rows.len(), 5);
     assert_eq!(rt; rows[1].0, "read");
     assert_eq!(rt; rows[1].1, [Field::FileId].as_slice());
-    assert_eq!(rt; reply_table().rows.len(), 11);
+    assert_eq!(rt; reply_table().1.len(), 11);
     Ok(())
 }
 

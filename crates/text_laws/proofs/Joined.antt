@@ -1,17 +1,12 @@
 -- In the record of every run what the server gives out names clients that have joined.
 use Rattle.lease_laws.proofs.Words.{◌∙◌, ◌∷◌, ◌≡◌, Bool, EachFact, Event, Fact, FileRequest, Key, List, MayLower, Note, Option}
-use Rattle.lease_laws.proofs.Words.{Setup, Step, World, ℕ, [], after, arith, first_world_under, has_joined, has_key, is_allowed_setup}
-use Rattle.lease_laws.proofs.Words.{is_key, is_start, list_all, refl, reverse_aux, starts_from, stepped_in, subst}
-use Rattle.lease_laws.proofs.Words.{connection_made, sym, true}
-use Rattle.lease_laws.proofs.Words.{commanded, taken, noticed, Rules}
-use Rattle.lease_laws.proofs.records.Runs.{all_starts}
-use Rattle.lease_laws.proofs.server.Lists.{any_has}
-use Rattle.lease_laws.proofs.world.cases.Events.{IsTold}
-use Rattle.lease_coherence.proofs.moves.Deeds.{HasDeeds, IsSource, step_deed}
+use Rattle.lease_laws.proofs.Words.{Setup, Step, World, ℕ, [], after, arith, first_world_under, has_joined, has_key}
+use Rattle.lease_laws.proofs.Words.{is_allowed_setup, is_key, is_start, list_all, refl, reverse_aux, starts_from, stepped_in}
+use Rattle.lease_laws.proofs.Words.{subst, connection_made, sym, true, commanded, taken, noticed, Rules}
+use Rattle.lease_laws.proofs.{records.Runs.all_starts, server.Lists.any_has, world.cases.Events.IsTold}
+use Rattle.lease_coherence.proofs.{moves.Deeds.HasDeeds, moves.Deeds.IsSource, moves.Deeds.step_deed, moves.Frames.stepped_past}
+use Rattle.lease_coherence.proofs.{moves.Ground.ground_carried, moves.Ground.first_ground, records.Later.past_noted}
 use Rattle.lease_coherence.proofs.moves.Events.{Ground, IsMoved, Move, Both, carried_both, runs_have}
-use Rattle.lease_coherence.proofs.moves.Frames.{stepped_past}
-use Rattle.lease_coherence.proofs.moves.Ground.{ground_carried, first_ground}
-use Rattle.lease_coherence.proofs.records.Later.{past_noted}
 use Rattle.lease_coherence.proofs.wellformed.WellFormed.{IsWell, well_moves, first_well}
 
 unfoldable pub is_joined : Fact → List Fact → Bool
@@ -74,10 +69,7 @@ noted_joined : (client : ℕ) (past : List Fact) (notes : List Note) → EachFac
     → EachFact Joined (past_noted client past notes)
 unfolding is_joined
 noted_joined client past [] h = h
-noted_joined client past (Note.Settled number outcome ∷ notes) h = noted_joined client _ notes (refl, h)
-noted_joined client past (Note.Wrote file number patch buffered ∷ notes) h = noted_joined client _ notes (refl, h)
-noted_joined client past (Note.Believes file state ∷ notes) h = noted_joined client _ notes (refl, h)
-noted_joined client past (Note.CachedRead file bytes ∷ notes) h = noted_joined client _ notes (refl, h)
+noted_joined client past (note ∷ notes) h = noted_joined client _ notes (grind arith, h)
 
 stepped_joined : (world : World) (client : ℕ) (step : Step) → HasJoined world → HasJoined (stepped_in world client step)
 stepped_joined world client step h =

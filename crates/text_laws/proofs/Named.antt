@@ -1,14 +1,14 @@
 -- In the record of every run the clients that its facts name, but for what the server gives out, are numbered from 1, and so are
 -- the files that it starts, none longer than a file may be.
 use Rattle.lease_laws.proofs.Words.{◌&&◌, ◌+◌, ◌∷◌, ◌≡◌, Bool, Call, Event, Fact, Link, List, None, Note, Option, Out, Progress}
-use Rattle.lease_laws.proofs.Words.{Setup, Some, Step, World, ℕ, [], after, all_delivered, arith, delivered, first_world_under}
-use Rattle.lease_laws.proofs.Words.{happened, is_allowed_setup, is_content, list_all, nat_le, nat_tests, noted, put, refl}
-use Rattle.lease_laws.proofs.Words.{requests_sent, reverse_aux, served, starts_from, stepped_in, true}
-use Rattle.lease_laws.proofs.Words.{client_called, ClientCall, Rules}
-use Rattle.lease_facts.specs.Facts.{client_about}
+use Rattle.lease_laws.proofs.Words.{Setup, Some, Step, World, ℕ, [], after, all_delivered, arith, delivered, fact_of}
+use Rattle.lease_laws.proofs.Words.{first_world_under, happened, is_allowed_setup, is_content, list_all, nat_le, nat_tests, noted}
+use Rattle.lease_laws.proofs.Words.{put, refl, requests_sent, reverse_aux, served, starts_from, stepped_in, true, client_called}
+use Rattle.lease_laws.proofs.Words.{ClientCall, Rules}
 use Rattle.lease_laws.proofs.server.Lists.{and_parts, and_both}
 use Rattle.lease_laws.proofs.world.cases.Events.{HasForms, IsTold, Keeps, call_served, kept_by_run, link_lost, link_made}
 use Rattle.lease_laws.proofs.world.cases.Events.{reply_off}
+use Rattle.lease_facts.specs.Facts.{client_about}
 
 abbrev pub is_numbered : Option ℕ → Bool
 is_numbered None = true
@@ -39,19 +39,16 @@ all_delivered_named world (out ∷ outs) n = all_delivered_named (delivered worl
 served_named : (world : World) (progress : Progress) → IsNamed world → IsNamed (served world progress)
 served_named world progress n = all_delivered_named (record world { server = progress.server }) progress.outs n
 
+note_named : (client : ℕ) (note : Note) → nat_le 1 client ≡ true → is_named (fact_of client note) ≡ true
+unfolding is_named
+note_named client note some = grind arith
+
 noted_named : (world : World) (client : ℕ) (notes : List Note) → nat_le 1 client ≡ true → IsNamed world
     → IsNamed (noted world client notes)
-unfolding noted is_named
+unfolding noted
 noted_named world client [] some n = n
-noted_named world client (Note.Settled number outcome ∷ notes) some n =
-    noted_named (happened world (Fact.Settled client number outcome)) client notes some (and_both (nat_le 1 client) _ some n)
-noted_named world client (Note.Wrote file number patch buffered ∷ notes) some n =
-    noted_named (happened world (Fact.Wrote client file number patch buffered)) client notes some
-    (and_both (nat_le 1 client) _ some n)
-noted_named world client (Note.Believes file state ∷ notes) some n =
-    noted_named (happened world (Fact.Believes client file state)) client notes some (and_both (nat_le 1 client) _ some n)
-noted_named world client (Note.CachedRead file bytes ∷ notes) some n =
-    noted_named (happened world (Fact.CachedRead client file bytes)) client notes some (and_both (nat_le 1 client) _ some n)
+noted_named world client (note ∷ notes) some n =
+    noted_named (happened world (fact_of client note)) client notes some (and_both _ _ (note_named client note some) n)
 
 stepped_named : (world : World) (client : ℕ) (step : Step) → nat_le 1 client ≡ true → IsNamed world
     → IsNamed (stepped_in world client step)
@@ -95,22 +92,19 @@ starts_named : (file : ℕ) (files : List (List ℕ)) → nat_le 1 file ≡ true
 unfolding starts_from is_named
 starts_named file [] some fit = refl
 starts_named file (bytes ∷ files) some fit =
-    let parts = and_parts (is_content bytes) (list_all is_content files) fit in
-    let next : nat_le 1 (file + 1) ≡ true = grind (arith, nat_tests) in
-    and_both _ _ (and_both _ _ some parts.0) (starts_named (file + 1) files next parts.1)
+    let later = starts_named (file + 1) files (grind (arith, nat_tests)) (grind (arith, fit)) in grind (arith, some, fit)
 
-reversed_named : (facts others : List Fact) → list_all is_named facts ≡ true → list_all is_named others ≡ true
-    → list_all is_named (reverse_aux facts others) ≡ true
-reversed_named [] others all more = more
-reversed_named (fact ∷ facts) others all more =
-    let parts = and_parts (is_named fact) (list_all is_named facts) all in
-    reversed_named facts (fact ∷ others) parts.1 (and_both _ _ parts.0 more)
+pub all_reversed : (test : Fact → Bool) (facts others : List Fact) → list_all test facts ≡ true → list_all test others ≡ true
+    → list_all test (reverse_aux facts others) ≡ true
+all_reversed test [] others all more = more
+all_reversed test (fact ∷ facts) others all more =
+    all_reversed test facts (fact ∷ others) (grind (arith, all)) (grind (arith, all, more))
 
 first_named : (rules : Rules) (setup : Setup) → is_allowed_setup setup ≡ true → IsNamed (first_world_under rules setup)
 unfolding first_world_under is_allowed_setup
 first_named rules setup allowed =
     let fit = (and_parts _ _ (and_parts _ _ (and_parts _ _ allowed).0).0).1 in
-    reversed_named (starts_from 1 setup.files) [] (starts_named 1 setup.files refl fit) refl
+    all_reversed is_named (starts_from 1 setup.files) [] (starts_named 1 setup.files refl fit) refl
 
 pub run_named : (rules : Rules) (setup : Setup) (events : List Event) → is_allowed_setup setup ≡ true
     → list_all is_named (after (first_world_under rules setup) events).past ≡ true

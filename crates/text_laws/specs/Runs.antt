@@ -1,28 +1,20 @@
 -- Records of runs as texts: what a run is printed as is read as its record, and judged to be safe.
 use Rattle.std.specs.Prelude.{◌≡◌, ◌++◌, ◌<◌, ◌^◌, ⊤, ℕ, true, map, List, Ok}
-use Rattle.hex.specs.Hex.{IsBytes}
-use Rattle.lease_state.specs.declared.rules.Rules.{Rules}
 use Rattle.lease_model.specs.records.Verdict.{Verdict, verdict}
-use Rattle.lease_model.specs.world.Allowed.{is_allowed_setup}
-use Rattle.lease_model.specs.world.Events.{Event, recorded_under}
-use Rattle.lease_model.specs.world.World.{Setup}
-use Rattle.lease_facts.specs.Facts.{fact_of}
-use Rattle.lease_facts.specs.declared.fact.Fact.{Fact}
-use Rattle.lease_texts.specs.Kinds.{Value}
-use Rattle.lease_texts.specs.Remarks.{safe_end}
+use Rattle.lease_model.specs.world.{Allowed.is_allowed_setup, Events.Event, Events.recorded_under, World.Setup}
+use Rattle.lease_facts.specs.{Facts.fact_of, declared.fact.Fact.Fact}
+use Rattle.lease_texts.specs.{Kinds.Value, Remarks.safe_end, Tables.Each, declared.kinds.Field.Field}
 use Rattle.lease_texts.specs.Records.{fact_said, record_text, record_in}
-use Rattle.lease_texts.specs.Tables.{Each}
-use Rattle.lease_texts.specs.declared.kinds.Field.{Field}
-use Rattle.lease_texts.specs.declared.kinds.Field.TheVariants as field
+use Rattle.{hex.specs.Hex.IsBytes, lease_state.specs.declared.rules.Rules.Rules}
 
 -- What the types of a fact's parts give: clients and files are numbers of 8 bits, numbers of writes have 64, offsets 32, bytes 8.
 abbrev pub HasType : (field : Field) → Value field → Type 0
-HasType field.Client client = client.0 < 256
-HasType field.File file = file.0 < 256
-HasType field.Number number = number < 2 ^ 64
-HasType field.Offset offset = offset < 2 ^ 32
-HasType field.Bytes bytes = IsBytes bytes
-HasType field.Content bytes = IsBytes bytes
+HasType Field.Client client = client.0 < 256
+HasType Field.File file = file.0 < 256
+HasType Field.Number number = number < 2 ^ 64
+HasType Field.Offset offset = offset < 2 ^ 32
+HasType Field.Bytes bytes = IsBytes bytes
+HasType Field.Content bytes = IsBytes bytes
 HasType other value = ⊤
 
 abbrev pub IsTyped : Fact → Type 0

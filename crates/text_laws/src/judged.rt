@@ -1,10 +1,7 @@
 ghost use Rattle.std.specs.Prelude.{◌≡◌, ◌↔◌, ◌++◌, ◌∷◌, [], true, false, map, codes, Err, IfOk};
-ghost use Rattle.lease_model.specs.world.Allowed.{is_allowed_setup, are_too_many};
-ghost use Rattle.lease_model.specs.world.Events.{recorded, recorded_under};
-ghost use Rattle.lease_facts.specs.Facts.{fact_of};
-ghost use Rattle.lease_facts.specs.Setups.{setup_of, event_of};
-ghost use Rattle.lease_texts.specs.Records.{record_text};
-ghost use Rattle.lease_texts.specs.Remarks.{safe_end};
+ghost use Rattle.lease_model.specs.world.{Allowed.is_allowed_setup, Allowed.are_too_many, Events.recorded, Events.recorded_under};
+ghost use Rattle.lease_facts.specs.{Facts.fact_of, Setups.setup_of, Setups.event_of};
+ghost use Rattle.lease_texts.specs.{Records.record_text, Remarks.safe_end};
 ghost use Rattle.text_laws.specs.Runs.{IsJudgedSafe};
 
 use crate::reading_back::runs_are_read_back;

@@ -1,9 +1,7 @@
-ghost use Rattle.hex.specs.Hex.{IsBytes};
 ghost use Rattle.std.specs.Prelude.{◌<◌, ◌^◌};
-ghost use Rattle.lease_texts.specs.Tables.{Each};
-ghost use Rattle.text_laws.specs.Runs.{IsTyped};
+ghost use Rattle.{text_laws.specs.Runs.IsTyped, hex.specs.Hex.IsBytes, lease_texts.specs.Tables.Each};
 
-use lease_state::{Bytes, ClientNo, FileNo, Patch};
+use lease_state::{Bytes, Patch};
 use lease_world::Fact;
 
 fn are_bytes(items: &[u8])
@@ -24,12 +22,8 @@ fn patch_is_typed(patch: &Patch)
     bytes_are_typed(&patch.bytes);
 }
 
-fn client_is_typed(client: ClientNo)
-    ensures { client.0 < 256 }
-{}
-
-fn file_is_typed(file: FileNo)
-    ensures { file.0 < 256 }
+fn ordinal_is_typed(ordinal: u8)
+    ensures { ordinal < 256 }
 {}
 
 fn number_is_typed(number: u64)
@@ -41,34 +35,34 @@ fn fact_is_typed(fact: &Fact)
 {
     match fact {
         Fact::Start(file, bytes) => {
-            file_is_typed(*file);
+            ordinal_is_typed(file.0);
             bytes_are_typed(bytes);
         }
         Fact::Joined(client)
         | Fact::Dropped(client)
         | Fact::Sent(client)
         | Fact::Took(client)
-        | Fact::Strayed(client) => client_is_typed(*client),
+        | Fact::Strayed(client) => ordinal_is_typed(client.0),
         Fact::Expired(client, file)
         | Fact::Opened(file, client)
         | Fact::Believes(client, file, _) => {
-            client_is_typed(*client);
-            file_is_typed(*file);
+            ordinal_is_typed(client.0);
+            ordinal_is_typed(file.0);
         }
         Fact::Changed(file, client, number, patch) | Fact::Wrote(client, file, number, patch, _) =>
             {
-                file_is_typed(*file);
-                client_is_typed(*client);
+                ordinal_is_typed(file.0);
+                ordinal_is_typed(client.0);
                 number_is_typed(*number);
                 patch_is_typed(patch);
             }
         Fact::Settled(client, number, _) => {
-            client_is_typed(*client);
+            ordinal_is_typed(client.0);
             number_is_typed(*number);
         }
         Fact::CachedRead(client, file, bytes) => {
-            client_is_typed(*client);
-            file_is_typed(*file);
+            ordinal_is_typed(client.0);
+            ordinal_is_typed(file.0);
             are_bytes(bytes.as_slice());
         }
     }

@@ -1,7 +1,7 @@
 ghost use Rattle.std.specs.Prelude.{◌≡◌, ◌++◌, OnOk, map};
 ghost use Rattle.std.specs.String.{string_bytes};
-ghost use Rattle.lease_texts.specs.Complaints.{expected_of, expected_words, field_words, held_words};
-ghost use Rattle.lease_texts.specs.Complaints.{listed, row_of, table_of, table_words};
+ghost use Rattle.lease_texts.specs.Complaints.{expected_of, expected_words, field_words, held_words, listed, row_of, table_of};
+ghost use Rattle.lease_texts.specs.Complaints.{table_words};
 
 use crate::kinds::{Field, Row, Table};
 use crate::replies::reply_table;
@@ -44,9 +44,9 @@ fn push_listed(text: &mut String, rows: &[Row]) -> Result<(), AllocError>
 fn push_table(text: &mut String, table: Table) -> Result<(), AllocError>
     ensures { OnOk result (string_bytes text.new ≡ string_bytes text.old ++ table_words (table_of table)) }
 {
-    text.push_str(table.word)?;
+    text.push_str(table.0)?;
     text.push_str(", which is ")?;
-    push_listed(text, table.rows)
+    push_listed(text, table.1)
 }
 
 // What is held by a field that no table is for.

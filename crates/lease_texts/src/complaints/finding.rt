@@ -1,7 +1,7 @@
-ghost use Rattle.std.specs.Prelude.{◌≡◌, ◌+◌, IfOk, IfErr, MatchResult, is_some, true, false};
+ghost use Rattle.std.specs.Prelude.{◌≡◌, IfOk, IfErr, MatchResult, is_some, true, false};
 ghost use Rattle.std.specs.Option.{option_map};
-ghost use Rattle.lease_texts.specs.Complaints as complaints;
 ghost use Rattle.lease_texts.specs.Complaints.{complaint_of, expected_of, table_of};
+ghost use Rattle.lease_texts.specs.Complaints as complaints;
 
 use crate::complaints::Expected;
 use crate::fault::LineFault;
@@ -35,7 +35,7 @@ pub struct Complaint<'a> {
 fn fields_behind(table: Table, word: &[u8]) -> Option<&'static [Field]>
     ensures { option_map (λ fields. fields.now) result ≡ complaints.fields_behind (table_of table).rows word.now }
 {
-    for row in table.rows {
+    for row in table.1 {
         if is(word, row.0.as_bytes()) {
             return Some(row.1);
         }

@@ -1,7 +1,7 @@
 ghost use Rattle.std.specs.Prelude.{◌≡◌, ◌++◌, ◌∷◌, [], bytes_eq, take, OnOk};
 ghost use Rattle.std.specs.String.{string_bytes};
-ghost use Rattle.lease_texts.specs.Complaints as complaints;
 ghost use Rattle.lease_texts.specs.Complaints.{complaint_of, expected_of};
+ghost use Rattle.lease_texts.specs.Complaints as complaints;
 
 use crate::complaints::{Complaint, Expected};
 use crate::quoting::push_quoted;

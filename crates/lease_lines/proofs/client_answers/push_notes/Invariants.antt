@@ -1,8 +1,6 @@
+use Rattle.std.specs.{List.flat_map, String.string_bytes}
 use Rattle.std.proofs.Common.{◌≡◌, ◌++◌, map}
-use Rattle.std.specs.List.{flat_map}
-use Rattle.std.specs.String.{string_bytes}
-use Rattle.lease_client.specs.Answers.{note_of}
-use Rattle.lease_lines.specs.ClientAnswers.{note_line}
+use Rattle.{lease_lines.specs.ClientAnswers.note_line, lease_client.specs.Answers.note_of}
 use Rattle.lease_lines.proofs.client_answers.push_notes.Given as goal
 
 abbrev pub invariant-loop-note : goal.invariant-loop-note

@@ -1,7 +1,5 @@
 use Rattle.std.proofs.Common.{◌≡◌, ◌++◌, take}
-use Rattle.std.specs.List.{flat_map}
-use Rattle.std.specs.String.{string_bytes}
-use Rattle.lease_lines.specs.ClientAnswers.{request_line}
+use Rattle.{std.specs.List.flat_map, std.specs.String.string_bytes, lease_lines.specs.ClientAnswers.request_line}
 use Rattle.lease_lines.proofs.client_answers.push_requests.Given as goal
 
 abbrev pub invariant-loop-request : goal.invariant-loop-request

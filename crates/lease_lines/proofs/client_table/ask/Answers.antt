@@ -1,6 +1,5 @@
 use Rattle.std.proofs.Common.{ap, sym, ◌∙◌, ◌-◌, slice_index_or}
-use Rattle.std.specs.String.{string_bytes}
-use Rattle.lease_lines.proofs.Places.{has_asked}
+use Rattle.{std.specs.String.string_bytes, lease_lines.proofs.Places.has_asked}
 use Rattle.lease_lines.proofs.client_table.ask.Goals as goal
 
 pub returns : goal.returns

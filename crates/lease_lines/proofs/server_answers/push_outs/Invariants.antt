@@ -1,7 +1,5 @@
 use Rattle.std.proofs.Common.{◌≡◌, ◌++◌}
-use Rattle.std.specs.List.{flat_map}
-use Rattle.std.specs.String.{string_bytes}
-use Rattle.lease_lines.specs.ServerAnswers.{out_line}
+use Rattle.{std.specs.List.flat_map, std.specs.String.string_bytes, lease_lines.specs.ServerAnswers.out_line}
 use Rattle.lease_lines.proofs.server_answers.push_outs.Given as goal
 
 abbrev pub invariant-loop-given : goal.invariant-loop-given

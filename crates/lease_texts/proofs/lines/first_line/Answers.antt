@@ -1,7 +1,6 @@
 use Rattle.std.proofs.Common.{arith, refl, []}
-use Rattle.std.proofs.lemmas.Bool.Decides.{nat_tests}
-use Rattle.lease_texts.specs.Pieces.{pieces}
 use Rattle.lease_texts.proofs.Cut.{pieces_found, lines_whole}
+use Rattle.{std.proofs.lemmas.Bool.Decides.nat_tests, lease_texts.specs.Pieces.pieces}
 use Rattle.lease_texts.proofs.lines.first_line.Goals as goal
 
 pub returns-in-Some-clause-lines : goal.returns-in-Some-clause-lines

@@ -1,6 +1,5 @@
 use Rattle.std.proofs.Common.{◌≡◌, ◌++◌, flat_map, take}
-use Rattle.std.specs.String.{string_bytes}
-use Rattle.lease_texts.specs.Quoting.{escaped}
+use Rattle.{std.specs.String.string_bytes, lease_texts.specs.Quoting.escaped}
 use Rattle.lease_texts.proofs.quoting.push_all_escaped.Given as goal
 
 abbrev pub invariant-loop-byte : goal.invariant-loop-byte

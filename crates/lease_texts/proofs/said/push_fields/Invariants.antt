@@ -1,6 +1,5 @@
 use Rattle.std.proofs.Common.{◌≡◌, ◌++◌, take}
-use Rattle.std.specs.String.{string_bytes}
-use Rattle.lease_texts.specs.Written.{texts_behind}
+use Rattle.{lease_texts.specs.Written.texts_behind, std.specs.String.string_bytes}
 use Rattle.lease_texts.proofs.said.push_fields.Given as goal
 
 abbrev pub invariant-loop-one : goal.invariant-loop-one

@@ -1,7 +1,5 @@
 use Rattle.std.proofs.Common.{◌+◌, sym, ◌∙◌}
-use Rattle.lease_texts.specs.Schedules.{with_line}
-use Rattle.lease_texts.specs.Drafts.{draft_of}
-use Rattle.lease_texts.proofs.Cut.{nothing_left}
+use Rattle.{lease_texts.specs.Schedules.with_line, lease_texts.specs.Drafts.draft_of, lease_texts.proofs.Cut.nothing_left}
 use Rattle.lease_texts.proofs.schedule.read_schedule.Goals as goal
 
 pub returns : goal.returns

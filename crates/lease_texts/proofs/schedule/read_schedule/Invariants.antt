@@ -1,8 +1,5 @@
 use Rattle.std.proofs.Common.{◌≡◌, ◌+◌, ◌≤◌, length}
-use Rattle.lease_texts.specs.Pieces.{lines_of}
-use Rattle.lease_texts.specs.Reading.{reads_on}
-use Rattle.lease_texts.specs.Schedules.{with_line, schedule_in}
-use Rattle.lease_texts.specs.Drafts.{draft_of}
+use Rattle.lease_texts.specs.{Pieces.lines_of, Reading.reads_on, Schedules.with_line, Schedules.schedule_in, Drafts.draft_of}
 use Rattle.lease_texts.proofs.schedule.read_schedule.Given as goal
 
 -- what is left gives the whole
