@@ -1,7 +1,8 @@
 -- Texts of which a beginning was written.
-use Rattle.lease_laws.proofs.Words.{◌++◌, ◌-◌, ◌∙◌, ◌≡◌, ◌⊎◌, Appends, Err, IfSome, List, None, Ok, Option, Result, Some, ℕ, []}
-use Rattle.lease_laws.proofs.Words.{ap, append-nil, append_assoc, arith, drop, inl, inr, length, length-drop, option_map, refl}
-use Rattle.lease_laws.proofs.Words.{string_bytes, subst, sym, take, take_all, unwrap_or}
+use Rattle.lease_laws.proofs.Words.{◌++◌, ◌-◌, ◌∙◌, ◌∷◌, ◌≡◌, ◌==◌, ◌⊎◌, [], ℕ, Appends, Bool, Err, IfSome, List, None, Ok}
+use Rattle.lease_laws.proofs.Words.{Option, Result, Some, ap, append-nil, append_assoc, arith, drop, false, inl, inr, length}
+use Rattle.lease_laws.proofs.Words.{length-drop, option_map, refl, string_bytes, subst, sym, take, take_all, true, true≢false}
+use Rattle.lease_laws.proofs.Words.{unwrap_or}
 use Rattle.std.proofs.lemmas.List.{take-append-drop}
 use Rattle.lease_wire.specs.WireFaults.{message_fault}
 use Rattle.std.proofs.KnownBytes.{Keeps-refl}
@@ -34,6 +35,22 @@ puts_more first old new text left part count n is cut had has = (
       ∙ take-append-drop count left) ∙ is),
   appends_more first old new part (take count left) had has,
 )
+
+abbrev is_nothing : List ℕ → Bool
+is_nothing [] = true
+is_nothing (x ∷ xs) = false
+
+nothing_left : (part left text : List ℕ) → part ++ left ≡ text → text ≡ [] → true ≡ is_nothing left
+nothing_left [] left text is empty = ap is_nothing (sym (is ∙ empty))
+nothing_left (x ∷ xs) left text is empty = absurd (true≢false (ap is_nothing (sym (is ∙ empty))))
+
+something_left : (left : List ℕ) → false ≡ (length left == 0) → is_nothing left ≡ false
+something_left [] more = absurd (true≢false (sym more))
+something_left (x ∷ xs) more = refl
+
+-- of an empty text nothing is left
+pub none_left : {X : Type 0} (part left text : List ℕ) → part ++ left ≡ text → text ≡ [] → false ≡ (length left == 0) → X
+none_left part left text is empty more = absurd (true≢false (nothing_left part left text is empty ∙ something_left left more))
 
 -- a text that is put after another one
 pub puts_behind : {T E : Type 0} (first old new : Option (List ℕ)) (line second : List ℕ) (answer : Result T E)

@@ -1,5 +1,5 @@
 ghost use Rattle.std.specs.Prelude.{◌≡◌, ◌≢◌, ◌≤◌, ◌⊎◌, ◌++◌, ℕ, List, Option, Some, MatchResult, IfSome, IfOk, IfErr, true, false};
-ghost use Rattle.std.specs.Prelude.{OnOk, length, take};
+ghost use Rattle.std.specs.Prelude.{[], IsOk, OnOk, length, take};
 ghost use Rattle.std.specs.String.{string_bytes};
 ghost use Rattle.std.specs.Io.KnownBytes.{Appends, Keeps};
 ghost use Rattle.capture_texts.specs.Captures.{capture_in};
@@ -235,6 +235,7 @@ fn put_some<W: Write>(text: &[u8], out: &mut W) -> Result<usize, Failure>
 // Writes all of a text, or a beginning of it where a write fails.
 pub(crate) fn put<W: Write>(text: &[u8], out: &mut W) -> Result<(), Failure>
     ensures put { Puts (W.contents out.old) (W.contents out.new) text.now result }
+    ensures nothing { text.now ≡ [] → IsOk result }
     ensures failed { IfErr result (λ failure. failure ≡ Failure.Output) }
 {
     let mut left = text;
