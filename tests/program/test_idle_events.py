@@ -154,3 +154,7 @@ def test_random_schedule(number: int, chooser: random.Random, program: str) -> N
 def test_refused_schedule() -> None:
     text = b"file -\nnonsense\n"
     assert run(["replay", "--explain", "-"], text) == run(["replay", "-"], text)
+
+
+def test_empty_schedule() -> None:
+    assert explained("") == "# safe\n"

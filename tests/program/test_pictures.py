@@ -61,6 +61,10 @@ def test_no_record() -> None:
     check_record(b"")
 
 
+def test_empty_lines() -> None:
+    check_record(b"\nstart 1 61\n# said of nothing\n\n# said of it\njoined 1\n\n")
+
+
 def check_schedule(text: bytes, program: str) -> Picture | None:
     drawn, replayed = ran(text, "draw"), ran(text, "replay", "--messages")
     if replayed.status:
