@@ -1,3 +1,5 @@
 pub mod Named
 pub mod Joined
 pub mod Runs
+pub mod OneLine
+pub mod Remarked

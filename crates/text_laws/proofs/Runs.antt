@@ -69,7 +69,7 @@ run_placed rules setup events allowed =
 abbrev lettered : LeaseState → LeaseState
 lettered state = record { 0 = bits_of_state (state_of state) }
 
-abbrev as_lettered : Fact → Fact
+abbrev pub as_lettered : Fact → Fact
 as_lettered (Fact.Believes client file state) = Fact.Believes client file (lettered state)
 as_lettered other = other
 
@@ -88,7 +88,7 @@ all_can [] all typed = tt
 all_can (told ∷ facts) all typed =
     (can_be_told told (grind (arith, all)) typed.0, all_can facts (grind (arith, all)) typed.1)
 
-run_can : (rules : Rules) (setup : Setup) (events : List Event) (facts : List Fact) → AreOfRun rules setup events facts
+pub run_can : (rules : Rules) (setup : Setup) (events : List Event) (facts : List Fact) → AreOfRun rules setup events facts
     → Each CanBeTold (map as_lettered facts)
 run_can rules setup events facts of =
     all_can facts (ap (λ (all : List model.Fact). list_all is_placed all) of.are_recorded ∙ run_placed rules setup events of.is_allowed)
@@ -104,11 +104,11 @@ same_fact (Fact.Believes client file state) =
     ap (λ (same : State). model.Fact.Believes client.0 file.0 same) (letters_same (state_of state))
 same_fact told = refl
 
-same_facts : (facts : List Fact) → map fact_of (map as_lettered facts) ≡ map fact_of facts
+pub same_facts : (facts : List Fact) → map fact_of (map as_lettered facts) ≡ map fact_of facts
 same_facts [] = refl
 same_facts (told ∷ facts) = rw (same_fact told, same_facts facts) refl
 
-same_line : (told : Fact) → fact_line (as_lettered told) ≡ fact_line told
+pub same_line : (told : Fact) → fact_line (as_lettered told) ≡ fact_line told
 unfolding line_text
 same_line (Fact.Believes client file state) =
     ap (λ (same : State). codes "believes" ++ spaced (decimal client.0 ∷ decimal file.0 ∷ state_word same ∷ []) ++ 10 ∷ [])
@@ -138,7 +138,7 @@ runs_back rules setup events facts of = (
   same_facts facts ∙ of.are_recorded,
 )
 
-safe_record : (rules : Rules) (setup : Setup) (events : List Event) (facts : List Fact) → AreOfRun rules setup events facts
+pub safe_record : (rules : Rules) (setup : Setup) (events : List Event) (facts : List Fact) → AreOfRun rules setup events facts
     → (Safe (recorded_under rules setup events)) → Verdict.Safe ≡ verdict (map fact_of (map as_lettered facts))
 safe_record rules setup events facts of safe = sym (ap (λ (all : List model.Fact). verdict all) (same_facts facts ∙ of.are_recorded)
     ∙ safe-verdict (recorded_under rules setup events) safe)

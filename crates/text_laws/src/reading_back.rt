@@ -1,3 +1,4 @@
+ghost use Rattle.text_laws.specs.Remarked.{RemarkedRunsAreJudgedSafe, RemarkedRunsAreReadBack};
 ghost use Rattle.text_laws.specs.Runs.{RunsAreReadBack, RunsAreJudgedSafe, ReplaysAreJudgedSafe};
 
 use lease_coherence::coherent;
@@ -10,6 +11,16 @@ pub fn runs_are_read_back()
     ensures record { RunsAreReadBack }
     ensures safe { RunsAreJudgedSafe }
     ensures replayed { ReplaysAreJudgedSafe }
+{
+    coherent();
+}
+
+/// Comment lines before the facts of a run's record, between them and after them change nothing in what is read, nor in the verdict.
+/// This is said of the same runs. Does nothing.
+#[tactic(auto, using(crate::proofs::Remarked::remarked_back, crate::proofs::Remarked::remarked_safe))]
+pub fn remarks_change_nothing()
+    ensures record { RemarkedRunsAreReadBack }
+    ensures safe { RemarkedRunsAreJudgedSafe }
 {
     coherent();
 }
