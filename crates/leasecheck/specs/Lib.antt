@@ -13,6 +13,7 @@ pub mod Messages
 pub mod Idle
 pub mod Replayed
 pub mod Judging
+pub mod ReplayedSafe
 pub mod Explaining
 pub mod Comments
 pub mod Drawing

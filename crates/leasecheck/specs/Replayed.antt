@@ -23,6 +23,8 @@ use Rattle.lease_state.specs.declared.rules.Rules.{Rules}
 use Rattle.lease_texts.specs.Remarks.{safe_end}
 use Rattle.lease_world.specs.world.Messages.{messages_told_under, speaking}
 use Rattle.lease_texts.specs.Pieces.{lines_of}
+use Rattle.lease_texts.specs.Tables.{Each}
+use Rattle.text_laws.specs.Runs.{IsTyped}
 use Rattle.lease_world.specs.declared.obstacle.Idle as code_idle
 use Rattle.lease_world.specs.world.Obstacles.{Idle, idle_meant, idle_told_under}
 use Rattle.leasecheck.specs.Idle.{event_lines, idle_line, record_told}
@@ -74,9 +76,9 @@ IsToldBy told true rules draft lines facts text = (messages : List Reply) × Are
     × (idle : List code_idle.Idle) × (map idle_meant idle ≡ idle_of rules draft)
     × (text ≡ record_told (idle_line lines) 0 facts messages idle)
 
--- the text is the record of the run of this draft, whose events stand in these lines
+-- the text is the record of the run of this draft, whose events stand in these lines; its facts have the numbers of their types
 abbrev pub Tells : Telling → Rules → Draft → List ℕ → List ℕ → Type 0
-Tells telling rules draft lines text = (facts : List Fact) × (map fact_of facts ≡ record_of rules draft)
+Tells telling rules draft lines text = (facts : List Fact) × (map fact_of facts ≡ record_of rules draft) × Each IsTyped facts
     × IsToldBy telling.messages telling.idle rules draft lines facts text
 
 -- the text is the record of the run that the schedule asks for, the rules where they are others, and that it is safe

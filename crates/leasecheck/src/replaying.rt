@@ -7,6 +7,7 @@ ghost use Rattle.leasecheck.specs.Idle.{event_lines};
 ghost use Rattle.leasecheck.specs.Recording.{facts_told, recorded_text};
 ghost use Rattle.leasecheck.specs.Remarks.{Says, run_remark, schedule_remark};
 ghost use Rattle.leasecheck.specs.Replayed.{Replays, Tells, RefusesReplay, RefusesRun, run_failure};
+ghost use Rattle.leasecheck.specs.ReplayedSafe.{ReplaysAreReadBack, ReplaysAreSafe};
 
 use crate::failure::Failure;
 use crate::idle::{event_lines, unsaid_is_plain};
@@ -17,6 +18,7 @@ use lease_state::{Reply, Rules};
 use lease_texts::{Schedule, TextFault, read_schedule};
 use lease_world::{RunFault, run_explained_under, run_under, run_with_messages_under};
 use std::alloc::Global;
+use text_laws::{facts_are_typed, remarks_change_nothing};
 
 pub(crate) fn not_run(fault: RunFault) -> Failure
     ensures { result ≡ run_failure fault }
@@ -57,6 +59,7 @@ fn ran_alone(alloc: Global, rules: Rules, schedule: &Schedule) -> Result<Record,
 {
     match run_under(alloc, rules, &schedule.setup, schedule.events.as_slice()) {
         Ok(facts) => {
+            facts_are_typed(facts.as_slice());
             Ok(Record {
                 facts,
                 messages: Vec::new(alloc),
@@ -78,6 +81,7 @@ fn ran_with_messages(alloc: Global, rules: Rules, schedule: &Schedule) -> Result
 {
     match run_with_messages_under(alloc, rules, &schedule.setup, schedule.events.as_slice()) {
         Ok((facts, messages)) => {
+            facts_are_typed(facts.as_slice());
             Ok(Record {
                 facts,
                 messages,
@@ -112,6 +116,7 @@ fn ran_explained(
 {
     match run_explained_under(alloc, rules, &schedule.setup, schedule.events.as_slice()) {
         Ok(told) => {
+            facts_are_typed(told.facts.as_slice());
             Ok(Record {
                 facts: told.facts,
                 messages: asked_for(alloc, messages, told.messages),
@@ -151,9 +156,18 @@ fn schedule_of(alloc: Global, text: &[u8]) -> Result<Schedule, Refusal>
     }
 }
 
+/// What is printed of a run, with its messages and the events that did nothing or without them, is read as the record of that run,
+/// and the verdict on it is that it is safe. Does nothing.
+pub fn replays_are_safe()
+    ensures record { ReplaysAreReadBack }
+    ensures safe { ReplaysAreSafe }
+{
+    remarks_change_nothing();
+}
+
 /// What `leasecheck replay` prints for the text of a schedule: the record of its run with a server of these rules, with its
-/// messages where they are asked for, and the events that did nothing where these are. It is safe, by the contract of the run,
-/// and isn't judged once more.
+/// messages where they are asked for, and the events that did nothing where these are. It is safe, as `replays_are_safe` says, and
+/// isn't judged once more.
 ///
 /// # Errors
 ///
@@ -171,6 +185,7 @@ pub fn replay(
     ensures said { IfErr result (λ told. Says told (λ failure line. schedule_remark schedule.now failure ≡ Some line)) }
 {
     unsaid_is_plain();
+    replays_are_safe();
     let draft = schedule_of(alloc, schedule)?;
     let lines = lines_asked_for(alloc, telling, schedule)?;
     ran(alloc, telling, rules, &draft, lines)

@@ -367,5 +367,7 @@ fn the_laws_of_lines_do_nothing(_rt: HostRuntime) -> Result<(), Fail> {
     lease_texts::lines_are_read_back();
     lease_texts::records_are_read_back();
     lease_texts::schedules_are_read_back();
+    text_laws::runs_are_read_back();
+    text_laws::remarks_change_nothing();
     Ok(())
 }

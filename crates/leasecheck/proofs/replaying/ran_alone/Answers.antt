@@ -10,6 +10,7 @@ pub returns-in-Ok-clause-told : goal.returns-in-Ok-clause-told
 returns-in-Ok-clause-told c = λ lines. (
   c.in-Ok.facts.items,
   search rules,
+  search rules,
   ap₂ (λ (ms : List Reply) (js : List Idle). record_told (idle_line c.new-in-Ok.result.items) 0 c.in-Ok.facts.items ms js)
       c.new.ensures.items c.new-in-Ok-2.ensures.items
       ∙ (none_idle (idle_line c.new-in-Ok.result.items) 0 c.in-Ok.facts.items [] ∙ told_alone c.in-Ok.facts.items),

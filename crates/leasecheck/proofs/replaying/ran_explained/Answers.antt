@@ -7,6 +7,7 @@ pub returns-in-Ok-clause-told : goal.returns-in-Ok-clause-told
 returns-in-Ok-clause-told c = (
   c.in-Ok.told.facts.items,
   search rules,
+  search rules,
   told_explained c.args.messages c.args.rules (draft_of c.args.schedule.now) c.args.lines.items c.in-Ok.told.facts.items
       c.asked_for.result.items c.in-Ok.told.messages.items c.in-Ok.told.idle.items c.asked_for.ensures
       (search rules) (search rules) (search rules),

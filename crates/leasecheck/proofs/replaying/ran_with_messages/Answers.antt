@@ -8,6 +8,7 @@ pub returns-in-Ok-clause-told : goal.returns-in-Ok-clause-told
 returns-in-Ok-clause-told c = λ lines. (
   c.in-Ok.facts.items,
   search rules,
+  search rules,
   (
     c.in-Ok.messages.items,
     (search rules, search rules),
