@@ -113,6 +113,27 @@ def test_epochs(side: str, program: str) -> None:
     assert breaks[2] in said and set(said) <= set(breaks[1:])
 
 
+def kind_of(line: str) -> str:
+    """What a line below the verdict tells of."""
+    if line.startswith("file "):
+        return "file"
+    if ": not judged" in line:
+        return "client"
+    return "epoch" if ", epoch " in line else "counts"
+
+
+@SIDES
+def test_the_order_of_what_is_found(side: str, program: str) -> None:
+    """Where something is missing at the end of each connection, there are lines of all four kinds."""
+    lines = of_kept("smbtorture_v2_leases", [])
+    frames = [line.split(" ") for line in lines.splitlines() if line.startswith("frame ")]
+    [_, packet, time, *_] = frames[-1]
+    gaps = "".join(f"gap {packet} {time} {connection}\n" for connection in sorted({it[3] for it in frames}))
+    kinds = [kind_of(line) for line in judged(program, lines + gaps, side).said[1:]]
+    assert list(dict.fromkeys(kinds)) == ["file", "client", "epoch", "counts"]
+    assert kinds == sorted(kinds, key=["file", "client", "epoch", "counts"].index)
+
+
 def frames_of(lines: str) -> list[str]:
     """The bytes of the frames."""
     return [line.split(" ")[-1] for line in lines.splitlines() if line.startswith("frame ")]
