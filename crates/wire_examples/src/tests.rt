@@ -5,6 +5,7 @@ mod messages;
 mod records_of_captures;
 mod requests;
 mod walks;
+mod words;
 
 use lease_state::{FileId, LeaseKey, LeaseState};
 use lease_wire::{
