@@ -1,7 +1,7 @@
 -- What is printed of a run is the lines of its facts with comment lines between them, so it is read as its record.
-use Rattle.lease_laws.proofs.Words.{◌&&◌, ◌++◌, ◌+◌, ◌==◌, ◌∙◌, ◌∷◌, ◌≡◌, Bool, List, None, Ok, Option, Result, Some, ℕ, []}
-use Rattle.lease_laws.proofs.Words.{ap, append-nil, append_assoc, arith, codes, decimal, false, flat_map, flat_map-append, if◌then◌else◌, map}
-use Rattle.lease_laws.proofs.Words.{is_allowed_setup, refl, slice_get, subst, sym, true, unwrap_or}
+use Rattle.lease_laws.proofs.Words.{◌++◌, ◌+◌, ◌∙◌, ◌∷◌, ◌≡◌, Bool, List, None, Ok, Result, Some, ℕ, []}
+use Rattle.lease_laws.proofs.Words.{ap, append-nil, append_assoc, arith, codes, decimal, false, flat_map, flat_map-append}
+use Rattle.lease_laws.proofs.Words.{if◌then◌else◌, map, is_allowed_setup, refl, slice_get, subst, sym, true, unwrap_or}
 use Rattle.lease_client.specs.declared.values.command.Refusal.{Refusal}
 use Rattle.lease_facts.specs.declared.fact.Fact.{Fact}
 use Rattle.lease_facts.specs.Setups.{event_of}
@@ -10,16 +10,16 @@ use Rattle.lease_state.specs.declared.number.ClientNo.{ClientNo}
 use Rattle.lease_state.specs.declared.reply.Reply.{Reply}
 use Rattle.lease_state.specs.declared.rules.{Order.Order, Rise.Rise, Rules.Rules}
 use Rattle.lease_texts.specs.{Kinds.Spoken, Kinds.line, Kinds.say, Lines.spoken_words, declared.kinds.Field.Field}
-use Rattle.lease_texts.specs.{Lines.line_text, Records.fact_line, Records.record_text, Remarks.rules_remark, Remarks.safe_end}
+use Rattle.lease_texts.specs.{Lines.line_text, Records.fact_line, Remarks.rules_remark, Remarks.safe_end}
 use Rattle.lease_texts.specs.{Replies.plain, Replies.reply_said, Requests.plain_words, Requests.spaced, Tables.Each}
 use Rattle.lease_texts.specs.Schedules.{Draft}
 use Rattle.lease_world.specs.declared.obstacle.Idle.{Idle}
 use Rattle.lease_world.specs.declared.obstacle.Obstacle.{Obstacle}
-use Rattle.text_laws.specs.Remarked.{AreRemarks, IsRemarked, RemarkedRunsAreJudgedSafe, RemarkedRunsAreReadBack, is_one_line, remark}
-use Rattle.text_laws.specs.Runs.{AreOfRun}
+use Rattle.text_laws.specs.Remarked.{AreRemarks, IsRemarked, RemarkedRunsAreJudgedSafe, RemarkedRunsAreReadBack}
+use Rattle.text_laws.specs.Remarked.{is_one_line, remark}
 use Rattle.text_laws.proofs.OneLine.{decimal_one_line, one_line-append, reply_one_line, spaced_one_line}
 use Rattle.leasecheck.specs.Idle.{idle_before, idle_behind, idle_line, obstacle_words, record_told, refusal_words}
-use Rattle.leasecheck.specs.Messages.{message_before, message_line, messages_behind, record_with_messages}
+use Rattle.leasecheck.specs.Messages.{message_before, message_line, messages_behind}
 use Rattle.leasecheck.specs.Replayed.{IsToldBy, run_refusal, setup_of}
 use Rattle.leasecheck.specs.ReplayedSafe.{ReplaysAreReadBack, ReplaysAreSafe}
 use Rattle.leasecheck.specs.declared.failure.Failure.{Failure}
@@ -43,7 +43,8 @@ both_remarked : (first second : List ℕ) → AreRemarks first → AreRemarks se
 both_remarked first second (words, each, is) (more, also, are) = (
   words ++ more,
   each_both words more each also,
-  ap (λ (t : List ℕ). t ++ second) is ∙ (ap (λ (t : List ℕ). flat_map remark words ++ t) are ∙ sym (flat_map-append remark words more)),
+  ap (λ (t : List ℕ). t ++ second) is
+      ∙ (ap (λ (t : List ℕ). flat_map remark words ++ t) are ∙ sym (flat_map-append remark words more)),
 )
 
 -- ---- messages

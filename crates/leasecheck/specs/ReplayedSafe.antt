@@ -1,5 +1,5 @@
 -- What is printed of a run is a record that is safe, whatever else is told in it.
-use Rattle.std.specs.Prelude.{◌≡◌, ℕ, map, List, Option, None, Ok}
+use Rattle.std.specs.Prelude.{◌≡◌, ℕ, map, List, None, Ok}
 use Rattle.lease_facts.specs.Facts.{fact_of}
 use Rattle.lease_facts.specs.declared.fact.Fact.{Fact}
 use Rattle.lease_state.specs.declared.rules.Rules.{Rules}
@@ -10,8 +10,8 @@ use Rattle.leasecheck.specs.Judging.{IsVerdictOn}
 use Rattle.leasecheck.specs.Replayed.{Replays, record_of, replay_refusal}
 use Rattle.leasecheck.specs.declared.tasks.Telling.{Telling}
 
--- What is printed for a schedule that isn't refused is read as the record of the run that it asks for: what is told of messages and
--- of events that did nothing changes nothing in that.
+-- What is printed for a schedule that isn't refused is read as the record of the run that it asks for: what is told of messages
+-- and of events that did nothing changes nothing in that.
 abbrev pub ReplaysAreReadBack : Type 0
 ReplaysAreReadBack = (telling : Telling) (rules : Rules) (schedule text : List ℕ) → replay_refusal schedule ≡ None
     → Replays telling rules schedule text

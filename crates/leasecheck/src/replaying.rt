@@ -156,8 +156,8 @@ fn schedule_of(alloc: Global, text: &[u8]) -> Result<Schedule, Refusal>
     }
 }
 
-/// What is printed of a run, with its messages and the events that did nothing or without them, is read as the record of that run,
-/// and the verdict on it is that it is safe. Does nothing.
+/// What is printed of a run, with its messages and the events that did nothing or without them, is read as the record of that
+/// run, and the verdict on it is that it is safe. Does nothing.
 pub fn replays_are_safe()
     ensures record { ReplaysAreReadBack }
     ensures safe { ReplaysAreSafe }
@@ -166,8 +166,8 @@ pub fn replays_are_safe()
 }
 
 /// What `leasecheck replay` prints for the text of a schedule: the record of its run with a server of these rules, with its
-/// messages where they are asked for, and the events that did nothing where these are. It is safe, as `replays_are_safe` says, and
-/// isn't judged once more.
+/// messages where they are asked for, and the events that did nothing where these are. It is safe, as `replays_are_safe` says,
+/// and isn't judged once more.
 ///
 /// # Errors
 ///

@@ -6,7 +6,8 @@ use Rattle.lease_facts.specs.declared.fact.Fact.{Fact}
 use Rattle.lease_texts.specs.{Pieces.pieces, Pieces.longer, Pieces.lines_of, Reading.reads_on, Tables.Each}
 use Rattle.lease_texts.specs.{Laws.CanBeTold, Records.fact_line, Records.with_fact, Records.with_line}
 use Rattle.{lease_texts.proofs.Rows.facts_back, lease_coherence.specs.Parts.EveryRunIsSafe}
-use Rattle.text_laws.specs.Remarked.{AreRemarks, IsRemarked, RemarkedRunsAreJudgedSafe, RemarkedRunsAreReadBack, is_one_line, remark}
+use Rattle.text_laws.specs.Remarked.{AreRemarks, IsRemarked, RemarkedRunsAreJudgedSafe, RemarkedRunsAreReadBack}
+use Rattle.text_laws.specs.Remarked.{is_one_line, remark}
 use Rattle.text_laws.proofs.Runs.{as_lettered, run_can, safe_record, same_facts, same_line}
 
 -- ---- comment lines
@@ -29,12 +30,14 @@ remark_passed words one number facts rest =
     ap (λ (text : List ℕ). reads_on with_line number facts (lines_of text)) (append_assoc (35 ∷ words) (10 ∷ []) rest)
     ∙ ap (λ (lines : List (List ℕ)). reads_on with_line number facts lines) (line_first (35 ∷ words) rest (grind (arith, one)))
 
-remarks_passed : (remarks : List (List ℕ)) → Each (λ words. is_one_line words ≡ true) remarks → PassesOver (flat_map remark remarks)
+remarks_passed : (remarks : List (List ℕ)) → Each (λ words. is_one_line words ≡ true) remarks
+    → PassesOver (flat_map remark remarks)
 remarks_passed [] each number facts rest = (number, refl)
 remarks_passed (words ∷ remarks) (one, each) number facts rest =
     let later = remarks_passed remarks each (number + 1) facts rest in (
       later.0,
-      ap (λ (text : List ℕ). reads_on with_line number facts (lines_of text)) (append_assoc (remark words) (flat_map remark remarks) rest)
+      ap (λ (text : List ℕ). reads_on with_line number facts (lines_of text))
+          (append_assoc (remark words) (flat_map remark remarks) rest)
           ∙ (remark_passed words one number facts (flat_map remark remarks ++ rest) ∙ later.1),
     )
 

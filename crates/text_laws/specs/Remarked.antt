@@ -23,7 +23,8 @@ AreRemarks text = (remarks : List (List ℕ)) × Each (λ words. is_one_line wor
 abbrev pub IsRemarked : List Fact → List ℕ → Type 0
 IsRemarked [] text = AreRemarks text
 IsRemarked (fact ∷ facts) text =
-    (remarks : List ℕ) × (rest : List ℕ) × AreRemarks remarks × IsRemarked facts rest × (text ≡ remarks ++ (fact_line fact ++ rest))
+    (remarks : List ℕ) × (rest : List ℕ) × AreRemarks remarks × IsRemarked facts rest
+    × (text ≡ remarks ++ (fact_line fact ++ rest))
 
 -- Such a text of the record of a run is read as the record of that run.
 abbrev pub RemarkedRunsAreReadBack : Type 0

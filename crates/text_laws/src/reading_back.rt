@@ -15,8 +15,8 @@ pub fn runs_are_read_back()
     coherent();
 }
 
-/// Comment lines before the facts of a run's record, between them and after them change nothing in what is read, nor in the verdict.
-/// This is said of the same runs. Does nothing.
+/// Comment lines before the facts of a run's record, between them and after them change nothing in what is read, nor in the
+/// verdict. This is said of the same runs. Does nothing.
 #[tactic(auto, using(crate::proofs::Remarked::remarked_back, crate::proofs::Remarked::remarked_safe))]
 pub fn remarks_change_nothing()
     ensures record { RemarkedRunsAreReadBack }
