@@ -2,6 +2,7 @@ pub mod Changes
 pub mod Enough
 pub mod Laws
 pub mod Outs
+pub mod Refusals
 pub mod SmallSteps
 pub mod StepLaws
 pub mod Waiting

@@ -6,6 +6,7 @@ mod client_laws;
 mod enough_laws;
 mod from_bytes;
 mod past_laws;
+mod refusal_laws;
 mod server_laws;
 mod step_laws;
 mod verdict_law;
@@ -15,6 +16,7 @@ pub use client_laws::clients_are_sound;
 pub use enough_laws::rounds_and_passes_end;
 pub use from_bytes::{bytes_laws, machines_write_bytes, written_is_read};
 pub use past_laws::{contents_of_runs, writes_of_runs};
+pub use refusal_laws::refusals_leave_files_alone;
 pub use server_laws::{
     laws_of_servers, outs_of_calls, waiting_of_servers, waits_of_tries, wants_are_exact,
 };

@@ -16,9 +16,9 @@ use Rattle.lease_laws.proofs.server.cases.Judgements.{any_judgement}
 use Rattle.lease_laws.proofs.server.cases.Tries.{NeedsBreaks, any_break, any_rounds, any_wants, round_ends, round_fails}
 use Rattle.lease_laws.proofs.server.cases.Findings.{finds_close, finds_gone}
 use Rattle.lease_model.specs.server.Calls.{first_tried}
-use Rattle.refusal_laws.specs.Refusals.{NeedsRound, IsClosedByBreak, IsLeftAlone, RefusedAsTheyCome, RefusedOnceTried}
-use Rattle.refusal_laws.specs.Refusals.{ClosesAreRefusedAsTheyCome, RefusedAcknowledgments, passes_behind, CallsRefusedAsTheyCome}
-use Rattle.refusal_laws.specs.Refusals.{CallsOfRefusedAcknowledgments, CallsRefusedOnceTried}
+use Rattle.lease_laws.specs.server.Refusals.{NeedsRound, IsClosedByBreak, IsLeftAlone, RefusedAsTheyCome, RefusedOnceTried}
+use Rattle.lease_laws.specs.server.Refusals.{ClosesAreRefusedAsTheyCome, RefusedAcknowledgments, passes_behind, CallsRefusedAsTheyCome}
+use Rattle.lease_laws.specs.server.Refusals.{CallsOfRefusedAcknowledgments, CallsRefusedOnceTried}
 
 -- ---- what is met
 

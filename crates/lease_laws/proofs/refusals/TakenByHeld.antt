@@ -12,8 +12,8 @@ use Rattle.lease_laws.proofs.server.Lists.{either, clash, among_append, among_be
 use Rattle.lease_laws.proofs.server.cases.Passes.{HasPasses, any_passes, any_try_again}
 use Rattle.lease_laws.proofs.server.cases.Ends.{any_end}
 use Rattle.lease_state.specs.Content.{patch as patched}
-use Rattle.refusal_laws.proofs.Refusing.{tried_alone}
-use Rattle.refusal_laws.specs.Refusals.{IsSameOpen, IsTakenByHeld, IsLeftToHeld, PassesAreOfHeld}
+use Rattle.lease_laws.proofs.refusals.Refusing.{tried_alone}
+use Rattle.lease_laws.specs.server.Refusals.{IsSameOpen, IsTakenByHeld, IsLeftToHeld, PassesAreOfHeld}
 
 -- ---- one after the other
 

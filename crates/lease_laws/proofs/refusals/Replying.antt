@@ -12,9 +12,9 @@ use Rattle.lease_laws.proofs.server.cases.Ends.{any_end}
 use Rattle.lease_laws.proofs.server.cases.Passes.{any_try_again}
 use Rattle.lease_laws.proofs.server.cases.Tries.{any_try}
 use Rattle.lease_model.specs.server.Calls.{first_tried}
-use Rattle.refusal_laws.proofs.Refusing.{same_alone, tried_alone}
-use Rattle.refusal_laws.specs.Refusals.{CallsRefusedByReply, HeldAreRefusedByReply, IsClose, IsClosedByBreak, IsLeftAlone}
-use Rattle.refusal_laws.specs.Refusals.{IsRefused, RefusedByReply}
+use Rattle.lease_laws.proofs.refusals.Refusing.{same_alone, tried_alone}
+use Rattle.lease_laws.specs.server.Refusals.{CallsRefusedByReply, HeldAreRefusedByReply, IsClose, IsClosedByBreak, IsLeftAlone}
+use Rattle.lease_laws.specs.server.Refusals.{IsRefused, RefusedByReply}
 
 -- ---- outs that are no refusal
 

@@ -1,7 +1,7 @@
-use Rattle.refusal_laws.proofs.TakenByHeld as taken
-use Rattle.refusal_laws.proofs.Refusing as refusing
-use Rattle.refusal_laws.proofs.Replying as replying
-use Rattle.refusal_laws.proofs.laws.refusals_leave_files_alone.Goals as goal
+use Rattle.lease_laws.proofs.refusals.TakenByHeld as taken
+use Rattle.lease_laws.proofs.refusals.Refusing as refusing
+use Rattle.lease_laws.proofs.refusals.Replying as replying
+use Rattle.lease_laws.proofs.refusal_laws.refusals_leave_files_alone.Goals as goal
 
 pub returns-clause-as_they_come : goal.returns-clause-as_they_come
 returns-clause-as_they_come c = refusing.refused_as_they_come

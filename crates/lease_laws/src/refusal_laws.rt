@@ -1,7 +1,7 @@
-ghost use Rattle.refusal_laws.specs.Refusals.{CallsOfRefusedAcknowledgments, CallsRefusedAsTheyCome, CallsRefusedByReply};
-ghost use Rattle.refusal_laws.specs.Refusals.{CallsRefusedOnceTried, ClosesAreRefusedAsTheyCome, HeldAreRefusedByReply};
-ghost use Rattle.refusal_laws.specs.Refusals.{PassesAreOfHeld, RefusedAcknowledgments, RefusedAsTheyCome, RefusedByReply};
-ghost use Rattle.refusal_laws.specs.Refusals.{RefusedOnceTried};
+ghost use Rattle.lease_laws.specs.server.Refusals.{CallsOfRefusedAcknowledgments, CallsRefusedAsTheyCome, CallsRefusedByReply};
+ghost use Rattle.lease_laws.specs.server.Refusals.{CallsRefusedOnceTried, ClosesAreRefusedAsTheyCome, HeldAreRefusedByReply};
+ghost use Rattle.lease_laws.specs.server.Refusals.{PassesAreOfHeld, RefusedAcknowledgments, RefusedAsTheyCome, RefusedByReply};
+ghost use Rattle.lease_laws.specs.server.Refusals.{RefusedOnceTried};
 
 /// A request that is refused changes no content, and takes away no open but those that its own
 /// breaks closed: those that aren't connected and whose key is wanted in a round of its try. So it
