@@ -5,7 +5,7 @@ use Rattle.lease_laws.proofs.Words.{refl, sym, true≢false, List, [], ◌∷◌
 use Rattle.std.specs.BTreeMap.{BTreeMap}
 use Rattle.lease_laws.proofs.server.Keys.{key_eq-same, key_eq-refl}
 use Rattle.lease_laws.proofs.server.Lists.{either}
-use Rattle.lease_manager.proofs.Ordering.{order_eq-back}
+use Rattle.lease_manager.proofs.sums.Ordering.{order_eq-back}
 use Rattle.lease_manager.specs.KeyOrder.{key_order}
 use Rattle.break_timers.specs.Timers.{AreKept, AreTimers, Timers, run_out, started, stopped, unless}
 

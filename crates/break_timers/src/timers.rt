@@ -4,7 +4,7 @@ ghost use Rattle.lease_manager.specs.Outs.{decision_of};
 ghost use Rattle.break_timers.specs.Numbering.{noted, number_told, starts_timer};
 ghost use Rattle.break_timers.specs.Timers.{no_timers, run_out, started, stopped, timers_of};
 
-use lease_manager::{Decision, Key};
+use lease_manager::{Decision, LeaseName};
 use lease_state::Memory;
 use std::alloc::Global;
 use std::collections::BTreeMap;
@@ -18,8 +18,8 @@ pub struct BreakNo(pub u64);
 #[derive(Debug, Drop)]
 pub struct BreakTimers {
     started: u64,
-    by_number: BTreeMap<u64, Key>,
-    by_key: BTreeMap<Key, u64>,
+    by_number: BTreeMap<u64, LeaseName>,
+    by_key: BTreeMap<LeaseName, u64>,
 }
 
 impl Model for BreakTimers {
@@ -58,7 +58,7 @@ impl BreakTimers {
     {
         match decision {
             Decision::Breaks { client, notice } if notice.ack_required => {
-                let key = Key {
+                let key = LeaseName {
                     client: *client,
                     bytes: notice.key,
                 };
@@ -66,7 +66,7 @@ impl BreakTimers {
                 Ok(Some(number))
             }
             Decision::Acknowledged { client, key, .. } => {
-                self.stop(Key {
+                self.stop(LeaseName {
                     client: *client,
                     bytes: *key,
                 });
@@ -81,7 +81,7 @@ impl BreakTimers {
     /// # Errors
     ///
     /// `Memory` where there is none left, or all numbers have been given.
-    pub fn start(&mut self, key: Key) -> Result<BreakNo, Memory>
+    pub fn start(&mut self, key: LeaseName) -> Result<BreakNo, Memory>
         ensures number { IfOk result (λ number. number.0 ≡ (timers_of self.old).started + 1) }
         ensures timers { OnOk result (timers_of self.new ≡ started key (timers_of self.old)) }
     {
@@ -96,7 +96,7 @@ impl BreakTimers {
     }
 
     /// No timer runs for a break of the lease any longer. Its number isn't given again.
-    pub fn stop(&mut self, key: Key)
+    pub fn stop(&mut self, key: LeaseName)
         ensures { timers_of self.new ≡ stopped key (timers_of self.old) }
     {
         if let Some(number) = self.by_key.remove(&key) {
@@ -105,7 +105,7 @@ impl BreakTimers {
     }
 
     /// The timer of this number has run out: the lease whose break it was, if it still ran.
-    pub fn run_out(&mut self, number: BreakNo) -> Option<Key>
+    pub fn run_out(&mut self, number: BreakNo) -> Option<LeaseName>
         ensures lease { result ≡ (timers_of self.old).running number.0 }
         ensures timers { timers_of self.new ≡ run_out number.0 (timers_of self.old) }
     {

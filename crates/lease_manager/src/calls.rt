@@ -17,7 +17,7 @@ use crate::requests::passes::try_all;
 use crate::tables::Tables;
 use crate::told::Told;
 use crate::values::closing::Closing;
-use crate::values::key::Key;
+use crate::values::key::LeaseName;
 use crate::values::number::{ClientNo, FileNo, Tag};
 use crate::values::request::Ask;
 use lease_state::{FileId, LeaseState, Memory, Status};
@@ -86,7 +86,7 @@ fn arrive(
 pub fn acknowledge(
     tables: &mut Tables,
     told: &mut Told,
-    key: Key,
+    key: LeaseName,
     state: LeaseState,
 ) -> Result<(), Memory>
     requires { told.old ≡ [] }
@@ -123,7 +123,7 @@ pub fn acknowledge_malformed(
 fn judge_told(
     tables: &mut Tables,
     told: &mut Told,
-    key: Key,
+    key: LeaseName,
     state: LeaseState,
 ) -> Result<(), Memory>
     ensures { OnOk result (handling_of tables.new told.new ≡ rules.gone_on 0
@@ -164,7 +164,7 @@ fn lose(tables: &mut Tables, told: &mut Told, client: ClientNo) -> Result<(), Me
 
 /// The timer of a lease break runs out.
 #[tactic(auto, unfolding(manager_model::specs::Handling::expire))]
-pub fn expire(tables: &mut Tables, told: &mut Told, key: Key) -> Result<(), Memory>
+pub fn expire(tables: &mut Tables, told: &mut Told, key: LeaseName) -> Result<(), Memory>
     requires { told.old ≡ [] }
     ensures step { OnOk result (handling_of tables.new told.new ≡ rules.expire (manager_of tables.old) key) }
     ensures idle { is_breaking ((server_of tables.old).leases key) ≡ false → IsOk result }
@@ -177,7 +177,7 @@ pub fn expire(tables: &mut Tables, told: &mut Told, key: Key) -> Result<(), Memo
 }
 
 // All opens of the lease are closed, and the key is expired.
-fn end_lease(tables: &mut Tables, told: &mut Told, key: Key) -> Result<(), Memory>
+fn end_lease(tables: &mut Tables, told: &mut Told, key: LeaseName) -> Result<(), Memory>
     ensures { OnOk result (handling_of tables.new told.new
         ≡ rules.at_server (calls.key_expired key (opens_dropped (has_key key) (begun (server_of tables.old)))).server
         (handling_of tables.old told.old)) }

@@ -19,8 +19,8 @@ use crate::laws::managers_are_those_of_hosts;
 use crate::tables::Tables;
 use crate::told::Told;
 use crate::values::decision::Decision;
-use crate::values::key::Key;
-use crate::values::lease::Lease;
+use crate::values::key::LeaseName;
+use crate::values::lease::HeldLease;
 use crate::values::number::{ClientNo, FileNo, Tag};
 use crate::values::open::ListedOpen;
 use crate::values::request::Ask;
@@ -174,7 +174,7 @@ impl Manager {
         match calls::acknowledge(
             &mut self.tables,
             &mut given,
-            Key { client, bytes: key },
+            LeaseName { client, bytes: key },
             state,
         ) {
             Ok(()) => {
@@ -276,7 +276,11 @@ impl Manager {
         let kept = self.tables.rules();
         let files = self.tables.files();
         let mut given = Told::over(taken_out(decisions));
-        match calls::expire(&mut self.tables, &mut given, Key { client, bytes: key }) {
+        match calls::expire(
+            &mut self.tables,
+            &mut given,
+            LeaseName { client, bytes: key },
+        ) {
             Ok(()) => {
                 *decisions = given.into_vec();
                 Ok(())
@@ -366,7 +370,9 @@ impl Manager {
     pub fn is_breaking(&self, client: ClientNo, key: LeaseKey) -> bool
         ensures { result ≡ queries.breaking (server_of self.now) (key_of client.0 key.0) }
     {
-        self.tables.lease(Key { client, bytes: key }).is_breaking()
+        self.tables
+            .lease(LeaseName { client, bytes: key })
+            .is_breaking()
     }
 
     /// Whether a request of the client under the tag waits on the file.
@@ -425,10 +431,10 @@ impl Manager {
     }
 
     /// The lease of the client's key (MS-SMB2 3.3.1.12); a key that no open has holds nothing.
-    pub fn lease(&self, client: ClientNo, key: LeaseKey) -> Lease
+    pub fn lease(&self, client: ClientNo, key: LeaseKey) -> HeldLease
         ensures { lease_of result ≡ (server_of self.now).leases (key_of client.0 key.0) }
     {
-        self.tables.lease(Key { client, bytes: key })
+        self.tables.lease(LeaseName { client, bytes: key })
     }
 
     /// How many opens there are, those that wait for their clients too.
@@ -440,10 +446,10 @@ impl Manager {
 }
 
 // The key of a request, from its client and its RqLs context.
-fn own_key(client: ClientNo, bytes: Option<LeaseKey>) -> Option<Key>
+fn own_key(client: ClientNo, bytes: Option<LeaseKey>) -> Option<LeaseName>
     ensures { result ≡ key_under client.0 (option_map (λ bytes. bytes.0) bytes) }
 {
-    bytes.map(|bytes| Key { client, bytes })
+    bytes.map(|bytes| LeaseName { client, bytes })
 }
 
 // Takes a list out of its place, where an empty one stays. Allocates nothing.

@@ -6,7 +6,7 @@ ghost use Rattle.lease_manager.specs.Outs.{answer_told, out_of};
 ghost use Rattle.lease_manager.specs.Requests.{patch_like, request_like};
 
 use crate::values::decision::CreateAnswer;
-use crate::values::key::Key;
+use crate::values::key::LeaseName;
 use crate::values::number::{ClientNo, FileNo};
 use crate::values::out::Out;
 use crate::values::request::Ask;
@@ -112,7 +112,7 @@ impl Outs {
     }
 
     /// A break of the lease is acknowledged, and it has this state.
-    pub fn ack_done(&mut self, key: Key, state: LeaseState) -> Result<(), Memory>
+    pub fn ack_done(&mut self, key: LeaseName, state: LeaseState) -> Result<(), Memory>
         ensures { OnOk result (self.new ≡ self.old ++ model.Out.Sent key.client
             (model.Reply.AckDone (Some (record { key = key.bytes; state = state_of state }))) ∷ []) }
     {
@@ -122,7 +122,7 @@ impl Outs {
     /// The client is sent the break of its lease, from this state to that.
     pub fn lease_broken(
         &mut self,
-        key: Key,
+        key: LeaseName,
         current: LeaseState,
         lowered: LeaseState,
     ) -> Result<(), Memory>

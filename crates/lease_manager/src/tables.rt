@@ -15,8 +15,8 @@ use crate::tables::opens::Opens;
 use crate::tables::queues::Queues;
 use crate::tables::summaries::Summaries;
 use crate::tables::waiting::Waiting;
-use crate::values::key::Key;
-use crate::values::lease::Lease;
+use crate::values::key::LeaseName;
+use crate::values::lease::HeldLease;
 use crate::values::number::{ClientNo, FileNo};
 use lease_state::{Access, FileId, LeaseState, Memory, Rules, Share};
 use std::alloc::Global;
@@ -52,7 +52,7 @@ pub struct Tables {
     /// The clients that are connected.
     present: BTreeSet<ClientNo>,
     /// The keys whose break timer ran out since their client joined.
-    expired: Vec<Key>,
+    expired: Vec<LeaseName>,
     /// The FileId given last.
     last_id: u64,
     /// The requests that are known to wait still.
@@ -150,14 +150,14 @@ impl Tables {
     }
 
     /// The lease of a key.
-    pub fn lease(&self, key: Key) -> Lease
+    pub fn lease(&self, key: LeaseName) -> HeldLease
         ensures { lease_of result ≡ (server_of self.now).leases key }
     {
         self.summaries.lease(key)
     }
 
     /// Whether an open on the file has another key than the request.
-    pub fn has_other_on(&self, own: Option<Key>, file: FileNo) -> bool
+    pub fn has_other_on(&self, own: Option<LeaseName>, file: FileNo) -> bool
         ensures { result ≡ list_any (allowed.is_other_on own file.0) (server_of self.now).opens }
     {
         self.summaries.has_other_on(own, file)
@@ -172,7 +172,7 @@ impl Tables {
 
     /// What may be granted of a wanted state.
     #[tactic(auto)]
-    pub fn allowed(&self, own: Option<Key>, file: FileNo, want: LeaseState) -> LeaseState
+    pub fn allowed(&self, own: Option<LeaseName>, file: FileNo, want: LeaseState) -> LeaseState
         ensures { state_of result ≡ allowed.allowed (server_of self.now) own file.0 (state_of want) }
     {
         if self.has_other_on(own, file) {
@@ -191,7 +191,7 @@ impl Tables {
 }
 
 // Keeps the keys of other clients.
-fn forget_expired(expired: &mut Vec<Key>, client: ClientNo)
+fn forget_expired(expired: &mut Vec<LeaseName>, client: ClientNo)
     ensures { expired.new.items ≡ filter (λ key. not (key.client == client.0)) expired.old.items }
 {
     expired.retain(|key| key.client != client);

@@ -12,7 +12,7 @@ ghost use Rattle.manager_c.specs.Fields.{lease_fields};
 use crate::handle::ManagerHandle;
 use crate::values::{KeyBytes, MaybeKey};
 use lease_handles::Outcome;
-use lease_manager::{ClientNo, FileNo, Lease};
+use lease_manager::{ClientNo, FileNo, HeldLease};
 use lease_state::{FileId, LeaseKey, LeaseState};
 use std::alloc::Global;
 
@@ -32,7 +32,7 @@ pub struct LeaseFields {
 
 impl LeaseFields {
     // The fields that hold a lease.
-    fn holding(lease: Lease) -> LeaseFields
+    fn holding(lease: HeldLease) -> LeaseFields
         ensures { result ≡ lease_fields (lease_of lease) }
     {
         let broken_to = match lease.broken_to {

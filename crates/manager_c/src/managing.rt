@@ -13,7 +13,7 @@ ghost use Rattle.manager_c.specs.Fields.{number_field};
 
 use crate::numbering::note_all;
 use break_timers::{BreakNo, BreakTimers};
-use lease_manager::{Ask, ClientNo, Decision, FileNo, Key, ListedOpen, Manager, Tag};
+use lease_manager::{Ask, ClientNo, Decision, FileNo, LeaseName, ListedOpen, Manager, Tag};
 use lease_state::{FileId, LeaseKey, LeaseState, Memory};
 use std::alloc::Global;
 
@@ -125,7 +125,7 @@ impl Managing {
         ensures idle { is_settled client.0 key.0 (manager_of self.old.manager) ≡ true → IsOk result }
     {
         self.opens = Vec::new(alloc);
-        self.timers.stop(Key { client, bytes: key });
+        self.timers.stop(LeaseName { client, bytes: key });
         self.manager.expire(client, key, &mut self.decisions)?;
         self.note()
     }

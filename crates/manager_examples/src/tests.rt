@@ -3,7 +3,7 @@ mod ends;
 mod timers;
 mod words;
 
-use lease_manager::{Ask, ClientNo, Decision, FileNo, Lease, ListedOpen, Manager, Tag};
+use lease_manager::{Ask, ClientNo, Decision, FileNo, HeldLease, ListedOpen, Manager, Tag};
 use lease_state::{Access, FileId, LeaseState, Order, Rise, Rules, Share, Status};
 use std::test::Fail;
 use words::{FILE, KEY, ONE, TWO, create, gave, joined, opened};
@@ -60,7 +60,7 @@ fn what_is_open_is_listed(rt: HostRuntime) -> Result<(), Fail> {
         connected: true,
     };
     assert_eq!(rt; manager.opens()?.as_slice(), [one].as_slice());
-    let Lease { state, broken_to } = manager.lease(ONE, KEY);
+    let HeldLease { state, broken_to } = manager.lease(ONE, KEY);
     assert_eq!(rt; state, LeaseState::from_wire(7));
     assert_eq!(rt; broken_to, None);
     manager.ask(ONE, Tag(11), Ask::Close { fid: FileId(1) }, &mut told)?;

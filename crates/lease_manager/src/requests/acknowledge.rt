@@ -7,8 +7,8 @@ ghost use Rattle.lease_manager.specs.Outs.{progress_of};
 
 use crate::outs::Outs;
 use crate::tables::Tables;
-use crate::values::key::Key;
-use crate::values::lease::Lease;
+use crate::values::key::LeaseName;
+use crate::values::lease::HeldLease;
 use lease_state::{LeaseState, Memory, Status};
 
 /// Judges an acknowledgment of a break of the key's lease (MS-SMB2 3.3.5.22.2).
@@ -20,7 +20,7 @@ use lease_state::{LeaseState, Memory, Status};
 pub fn acknowledge(
     tables: &mut Tables,
     outs: &mut Outs,
-    key: Key,
+    key: LeaseName,
     state: LeaseState,
 ) -> Result<(), Memory>
     ensures step { OnOk result (progress_of tables.new outs.new
@@ -48,7 +48,7 @@ pub fn acknowledge(
 fn end_break(
     tables: &mut Tables,
     outs: &mut Outs,
-    key: Key,
+    key: LeaseName,
     state: LeaseState,
 ) -> Result<(), Memory>
     requires { has_lease (server_of tables.old) key ≡ true }
@@ -56,7 +56,7 @@ fn end_break(
         ≡ rules.break_ended key (state_of state) (progress_of tables.old outs.old)) }
     ensures queues { OnOk result (tables.new.queues ≡ tables.old.queues) }
 {
-    let lease = Lease {
+    let lease = HeldLease {
         state: state.granted_form(),
         broken_to: None,
     };

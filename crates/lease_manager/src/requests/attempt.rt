@@ -18,8 +18,8 @@ use crate::outs::Outs;
 use crate::requests::finding::Finding;
 use crate::tables::Tables;
 use crate::values::closing::Closing;
-use crate::values::key::Key;
-use crate::values::lease::Lease;
+use crate::values::key::LeaseName;
+use crate::values::lease::HeldLease;
 use crate::values::number::{ClientNo, FileNo};
 use crate::values::request::Ask;
 use crate::values::want::Want;
@@ -110,7 +110,7 @@ fn round(
     }
 }
 
-fn breaks_to_something(lease: Lease) -> bool
+fn breaks_to_something(lease: HeldLease) -> bool
     ensures { result ≡ ready.breaks_to_some (lease_of lease) }
 {
     match lease.broken_to {
@@ -131,7 +131,7 @@ pub fn must_wait(tables: &Tables, ask: Ask, wants: &[Want]) -> bool
 
 // Whether the lease keeps the request waiting.
 #[tactic(auto)]
-fn waits_for(ask: Ask, lease: Lease) -> bool
+fn waits_for(ask: Ask, lease: HeldLease) -> bool
     ensures { result ≡ ready.waits_for (request_like ask) (lease_of lease) }
 {
     match ask {
@@ -179,7 +179,7 @@ fn meet(tables: &mut Tables, outs: &mut Outs, ended: &mut Ended, want: &Want) ->
 fn break_lease(
     tables: &mut Tables,
     outs: &mut Outs,
-    key: Key,
+    key: LeaseName,
     lowered: LeaseState,
 ) -> Result<(), Memory>
     ensures step { OnOk result (progress_of tables.new outs.new
@@ -198,16 +198,16 @@ fn break_lease(
 
 // A lease that is broken keeps its state until the break is acknowledged; one of reads alone is
 // lowered at once, and no acknowledgment is asked for.
-fn broken(state: LeaseState, lowered: LeaseState) -> Lease
+fn broken(state: LeaseState, lowered: LeaseState) -> HeldLease
     ensures { lease_of result ≡ broken_so (state_of state) (state_of lowered) }
 {
     if state.needs_ack() {
-        Lease {
+        HeldLease {
             state,
             broken_to: Some(lowered),
         }
     } else {
-        Lease {
+        HeldLease {
             state: lowered,
             broken_to: None,
         }

@@ -12,7 +12,7 @@ ghost use Rattle.lease_manager.specs.Requests.{request_like, patch_like, lease_a
 ghost use Rattle.lease_manager.specs.Table.{server_of};
 
 use crate::tables::Tables;
-use crate::values::key::Key;
+use crate::values::key::LeaseName;
 use crate::values::number::{ClientNo, FileNo};
 use crate::values::request::{Ask, CreateAsk, key_asked};
 use crate::values::want::{Want, Wish};
@@ -111,7 +111,7 @@ impl Tables {
     // What a write needs under this key, or under none: nothing where each lease of another key on the
     // file that holds something is breaking to nothing.
     // docs/DECISIONS.md: "A write whose wanted keys already break to none".
-    fn write_needs(&self, own: Option<Key>, file: FileNo) -> Result<Finding, Memory>
+    fn write_needs(&self, own: Option<LeaseName>, file: FileNo) -> Result<Finding, Memory>
         ensures look { IfOk result (λ found. look_of found ≡ looked
             (λ wants. list_all (λ want. ready.breaks_to_none ((server_of self.now).leases want.key)) wants)
             (rules.Finding.Needs (all_wants (server_of self.now) own file.0))) }
@@ -155,7 +155,7 @@ impl Tables {
         &self,
         client: ClientNo,
         file: FileNo,
-        own: Option<Key>,
+        own: Option<LeaseName>,
         fid: FileId,
     ) -> Finding
         ensures look { look_of result ≡ looked (λ wants. is_empty wants)
@@ -173,7 +173,7 @@ impl Tables {
     #[tactic(auto)]
     fn open_finding(
         &self,
-        own: Option<Key>,
+        own: Option<LeaseName>,
         file: FileNo,
         access: Access,
         share: Share,

@@ -15,10 +15,10 @@ ghost use Rattle.lease_manager.specs.Table.{server_of};
 use crate::outs::Outs;
 use crate::tables::Tables;
 use crate::values::decision::CreateAnswer;
-use crate::values::key::Key;
-use crate::values::lease::Lease;
+use crate::values::key::LeaseName;
+use crate::values::lease::HeldLease;
 use crate::values::number::{ClientNo, FileNo};
-use crate::values::open::Open;
+use crate::values::open::OpenEntry;
 use crate::values::request::{Ask, CreateAsk};
 use lease_state::{Access, FileId, LeaseKey, LeaseState, Memory, Rise, Share, Status};
 
@@ -77,7 +77,7 @@ fn grant_with(
     tables: &mut Tables,
     outs: &mut Outs,
     opening: Opening,
-    lease: Lease,
+    lease: HeldLease,
 ) -> Result<(), Memory>
     requires next { (server_of tables.old).last_id + 1 < 2 ^ 64 }
     requires home { is_leased_elsewhere (server_of tables.old)
@@ -97,7 +97,7 @@ fn grant_with(
     } = opening;
     let durable = ask.durable && lease.state.caches_handles();
     let file_id = FileId(tables.last_id() + 1);
-    let one = Open {
+    let one = OpenEntry {
         file_id,
         client,
         file,
@@ -129,7 +129,7 @@ fn key_bytes(asked: Option<(LeaseKey, LeaseState)>) -> Option<LeaseKey>
 // The RqLs context of the reply (MS-SMB2 2.2.14.2.10).
 fn lease_given(
     asked: Option<(LeaseKey, LeaseState)>,
-    lease: Lease,
+    lease: HeldLease,
 ) -> Option<(LeaseKey, LeaseState, bool)>
     ensures { option_map lease_told result ≡ rules.lease_given (option_map lease_asked asked) (lease_of lease) }
 {
@@ -145,20 +145,20 @@ fn lease_after(
     client: ClientNo,
     file: FileNo,
     asked: Option<(LeaseKey, LeaseState)>,
-) -> Lease
+) -> HeldLease
     ensures { lease_of result
         ≡ rules.lease_after (server_of tables.now) client.0 file.0 (option_map lease_asked asked) }
 {
     match asked {
-        Some((bytes, want)) => lease_granted(tables, Key { client, bytes }, file, want),
-        None => Lease::none(),
+        Some((bytes, want)) => lease_granted(tables, LeaseName { client, bytes }, file, want),
+        None => HeldLease::none(),
     }
 }
 
 // One that is breaking stays; one within the granted form of the want, a new one too, becomes what is
 // offered where it may; any other stays (profile).
 #[tactic(auto)]
-fn lease_granted(tables: &Tables, key: Key, file: FileNo, want: LeaseState) -> Lease
+fn lease_granted(tables: &Tables, key: LeaseName, file: FileNo, want: LeaseState) -> HeldLease
     ensures { lease_of result ≡ rules.lease_granted (server_of tables.now) key file.0 (state_of want) }
 {
     let lease = tables.lease(key);
@@ -169,7 +169,7 @@ fn lease_granted(tables: &Tables, key: Key, file: FileNo, want: LeaseState) -> L
     if !may_rise(tables, key, state, want) {
         return lease;
     }
-    Lease {
+    HeldLease {
         state,
         broken_to: None,
     }
@@ -177,7 +177,7 @@ fn lease_granted(tables: &Tables, key: Key, file: FileNo, want: LeaseState) -> L
 
 // A lease becomes what it is offered, or, by the rule, does so only where it is new or all of the want is
 // offered.
-fn may_rise(tables: &Tables, key: Key, offer: LeaseState, want: LeaseState) -> bool
+fn may_rise(tables: &Tables, key: LeaseName, offer: LeaseState, want: LeaseState) -> bool
     ensures { result ≡ (is_as_free (server_of tables.now).rules.rise || not (has_lease (server_of tables.now) key)
         || is_state_within (granted_form_of (state_of want)) (state_of offer)) }
 {
@@ -189,7 +189,7 @@ fn may_rise(tables: &Tables, key: Key, offer: LeaseState, want: LeaseState) -> b
 // What a key is offered: nothing where its timer ran out (profile).
 // docs/DECISIONS.md: "Expired keys count in a grant only".
 #[tactic(auto)]
-fn offered(tables: &Tables, key: Key, file: FileNo, want: LeaseState) -> LeaseState
+fn offered(tables: &Tables, key: LeaseName, file: FileNo, want: LeaseState) -> LeaseState
     ensures { state_of result ≡ rules.offered (server_of tables.now) key file.0 (state_of want) }
 {
     if tables.is_expired(key) {
@@ -229,11 +229,15 @@ pub fn reconnect(
 }
 
 // The lease of the key that a create names.
-fn standing_lease(tables: &Tables, client: ClientNo, asked: Option<(LeaseKey, LeaseState)>) -> Lease
+fn standing_lease(
+    tables: &Tables,
+    client: ClientNo,
+    asked: Option<(LeaseKey, LeaseState)>,
+) -> HeldLease
     ensures { lease_of result ≡ rules.standing_lease (server_of tables.now) client.0 (option_map lease_asked asked) }
 {
     match asked {
-        Some((bytes, _)) => tables.lease(Key { client, bytes }),
-        None => Lease::none(),
+        Some((bytes, _)) => tables.lease(LeaseName { client, bytes }),
+        None => HeldLease::none(),
     }
 }

@@ -7,8 +7,8 @@ ghost use Rattle.lease_model.specs.server.Calls.{disconnected};
 ghost use Rattle.lease_model.specs.server.Grant.{connected_again};
 ghost use Rattle.lease_model.specs.server.Naming.{key_of_open};
 ghost use Rattle.lease_model.specs.server.Progress.{with_lease, with_opens};
-ghost use Rattle.lease_model.specs.server.State.{Open as ModelOpen, has_key, has_lease, no_lease};
-ghost use Rattle.lease_model.specs.values.Keys.{Key as ModelKey};
+ghost use Rattle.lease_model.specs.server.State.{Open, has_key, has_lease, no_lease};
+ghost use Rattle.lease_model.specs.values.Keys.{Key};
 ghost use Rattle.lease_model.specs.values.Lists.{without};
 ghost use Rattle.lease_model.specs.values.Tables.{put, put_key};
 ghost use Rattle.lease_manager.specs.Closing.{closes};
@@ -27,10 +27,10 @@ use crate::tables::queues::Queues;
 use crate::tables::still::{forget_files, forget_for, forget_home};
 use crate::tables::summaries::Summaries;
 use crate::values::closing::Closing;
-use crate::values::key::Key;
-use crate::values::lease::Lease;
+use crate::values::key::LeaseName;
+use crate::values::lease::HeldLease;
 use crate::values::number::{ClientNo, FileNo, Tag};
-use crate::values::open::Open;
+use crate::values::open::OpenEntry;
 use crate::values::request::Held;
 use lease_state::{FileId, Memory};
 use std::alloc::Global;
@@ -42,7 +42,7 @@ impl Tables {
     /// # Errors
     ///
     /// `Memory` where there is none left for the file's summary; no open is left then.
-    pub fn put_lease(&mut self, key: Key, lease: Lease) -> Result<(), Memory>
+    pub fn put_lease(&mut self, key: LeaseName, lease: HeldLease) -> Result<(), Memory>
         requires { has_lease (server_of self.old) key ≡ true }
         ensures changed { OnOk result (server_of self.new ≡ with_lease (server_of self.old) key (lease_of lease)) }
         ensures queues { OnOk result (self.new.queues ≡ self.old.queues) }
@@ -137,7 +137,7 @@ impl Tables {
     /// # Errors
     ///
     /// `Memory` where there is none left for the list of such keys.
-    pub fn expire(&mut self, key: Key) -> Result<(), Memory>
+    pub fn expire(&mut self, key: LeaseName) -> Result<(), Memory>
         ensures changed { OnOk result (server_of self.new ≡ record (server_of self.old) {
           expired = put_key (server_of self.old).expired key true;
         }) }
@@ -160,7 +160,7 @@ impl Tables {
     /// # Errors
     ///
     /// `Memory` where there is none left; no open is left then.
-    pub fn open(&mut self, one: Open, lease: Lease) -> Result<(), Memory>
+    pub fn open(&mut self, one: OpenEntry, lease: HeldLease) -> Result<(), Memory>
         requires here { one.connected ≡ true }
         requires next { one.file_id ≡ (server_of self.old).last_id + 1 }
         requires home { IsAtHome (key_of_open one) one.file (server_of self.old).opens }
@@ -250,7 +250,7 @@ fn close_all(opens: &mut Opens, summaries: &mut Summaries, ids: &[FileId])
 fn close_one(opens: &mut Opens, summaries: &mut Summaries, id: FileId)
     ensures opens { opens.new ≡ without (has_id id.0) opens.old }
     ensures agrees { Agrees summaries.old opens.old → Agrees summaries.new opens.new }
-    ensures leases { Agrees summaries.old opens.old → (key : ModelKey) → lease_in summaries.new key
+    ensures leases { Agrees summaries.old opens.old → (key : Key) → lease_in summaries.new key
         ≡ (if list_any (has_key key) opens.new then lease_in summaries.old key else no_lease) }
 {
     match opens.take(id) {
@@ -264,15 +264,15 @@ fn add(
     opens: &mut Opens,
     summaries: &mut Summaries,
     alloc: Global,
-    one: Open,
-    lease: Lease,
+    one: OpenEntry,
+    lease: HeldLease,
 ) -> Result<(), Memory>
     requires here { one.connected ≡ true }
-    requires last { (other : ModelOpen) → Among other opens.old → other.file_id < one.file_id }
+    requires last { (other : Open) → Among other opens.old → other.file_id < one.file_id }
     ensures opens { OnOk result (opens.new ≡ opens.old ++ one ∷ []) }
     ensures agrees { OnOk result (IsAtHome (key_of_open one) one.file opens.old → Agrees summaries.old opens.old
         → Agrees summaries.new opens.new) }
-    ensures leases { OnOk result ((key : ModelKey) → lease_in summaries.new key
+    ensures leases { OnOk result ((key : Key) → lease_in summaries.new key
         ≡ (if has_key key one then lease_of lease else lease_in summaries.old key)) }
 {
     // So no count of them reaches its end.

@@ -1,8 +1,8 @@
 ghost use Rattle.std.specs.Prelude.{◌≡◌, ℕ, false, not, ◌&&◌, ◌||◌, if◌then◌else◌, List, OnOk};
 ghost use Rattle.std.specs.List.{list_any};
 ghost use Rattle.lease_model.specs.server.Allowed.{is_other_on};
-ghost use Rattle.lease_model.specs.server.State.{Open as ModelOpen, Lease as ModelLease};
-ghost use Rattle.lease_model.specs.values.Keys.{Key as ModelKey, key_eq};
+ghost use Rattle.lease_model.specs.server.State.{Open, Lease};
+ghost use Rattle.lease_model.specs.values.Keys.{Key, key_eq};
 ghost use Rattle.std.specs.BTreeSet.{contains};
 ghost use Rattle.lease_manager.specs.KeyOrder.{key_order};
 ghost use Rattle.lease_manager.specs.Wanted.{is_own_key, is_hindering, keys_for, own_count, own_hindering};
@@ -10,8 +10,8 @@ ghost use Rattle.lease_manager.specs.Summaries.{SumsUp, Gains, Loses, IsMarked, 
 
 use crate::tables::lease_marks::LeaseMarks;
 use crate::tables::tally::Tally;
-use crate::values::key::Key;
-use crate::values::open::Open;
+use crate::values::key::LeaseName;
+use crate::values::open::OpenEntry;
 use crate::values::want::Wish;
 use lease_state::Memory;
 use std::alloc::Global;
@@ -24,20 +24,20 @@ use std::collections::BTreeSet;
 pub struct FileSummary {
     pub tally: Tally,
     /// The keys of the opens, in the order in which their leases are broken.
-    pub keys: BTreeSet<Key>,
+    pub keys: BTreeSet<LeaseName>,
     /// How many opens have no key.
     pub keyless: u64,
     /// Those of the keys whose leases hold `WRITE_CACHING`: one at most, by the laws of servers.
-    pub writers: BTreeSet<Key>,
+    pub writers: BTreeSet<LeaseName>,
     /// Those of the keys whose leases hinder no write under another key: they hold nothing, or are
     /// breaking to nothing. Few do, so these are kept, and not the others.
-    pub harmless: BTreeSet<Key>,
+    pub harmless: BTreeSet<LeaseName>,
 }
 
 impl FileSummary {
     /// Of a file without an open.
     pub fn new(alloc: Global) -> FileSummary
-        ensures { (file : ℕ) (opens : List ModelOpen) (leases : ModelKey → ModelLease)
+        ensures { (file : ℕ) (opens : List Open) (leases : Key → Lease)
             → list_any (is_on file) opens ≡ false → SumsUp file opens leases result }
     {
         FileSummary {
@@ -54,7 +54,7 @@ impl FileSummary {
     /// # Errors
     ///
     /// `Memory` where there is none left for the keys.
-    pub fn gain(&mut self, one: &Open, marks: LeaseMarks) -> Result<(), Memory>
+    pub fn gain(&mut self, one: &OpenEntry, marks: LeaseMarks) -> Result<(), Memory>
         ensures { OnOk result (Gains one.now marks self.old self.new) }
     {
         self.tally = self.tally.raised(one);
@@ -71,14 +71,14 @@ impl FileSummary {
     }
 
     // The key has an open.
-    fn gain_key(&mut self, key: Key, marks: LeaseMarks) -> Result<(), Memory>
+    fn gain_key(&mut self, key: LeaseName, marks: LeaseMarks) -> Result<(), Memory>
         ensures tally { OnOk result (self.new.tally ≡ self.old.tally) }
         ensures keyless { OnOk result (self.new.keyless ≡ self.old.keyless) }
-        ensures keys { OnOk result ((other : ModelKey) → contains key_order self.new.keys other
+        ensures keys { OnOk result ((other : Key) → contains key_order self.new.keys other
             ≡ (key_eq other key || contains key_order self.old.keys other)) }
-        ensures writers { OnOk result ((other : ModelKey) → contains key_order self.new.writers other
+        ensures writers { OnOk result ((other : Key) → contains key_order self.new.writers other
             ≡ (if key_eq other key then marks.writes else contains key_order self.old.writers other)) }
-        ensures harmless { OnOk result ((other : ModelKey) → contains key_order self.new.harmless other
+        ensures harmless { OnOk result ((other : Key) → contains key_order self.new.harmless other
             ≡ (if key_eq other key then marks.harmless else contains key_order self.old.harmless other)) }
     {
         self.keys.insert(key)?;
@@ -87,7 +87,7 @@ impl FileSummary {
     }
 
     /// One open less, the last of its key or not.
-    pub fn lose(&mut self, one: &Open, last: bool)
+    pub fn lose(&mut self, one: &OpenEntry, last: bool)
         ensures { Loses one.now last self.old self.new }
     {
         self.tally = self.tally.lowered(one);
@@ -98,14 +98,14 @@ impl FileSummary {
     }
 
     // The key has an open less, its last or not.
-    fn lose_key(&mut self, key: Key, last: bool)
+    fn lose_key(&mut self, key: LeaseName, last: bool)
         ensures tally { self.new.tally ≡ self.old.tally }
         ensures keyless { self.new.keyless ≡ self.old.keyless }
-        ensures keys { (other : ModelKey) → contains key_order self.new.keys other
+        ensures keys { (other : Key) → contains key_order self.new.keys other
             ≡ (contains key_order self.old.keys other && not (key_eq other key && last)) }
-        ensures writers { (other : ModelKey) → contains key_order self.new.writers other
+        ensures writers { (other : Key) → contains key_order self.new.writers other
             ≡ (contains key_order self.old.writers other && not (key_eq other key && last)) }
-        ensures harmless { (other : ModelKey) → contains key_order self.new.harmless other
+        ensures harmless { (other : Key) → contains key_order self.new.harmless other
             ≡ (contains key_order self.old.harmless other && not (key_eq other key && last)) }
     {
         if last {
@@ -120,7 +120,7 @@ impl FileSummary {
     /// # Errors
     ///
     /// `Memory` where there is none left for the keys.
-    pub fn mark(&mut self, key: Key, marks: LeaseMarks) -> Result<(), Memory>
+    pub fn mark(&mut self, key: LeaseName, marks: LeaseMarks) -> Result<(), Memory>
         ensures { OnOk result (IsMarked key marks self.old self.new) }
     {
         set_member(&mut self.writers, key, marks.writes)?;
@@ -129,15 +129,15 @@ impl FileSummary {
     }
 
     /// Whether an open on the file has another key than the request.
-    pub fn has_other(&self, own: Option<Key>) -> bool
-        ensures { (file : ℕ) (opens : List ModelOpen) (leases : ModelKey → ModelLease) → SumsUp file opens leases self.now
+    pub fn has_other(&self, own: Option<LeaseName>) -> bool
+        ensures { (file : ℕ) (opens : List Open) (leases : Key → Lease) → SumsUp file opens leases self.now
             → result ≡ list_any (is_other_on own file) opens }
     {
         self.keyless > 0 || self.keys.len() > self.own_count(own)
     }
 
     // How many of the keys are the request's.
-    fn own_count(&self, own: Option<Key>) -> usize
+    fn own_count(&self, own: Option<LeaseName>) -> usize
         ensures { result ≡ own_count own self.now }
     {
         match own {
@@ -148,8 +148,8 @@ impl FileSummary {
 
     /// Whether the lease of another key than the request's hinders writes.
     // docs/DECISIONS.md: "The leases that hinder no write are a set".
-    pub fn is_hindered(&self, own: Option<Key>) -> bool
-        ensures { (file : ℕ) (opens : List ModelOpen) (leases : ModelKey → ModelLease) → SumsUp file opens leases self.now
+    pub fn is_hindered(&self, own: Option<LeaseName>) -> bool
+        ensures { (file : ℕ) (opens : List Open) (leases : Key → Lease) → SumsUp file opens leases self.now
             → result ≡ list_any (λ key. not (is_own_key own key) && is_hindering self.now key) self.now.keys.keys }
     {
         let hindering = self.keys.len().saturating_sub(self.harmless.len());
@@ -157,7 +157,7 @@ impl FileSummary {
     }
 
     // How many of the keys whose leases hinder writes are the request's.
-    fn own_hindering(&self, own: Option<Key>) -> usize
+    fn own_hindering(&self, own: Option<LeaseName>) -> usize
         ensures { result ≡ own_hindering own self.now }
     {
         match own {
@@ -167,14 +167,14 @@ impl FileSummary {
     }
 
     // Whether the key is on the file, and its lease hinders writes.
-    fn is_hindering(&self, key: Key) -> bool
+    fn is_hindering(&self, key: LeaseName) -> bool
         ensures { result ≡ is_hindering self.now key }
     {
         self.keys.contains(&key) && !self.harmless.contains(&key)
     }
 
     /// The keys among which are all whose leases can be wanted.
-    pub fn keys_for(&self, wish: Wish) -> &BTreeSet<Key>
+    pub fn keys_for(&self, wish: Wish) -> &BTreeSet<LeaseName>
         ensures { result.now ≡ keys_for wish self.now }
     {
         match wish {
@@ -185,8 +185,8 @@ impl FileSummary {
 }
 
 // The key is one of the keys, or isn't.
-fn set_member(keys: &mut BTreeSet<Key>, key: Key, is_one: bool) -> Result<(), Memory>
-    ensures { OnOk result ((other : ModelKey) → contains key_order keys.new other
+fn set_member(keys: &mut BTreeSet<LeaseName>, key: LeaseName, is_one: bool) -> Result<(), Memory>
+    ensures { OnOk result ((other : Key) → contains key_order keys.new other
         ≡ (if key_eq other key then is_one else contains key_order keys.old other)) }
 {
     if is_one {

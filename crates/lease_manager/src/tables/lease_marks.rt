@@ -3,7 +3,7 @@ ghost use Rattle.lease_model.specs.server.Ready as ready;
 ghost use Rattle.lease_manager.specs.Hindering.{hinders_writes, marks_of};
 ghost use Rattle.lease_manager.specs.Leases.{lease_of};
 
-use crate::values::lease::Lease;
+use crate::values::lease::HeldLease;
 
 /// What a file's summary marks of the lease of a key.
 #[derive(Clone, Copy, Debug, PartialEq, Eq)]
@@ -16,7 +16,7 @@ pub struct LeaseMarks {
 
 impl LeaseMarks {
     /// What is marked of this lease.
-    pub fn of(lease: Lease) -> LeaseMarks
+    pub fn of(lease: HeldLease) -> LeaseMarks
         ensures { result ≡ marks_of (lease_of lease) }
     {
         LeaseMarks {
@@ -28,13 +28,13 @@ impl LeaseMarks {
 
 // Whether a write under another key isn't ready before the lease is broken: it holds something, and is
 // not breaking to nothing yet.
-fn hinders_writes(lease: Lease) -> bool
+fn hinders_writes(lease: HeldLease) -> bool
     ensures { result ≡ hinders_writes (lease_of lease) }
 {
     lease.state.holds_any() && !breaks_to_nothing(lease)
 }
 
-fn breaks_to_nothing(lease: Lease) -> bool
+fn breaks_to_nothing(lease: HeldLease) -> bool
     ensures { result ≡ ready.breaks_to_none (lease_of lease) }
 {
     match lease.broken_to {

@@ -17,15 +17,15 @@ ghost use Rattle.lease_manager.specs.Table.{queue_at, server_of};
 
 use crate::ended::Ended;
 use crate::tables::Tables;
-use crate::values::key::Key;
+use crate::values::key::LeaseName;
 use crate::values::number::{ClientNo, FileNo, Tag};
-use crate::values::open::{ListedOpen, Open};
+use crate::values::open::{ListedOpen, OpenEntry};
 use crate::values::request::{Held, Lane};
 use lease_state::{FileId, LeaseKey, Memory};
 
 impl Tables {
     /// The client's connected open of this FileId.
-    pub fn connected_open(&self, client: ClientNo, fid: FileId) -> Option<&Open>
+    pub fn connected_open(&self, client: ClientNo, fid: FileId) -> Option<&OpenEntry>
         ensures { option_map (λ one. one.now) result ≡ findings.connected_open (server_of self.now) client.0 fid.0 }
     {
         match self.opens.find(fid) {
@@ -57,7 +57,7 @@ impl Tables {
 
     /// Whether the key has a lease, and on another file.
     #[tactic(auto)]
-    pub fn is_leased_elsewhere(&self, own: Option<Key>, file: FileNo) -> bool
+    pub fn is_leased_elsewhere(&self, own: Option<LeaseName>, file: FileNo) -> bool
         ensures { result ≡ findings.is_leased_elsewhere (server_of self.now) own file.0 }
     {
         match own {
@@ -71,7 +71,7 @@ impl Tables {
         &self,
         client: ClientNo,
         file: FileNo,
-        own: Option<Key>,
+        own: Option<LeaseName>,
         fid: FileId,
     ) -> bool
         ensures { result ≡ list_any (findings.awaits client.0 file.0 own fid.0) (server_of self.now).opens }
@@ -129,7 +129,7 @@ impl Tables {
     }
 
     /// Whether an open has the key.
-    pub fn has_lease(&self, key: Key) -> bool
+    pub fn has_lease(&self, key: LeaseName) -> bool
         ensures { result ≡ has_lease (server_of self.now) key }
     {
         self.summaries.has_lease(key)
@@ -156,7 +156,7 @@ impl Tables {
     }
 
     /// Whether the timer of the key ran out since its client joined.
-    pub fn is_expired(&self, key: Key) -> bool
+    pub fn is_expired(&self, key: LeaseName) -> bool
         ensures { result ≡ (server_of self.now).expired key }
     {
         self.expired.iter().any(|other| key.is(*other))

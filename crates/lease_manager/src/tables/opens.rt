@@ -1,7 +1,7 @@
 ghost use Rattle.std.specs.Prelude.{◌≡◌, ◌<◌, ◌^◌, ◌++◌, [], ◌∷◌, true, OnOk, IfOk, IfSome, length, map, filter, find};
 ghost use Rattle.std.specs.Option.{option_map};
 ghost use Rattle.lease_laws.specs.server.Laws.{Among, AreInOrder};
-ghost use Rattle.lease_model.specs.server.State.{Open as ModelOpen};
+ghost use Rattle.lease_model.specs.server.State.{Open};
 ghost use Rattle.lease_model.specs.values.Lists.{without};
 ghost use Rattle.lease_manager.specs.Closing.{closes};
 ghost use Rattle.lease_model.specs.server.Grant.{connected_again};
@@ -17,9 +17,9 @@ ghost use Rattle.std.specs.Map.{values_of};
 use crate::tables::left_opens::{LeftOpens, Owner};
 use crate::tables::summaries::Summaries;
 use crate::values::closing::Closing;
-use crate::values::key::Key;
+use crate::values::key::LeaseName;
 use crate::values::number::{ClientNo, FileNo};
-use crate::values::open::{ListedOpen, Open};
+use crate::values::open::{ListedOpen, OpenEntry};
 use lease_state::{FileId, Memory};
 use std::alloc::Global;
 use std::collections::{BTreeMap, BTreeSet};
@@ -28,7 +28,7 @@ use std::marker::Model;
 /// The opens of a manager, by their FileIds.
 #[derive(Debug, Drop)]
 pub struct Opens {
-    by_id: BTreeMap<FileId, Open>,
+    by_id: BTreeMap<FileId, OpenEntry>,
     /// Those of them that wait for their clients.
     left: LeftOpens,
 }
@@ -89,9 +89,9 @@ impl Opens {
     /// # Errors
     ///
     /// `Memory` where there is none left.
-    pub fn push(&mut self, one: Open) -> Result<(), Memory>
+    pub fn push(&mut self, one: OpenEntry) -> Result<(), Memory>
         requires here { one.connected ≡ true }
-        requires last { (other : ModelOpen) → Among other self.old → other.file_id < one.file_id }
+        requires last { (other : Open) → Among other self.old → other.file_id < one.file_id }
         ensures { OnOk result (self.new ≡ self.old ++ one ∷ []) }
     {
         self.by_id.insert(one.file_id, one)?;
@@ -99,7 +99,7 @@ impl Opens {
     }
 
     /// The open of this FileId.
-    pub fn find(&self, fid: FileId) -> Option<&Open>
+    pub fn find(&self, fid: FileId) -> Option<&OpenEntry>
         ensures found { option_map (λ one. one.now) result ≡ find (has_id fid.0) self.now }
         ensures in_order { AreInOrder self.now }
     {
@@ -107,7 +107,7 @@ impl Opens {
     }
 
     /// Takes the open of this FileId out, if there is one.
-    pub fn take(&mut self, fid: FileId) -> Option<Open>
+    pub fn take(&mut self, fid: FileId) -> Option<OpenEntry>
         ensures taken { result ≡ find (has_id fid.0) self.old }
         ensures one_less { IfSome result (λ one. IsOneMore one self.new self.old) }
         ensures left { self.new ≡ without (has_id fid.0) self.old }
@@ -146,7 +146,12 @@ impl Opens {
     }
 
     // The FileIds of the opens of the key that wait for its client.
-    fn left_of(&self, alloc: Global, key: Key, leases: &Summaries) -> Result<Vec<FileId>, Memory>
+    fn left_of(
+        &self,
+        alloc: Global,
+        key: LeaseName,
+        leases: &Summaries,
+    ) -> Result<Vec<FileId>, Memory>
         requires { Agrees leases.now self.now }
         ensures ids { IfOk result (λ ids. map (λ file_id. file_id.0) ids.items
             ≡ map (λ one. one.file_id) (filter (is_left_open key) self.now)) }
@@ -164,7 +169,7 @@ impl Opens {
     }
 
     // The same, of the opens that its client left on the file.
-    fn left_on(&self, alloc: Global, key: Key, file: FileNo) -> Result<Vec<FileId>, Memory>
+    fn left_on(&self, alloc: Global, key: LeaseName, file: FileNo) -> Result<Vec<FileId>, Memory>
         ensures ids { IfOk result (λ ids. map (λ file_id. file_id.0) ids.items
             ≡ map (λ one. one.file_id) (filter (has_key key) (filter (is_left_by key.client file.0) self.now))) }
         ensures in_order { AreInOrder self.now }
@@ -183,7 +188,7 @@ impl Opens {
     fn with_key(
         &self,
         alloc: Global,
-        key: Key,
+        key: LeaseName,
         left: &BTreeSet<FileId>,
     ) -> Result<Vec<FileId>, Memory>
         ensures { IfOk result (λ ids. ids.items ≡ filter (has_key_in self.now key) left.now.keys) }
@@ -198,7 +203,7 @@ impl Opens {
     }
 
     // Whether the open of this FileId has the key.
-    fn is_of_key(&self, fid: FileId, key: Key) -> bool
+    fn is_of_key(&self, fid: FileId, key: LeaseName) -> bool
         ensures { result ≡ has_key_in self.now key fid }
     {
         match self.find(fid) {
@@ -215,7 +220,7 @@ impl Opens {
         closing: &Closing,
         leases: &Summaries,
     ) -> Result<Vec<FileId>, Memory>
-        requires { (one : ModelOpen) → closes closing.now (lease_in leases.now) one ≡ true → has_id fid.0 one ≡ true }
+        requires { (one : Open) → closes closing.now (lease_in leases.now) one ≡ true → has_id fid.0 one ≡ true }
         ensures ids { IfOk result (λ ids. map (λ file_id. file_id.0) ids.items
             ≡ map (λ one. one.file_id) (filter (closes closing.now (lease_in leases.now)) self.now)) }
         ensures in_order { AreInOrder self.now }
@@ -323,7 +328,7 @@ impl Opens {
 }
 
 // The open of this FileId is connected, or isn't.
-fn set_connected(by_id: &mut BTreeMap<FileId, Open>, fid: FileId, connected: bool)
+fn set_connected(by_id: &mut BTreeMap<FileId, OpenEntry>, fid: FileId, connected: bool)
     requires filed { AreFiled by_id.old.entries }
     requires in_order { AreInOrder (values_of by_id.old.entries) }
     ensures still_filed { AreFiled by_id.new.entries }

@@ -5,7 +5,7 @@ ghost use Rattle.lease_manager.specs.OneFile.{asks_with};
 ghost use Rattle.manager_model.specs.Handling.{is_of, is_under};
 
 use crate::values::number::{ClientNo, Tag};
-use crate::values::open::Open;
+use crate::values::open::OpenEntry;
 use crate::values::request::Held;
 use lease_state::Memory;
 use std::alloc::Global;
@@ -98,7 +98,7 @@ impl Queue {
     }
 
     /// Whether a create waits under the key of the open.
-    pub fn asks_with(&self, one: &Open) -> bool
+    pub fn asks_with(&self, one: &OpenEntry) -> bool
         ensures { result ≡ list_any (λ waiting. asks_with one.now waiting.held) self.now }
     {
         one_asks_with(self.as_slice(), one)
@@ -106,7 +106,7 @@ impl Queue {
 }
 
 // Whether a create is among these under the key of the open.
-fn one_asks_with(queue: &[Held], one: &Open) -> bool
+fn one_asks_with(queue: &[Held], one: &OpenEntry) -> bool
     ensures { result ≡ list_any (λ waiting. asks_with one.now waiting.held) queue.now }
 {
     queue.iter().any(|held| held.asks_with(one))

@@ -13,7 +13,7 @@ ghost use Rattle.manager_model.specs.Handling.{is_of, is_under};
 
 use crate::tables::queue::Queue;
 use crate::values::number::{ClientNo, FileNo, Tag};
-use crate::values::open::Open;
+use crate::values::open::OpenEntry;
 use crate::values::request::Held;
 use lease_state::Memory;
 use std::alloc::Global;
@@ -172,7 +172,7 @@ impl Queues {
     }
 
     /// Whether a create waits, on any file, under the key of the open.
-    pub fn ask_with(&self, one: &Open) -> bool
+    pub fn ask_with(&self, one: &OpenEntry) -> bool
         ensures { result ≡ false → (file : ℕ) (held : state.Held) → Among held (held_at (filed self.now) file)
             → asks_with one.now held ≡ false }
     {

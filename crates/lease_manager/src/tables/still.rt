@@ -1,7 +1,7 @@
 ghost use Rattle.std.specs.Prelude.{◌≡◌, true, false, IfOk, OnOk, List, map};
 ghost use Rattle.std.specs.List.{list_all, list_any};
 ghost use Rattle.lease_model.specs.server.Ready.{is_ready};
-ghost use Rattle.lease_model.specs.server.State.{Open as ModelOpen, has_key};
+ghost use Rattle.lease_model.specs.server.State.{Open, has_key};
 ghost use Rattle.lease_manager.specs.Filed.{has_id};
 ghost use Rattle.lease_manager.specs.Kept.{is_one_of};
 ghost use Rattle.lease_manager.specs.OneFile.{on_file, IsOnlyAbout};
@@ -20,9 +20,9 @@ use crate::tables::queues::Queues;
 use crate::tables::summaries::Summaries;
 use crate::tables::waiting::Waiting;
 use crate::values::closing::Closing;
-use crate::values::key::Key;
+use crate::values::key::LeaseName;
 use crate::values::number::{ClientNo, FileNo};
-use crate::values::open::Open;
+use crate::values::open::OpenEntry;
 use crate::values::request::{Ask, key_asked};
 use crate::values::want::Want;
 use lease_state::{FileId, Memory};
@@ -129,7 +129,7 @@ impl Tables {
 
     // Whether nothing more can be done at once to the lease of the key, which has an open on the file: it
     // is breaking, and none of its opens is left to be closed.
-    fn is_under_way(&self, file: FileNo, key: Key) -> Result<bool, Memory>
+    fn is_under_way(&self, file: FileNo, key: LeaseName) -> Result<bool, Memory>
         ensures { IfOk result (λ is. is ≡ is_under_way (server_of self.now) file.0 key) }
     {
         if !self.lease(key).is_breaking() {
@@ -146,7 +146,7 @@ impl Tables {
     }
 
     // Whether the key has an open on the file.
-    fn is_at_home(&self, file: FileNo, key: Key) -> bool
+    fn is_at_home(&self, file: FileNo, key: LeaseName) -> bool
         ensures { result ≡ list_any (has_key key) (on_file file.0 (server_of self.now).opens) }
     {
         let _ = &self.summaries;
@@ -158,8 +158,8 @@ impl Tables {
 }
 
 /// What is known of the file of the key's opens is forgotten.
-pub fn forget_home(waiting: &mut Waiting, summaries: &Summaries, key: Key)
-    ensures { (opens : List ModelOpen) → Agrees summaries.now opens
+pub fn forget_home(waiting: &mut Waiting, summaries: &Summaries, key: LeaseName)
+    ensures { (opens : List Open) → Agrees summaries.now opens
         → HaveForgotten (has_key key) opens waiting.old waiting.new }
 {
     if waiting.is_empty() {
@@ -194,7 +194,7 @@ fn forget_file_of(waiting: &mut Waiting, opens: &Opens, id: FileId)
 
 /// What is known of the file of an open that comes is forgotten, and, where a create of any file is held
 /// under its key, what is known of all.
-pub fn forget_for(waiting: &mut Waiting, queues: &Queues, one: &Open)
+pub fn forget_for(waiting: &mut Waiting, queues: &Queues, one: &OpenEntry)
     ensures { HaveForgottenFor one.now (held_at (filed queues.now)) waiting.old waiting.new }
 {
     waiting.forget(one.file);

@@ -2,8 +2,8 @@ ghost use Rattle.std.specs.Prelude.{◌≡◌, ◌<◌, ◌^◌, List, length, [
 ghost use Rattle.std.specs.Prelude.{not};
 ghost use Rattle.std.specs.List.{list_any};
 ghost use Rattle.lease_state.specs.declared.number.FileNo.{FileNo};
-ghost use Rattle.lease_model.specs.server.State.{Open as ModelOpen, Lease as ModelLease};
-ghost use Rattle.lease_model.specs.values.Keys.{Key as ModelKey};
+ghost use Rattle.lease_model.specs.server.State.{Open, Lease};
+ghost use Rattle.lease_model.specs.values.Keys.{Key};
 ghost use Rattle.lease_model.specs.server.State.{Server, no_lease, has_key, has_lease};
 ghost use Rattle.lease_model.specs.server.Naming.{key_of_open};
 ghost use Rattle.lease_model.specs.values.Keys.{key_eq};
@@ -26,10 +26,10 @@ ghost use Rattle.std.specs.Option.{option_map};
 use crate::tables::file_summary::FileSummary;
 use crate::tables::lease_marks::LeaseMarks;
 use crate::tables::tally::Tally;
-use crate::values::key::Key;
-use crate::values::lease::Lease;
+use crate::values::key::LeaseName;
+use crate::values::lease::HeldLease;
 use crate::values::number::FileNo;
-use crate::values::open::Open;
+use crate::values::open::OpenEntry;
 use crate::values::want::Demand;
 use lease_state::{Access, Memory, Share};
 use std::alloc::Global;
@@ -39,7 +39,7 @@ use std::collections::{BTreeMap, BTreeSet};
 #[derive(Clone, Copy, Debug)]
 pub struct LeaseRecord {
     pub file: FileNo,
-    pub lease: Lease,
+    pub lease: HeldLease,
     pub tally: Tally,
 }
 
@@ -48,7 +48,7 @@ pub struct LeaseRecord {
 #[derive(Debug, Drop)]
 pub struct Summaries {
     /// A record for each key that an open has.
-    leases: BTreeMap<Key, LeaseRecord>,
+    leases: BTreeMap<LeaseName, LeaseRecord>,
     /// A summary for each file that an open is on.
     files: BTreeMap<FileNo, FileSummary>,
 }
@@ -66,9 +66,14 @@ impl Summaries {
     }
 
     // The summary of the file, with one open more.
-    fn gain_on_file(&mut self, alloc: Global, one: &Open, marks: LeaseMarks) -> Result<(), Memory>
+    fn gain_on_file(
+        &mut self,
+        alloc: Global,
+        one: &OpenEntry,
+        marks: LeaseMarks,
+    ) -> Result<(), Memory>
         ensures leases { OnOk result (self.new.leases ≡ self.old.leases) }
-        ensures files { OnOk result ((less more : List ModelOpen) (leases later : ModelKey → ModelLease)
+        ensures files { OnOk result ((less more : List Open) (leases later : Key → Lease)
             → IsOneMore one.now less more → length more < 2 ^ 64 → AreAfter one.now marks less leases later
             → ((file : FileNo) → SummaryFits file.0 less leases (summary_at self.old file))
             → (file : FileNo) → SummaryFits file.0 more later (summary_at self.new file)) }
@@ -88,7 +93,7 @@ impl Summaries {
     }
 
     // The counts of the opens that have the key.
-    fn tally(&self, key: Key) -> Tally
+    fn tally(&self, key: LeaseName) -> Tally
         ensures { result ≡ tally_in (record_at self.now key) }
     {
         match self.leases.get(&key) {
@@ -98,7 +103,12 @@ impl Summaries {
     }
 
     // The record of the key, with one open more, and with this lease.
-    fn gain_record(&mut self, key: Key, one: &Open, lease: Lease) -> Result<(), Memory>
+    fn gain_record(
+        &mut self,
+        key: LeaseName,
+        one: &OpenEntry,
+        lease: HeldLease,
+    ) -> Result<(), Memory>
         ensures files { OnOk result (self.new.files ≡ self.old.files) }
         ensures changed { OnOk result (IsKeyChanged key (record_at self.old) (record_at self.new) (Some (record {
           file = record { 0 = one.now.file };
@@ -116,15 +126,15 @@ impl Summaries {
     }
 
     // The record of the key, with one open less: whether it had no other.
-    fn lose_record(&mut self, key: Key, one: &Open) -> bool
+    fn lose_record(&mut self, key: LeaseName, one: &OpenEntry) -> bool
         ensures files { self.new.files ≡ self.old.files }
-        ensures records { (less more : List ModelOpen) → key_of_open one.now ≡ Some key → IsOneMore one.now less more
-            → ((other : ModelKey) → RecordFits other more (record_at self.old other))
-            → (other : ModelKey) → RecordFits other less (record_at self.new other) }
-        ensures last { (less more : List ModelOpen) → key_of_open one.now ≡ Some key → IsOneMore one.now less more
-            → ((other : ModelKey) → RecordFits other more (record_at self.old other))
+        ensures records { (less more : List Open) → key_of_open one.now ≡ Some key → IsOneMore one.now less more
+            → ((other : Key) → RecordFits other more (record_at self.old other))
+            → (other : Key) → RecordFits other less (record_at self.new other) }
+        ensures last { (less more : List Open) → key_of_open one.now ≡ Some key → IsOneMore one.now less more
+            → ((other : Key) → RecordFits other more (record_at self.old other))
             → list_any (has_key key) less ≡ not result }
-        ensures leases { (other : ModelKey) → lease_in self.new other
+        ensures leases { (other : Key) → lease_in self.new other
             ≡ (if key_eq other key && result then no_lease else lease_in self.old other) }
     {
         match self.leases.get_mut(&key) {
@@ -141,11 +151,11 @@ impl Summaries {
     }
 
     // The summary of the file, with one open less, the last of its key or not.
-    fn lose_on_file(&mut self, one: &Open, last: bool)
+    fn lose_on_file(&mut self, one: &OpenEntry, last: bool)
         ensures leases { self.new.leases ≡ self.old.leases }
-        ensures files { (less more : List ModelOpen) (leases later : ModelKey → ModelLease)
+        ensures files { (less more : List Open) (leases later : Key → Lease)
             → IsOneMore one.now less more → AreLeft less leases later
-            → ((key : ModelKey) → has_key key one.now ≡ true → last ≡ not (list_any (has_key_on one.now.file key) less))
+            → ((key : Key) → has_key key one.now ≡ true → last ≡ not (list_any (has_key_on one.now.file key) less))
             → ((file : FileNo) → SummaryFits file.0 more leases (summary_at self.old file))
             → (file : FileNo) → SummaryFits file.0 less later (summary_at self.new file) }
     {
@@ -161,11 +171,11 @@ impl Summaries {
     }
 
     /// One open less, of a list that these agree with.
-    pub fn lose(&mut self, one: &Open)
-        ensures agrees { (less more : List ModelOpen) → IsOneMore one.now less more → Agrees self.old more
+    pub fn lose(&mut self, one: &OpenEntry)
+        ensures agrees { (less more : List Open) → IsOneMore one.now less more → Agrees self.old more
             → Agrees self.new less }
-        ensures leases { (less more : List ModelOpen) → IsOneMore one.now less more → Agrees self.old more
-            → (key : ModelKey) → lease_in self.new key
+        ensures leases { (less more : List Open) → IsOneMore one.now less more → Agrees self.old more
+            → (key : Key) → lease_in self.new key
             ≡ (if list_any (has_key key) less then lease_in self.old key else no_lease) }
     {
         match one.key() {
@@ -182,11 +192,11 @@ impl Summaries {
     /// # Errors
     ///
     /// `Memory` where there is none left for its record or its file's summary.
-    pub fn gain(&mut self, alloc: Global, one: &Open, lease: Lease) -> Result<(), Memory>
-        ensures agrees { OnOk result ((less more : List ModelOpen) → IsOneMore one.now less more
+    pub fn gain(&mut self, alloc: Global, one: &OpenEntry, lease: HeldLease) -> Result<(), Memory>
+        ensures agrees { OnOk result ((less more : List Open) → IsOneMore one.now less more
             → length more < 2 ^ 64 → IsAtHome (key_of_open one.now) one.now.file less
             → Agrees self.old less → Agrees self.new more) }
-        ensures leases { OnOk result ((key : ModelKey) → lease_in self.new key
+        ensures leases { OnOk result ((key : Key) → lease_in self.new key
             ≡ (if has_key key one.now then lease_of lease else lease_in self.old key)) }
     {
         let marks = LeaseMarks::of(lease);
@@ -204,9 +214,14 @@ impl Summaries {
     }
 
     // The summary of the file, where this is marked of the lease of a key.
-    fn mark_on_file(&mut self, file: FileNo, key: Key, marks: LeaseMarks) -> Result<(), Memory>
+    fn mark_on_file(
+        &mut self,
+        file: FileNo,
+        key: LeaseName,
+        marks: LeaseMarks,
+    ) -> Result<(), Memory>
         ensures leases { OnOk result (self.new.leases ≡ self.old.leases) }
-        ensures files { OnOk result ((opens : List ModelOpen) (leases later : ModelKey → ModelLease)
+        ensures files { OnOk result ((opens : List Open) (leases later : Key → Lease)
             → IsPut key marks leases later
             → list_any (has_key_on file.0 key) opens ≡ true → list_any (is_elsewhere key file.0) opens ≡ false
             → ((at : FileNo) → SummaryFits at.0 opens leases (summary_at self.old at))
@@ -226,11 +241,11 @@ impl Summaries {
     /// # Errors
     ///
     /// `Memory` where there is none left for the file's summary.
-    pub fn put(&mut self, key: Key, lease: Lease) -> Result<(), Memory>
-        ensures agrees { OnOk result ((opens : List ModelOpen) → list_any (has_key key) opens ≡ true
+    pub fn put(&mut self, key: LeaseName, lease: HeldLease) -> Result<(), Memory>
+        ensures agrees { OnOk result ((opens : List Open) → list_any (has_key key) opens ≡ true
             → Agrees self.old opens → Agrees self.new opens) }
-        ensures leases { OnOk result ((opens : List ModelOpen) → list_any (has_key key) opens ≡ true
-            → Agrees self.old opens → (other : ModelKey) → lease_in self.new other
+        ensures leases { OnOk result ((opens : List Open) → list_any (has_key key) opens ≡ true
+            → Agrees self.old opens → (other : Key) → lease_in self.new other
             ≡ (if key_eq other key then lease_of lease else lease_in self.old other)) }
     {
         match self.leases.get_mut(&key) {
@@ -249,35 +264,35 @@ impl Summaries {
     }
 
     /// The lease of a key; none where no open has it.
-    pub fn lease(&self, key: Key) -> Lease
+    pub fn lease(&self, key: LeaseName) -> HeldLease
         ensures { lease_of result ≡ lease_in self.now key }
     {
         match self.leases.get(&key) {
             Some(known) => known.lease,
-            None => Lease::none(),
+            None => HeldLease::none(),
         }
     }
 
     /// The lease under which an open stands.
-    pub fn under(&self, one: &Open) -> Lease
+    pub fn under(&self, one: &OpenEntry) -> HeldLease
         ensures { lease_of result ≡ lease_under (lease_in self.now) (key_of_open one.now) }
     {
         match one.key() {
             Some(key) => self.lease(key),
-            None => Lease::none(),
+            None => HeldLease::none(),
         }
     }
 
     /// Whether an open has the key.
-    pub fn has_lease(&self, key: Key) -> bool
+    pub fn has_lease(&self, key: LeaseName) -> bool
         ensures { (server : Server) → StandFor self.now server → result ≡ has_lease server key }
     {
         self.leases.contains_key(&key)
     }
 
     /// The file of the key's opens; `None` where no open has the key.
-    pub fn home(&self, key: Key) -> Option<FileNo>
-        ensures { (opens : List ModelOpen) → Agrees self.now opens → IsHome key opens (option_map (λ file. file.0) result) }
+    pub fn home(&self, key: LeaseName) -> Option<FileNo>
+        ensures { (opens : List Open) → Agrees self.now opens → IsHome key opens (option_map (λ file. file.0) result) }
     {
         match self.leases.get(&key) {
             Some(known) => Some(known.file),
@@ -286,7 +301,7 @@ impl Summaries {
     }
 
     /// Whether an open of the key is on another file.
-    pub fn is_elsewhere(&self, key: Key, file: FileNo) -> bool
+    pub fn is_elsewhere(&self, key: LeaseName, file: FileNo) -> bool
         ensures { (server : Server) → StandFor self.now server
             → result ≡ list_any (is_elsewhere key file.0) server.opens }
     {
@@ -309,7 +324,7 @@ impl Summaries {
 
     /// Whether an open on the file has another key than the request. An open without a key counts
     /// as a key of its own (profile).
-    pub fn has_other_on(&self, own: Option<Key>, file: FileNo) -> bool
+    pub fn has_other_on(&self, own: Option<LeaseName>, file: FileNo) -> bool
         ensures { (server : Server) → StandFor self.now server
             → result ≡ list_any (grants.is_other_on own file.0) server.opens }
     {
@@ -320,7 +335,7 @@ impl Summaries {
     }
 
     /// Whether the lease of another key on the file hinders a write under this key, or under none.
-    pub fn is_hindered(&self, own: Option<Key>, file: FileNo) -> bool
+    pub fn is_hindered(&self, own: Option<LeaseName>, file: FileNo) -> bool
         ensures { (server : Server) → StandFor self.now server
             → result ≡ list_any (is_hinderer server own file.0) server.opens }
     {
@@ -335,7 +350,7 @@ impl Summaries {
     /// # Errors
     ///
     /// `Memory` where there is none left for the list.
-    pub fn wanted_keys(&self, alloc: Global, demand: &Demand) -> Result<Vec<Key>, Memory>
+    pub fn wanted_keys(&self, alloc: Global, demand: &Demand) -> Result<Vec<LeaseName>, Memory>
         ensures { IfOk result (λ keys. (server : Server) → StandFor self.now server
             → keys.items ≡ keys_of (filter (is_demanded demand.now server) server.opens)) }
     {
@@ -353,9 +368,9 @@ impl Summaries {
     fn wanted_among(
         &self,
         alloc: Global,
-        keys: &BTreeSet<Key>,
+        keys: &BTreeSet<LeaseName>,
         demand: &Demand,
-    ) -> Result<Vec<Key>, Memory>
+    ) -> Result<Vec<LeaseName>, Memory>
         ensures wanted { IfOk result (λ wanted. wanted.items ≡ filter (is_wanted_key self.now demand.now) keys.now.keys) }
         ensures ordered { IsOrdered key_order keys.now }
     {
@@ -370,7 +385,7 @@ impl Summaries {
 
     // Whether the lease of a key on the file is wanted: it is another one than the request's, and
     // holds what the request wishes to be given up.
-    fn is_wanted(&self, key: Key, demand: &Demand) -> bool
+    fn is_wanted(&self, key: LeaseName, demand: &Demand) -> bool
         ensures { result ≡ is_wanted_key self.now demand.now key }
     {
         if is_own(demand.own, key) {
@@ -384,7 +399,7 @@ impl Summaries {
 }
 
 // Whether the request has this key.
-fn is_own(own: Option<Key>, key: Key) -> bool
+fn is_own(own: Option<LeaseName>, key: LeaseName) -> bool
     ensures { result ≡ is_own_key own key }
 {
     match own {

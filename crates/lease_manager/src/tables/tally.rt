@@ -1,8 +1,8 @@
 ghost use Rattle.std.specs.Prelude.{◌≡◌, nat_eq, [], Bool};
-ghost use Rattle.lease_model.specs.server.State.{Open as ModelOpen};
+ghost use Rattle.lease_model.specs.server.State.{Open};
 ghost use Rattle.lease_manager.specs.Tallies as spec;
 
-use crate::values::open::Open;
+use crate::values::open::OpenEntry;
 use lease_state::{Access, Share};
 
 /// Counts of opens: how many there are, and how many of them read, write, refuse others to read and
@@ -19,7 +19,7 @@ pub struct Tally {
 impl Tally {
     /// No open is counted.
     pub fn none() -> Tally
-        ensures { (test : ModelOpen → Bool) → result ≡ spec.tally_of test [] }
+        ensures { (test : Open → Bool) → result ≡ spec.tally_of test [] }
     {
         Tally {
             opens: 0,
@@ -38,7 +38,7 @@ impl Tally {
     }
 
     /// With one open more.
-    pub fn raised(self, one: &Open) -> Tally
+    pub fn raised(self, one: &OpenEntry) -> Tally
         ensures { result ≡ spec.tally_raised one.now self }
     {
         Tally {
@@ -51,7 +51,7 @@ impl Tally {
     }
 
     /// With one open less.
-    pub fn lowered(self, one: &Open) -> Tally
+    pub fn lowered(self, one: &OpenEntry) -> Tally
         ensures { result ≡ spec.tally_lowered one.now self }
     {
         Tally {

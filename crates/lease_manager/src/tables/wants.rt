@@ -5,7 +5,7 @@ ghost use Rattle.lease_manager.specs.Table.{server_of};
 ghost use Rattle.lease_manager.specs.Wishes.{wants_for, want_of};
 
 use crate::tables::Tables;
-use crate::values::key::Key;
+use crate::values::key::LeaseName;
 use crate::values::number::FileNo;
 use crate::values::want::{Demand, Want, Wish};
 use lease_state::Memory;
@@ -17,7 +17,12 @@ impl Tables {
     /// # Errors
     ///
     /// `Memory` where there is none left for the list.
-    pub fn wants(&self, wish: Wish, own: Option<Key>, file: FileNo) -> Result<Vec<Want>, Memory>
+    pub fn wants(
+        &self,
+        wish: Wish,
+        own: Option<LeaseName>,
+        file: FileNo,
+    ) -> Result<Vec<Want>, Memory>
         ensures { IfOk result (λ wants. wants.items ≡ wants_for wish (server_of self.now) own file.0) }
     {
         let keys = self
@@ -29,14 +34,14 @@ impl Tables {
 
     /// Whether the lease of another key on the file hinders a write under this key, or under none: it
     /// holds something, and is not breaking to nothing yet.
-    pub fn is_hindered(&self, own: Option<Key>, file: FileNo) -> bool
+    pub fn is_hindered(&self, own: Option<LeaseName>, file: FileNo) -> bool
         ensures { result ≡ list_any (is_hinderer (server_of self.now) own file.0) (server_of self.now).opens }
     {
         self.summaries.is_hindered(own, file)
     }
 
     // The wants of these keys.
-    fn wants_of(&self, wish: Wish, keys: &[Key]) -> Result<Vec<Want>, Memory>
+    fn wants_of(&self, wish: Wish, keys: &[LeaseName]) -> Result<Vec<Want>, Memory>
         ensures { IfOk result (λ wants. wants.items ≡ map (want_of wish (server_of self.now)) keys.now) }
     {
         let mut wants = Vec::new(self.alloc());

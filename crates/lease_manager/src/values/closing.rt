@@ -3,10 +3,10 @@ ghost use Rattle.lease_manager.specs.Closing.{closes};
 ghost use Rattle.lease_manager.specs.Summaries.{lease_in};
 
 use crate::tables::summaries::Summaries;
-use crate::values::key::Key;
-use crate::values::lease::Lease;
+use crate::values::key::LeaseName;
+use crate::values::lease::HeldLease;
 use crate::values::number::ClientNo;
-use crate::values::open::Open;
+use crate::values::open::OpenEntry;
 use lease_state::FileId;
 
 /// Which opens are closed together.
@@ -17,16 +17,16 @@ pub enum Closing {
     /// The one of this FileId, if its client is away (3.3.6.2).
     LeftBehind(FileId),
     /// Those of the key (3.3.6.5; profile).
-    Of(Key),
+    Of(LeaseName),
     /// Those of the key whose clients are away (profile).
-    LeftOf(Key),
+    LeftOf(LeaseName),
     /// The connected ones of the client that don't outlive its connection (3.3.7.1).
     LostBy(ClientNo),
 }
 
 impl Closing {
     /// Whether the open, which stands under this lease, is one of them.
-    pub fn closes(&self, leases: &Summaries, one: &Open) -> bool
+    pub fn closes(&self, leases: &Summaries, one: &OpenEntry) -> bool
         ensures { result ≡ closes self.now (lease_in leases.now) one.now }
     {
         match self {

@@ -13,12 +13,12 @@ use std::marker::Model;
 
 /// What names a lease (MS-SMB2 3.3.1.4, 3.3.5.9.8): its client and the client's LeaseKey.
 #[derive(Clone, Copy, Debug)]
-pub struct Key {
+pub struct LeaseName {
     pub client: ClientNo,
     pub bytes: LeaseKey,
 }
 
-impl Model for Key {
+impl Model for LeaseName {
     ghost use Rattle.lease_model.specs.values.Keys as model;
 
     ghost Value = { model.Key };
@@ -28,22 +28,22 @@ impl Model for Key {
     ghost inverse = { λ key. record { client = record { 0 = key.client }; bytes = record { 0 = key.bytes } } };
 }
 
-impl PartialEq for Key {
+impl PartialEq for LeaseName {
     ghost eq = { eq_of_both (on (λ key. key.client) ◌==◌) (on (λ key. key.bytes) (pointwise ◌==◌)) };
 
     ghost laws = { Prim.search (comparing, rules) };
 
-    fn eq(&self, other: &Key) -> bool {
+    fn eq(&self, other: &LeaseName) -> bool {
         self.client == other.client && self.bytes == other.bytes
     }
 }
 
-impl Eq for Key {
+impl Eq for LeaseName {
     ghost laws = { Prim.search (comparing, rules) };
 }
 
 /// The order in which leases are broken (profile): by their clients' numbers, then by their bytes.
-impl Ord for Key {
+impl Ord for LeaseName {
     ghost cmp = { then_cmp (on (λ key. key.client) nat_cmp) (on (λ key. key.bytes) (slice_cmp nat_cmp)) };
 
     ghost total = { Prim.search (comparing, rules) };
@@ -52,7 +52,7 @@ impl Ord for Key {
 
     ghost matches_eq = { Prim.search (comparing, rules) };
 
-    fn cmp(&self, other: &Key) -> Ordering {
+    fn cmp(&self, other: &LeaseName) -> Ordering {
         match self.client.cmp(&other.client) {
             Ordering::Equal => self.bytes.cmp(&other.bytes),
             apart => apart,
@@ -60,21 +60,21 @@ impl Ord for Key {
     }
 }
 
-impl PartialOrd for Key {
+impl PartialOrd for LeaseName {
     ghost partial_cmp = { as_partial_cmp
         (then_cmp (on (λ key. key.client) nat_cmp) (on (λ key. key.bytes) (slice_cmp nat_cmp))) };
 
     ghost laws = { partial_order_from_own_ties (Prim.search (comparing, rules)) (Prim.search (comparing, rules)) };
 
-    fn partial_cmp(&self, other: &Key) -> Option<Ordering> {
+    fn partial_cmp(&self, other: &LeaseName) -> Option<Ordering> {
         Some(self.cmp(other))
     }
 }
 
-impl Key {
+impl LeaseName {
     /// Whether both name one lease.
     #[tactic(auto, unfolding(lease_model::specs::values::Keys::key_eq))]
-    pub(crate) fn is(self, other: Key) -> bool
+    pub(crate) fn is(self, other: LeaseName) -> bool
         ensures { result ≡ key_eq self other }
     {
         self.client == other.client && self.bytes == other.bytes

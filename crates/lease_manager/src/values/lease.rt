@@ -6,19 +6,19 @@ use lease_state::LeaseState;
 
 /// A lease (MS-SMB2 3.3.1.12): its state and, while it is breaking, the state that it is broken to.
 #[derive(Clone, Copy, Debug)]
-pub struct Lease {
+pub struct HeldLease {
     /// What it holds.
     pub state: LeaseState,
     /// While a break waits for its acknowledgment: what it is to hold.
     pub broken_to: Option<LeaseState>,
 }
 
-impl Lease {
+impl HeldLease {
     /// What a key without an open has.
-    pub(crate) fn none() -> Lease
+    pub(crate) fn none() -> HeldLease
         ensures { lease_of result ≡ no_lease }
     {
-        Lease {
+        HeldLease {
             state: LeaseState::NONE,
             broken_to: None,
         }

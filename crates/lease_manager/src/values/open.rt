@@ -10,8 +10,8 @@ ghost use Rattle.lease_manager.specs.Listing.{open_of};
 ghost use Rattle.lease_manager.specs.Looks.{is_connected_as};
 
 use crate::tables::left_opens::Owner;
-use crate::values::key::Key;
-use crate::values::lease::Lease;
+use crate::values::key::LeaseName;
+use crate::values::lease::HeldLease;
 use crate::values::number::{ClientNo, FileNo};
 use lease_state::{Access, FileId, LeaseKey, Share};
 use std::marker::Model;
@@ -19,7 +19,7 @@ use std::marker::Model;
 /// An open of a file (MS-SMB2 3.3.1.10). A durable open outlives its connection, and is then there
 /// but not connected.
 #[derive(Debug, Drop)]
-pub struct Open {
+pub struct OpenEntry {
     pub file_id: FileId,
     pub client: ClientNo,
     pub file: FileNo,
@@ -52,7 +52,7 @@ pub struct ListedOpen {
     pub connected: bool,
 }
 
-impl Model for Open {
+impl Model for OpenEntry {
     ghost use Rattle.std.specs.Option.{option_map};
     ghost use Rattle.lease_model.specs.server.State as model;
 
@@ -70,9 +70,9 @@ impl Model for Open {
     } };
 }
 
-impl Open {
+impl OpenEntry {
     /// Whether the open has this key.
-    pub fn has_key(&self, key: Key) -> bool
+    pub fn has_key(&self, key: LeaseName) -> bool
         ensures { result ≡ has_key key self.now }
     {
         match self.lease_key {
@@ -82,7 +82,7 @@ impl Open {
     }
 
     /// Whether the open has the key, if this is one.
-    pub fn has_own_key(&self, own: Option<Key>) -> bool
+    pub fn has_own_key(&self, own: Option<LeaseName>) -> bool
         ensures { result ≡ has_own_key own self.now }
     {
         match own {
@@ -119,11 +119,11 @@ impl Open {
     }
 
     /// The key of the open; `None` for an open without an RqLs context.
-    pub fn key(&self) -> Option<Key>
+    pub fn key(&self) -> Option<LeaseName>
         ensures { result ≡ key_of_open self.now }
     {
         match self.lease_key {
-            Some(bytes) => Some(Key {
+            Some(bytes) => Some(LeaseName {
                 client: self.client,
                 bytes,
             }),
@@ -140,7 +140,13 @@ impl Open {
 
     /// Whether a reconnect of this client under this key may name the open (MS-SMB2 3.3.5.9.7).
     #[tactic(auto)]
-    pub fn awaits(&self, client: ClientNo, file: FileNo, own: Option<Key>, fid: FileId) -> bool
+    pub fn awaits(
+        &self,
+        client: ClientNo,
+        file: FileNo,
+        own: Option<LeaseName>,
+        fid: FileId,
+    ) -> bool
         ensures { result ≡ awaits client.0 file.0 own fid.0 self.now }
     {
         match own {
@@ -156,7 +162,7 @@ impl Open {
     }
 
     /// Whether the open has the key and its client is away.
-    pub fn is_left_open(&self, key: Key) -> bool
+    pub fn is_left_open(&self, key: LeaseName) -> bool
         ensures { result ≡ is_left_open key self.now }
     {
         self.has_key(key) && !self.connected
@@ -171,7 +177,7 @@ impl Open {
 
     /// Whether the open, which stands under this lease, outlives its client's connection (profile;
     /// MS-SMB2 3.3.7.1).
-    pub fn outlives_connection(&self, lease: Lease) -> bool
+    pub fn outlives_connection(&self, lease: HeldLease) -> bool
         ensures { result ≡ outlives_under (lease_of lease) self.now }
     {
         self.durable && lease.state.caches_handles() && !lease.is_breaking()

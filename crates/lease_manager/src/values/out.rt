@@ -1,5 +1,5 @@
 use crate::values::decision::CreateAnswer;
-use crate::values::key::Key;
+use crate::values::key::LeaseName;
 use crate::values::number::{ClientNo, FileNo};
 use crate::values::request::Ask;
 use lease_state::{FileId, LeaseState, Status};
@@ -47,13 +47,13 @@ pub enum Out {
     },
     /// The lease of the key is broken, from this state to that.
     Broken {
-        key: Key,
+        key: LeaseName,
         current: LeaseState,
         lowered: LeaseState,
     },
     /// A break is acknowledged, and the lease of the key has this state.
     Acknowledged {
-        key: Key,
+        key: LeaseName,
         state: LeaseState,
     },
     /// An acknowledgment is refused.

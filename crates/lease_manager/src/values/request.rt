@@ -9,9 +9,9 @@ ghost use Rattle.lease_manager.specs.Requests.{lease_asked};
 ghost use Rattle.lease_manager.specs.OneFile.{asks_with};
 ghost use Rattle.manager_model.specs.Handling.{held_in};
 
-use crate::values::key::Key;
+use crate::values::key::LeaseName;
 use crate::values::number::{ClientNo, FileNo, Tag};
-use crate::values::open::Open;
+use crate::values::open::OpenEntry;
 use lease_state::{Access, FileId, LeaseKey, LeaseState, Order, Rules, Share};
 use std::marker::Model;
 
@@ -53,11 +53,11 @@ pub enum Ask {
 
 /// The key of a create, from its client and its RqLs context.
 // docs/DECISIONS.md: "A create without RqLs has no key of its own".
-pub fn key_asked(client: ClientNo, lease: Option<(LeaseKey, LeaseState)>) -> Option<Key>
+pub fn key_asked(client: ClientNo, lease: Option<(LeaseKey, LeaseState)>) -> Option<LeaseName>
     ensures { result ≡ naming.own_key client.0 (option_map lease_asked lease) }
 {
     match lease {
-        Some((bytes, _)) => Some(Key { client, bytes }),
+        Some((bytes, _)) => Some(LeaseName { client, bytes }),
         None => None,
     }
 }
@@ -132,7 +132,7 @@ impl Held {
     }
 
     /// Whether it is a create under the key of the open.
-    pub fn asks_with(&self, one: &Open) -> bool
+    pub fn asks_with(&self, one: &OpenEntry) -> bool
         ensures { result ≡ asks_with one.now self.now.held }
     {
         match self.ask {

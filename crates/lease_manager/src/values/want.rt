@@ -4,7 +4,7 @@ ghost use Rattle.lease_manager.specs.Wanted.{needs_lease};
 ghost use Rattle.lease_manager.specs.Wishes.{lowered_for};
 
 use crate::tables::summaries::LeaseRecord;
-use crate::values::key::Key;
+use crate::values::key::LeaseName;
 use crate::values::number::FileNo;
 use lease_state::{Access, LeaseState, Share};
 use std::marker::Model;
@@ -52,14 +52,14 @@ impl Wish {
 #[derive(Debug, Drop)]
 pub struct Demand {
     pub wish: Wish,
-    pub own: Option<Key>,
+    pub own: Option<LeaseName>,
     pub file: FileNo,
 }
 
 /// A lease to be broken, and the state that it is to be lowered to.
 #[derive(Debug, Drop)]
 pub struct Want {
-    pub key: Key,
+    pub key: LeaseName,
     pub lowered: LeaseState,
 }
 

@@ -1,6 +1,6 @@
 use super::words::{KEY, ONE, TWO};
 use break_timers::{BreakNo, BreakTimers};
-use lease_manager::{BreakNotice, ClientNo, Decision, Key};
+use lease_manager::{BreakNotice, ClientNo, Decision, LeaseName};
 use lease_state::LeaseState;
 use std::test::Fail;
 
@@ -23,11 +23,11 @@ fn an_old_timer_ends_no_later_break(rt: HostRuntime) -> Result<(), Fail> {
     assert_eq!(rt; timers.note(&broken(TWO, true))?, Some(BreakNo(2)));
     assert_eq!(rt; timers.note(&broken(ONE, true))?, Some(BreakNo(3)));
     let (one, two) = (
-        Key {
+        LeaseName {
             client: ONE,
             bytes: KEY,
         },
-        Key {
+        LeaseName {
             client: TWO,
             bytes: KEY,
         },
@@ -51,13 +51,13 @@ fn a_break_that_is_acknowledged_has_no_timer(rt: HostRuntime) -> Result<(), Fail
     };
     assert_eq!(rt; timers.note(&acknowledged)?, None);
     assert_eq!(rt; timers.run_out(BreakNo(1)), None);
-    timers.stop(Key {
+    timers.stop(LeaseName {
         client: TWO,
         bytes: KEY,
     });
     assert_eq!(rt; timers.run_out(BreakNo(2)), None);
     assert_eq!(rt;
-        timers.start(Key {
+        timers.start(LeaseName {
             client: TWO,
             bytes: KEY
         })?,

@@ -1,6 +1,6 @@
 use Rattle.std.proofs.Common.{subst, refl}
 use Rattle.std.proofs.lemmas.Option.{slice_get_read}
-use Rattle.capture_judge.proofs.Places.{each-more, each-all}
+use Rattle.capture_judge.proofs.placings.Places.{each-more, each-all}
 use Rattle.capture_judge.specs.Searching.{IsFeasible, IsInfeasible}
 use Rattle.capture_judge.specs.declared.values.Chain.{Chain}
 use Rattle.capture_judge.proofs.bounds.are_feasible.Goals as goal

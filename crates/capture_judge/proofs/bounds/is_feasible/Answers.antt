@@ -1,6 +1,6 @@
 use Rattle.std.proofs.Common.{arith}
 use Rattle.std.proofs.lemmas.Option.{slice_get_within, slice_get-get_or}
-use Rattle.capture_judge.proofs.Feasible.{earliest-skip, earliest-next, later-of}
+use Rattle.capture_judge.proofs.placings.Feasible.{earliest-skip, earliest-next, later-of}
 use Rattle.capture_judge.proofs.bounds.is_feasible.Goals as goal
 use Rattle.capture_judge.proofs.bounds.is_feasible.Goals.{in-Some+else-last-earliest, in_default}
 

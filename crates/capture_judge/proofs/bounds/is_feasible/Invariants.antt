@@ -1,4 +1,4 @@
-use Rattle.capture_judge.proofs.Feasible.{Earliest}
+use Rattle.capture_judge.proofs.placings.Feasible.{Earliest}
 use Rattle.capture_judge.proofs.bounds.is_feasible.Given as goal
 
 abbrev pub invariant-loop-change : goal.invariant-loop-change

@@ -2,8 +2,8 @@ use Rattle.std.proofs.Common.{subst, refl, List}
 use Rattle.std.proofs.lemmas.Option.{slice_get_read}
 use Rattle.capture_judge.specs.Searching.{Includes}
 use Rattle.capture_judge.specs.declared.values.Change.{Change}
-use Rattle.capture_judge.proofs.Places.{each-all}
-use Rattle.capture_judge.proofs.Positions.{HasAll, has-more}
+use Rattle.capture_judge.proofs.placings.Places.{each-all}
+use Rattle.capture_judge.proofs.placings.Positions.{HasAll, has-more}
 use Rattle.capture_judge.proofs.bounds.last_positions.Goals as goal
 
 pub loop-chain-preserved : goal.loop-chain-preserved

@@ -1,4 +1,4 @@
-use Rattle.capture_judge.proofs.Positions.{HasBelow}
+use Rattle.capture_judge.proofs.placings.Positions.{HasBelow}
 use Rattle.capture_judge.proofs.bounds.last_positions.Given as goal
 
 abbrev pub invariant-loop-chain : goal.invariant-loop-chain

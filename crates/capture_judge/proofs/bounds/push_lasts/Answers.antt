@@ -1,5 +1,5 @@
 use Rattle.std.proofs.lemmas.Option.{slice_get-get_or}
-use Rattle.capture_judge.proofs.Positions.{gathered-start, gathered-skip, gathered-push, gathered-all}
+use Rattle.capture_judge.proofs.placings.Positions.{gathered-start, gathered-skip, gathered-push, gathered-all}
 use Rattle.capture_judge.proofs.bounds.push_lasts.Goals as goal
 use Rattle.capture_judge.proofs.bounds.push_lasts.Goals.{in-Some+in_ok-push, in_default}
 

@@ -1,4 +1,4 @@
-use Rattle.capture_judge.proofs.Positions.{Gathered}
+use Rattle.capture_judge.proofs.placings.Positions.{Gathered}
 use Rattle.capture_judge.proofs.bounds.push_lasts.Given as goal
 
 abbrev pub invariant-loop-change : goal.invariant-loop-change

@@ -2,8 +2,8 @@ use Rattle.std.proofs.Common.{◌≡◌, ◌<◌, List, ℕ, refl, ◌∷◌, []
 use Rattle.std.proofs.lemmas.List.{reverse-append}
 use Rattle.capture_judge.specs.Charges.{GoesOn, IsDueStep, NoneLeft}
 use Rattle.capture_judge.specs.declared.values.Step.{Step}
-use Rattle.capture_judge.proofs.Charges.{due-inside, goes-next, left-fewer, all-placed}
-use Rattle.capture_judge.proofs.Completing.{left_of, total}
+use Rattle.capture_judge.proofs.clashes.Charges.{due-inside, goes-next, left-fewer, all-placed}
+use Rattle.capture_judge.proofs.clashes.Completing.{left_of, total}
 use Rattle.capture_judge.proofs.charging.charge_after.Goals as goal
 
 pub loop-step-init : goal.loop-step-init

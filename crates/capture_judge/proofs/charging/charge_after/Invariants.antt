@@ -1,6 +1,6 @@
 use Rattle.std.proofs.Common.{length, reverse}
 use Rattle.capture_judge.specs.Charges.{GoesOn}
-use Rattle.capture_judge.proofs.Completing.{left_of, total}
+use Rattle.capture_judge.proofs.clashes.Completing.{left_of, total}
 use Rattle.capture_judge.proofs.charging.charge_after.Given as goal
 
 abbrev pub invariant-loop-step : goal.invariant-loop-step

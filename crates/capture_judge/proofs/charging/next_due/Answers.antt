@@ -1,6 +1,6 @@
 use Rattle.std.proofs.Common.{arith}
 use Rattle.std.proofs.lemmas.Option.{slice_get-get_or}
-use Rattle.capture_judge.proofs.Dues.{due-skip, due-more, due-all}
+use Rattle.capture_judge.proofs.clashes.Dues.{due-skip, due-more, due-all}
 use Rattle.capture_judge.proofs.charging.next_due.Goals as goal
 use Rattle.capture_judge.proofs.charging.next_due.Goals.{in-Some, in_default}
 

@@ -3,7 +3,7 @@ use Rattle.std.proofs.lemmas.Option.{slice_get_read}
 use Rattle.capture_judge.specs.Charges.{IsNextDue}
 use Rattle.capture_judge.specs.declared.charging.Due.{Due}
 use Rattle.capture_judge.specs.declared.values.Change.{Change}
-use Rattle.capture_judge.proofs.Dues.{none_left-start, step-skip, step-more, step-all}
+use Rattle.capture_judge.proofs.clashes.Dues.{none_left-start, step-skip, step-more, step-all}
 use Rattle.capture_judge.proofs.charging.next_step.Goals as goal
 use Rattle.capture_judge.proofs.charging.next_step.Goals.{in-Some, in_default}
 use Rattle.std.proofs.Common.{refl}

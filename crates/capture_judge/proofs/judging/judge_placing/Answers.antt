@@ -3,11 +3,11 @@ use Rattle.std.specs.List.Sorted.{IsStrictlyIncreasing}
 use Rattle.std.proofs.lemmas.Bool.{MatchBool-at_true}
 use Rattle.capture_judge.specs.Placing.{IsPlacement, IsClean}
 use Rattle.capture_judge.specs.Searching.{IncludesAll}
-use Rattle.capture_judge.proofs.Covering.{search_at}
-use Rattle.capture_judge.proofs.Feasible.{no_placement}
-use Rattle.capture_judge.proofs.Places.{element-at}
-use Rattle.capture_judge.proofs.Standing.{stands-start, none_between, stands-next, unsafe-at, clean-at, all-late, one-on_time}
-use Rattle.capture_judge.proofs.Standing.{has-way, charged-at}
+use Rattle.capture_judge.proofs.clashes.Covering.{search_at}
+use Rattle.capture_judge.proofs.placings.Feasible.{no_placement}
+use Rattle.capture_judge.proofs.placings.Places.{element-at}
+use Rattle.capture_judge.proofs.calm.Standing.{stands-start, none_between, stands-next, unsafe-at, clean-at, all-late, one-on_time}
+use Rattle.capture_judge.proofs.calm.Standing.{has-way, charged-at}
 use Rattle.capture_judge.specs.declared.ways.Way.{Way}
 use Rattle.capture_judge.proofs.judging.judge_placing.Goals as goal
 

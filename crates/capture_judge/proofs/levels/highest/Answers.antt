@@ -2,7 +2,7 @@ use Rattle.std.proofs.Common.{refl, sym, ◌∙◌, ◌+◌, ◌<◌, ap, arith,
 use Rattle.std.proofs.lemmas.Option.{slice_get_read, slice_get-get_or}
 use Rattle.capture_judge.specs.Levels.{IsHighest}
 use Rattle.capture_judge.specs.Placing.{height}
-use Rattle.capture_judge.proofs.Heights.{higher, highest-skip, highest-more}
+use Rattle.capture_judge.proofs.verdicts.Heights.{higher, highest-skip, highest-more}
 use Rattle.capture_judge.proofs.levels.highest.Goals as goal
 use Rattle.capture_judge.proofs.levels.highest.Goals.{then-chain-client, else-chain-client}
 

@@ -1,7 +1,7 @@
 use Rattle.std.proofs.Common.{arith, ap, sym, ◌∙◌, length, reverse, take, subst, slice_index_or}
 use Rattle.std.proofs.lemmas.List.{length_push}
 use Rattle.capture_judge.specs.Levels.{HaveCome}
-use Rattle.capture_judge.proofs.Heights.{come-more, levels-more, level-after}
+use Rattle.capture_judge.proofs.verdicts.Heights.{come-more, levels-more, level-after}
 use Rattle.capture_judge.proofs.levels.levels_after.Goals as goal
 
 pub level_after-requires : goal.level_after-requires

@@ -1,5 +1,5 @@
 use Rattle.std.proofs.Common.{arith}
-use Rattle.capture_judge.proofs.Heights.{come-next, come-beyond}
+use Rattle.capture_judge.proofs.verdicts.Heights.{come-next, come-beyond}
 use Rattle.capture_judge.proofs.levels.note_step.Goals as goal
 
 pub returns-then-step-len : goal.returns-then-step-len

@@ -1,4 +1,4 @@
-use Rattle.capture_judge.proofs.Shown.{lowered-clean, left_out-clean}
+use Rattle.capture_judge.proofs.verdicts.Shown.{lowered-clean, left_out-clean}
 use Rattle.capture_judge.proofs.worked.doubts_are_in_favor.Goals as goal
 
 pub returns : goal.returns

@@ -1,4 +1,4 @@
-use Rattle.capture_judge.proofs.Shown.{hurried-unsafe}
+use Rattle.capture_judge.proofs.verdicts.Shown.{hurried-unsafe}
 use Rattle.capture_judge.proofs.worked.later_changes_hurry_earlier_ones.Goals as goal
 
 pub returns : goal.returns

@@ -2,7 +2,7 @@ use Rattle.lease_laws.proofs.Words.{◌∙◌, ap, sym}
 use Rattle.manager_model.specs.Handling.{all_passes, lost}
 use Rattle.lease_manager.specs.Outs.{handling_of}
 use Rattle.lease_manager.specs.Table.{manager_of}
-use Rattle.lease_manager.proofs.Calling.{cuts, cuts_nothing}
+use Rattle.lease_manager.proofs.tries.Calling.{cuts, cuts_nothing}
 use Rattle.lease_manager.proofs.calls.cut.Goals as goal
 
 pub returns-in_ok-try_all-clause-step : goal.returns-in_ok-try_all-clause-step

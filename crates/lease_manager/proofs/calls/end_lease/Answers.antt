@@ -1,6 +1,6 @@
 use Rattle.lease_laws.proofs.Words.{◌∙◌, [], has_key, refl}
-use Rattle.lease_manager.proofs.Breaking.{dropped, silent}
-use Rattle.lease_manager.proofs.Calling.{at_now, closed_told, lease_ended}
+use Rattle.lease_manager.proofs.tries.Breaking.{dropped, silent}
+use Rattle.lease_manager.proofs.tries.Calling.{at_now, closed_told, lease_ended}
 use Rattle.lease_manager.proofs.calls.end_lease.Goals as goal
 
 pub returns : goal.returns

@@ -1,6 +1,6 @@
 use Rattle.lease_laws.proofs.Words.{Progress, [], ap, is_left_behind, refl}
-use Rattle.lease_manager.proofs.Breaking.{dropped}
-use Rattle.lease_manager.proofs.Calling.{at_now, closed_told}
+use Rattle.lease_manager.proofs.tries.Breaking.{dropped}
+use Rattle.lease_manager.proofs.tries.Calling.{at_now, closed_told}
 use Rattle.lease_manager.proofs.calls.end_open.Goals as goal
 
 pub returns : goal.returns

@@ -1,5 +1,5 @@
 use Rattle.lease_laws.proofs.Words.{◌∙◌, sym}
-use Rattle.lease_manager.proofs.Calling.{joined_already, joined_now}
+use Rattle.lease_manager.proofs.tries.Calling.{joined_already, joined_now}
 use Rattle.lease_manager.proofs.calls.join.Goals as goal
 
 pub returns-in_ok-join-clause-step : goal.returns-in_ok-join-clause-step

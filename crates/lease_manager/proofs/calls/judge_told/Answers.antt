@@ -1,4 +1,4 @@
-use Rattle.lease_manager.proofs.Calling.{gone_now}
+use Rattle.lease_manager.proofs.tries.Calling.{gone_now}
 use Rattle.lease_manager.proofs.calls.judge_told.Goals as goal
 
 pub returns : goal.returns

@@ -2,9 +2,9 @@ use Rattle.lease_laws.proofs.Words.{◌∙◌, Server, [], ap}
 use Rattle.lease_manager.specs.Closing.{closes}
 use Rattle.lease_manager.specs.Table.{server_of}
 use Rattle.lease_manager.specs.declared.values.closing.Closing.TheVariants.{LostBy}
-use Rattle.lease_manager.proofs.Breaking.{dropped, silent}
-use Rattle.lease_manager.proofs.Calling.{lost_now}
-use Rattle.lease_manager.proofs.Losing.{lost_are}
+use Rattle.lease_manager.proofs.tries.Breaking.{dropped, silent}
+use Rattle.lease_manager.proofs.tries.Calling.{lost_now}
+use Rattle.lease_manager.proofs.opens.Losing.{lost_are}
 use Rattle.lease_manager.proofs.calls.lose.Goals as goal
 
 pub returns : goal.returns

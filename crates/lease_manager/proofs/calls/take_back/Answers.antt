@@ -1,4 +1,4 @@
-use Rattle.lease_manager.proofs.Calling.{taken_now}
+use Rattle.lease_manager.proofs.tries.Calling.{taken_now}
 use Rattle.lease_manager.proofs.calls.take_back.Goals as goal
 
 pub returns : goal.returns

@@ -1,5 +1,5 @@
 use Rattle.lease_laws.proofs.Words.{refl}
-use Rattle.lease_manager.proofs.Queuing.{first_is_of_hosts}
+use Rattle.lease_manager.proofs.waits.Queuing.{first_is_of_hosts}
 use Rattle.lease_manager.proofs.laws.managers_are_those_of_hosts.Goals as goal
 
 pub returns-clause-first : goal.returns-clause-first

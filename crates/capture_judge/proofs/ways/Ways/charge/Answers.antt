@@ -1,6 +1,6 @@
 use Rattle.std.proofs.Common.{◌<◌, length, refl, ◌∙◌, ◌-◌, arith}
 use Rattle.std.proofs.lemmas.Option.{slice_get_read}
-use Rattle.capture_judge.proofs.Charges.{goes-on}
+use Rattle.capture_judge.proofs.clashes.Charges.{goes-on}
 use Rattle.capture_judge.proofs.ways.Ways.charge.Goals as goal
 
 pub steps_to-requires-clause-leads : goal.steps_to-requires-clause-leads

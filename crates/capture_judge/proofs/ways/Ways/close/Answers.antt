@@ -1,6 +1,6 @@
 use Rattle.std.proofs.Common.{arith}
 use Rattle.std.proofs.lemmas.Bool.{MatchBool-at_true}
-use Rattle.capture_judge.proofs.Going.{gone-start, gone-more, gone-end}
+use Rattle.capture_judge.proofs.calm.Going.{gone-start, gone-more, gone-end}
 use Rattle.capture_judge.proofs.ways.Ways.close.Goals as goal
 
 pub loop-way-init : goal.loop-way-init

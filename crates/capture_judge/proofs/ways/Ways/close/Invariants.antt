@@ -1,6 +1,6 @@
 use Rattle.std.proofs.Common.{◌-◌}
 use Rattle.capture_judge.specs.declared.ways.TheConstants.{WAY_LIMIT}
-use Rattle.capture_judge.proofs.Going.{Gone}
+use Rattle.capture_judge.proofs.calm.Going.{Gone}
 use Rattle.capture_judge.proofs.ways.Ways.close.Given as goal
 
 abbrev pub invariant-loop-way : goal.invariant-loop-way

@@ -5,9 +5,9 @@ use Rattle.std.proofs.lemmas.Bool.{MatchBool-at_true}
 use Rattle.capture_judge.specs.declared.values.Chain.{Chain}
 use Rattle.capture_judge.specs.declared.values.Change.{Change}
 use Rattle.capture_judge.specs.declared.ways.Way.{Way}
-use Rattle.capture_judge.proofs.Taking.{change_here}
-use Rattle.capture_judge.proofs.Going.{Along, some-last, none-last, inside-more, along-start, along-pass, along-more, along-last}
-use Rattle.capture_judge.proofs.Going.{along-end}
+use Rattle.capture_judge.proofs.calm.Taking.{change_here}
+use Rattle.capture_judge.proofs.calm.Going.{Along, some-last, none-last, inside-more, along-start, along-pass, along-more, along-last}
+use Rattle.capture_judge.proofs.calm.Going.{along-end}
 use Rattle.capture_judge.proofs.ways.Ways.go_along.Goals as goal
 
 pub index-change-requires : goal.index-change-requires

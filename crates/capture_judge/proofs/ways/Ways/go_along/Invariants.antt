@@ -1,4 +1,4 @@
-use Rattle.capture_judge.proofs.Going.{Along}
+use Rattle.capture_judge.proofs.calm.Going.{Along}
 use Rattle.capture_judge.proofs.ways.Ways.go_along.Given as goal
 
 abbrev pub invariant-loop-change : goal.invariant-loop-change

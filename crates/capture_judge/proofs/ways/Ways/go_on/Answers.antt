@@ -1,9 +1,9 @@
 use Rattle.std.proofs.Common.{◌≡◌, Some, sym, ◌∙◌, subst, slice_get}
 use Rattle.std.proofs.lemmas.Bool.{MatchBool-at_true}
 use Rattle.std.proofs.lemmas.Option.{same_Some, slice_get_within}
-use Rattle.capture_judge.proofs.Going.{inside-grown, fall-may, went-all, went-fall, chains-start, chains-more, chains-end}
-use Rattle.capture_judge.proofs.Places.{element-at}
-use Rattle.capture_judge.proofs.Taking.{if-room}
+use Rattle.capture_judge.proofs.calm.Going.{inside-grown, fall-may, went-all, went-fall, chains-start, chains-more, chains-end}
+use Rattle.capture_judge.proofs.placings.Places.{element-at}
+use Rattle.capture_judge.proofs.calm.Taking.{if-room}
 use Rattle.capture_judge.specs.Searching.{IsSearch}
 use Rattle.capture_judge.specs.declared.values.Chain.{Chain}
 use Rattle.capture_judge.proofs.ways.Ways.go_on.Goals as goal

@@ -1,4 +1,4 @@
-use Rattle.capture_judge.proofs.Going.{Chains}
+use Rattle.capture_judge.proofs.calm.Going.{Chains}
 use Rattle.capture_judge.proofs.ways.Ways.go_on.Given as goal
 
 abbrev pub invariant-loop-chain : goal.invariant-loop-chain

@@ -2,7 +2,7 @@ use Rattle.std.proofs.Common.{◌≡◌, ◌∙◌, sym, ap, subst, refl, length
 use Rattle.std.proofs.lemmas.Bool.Decides.{Decides-eqb}
 use Rattle.std.proofs.lemmas.Slice.Eq.{slice_eq-Decides}
 use Rattle.std.proofs.lemmas.Option.{slice_get_read, slice_get_within}
-use Rattle.capture_judge.proofs.Places.{each-more}
+use Rattle.capture_judge.proofs.placings.Places.{each-more}
 use Rattle.capture_judge.specs.declared.ways.Way.{Way}
 use Rattle.capture_judge.proofs.ways.Ways.holds.Goals as goal
 

@@ -1,7 +1,7 @@
 use Rattle.std.proofs.Common.{◌≡◌, refl, ap, ◌∙◌, arith}
 use Rattle.std.proofs.lemmas.Option.{slice_get_within, get_or_from_slice_get}
 use Rattle.capture_judge.specs.declared.ways.Way.{Way}
-use Rattle.capture_judge.proofs.Keeping.{keeps, crowded}
+use Rattle.capture_judge.proofs.calm.Keeping.{keeps, crowded}
 use Rattle.capture_judge.proofs.ways.Ways.keep.Goals as goal
 
 pub returns-then-len-ge-WAY_LIMIT : goal.returns-then-len-ge-WAY_LIMIT

@@ -4,7 +4,7 @@ use Rattle.std.proofs.lemmas.Option.{slice_get_read, same_Some}
 use Rattle.capture_judge.specs.Searching.{Leads}
 use Rattle.capture_judge.specs.declared.values.Step.{Step}
 use Rattle.capture_judge.specs.declared.ways.Way.{Way}
-use Rattle.capture_judge.proofs.Tracing.{Traced, traced-start, traced-inside, traced-smaller, traced-more, traced-end}
+use Rattle.capture_judge.proofs.calm.Tracing.{Traced, traced-start, traced-inside, traced-smaller, traced-more, traced-end}
 use Rattle.capture_judge.proofs.ways.Ways.steps_to.Goals as goal
 
 pub loop-link-init : goal.loop-link-init

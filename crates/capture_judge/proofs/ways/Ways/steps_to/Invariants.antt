@@ -1,4 +1,4 @@
-use Rattle.capture_judge.proofs.Tracing.{Traced}
+use Rattle.capture_judge.proofs.calm.Tracing.{Traced}
 use Rattle.capture_judge.proofs.ways.Ways.steps_to.Given as goal
 
 abbrev pub invariant-loop-link : goal.invariant-loop-link

@@ -4,9 +4,9 @@ use Rattle.std.proofs.lemmas.List.{get_or_read}
 use Rattle.capture_judge.specs.Searching.{after, AreApart, IsApart, Has, Worth}
 use Rattle.capture_judge.specs.Placing.{reached}
 use Rattle.capture_judge.specs.declared.values.Chain.{Chain}
-use Rattle.capture_judge.proofs.Keeping.{apart-same}
-use Rattle.capture_judge.proofs.Taking.{change_here, admits-of, way-apart, apart-after, apart-one, took-refused, took-kept}
-use Rattle.capture_judge.proofs.Taking.{took-nowhere, if-room}
+use Rattle.capture_judge.proofs.calm.Keeping.{apart-same}
+use Rattle.capture_judge.proofs.calm.Taking.{change_here, admits-of, way-apart, apart-after, apart-one, took-refused, took-kept}
+use Rattle.capture_judge.proofs.calm.Taking.{took-nowhere, if-room}
 use Rattle.capture_judge.proofs.ways.Ways.take.Goals as goal
 use Rattle.capture_judge.proofs.ways.Ways.take.Goals.{then-not-is_apart-via-then-not-is_apart}
 use Rattle.capture_judge.proofs.ways.Ways.take.Goals.{then-not-is_apart-via-else-not-is_apart+then-holds}

@@ -1,4 +1,4 @@
-use Rattle.lease_manager.proofs.Breaking.{dropped_and_told}
+use Rattle.lease_manager.proofs.tries.Breaking.{dropped_and_told}
 use Rattle.lease_manager.proofs.requests.answer.close.Goals as goal
 
 pub returns-clause-step : goal.returns-clause-step

@@ -1,6 +1,6 @@
 use Rattle.lease_laws.proofs.Words.{connected_open}
 use Rattle.lease_manager.specs.Table.{server_of}
-use Rattle.lease_manager.proofs.Answering.{writes_on}
+use Rattle.lease_manager.proofs.tries.Answering.{writes_on}
 use Rattle.lease_manager.proofs.requests.answer.write.Goals as goal
 
 pub returns-clause-step : goal.returns-clause-step

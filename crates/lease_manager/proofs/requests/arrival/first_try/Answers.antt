@@ -3,7 +3,7 @@ use Rattle.lease_manager.specs.Outs.{handling_of}
 use Rattle.lease_manager.specs.Requests.{file_result, request_like}
 use Rattle.lease_manager.specs.Table.{server_of}
 use Rattle.manager_model.specs.Handling.{arrived_before, tagged_of}
-use Rattle.lease_manager.proofs.Arriving.{refused_told}
+use Rattle.lease_manager.proofs.tries.Arriving.{refused_told}
 use Rattle.lease_manager.proofs.requests.arrival.first_try.Goals as goal
 
 pub returns-in_ok-refused-in-Err : goal.returns-in_ok-refused-in-Err

@@ -5,8 +5,8 @@ use Rattle.lease_manager.specs.Lanes.{lane_like}
 use Rattle.lease_manager.specs.Outs.{handling_of, progress_of}
 use Rattle.lease_manager.specs.Requests.{request_like}
 use Rattle.lease_manager.specs.Table.{server_of}
-use Rattle.lease_manager.proofs.Arriving.{behind_told, tagged_so, tried_and_answered, tried_and_waits}
-use Rattle.lease_manager.proofs.Homing.{ready_at_home}
+use Rattle.lease_manager.proofs.tries.Arriving.{behind_told, tagged_so, tried_and_answered, tried_and_waits}
+use Rattle.lease_manager.proofs.tries.Homing.{ready_at_home}
 use Rattle.lease_manager.proofs.requests.arrival.try_on.Goals as goal
 
 pub returns-then-is_behind : goal.returns-then-is_behind

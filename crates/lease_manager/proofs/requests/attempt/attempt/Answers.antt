@@ -1,6 +1,6 @@
 use Rattle.lease_manager.specs.Outs.{progress_of}
 use Rattle.lease_manager.specs.Requests.{request_like}
-use Rattle.lease_manager.proofs.Rounds.{none_left}
+use Rattle.lease_manager.proofs.tries.Rounds.{none_left}
 use Rattle.lease_manager.proofs.requests.attempt.attempt.Goals as goal
 
 pub returns-clause-ended : goal.returns-clause-ended

@@ -1,7 +1,7 @@
 use Rattle.lease_laws.proofs.Words.{◌∙◌, Server, ap, inl, inr, is_breaking, sym, with_lease}
 use Rattle.lease_manager.specs.Outs.{progress_of}
 use Rattle.lease_manager.specs.Table.{server_of}
-use Rattle.lease_manager.proofs.Breaking.{not_broken, is_broken}
+use Rattle.lease_manager.proofs.tries.Breaking.{not_broken, is_broken}
 use Rattle.lease_manager.proofs.requests.attempt.break_lease.Goals as goal
 use Rattle.lease_manager.proofs.requests.attempt.break_lease.Goals.{then-not-has_lease-via-then-not-has_lease}
 use Rattle.lease_manager.proofs.requests.attempt.break_lease.Goals.{then-not-has_lease-via-else-not-has_lease+then-is_breaking}

@@ -1,7 +1,7 @@
 use Rattle.lease_laws.proofs.Words.{◌∙◌, Server, ap, is_left_open, lease_broken}
 use Rattle.lease_manager.specs.Ending.{ids_in}
-use Rattle.lease_manager.proofs.Breaking.{dropped}
-use Rattle.lease_manager.proofs.Ending.{ends_closed, ends_same, ends_then}
+use Rattle.lease_manager.proofs.tries.Breaking.{dropped}
+use Rattle.lease_manager.proofs.tries.Ending.{ends_closed, ends_same, ends_then}
 use Rattle.lease_manager.proofs.requests.attempt.meet.Goals as goal
 
 pub returns-clause-step : goal.returns-clause-step

@@ -2,7 +2,7 @@ use Rattle.lease_laws.proofs.Words.{◌∙◌, ap, sym}
 use Rattle.lease_manager.specs.Findings.{look_of}
 use Rattle.lease_manager.specs.Outs.{progress_of}
 use Rattle.lease_manager.specs.Requests.{request_like}
-use Rattle.lease_manager.proofs.Rounds.{looks, waits, again}
+use Rattle.lease_manager.proofs.tries.Rounds.{looks, waits, again}
 use Rattle.lease_manager.proofs.requests.attempt.round.Goals as goal
 
 pub returns-in-Fails-clause-step : goal.returns-in-Fails-clause-step

@@ -1,7 +1,7 @@
 use Rattle.lease_laws.proofs.Words.{option_map}
 use Rattle.lease_manager.specs.Requests.{lease_asked}
 use Rattle.lease_manager.specs.Table.{server_of}
-use Rattle.lease_manager.proofs.Homing.{home_asked}
+use Rattle.lease_manager.proofs.tries.Homing.{home_asked}
 use Rattle.lease_manager.proofs.requests.grant.grant_with.Goals as goal
 
 pub open-requires-clause-home : goal.open-requires-clause-home

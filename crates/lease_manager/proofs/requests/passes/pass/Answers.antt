@@ -1,5 +1,5 @@
 use Rattle.lease_manager.specs.Outs.{handling_of}
-use Rattle.lease_manager.proofs.Passing.{begins_behind, pass_done}
+use Rattle.lease_manager.proofs.waits.Passing.{begins_behind, pass_done}
 use Rattle.lease_manager.proofs.requests.passes.pass.Goals as goal
 
 pub returns-clause-step : goal.returns-clause-step

@@ -9,8 +9,8 @@ use Rattle.lease_manager.specs.Requests.{request_like}
 use Rattle.lease_manager.specs.StillWaiting.{Stays}
 use Rattle.lease_manager.specs.Table.{Table, held_at, queue_at, server_of}
 use Rattle.lease_manager.specs.contracts.values.request.Held.{the_view}
-use Rattle.lease_manager.proofs.Homing.{home_kept, ready_at_home}
-use Rattle.lease_manager.proofs.Passing.{answered_here, behind_here, gone, got_held, in_vain_told, waits_here}
+use Rattle.lease_manager.proofs.tries.Homing.{home_kept, ready_at_home}
+use Rattle.lease_manager.proofs.waits.Passing.{answered_here, behind_here, gone, got_held, in_vain_told, waits_here}
 use Rattle.lease_manager.proofs.requests.passes.try_again.Goals as goal
 
 pub count_still-requires : goal.count_still-requires

@@ -1,6 +1,6 @@
 use Rattle.lease_laws.proofs.Words.{get_or, rules}
 use Rattle.lease_manager.specs.Outs.{handling_of}
-use Rattle.lease_manager.proofs.Passing.{next_file, no_more_files}
+use Rattle.lease_manager.proofs.waits.Passing.{next_file, no_more_files}
 use Rattle.lease_manager.proofs.requests.passes.try_files.Goals as goal
 
 pub loop-file-preserved : goal.loop-file-preserved

@@ -1,7 +1,7 @@
 use Rattle.lease_laws.proofs.Words.{◌∙◌, ap, sym}
 use Rattle.manager_model.specs.Handling.{passes}
 use Rattle.lease_manager.specs.Outs.{handling_of}
-use Rattle.lease_manager.proofs.Passing.{another_pass, last_pass}
+use Rattle.lease_manager.proofs.waits.Passing.{another_pass, last_pass}
 use Rattle.lease_manager.proofs.requests.passes.try_held.Goals as goal
 
 pub loop-preserved : goal.loop-preserved

@@ -1,7 +1,7 @@
 use Rattle.lease_laws.proofs.Words.{◌++◌, ◌∙◌, ap}
 use Rattle.lease_manager.specs.Ending.{ids_in}
 use Rattle.lease_manager.specs.Table.{server_of}
-use Rattle.lease_manager.proofs.Ending.{ended_are, ended_so}
+use Rattle.lease_manager.proofs.tries.Ending.{ended_are, ended_so}
 use Rattle.lease_manager.proofs.requests.trial.try_now.Goals as goal
 
 pub returns-clause-told : goal.returns-clause-told

@@ -1,9 +1,9 @@
 use Rattle.lease_laws.proofs.Words.{◌∙◌, ◌≡◌, FileId, [], ap, arith, length, map, refl, sym}
 use Rattle.std.specs.Vec.{vec_len}
 use Rattle.lease_manager.specs.contracts.tables.Tables.{the_view}
-use Rattle.lease_manager.proofs.Counted.{no_ids}
-use Rattle.lease_manager.proofs.Settled.{known_settled, settled_closed}
-use Rattle.lease_manager.proofs.Tabling.{closed_none, closes_alike, kept_left, table_closed}
+use Rattle.lease_manager.proofs.waits.Counted.{no_ids}
+use Rattle.lease_manager.proofs.waits.Settled.{known_settled, settled_closed}
+use Rattle.lease_manager.proofs.opens.Tabling.{closed_none, closes_alike, kept_left, table_closed}
 use Rattle.lease_manager.specs.Queues.{filed}
 use Rattle.lease_manager.specs.Table.{held_at}
 use Rattle.lease_manager.proofs.tables.Tables.close.Goals as goal

@@ -1,8 +1,8 @@
 use Rattle.lease_laws.proofs.Words.{connected_again, true}
 use Rattle.lease_manager.specs.Filed.{has_id}
-use Rattle.lease_manager.proofs.StillWaiting.{none_counted}
-use Rattle.lease_manager.proofs.Mapping.{connection_kept}
-use Rattle.lease_manager.proofs.Tabling.{kept_mapped, same_id_where}
+use Rattle.lease_manager.proofs.waits.StillWaiting.{none_counted}
+use Rattle.lease_manager.proofs.sums.Mapping.{connection_kept}
+use Rattle.lease_manager.proofs.opens.Tabling.{kept_mapped, same_id_where}
 use Rattle.lease_manager.proofs.tables.Tables.connect_again.Goals as goal
 
 pub invariant_of-self : goal.invariant_of-self

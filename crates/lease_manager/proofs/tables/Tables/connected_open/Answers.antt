@@ -1,6 +1,6 @@
 use Rattle.lease_laws.proofs.Words.{◌∙◌, sym}
 use Rattle.lease_manager.specs.Looks.{is_connected_as}
-use Rattle.lease_manager.proofs.Tabling.{found_so, found_not, found_none, connected_only}
+use Rattle.lease_manager.proofs.opens.Tabling.{found_so, found_not, found_none, connected_only}
 use Rattle.lease_manager.proofs.tables.Tables.connected_open.Goals as goal
 use Rattle.lease_manager.proofs.tables.Tables.connected_open.Goals.{in_default-via-in-Some+else-is_connected_as}
 use Rattle.lease_manager.proofs.tables.Tables.connected_open.Goals.{in_default-via-in_default}

@@ -1,9 +1,9 @@
 use Rattle.lease_laws.proofs.Words.{◌∙◌, refl, sym}
 use Rattle.lease_manager.specs.contracts.tables.Tables.{the_view}
-use Rattle.lease_manager.proofs.Counted.{known_counted, stays_decided}
+use Rattle.lease_manager.proofs.waits.Counted.{known_counted, stays_decided}
 use Rattle.lease_manager.specs.Queues.{filed}
 use Rattle.lease_manager.specs.Table.{held_at}
-use Rattle.lease_manager.proofs.Queuing.{held_inside}
+use Rattle.lease_manager.proofs.waits.Queuing.{held_inside}
 use Rattle.lease_manager.proofs.tables.Tables.count_still.Goals as goal
 
 pub invariant_of-self-then-place-held : goal.invariant_of-self-then-place-held

@@ -2,10 +2,10 @@ use Rattle.lease_laws.proofs.Words.{◌∙◌, ap, false}
 use Rattle.lease_manager.specs.Kept.{disconnected_where}
 use Rattle.lease_manager.specs.Table.{server_of}
 use Rattle.lease_manager.specs.contracts.tables.Tables.{the_view}
-use Rattle.lease_manager.proofs.Counted.{kept_empty}
-use Rattle.lease_manager.proofs.StillWaiting.{none_counted}
-use Rattle.lease_manager.proofs.Mapping.{connection_kept}
-use Rattle.lease_manager.proofs.Tabling.{kept_mapped, same_id_where, disconnected_are}
+use Rattle.lease_manager.proofs.waits.Counted.{kept_empty}
+use Rattle.lease_manager.proofs.waits.StillWaiting.{none_counted}
+use Rattle.lease_manager.proofs.sums.Mapping.{connection_kept}
+use Rattle.lease_manager.proofs.opens.Tabling.{kept_mapped, same_id_where, disconnected_are}
 use Rattle.lease_manager.proofs.tables.Tables.disconnect.Goals as goal
 
 pub invariant_of-self : goal.invariant_of-self

@@ -1,5 +1,5 @@
 use Rattle.lease_manager.specs.contracts.tables.Tables.{the_view}
-use Rattle.lease_manager.proofs.Expiring.{table_expired}
+use Rattle.lease_manager.proofs.opens.Expiring.{table_expired}
 use Rattle.lease_manager.proofs.tables.Tables.expire.Goals as goal
 
 pub returns-clause-changed : goal.returns-clause-changed

@@ -1,6 +1,6 @@
 use Rattle.lease_manager.specs.contracts.tables.Tables.{the_view}
-use Rattle.lease_manager.proofs.Queuing.{client_forgotten_in, table_gone}
-use Rattle.lease_manager.proofs.StillWaiting.{none_counted}
+use Rattle.lease_manager.proofs.waits.Queuing.{client_forgotten_in, table_gone}
+use Rattle.lease_manager.proofs.waits.StillWaiting.{none_counted}
 use Rattle.lease_manager.proofs.tables.Tables.forget.Goals as goal
 
 pub returns : goal.returns

@@ -1,5 +1,5 @@
 use Rattle.lease_laws.proofs.Words.{◌∙◌, awaits}
-use Rattle.lease_manager.proofs.Tabling.{any_so, any_none, awaits_only}
+use Rattle.lease_manager.proofs.opens.Tabling.{any_so, any_none, awaits_only}
 use Rattle.lease_manager.proofs.tables.Tables.has_awaiting.Goals as goal
 
 pub returns-in-Some : goal.returns-in-Some

@@ -1,7 +1,7 @@
 use Rattle.lease_laws.proofs.Words.{refl}
 use Rattle.lease_manager.specs.Table.{server_of}
 use Rattle.lease_manager.specs.contracts.tables.Tables.{the_view}
-use Rattle.lease_manager.proofs.Tabling.{stands_now}
+use Rattle.lease_manager.proofs.opens.Tabling.{stands_now}
 use Rattle.lease_manager.proofs.tables.Tables.has_lease.Goals as goal
 
 pub returns : goal.returns

@@ -4,8 +4,8 @@ use Rattle.lease_manager.specs.Requests.{request_like}
 use Rattle.lease_manager.specs.StillWaiting.{HasOnlyToWait}
 use Rattle.lease_manager.specs.Table.{server_of}
 use Rattle.lease_manager.specs.contracts.tables.Tables.{the_view}
-use Rattle.lease_manager.proofs.Counted.{in_vain_now}
-use Rattle.lease_manager.proofs.Rounds.{needs_unready}
+use Rattle.lease_manager.proofs.waits.Counted.{in_vain_now}
+use Rattle.lease_manager.proofs.tries.Rounds.{needs_unready}
 use Rattle.lease_manager.proofs.tables.Tables.has_only_to_wait.Goals as goal
 
 pub returns-in_ok-waits-in-Needs-clause-vain : goal.returns-in_ok-waits-in-Needs-clause-vain

@@ -1,7 +1,7 @@
 use Rattle.lease_manager.specs.Filed.{has_id}
 use Rattle.lease_laws.proofs.Words.{sym}
 use Rattle.lease_laws.proofs.server.Lists.{find_has, has_any}
-use Rattle.lease_manager.proofs.Counted.{none_found}
+use Rattle.lease_manager.proofs.waits.Counted.{none_found}
 use Rattle.lease_manager.proofs.tables.Tables.has_open.Goals as goal
 
 pub returns-in-Some : goal.returns-in-Some

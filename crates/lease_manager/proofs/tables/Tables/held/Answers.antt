@@ -1,5 +1,5 @@
 use Rattle.lease_laws.proofs.Words.{◌∙◌, sym}
-use Rattle.lease_manager.proofs.Queuing.{queue_filed}
+use Rattle.lease_manager.proofs.waits.Queuing.{queue_filed}
 use Rattle.lease_manager.proofs.tables.Tables.held.Goals as goal
 
 pub returns : goal.returns

@@ -1,7 +1,7 @@
 use Rattle.lease_laws.proofs.Words.{◌++◌, ◌∷◌, []}
 use Rattle.lease_manager.specs.contracts.tables.Tables.{the_view}
-use Rattle.lease_manager.proofs.Counted.{known_held}
-use Rattle.lease_manager.proofs.Queuing.{edited, held_more, known_same, table_requeued, unchanged}
+use Rattle.lease_manager.proofs.waits.Counted.{known_held}
+use Rattle.lease_manager.proofs.waits.Queuing.{edited, held_more, known_same, table_requeued, unchanged}
 use Rattle.lease_manager.proofs.tables.Tables.hold.Goals as goal
 
 pub returns : goal.returns

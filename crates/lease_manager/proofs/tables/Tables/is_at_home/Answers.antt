@@ -1,7 +1,7 @@
 use Rattle.lease_laws.proofs.Words.{◌∙◌, ap, not, sym}
 use Rattle.lease_manager.specs.Table.{server_of}
 use Rattle.lease_manager.specs.contracts.tables.Tables.{the_view}
-use Rattle.lease_manager.proofs.Counted.{home_by, not_at_home}
+use Rattle.lease_manager.proofs.waits.Counted.{home_by, not_at_home}
 use Rattle.lease_manager.proofs.tables.Tables.is_at_home.Goals as goal
 
 pub returns : goal.returns

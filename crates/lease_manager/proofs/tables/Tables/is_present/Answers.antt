@@ -1,5 +1,5 @@
 use Rattle.lease_laws.proofs.Words.{◌∙◌}
-use Rattle.lease_manager.proofs.Joining.{present_is}
+use Rattle.lease_manager.proofs.opens.Joining.{present_is}
 use Rattle.lease_manager.proofs.tables.Tables.is_present.Goals as goal
 
 pub returns : goal.returns

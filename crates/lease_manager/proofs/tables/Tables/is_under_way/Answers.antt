@@ -3,7 +3,7 @@ use Rattle.std.specs.Vec.{vec_len}
 use Rattle.lease_manager.specs.OneFile.{on_file}
 use Rattle.lease_manager.specs.Table.{server_of}
 use Rattle.lease_manager.specs.contracts.tables.Tables.{the_view}
-use Rattle.lease_manager.proofs.Counted.{none_left, both_so, second_not}
+use Rattle.lease_manager.proofs.waits.Counted.{none_left, both_so, second_not}
 use Rattle.lease_manager.proofs.tables.Tables.is_under_way.Goals as goal
 
 pub returns-then-is_empty : goal.returns-then-is_empty

@@ -1,6 +1,6 @@
 use Rattle.lease_laws.proofs.Words.{true}
 use Rattle.lease_manager.specs.contracts.tables.Tables.{the_view}
-use Rattle.lease_manager.proofs.Joining.{present_put, tables_joined}
+use Rattle.lease_manager.proofs.opens.Joining.{present_put, tables_joined}
 use Rattle.lease_manager.proofs.tables.Tables.join.Goals as goal
 
 pub returns-clause-joined : goal.returns-clause-joined

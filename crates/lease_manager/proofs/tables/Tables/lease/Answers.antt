@@ -1,5 +1,5 @@
 use Rattle.lease_laws.proofs.Words.{◌∙◌, sym}
-use Rattle.lease_manager.proofs.Tabling.{listed_lease}
+use Rattle.lease_manager.proofs.opens.Tabling.{listed_lease}
 use Rattle.lease_manager.proofs.tables.Tables.lease.Goals as goal
 
 pub returns : goal.returns

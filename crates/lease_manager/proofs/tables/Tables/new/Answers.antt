@@ -1,6 +1,6 @@
-use Rattle.lease_manager.proofs.Counted.{kept_empty}
-use Rattle.lease_manager.proofs.Queuing.{new_is_new}
-use Rattle.lease_manager.proofs.StillWaiting.{none_counted}
+use Rattle.lease_manager.proofs.waits.Counted.{kept_empty}
+use Rattle.lease_manager.proofs.waits.Queuing.{new_is_new}
+use Rattle.lease_manager.proofs.waits.StillWaiting.{none_counted}
 use Rattle.lease_manager.proofs.tables.Tables.new.Goals as goal
 
 pub returns : goal.returns

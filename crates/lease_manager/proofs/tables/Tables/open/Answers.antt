@@ -2,10 +2,10 @@ use Rattle.lease_laws.proofs.Words.{Open, ap, refl, subst, sym}
 use Rattle.lease_manager.specs.Kept.{AreKept}
 use Rattle.lease_manager.specs.Leases.{lease_of}
 use Rattle.lease_manager.specs.contracts.tables.Tables.{the_view}
-use Rattle.lease_manager.proofs.Counted.{kept_empty}
-use Rattle.lease_manager.proofs.Settled.{known_settled, settled_opened}
-use Rattle.lease_manager.proofs.StillWaiting.{none_counted}
-use Rattle.lease_manager.proofs.Tabling.{table_opened, below_new, opened_now}
+use Rattle.lease_manager.proofs.waits.Counted.{kept_empty}
+use Rattle.lease_manager.proofs.waits.Settled.{known_settled, settled_opened}
+use Rattle.lease_manager.proofs.waits.StillWaiting.{none_counted}
+use Rattle.lease_manager.proofs.opens.Tabling.{table_opened, below_new, opened_now}
 use Rattle.lease_manager.specs.Queues.{filed}
 use Rattle.lease_manager.specs.Table.{held_at}
 use Rattle.lease_manager.proofs.tables.Tables.open.Goals as goal

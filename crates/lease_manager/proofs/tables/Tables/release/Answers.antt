@@ -1,7 +1,7 @@
 use Rattle.std.specs.List.{remove}
 use Rattle.lease_manager.specs.contracts.tables.Tables.{the_view}
-use Rattle.lease_manager.proofs.Counted.{known_released}
-use Rattle.lease_manager.proofs.Queuing.{edited, held_changed, queue_filed, table_requeued}
+use Rattle.lease_manager.proofs.waits.Counted.{known_released}
+use Rattle.lease_manager.proofs.waits.Queuing.{edited, held_changed, queue_filed, table_requeued}
 use Rattle.lease_manager.proofs.tables.Tables.release.Goals as goal
 
 pub remove-requires : goal.remove-requires

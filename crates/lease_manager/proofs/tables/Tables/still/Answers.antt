@@ -1,7 +1,7 @@
 use Rattle.lease_laws.proofs.Words.{refl}
 use Rattle.lease_manager.specs.contracts.tables.Tables.{the_view}
-use Rattle.lease_manager.proofs.Counted.{wait_still}
-use Rattle.lease_manager.proofs.StillWaiting.{none_still}
+use Rattle.lease_manager.proofs.waits.Counted.{wait_still}
+use Rattle.lease_manager.proofs.waits.StillWaiting.{none_still}
 use Rattle.lease_manager.proofs.tables.Tables.still.Goals as goal
 
 pub returns : goal.returns

@@ -2,8 +2,8 @@ use Rattle.lease_laws.proofs.Words.{◌∙◌, ap, map, refl}
 use Rattle.lease_manager.specs.Table.{server_of}
 use Rattle.lease_manager.specs.Wishes.{want_of}
 use Rattle.lease_manager.specs.contracts.tables.Tables.{the_view}
-use Rattle.lease_manager.proofs.Tabling.{stands_now}
-use Rattle.lease_manager.proofs.Wanting.{wants_are}
+use Rattle.lease_manager.proofs.opens.Tabling.{stands_now}
+use Rattle.lease_manager.proofs.sums.Wanting.{wants_are}
 use Rattle.lease_manager.proofs.tables.Tables.wants.Goals as goal
 
 pub returns : goal.returns

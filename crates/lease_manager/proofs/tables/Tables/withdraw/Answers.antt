@@ -1,8 +1,8 @@
 use Rattle.lease_laws.proofs.Words.{without}
 use Rattle.manager_model.specs.Handling.{is_under}
 use Rattle.lease_manager.specs.contracts.tables.Tables.{the_view}
-use Rattle.lease_manager.proofs.Counted.{known_released}
-use Rattle.lease_manager.proofs.Queuing.{edited, held_changed, table_requeued}
+use Rattle.lease_manager.proofs.waits.Counted.{known_released}
+use Rattle.lease_manager.proofs.waits.Queuing.{edited, held_changed, table_requeued}
 use Rattle.lease_manager.proofs.tables.Tables.withdraw.Goals as goal
 
 pub returns : goal.returns

@@ -1,7 +1,7 @@
 use Rattle.lease_laws.proofs.Words.{◌∙◌, ap, sym}
 use Rattle.lease_manager.specs.Findings.{Look}
 use Rattle.lease_manager.specs.Table.{server_of}
-use Rattle.lease_manager.proofs.Hindering.{unhindered, hindered}
+use Rattle.lease_manager.proofs.sums.Hindering.{unhindered, hindered}
 use Rattle.lease_manager.proofs.tables.Tables.write_needs.Goals as goal
 
 pub returns-then-not-is_hindered-clause-look : goal.returns-then-not-is_hindered-clause-look

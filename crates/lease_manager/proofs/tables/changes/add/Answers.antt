@@ -1,4 +1,4 @@
-use Rattle.lease_manager.proofs.Tabling.{one_more_last, short_more}
+use Rattle.lease_manager.proofs.opens.Tabling.{one_more_last, short_more}
 use Rattle.lease_manager.proofs.tables.changes.add.Goals as goal
 
 pub returns-clause-agrees : goal.returns-clause-agrees

@@ -1,6 +1,6 @@
 use Rattle.lease_laws.proofs.Words.{FileId}
 use Rattle.std.proofs.lemmas.List.{map_more}
-use Rattle.lease_manager.proofs.Tabling.{closed_none, closed_more}
+use Rattle.lease_manager.proofs.opens.Tabling.{closed_none, closed_more}
 use Rattle.lease_manager.proofs.tables.changes.close_all.Goals as goal
 
 pub loop-id-init : goal.loop-id-init

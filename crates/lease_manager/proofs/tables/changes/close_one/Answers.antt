@@ -1,4 +1,4 @@
-use Rattle.lease_manager.proofs.Tabling.{untaken_agrees, unused_lease}
+use Rattle.lease_manager.proofs.opens.Tabling.{untaken_agrees, unused_lease}
 use Rattle.lease_manager.proofs.tables.changes.close_one.Goals as goal
 
 pub returns-in-None-clause-agrees : goal.returns-in-None-clause-agrees

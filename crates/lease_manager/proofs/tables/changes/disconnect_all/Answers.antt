@@ -2,7 +2,7 @@ use Rattle.lease_laws.proofs.Words.{◌∙◌, FileId, ap, arith, map, take_all}
 use Rattle.std.proofs.lemmas.List.{map_more}
 use Rattle.lease_manager.specs.Filed.{disconnected_at}
 use Rattle.lease_manager.specs.Kept.{disconnected_where, is_one_of}
-use Rattle.lease_manager.proofs.Tabling.{disconnected_none, disconnected_more}
+use Rattle.lease_manager.proofs.opens.Tabling.{disconnected_none, disconnected_more}
 use Rattle.lease_manager.proofs.tables.changes.disconnect_all.Goals as goal
 
 pub loop-id-init : goal.loop-id-init

@@ -1,5 +1,5 @@
 use Rattle.lease_laws.proofs.Words.{false}
-use Rattle.lease_manager.proofs.Joining.{present_put}
+use Rattle.lease_manager.proofs.opens.Joining.{present_put}
 use Rattle.lease_manager.proofs.tables.changes.forget_connection.Goals as goal
 
 pub returns : goal.returns

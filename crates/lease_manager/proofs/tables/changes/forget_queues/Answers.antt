@@ -1,6 +1,6 @@
 use Rattle.lease_laws.proofs.Words.{get_or, rules}
 use Rattle.lease_manager.specs.Queues.{queue_in}
-use Rattle.lease_manager.proofs.Queuing.{next_forgotten, none_forgotten}
+use Rattle.lease_manager.proofs.waits.Queuing.{next_forgotten, none_forgotten}
 use Rattle.lease_manager.proofs.tables.changes.forget_queues.Goals as goal
 
 pub loop-file-preserved : goal.loop-file-preserved

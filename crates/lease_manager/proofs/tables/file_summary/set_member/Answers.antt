@@ -1,5 +1,5 @@
 use Rattle.lease_laws.proofs.Words.{arith}
-use Rattle.lease_manager.proofs.Ordering.{order_eq-back}
+use Rattle.lease_manager.proofs.sums.Ordering.{order_eq-back}
 use Rattle.lease_manager.proofs.tables.file_summary.set_member.Goals as goal
 
 pub returns-in_ok-insert : goal.returns-in_ok-insert

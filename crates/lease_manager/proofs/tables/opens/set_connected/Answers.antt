@@ -1,5 +1,5 @@
 use Rattle.lease_laws.proofs.Words.{Open, refl, sym}
-use Rattle.lease_manager.proofs.Filing.{filed_written, values_written, values_unset}
+use Rattle.lease_manager.proofs.opens.Filing.{filed_written, values_written, values_unset}
 use Rattle.lease_manager.proofs.tables.opens.set_connected.Goals as goal
 
 pub returns-in-Some : goal.returns-in-Some

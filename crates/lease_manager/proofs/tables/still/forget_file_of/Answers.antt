@@ -1,7 +1,7 @@
 use Rattle.lease_laws.proofs.Words.{refl}
 use Rattle.lease_manager.specs.Filed.{has_id}
-use Rattle.lease_manager.specs.contracts.values.open.Open.{the_view}
-use Rattle.lease_manager.proofs.Counted.{forgotten_id, forgotten_none, none_found}
+use Rattle.lease_manager.specs.contracts.values.open.OpenEntry.{the_view}
+use Rattle.lease_manager.proofs.waits.Counted.{forgotten_id, forgotten_none, none_found}
 use Rattle.lease_manager.proofs.tables.still.forget_file_of.Goals as goal
 
 pub returns-in-Some : goal.returns-in-Some

@@ -1,6 +1,6 @@
 use Rattle.lease_laws.proofs.Words.{FileId, inl}
 use Rattle.std.proofs.lemmas.List.{map_more}
-use Rattle.lease_manager.proofs.Counted.{forgotten_first, forgotten_more}
+use Rattle.lease_manager.proofs.waits.Counted.{forgotten_first, forgotten_more}
 use Rattle.lease_manager.proofs.tables.still.forget_files.Goals as goal
 
 pub returns-then-is_empty : goal.returns-then-is_empty

@@ -1,8 +1,8 @@
 use Rattle.lease_laws.proofs.Words.{inl}
 use Rattle.lease_manager.specs.Queues.{filed}
 use Rattle.lease_manager.specs.Table.{held_at}
-use Rattle.lease_manager.specs.contracts.values.open.Open.{the_view}
-use Rattle.lease_manager.proofs.Counted.{forgotten_for}
+use Rattle.lease_manager.specs.contracts.values.open.OpenEntry.{the_view}
+use Rattle.lease_manager.proofs.waits.Counted.{forgotten_for}
 use Rattle.lease_manager.proofs.tables.still.forget_for.Goals as goal
 
 pub returns-then-is_empty : goal.returns-then-is_empty

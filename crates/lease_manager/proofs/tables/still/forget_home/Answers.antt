@@ -1,5 +1,5 @@
 use Rattle.lease_laws.proofs.Words.{has_key, inl, refl}
-use Rattle.lease_manager.proofs.Counted.{forgotten_home, forgotten_none}
+use Rattle.lease_manager.proofs.waits.Counted.{forgotten_home, forgotten_none}
 use Rattle.lease_manager.proofs.tables.still.forget_home.Goals as goal
 
 pub returns-then-is_empty : goal.returns-then-is_empty

@@ -1,5 +1,5 @@
 use Rattle.lease_laws.proofs.Words.{◌∙◌, ap, is_some, sym}
-use Rattle.lease_manager.proofs.Ordering.{has_key_own, keyed}
+use Rattle.lease_manager.proofs.sums.Ordering.{has_key_own, keyed}
 use Rattle.lease_manager.proofs.tables.file_summary.FileSummary.gain.Goals as goal
 
 pub returns-in_ok-gain_key-in-Some : goal.returns-in_ok-gain_key-in-Some

@@ -1,7 +1,7 @@
 use Rattle.lease_laws.proofs.Words.{◌∙◌, ◌≡◌, ap, false, list_any, nat_lt, sym, true}
 use Rattle.lease_manager.specs.Summaries.{is_keyless_on}
-use Rattle.lease_manager.proofs.Demanding.{some_is, none_is, other_keyless, others_are, others_by}
-use Rattle.lease_manager.proofs.Tallies.{any_counted}
+use Rattle.lease_manager.proofs.sums.Demanding.{some_is, none_is, other_keyless, others_are, others_by}
+use Rattle.lease_manager.proofs.sums.Tallies.{any_counted}
 use Rattle.lease_manager.proofs.tables.file_summary.FileSummary.has_other.Goals as goal
 
 pub returns-then-self-gt0 : goal.returns-then-self-gt0

@@ -1,4 +1,4 @@
-use Rattle.lease_manager.proofs.Hindering.{others_hindering}
+use Rattle.lease_manager.proofs.sums.Hindering.{others_hindering}
 use Rattle.lease_manager.proofs.tables.file_summary.FileSummary.is_hindered.Goals as goal
 
 pub returns : goal.returns

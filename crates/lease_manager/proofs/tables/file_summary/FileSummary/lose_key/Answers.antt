@@ -1,5 +1,5 @@
 use Rattle.lease_laws.proofs.Words.{arith}
-use Rattle.lease_manager.proofs.Ordering.{order_eq-back}
+use Rattle.lease_manager.proofs.sums.Ordering.{order_eq-back}
 use Rattle.lease_manager.proofs.tables.file_summary.FileSummary.lose_key.Goals as goal
 
 pub returns-then-last-clause-keys : goal.returns-then-last-clause-keys

@@ -1,6 +1,6 @@
 use Rattle.lease_laws.proofs.Words.{◌∙◌, has_key, is_some, not, refl, sym}
 use Rattle.lease_manager.specs.Summaries.{is_on}
-use Rattle.lease_manager.proofs.Tallies.{none_tallied, none_both, none_counted}
+use Rattle.lease_manager.proofs.sums.Tallies.{none_tallied, none_both, none_counted}
 use Rattle.lease_manager.proofs.tables.file_summary.FileSummary.new.Goals as goal
 
 pub returns : goal.returns

@@ -1,5 +1,5 @@
 use Rattle.lease_laws.proofs.Words.{rules, sym}
-use Rattle.lease_manager.proofs.Owners.{refused_at, first_at}
+use Rattle.lease_manager.proofs.opens.Owners.{refused_at, first_at}
 use Rattle.lease_manager.proofs.tables.left_opens.LeftOpens.insert.Goals as goal
 
 pub returns-in-Err-clause-refused : goal.returns-in-Err-clause-refused

@@ -1,7 +1,7 @@
 use Rattle.lease_laws.proofs.Words.{◌∙◌, sym}
 use Rattle.lease_manager.specs.Closing.{closes}
 use Rattle.lease_manager.specs.Summaries.{lease_in}
-use Rattle.lease_manager.proofs.Tabling.{ids_picked, ids_unpicked, ids_none}
+use Rattle.lease_manager.proofs.opens.Tabling.{ids_picked, ids_unpicked, ids_none}
 use Rattle.lease_manager.proofs.tables.opens.Opens.closed_at.Goals as goal
 
 pub returns-then-not-closes-clause-ids : goal.returns-then-not-closes-clause-ids

@@ -1,6 +1,6 @@
 use Rattle.lease_laws.proofs.Words.{◌∙◌, Open, sym, true, values_of}
-use Rattle.lease_manager.proofs.Filing.{find_filed, values_unset}
-use Rattle.lease_manager.proofs.LeftOpens.{waiting_again}
+use Rattle.lease_manager.proofs.opens.Filing.{find_filed, values_unset}
+use Rattle.lease_manager.proofs.opens.LeftOpens.{waiting_again}
 use Rattle.lease_manager.proofs.tables.opens.Opens.connect_again.Goals as goal
 
 pub invariant_of-self : goal.invariant_of-self

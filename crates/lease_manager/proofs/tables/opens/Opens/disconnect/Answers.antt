@@ -1,6 +1,6 @@
 use Rattle.lease_laws.proofs.Words.{◌∙◌, Open, false, sym, values_of}
-use Rattle.lease_manager.proofs.Filing.{find_filed, values_unset}
-use Rattle.lease_manager.proofs.LeftOpens.{waiting_left}
+use Rattle.lease_manager.proofs.opens.Filing.{find_filed, values_unset}
+use Rattle.lease_manager.proofs.opens.LeftOpens.{waiting_left}
 use Rattle.lease_manager.proofs.tables.opens.Opens.disconnect.Goals as goal
 
 pub invariant_of-self-in-Some : goal.invariant_of-self-in-Some

@@ -1,5 +1,5 @@
 use Rattle.lease_laws.proofs.Words.{◌∙◌}
-use Rattle.lease_manager.proofs.Filing.{find_filed}
+use Rattle.lease_manager.proofs.opens.Filing.{find_filed}
 use Rattle.lease_manager.proofs.tables.opens.Opens.find.Goals as goal
 
 pub returns-clause-found : goal.returns-clause-found

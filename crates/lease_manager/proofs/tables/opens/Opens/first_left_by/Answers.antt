@@ -1,7 +1,7 @@
 use Rattle.lease_laws.proofs.Words.{◌∙◌, [], ap, option_map, sym, values_of}
 use Rattle.lease_manager.specs.LeftOpens.{numbers}
 use Rattle.lease_manager.specs.Looks.{is_left_by}
-use Rattle.lease_manager.proofs.LeftOpens.{first_waiting, none_first}
+use Rattle.lease_manager.proofs.opens.LeftOpens.{first_waiting, none_first}
 use Rattle.lease_manager.proofs.tables.opens.Opens.first_left_by.Goals as goal
 
 pub returns-in-Some-first : goal.returns-in-Some-first

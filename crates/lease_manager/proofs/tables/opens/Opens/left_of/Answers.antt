@@ -1,6 +1,6 @@
 use Rattle.lease_laws.proofs.Words.{◌∙◌, ap, sym}
 use Rattle.lease_manager.specs.LeftOpens.{ids_of}
-use Rattle.lease_manager.proofs.LeftOpens.{left_of_key, none_of_key}
+use Rattle.lease_manager.proofs.opens.LeftOpens.{left_of_key, none_of_key}
 use Rattle.lease_manager.proofs.tables.opens.Opens.left_of.Goals as goal
 
 pub returns-in_ok-ids-in-Some-clause-ids : goal.returns-in_ok-ids-in-Some-clause-ids

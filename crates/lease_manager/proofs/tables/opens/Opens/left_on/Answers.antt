@@ -3,8 +3,8 @@ use Rattle.lease_laws.proofs.server.Lists.{among_filter}
 use Rattle.lease_manager.specs.LeftOpens.{numbers}
 use Rattle.lease_manager.specs.Looks.{is_left_by}
 use Rattle.lease_manager.specs.declared.tables.left_opens.Owner.{Owner}
-use Rattle.lease_manager.specs.contracts.values.key.Key.{the_view}
-use Rattle.lease_manager.proofs.LeftOpens.{picked_of_key}
+use Rattle.lease_manager.specs.contracts.values.key.LeaseName.{the_view}
+use Rattle.lease_manager.proofs.opens.LeftOpens.{picked_of_key}
 use Rattle.lease_manager.proofs.tables.opens.Opens.left_on.Goals as goal
 
 pub returns-in_ok-ids-in-Some-clause-ids : goal.returns-in_ok-ids-in-Some-clause-ids

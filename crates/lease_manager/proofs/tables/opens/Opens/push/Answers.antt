@@ -1,8 +1,8 @@
 use Rattle.lease_laws.proofs.Words.{◌∙◌, Open, ap, sym, values_of}
 use Rattle.lease_manager.specs.Filed.{AreFiled}
 use Rattle.lease_manager.specs.LeftOpens.{ids_of}
-use Rattle.lease_manager.proofs.LeftOpens.{none_more}
-use Rattle.lease_manager.proofs.Filing.{inserted_last, filed_last, values_last, in_order}
+use Rattle.lease_manager.proofs.opens.LeftOpens.{none_more}
+use Rattle.lease_manager.proofs.opens.Filing.{inserted_last, filed_last, values_last, in_order}
 use Rattle.lease_manager.proofs.tables.opens.Opens.push.Goals as goal
 
 pub invariant_of-self-2 : goal.invariant_of-self-2

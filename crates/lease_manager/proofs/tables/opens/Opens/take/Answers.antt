@@ -1,7 +1,7 @@
 use Rattle.lease_laws.proofs.Words.{◌∙◌, ◌≡◌, ap, sym, values_of, without}
 use Rattle.lease_manager.specs.Filed.{AreFiled, has_id}
-use Rattle.lease_manager.proofs.Filing.{find_filed, filed_removed, left_removed, one_removed, in_order}
-use Rattle.lease_manager.proofs.LeftOpens.{waiting_taken}
+use Rattle.lease_manager.proofs.opens.Filing.{find_filed, filed_removed, left_removed, one_removed, in_order}
+use Rattle.lease_manager.proofs.opens.LeftOpens.{waiting_taken}
 use Rattle.lease_manager.proofs.tables.opens.Opens.take.Goals as goal
 
 pub invariant_of-self : goal.invariant_of-self

@@ -1,5 +1,5 @@
 use Rattle.lease_laws.proofs.Words.{◌∙◌, ap, list_any, sym}
-use Rattle.lease_manager.proofs.Queuing.{asks_in, none_asks}
+use Rattle.lease_manager.proofs.waits.Queuing.{asks_in, none_asks}
 use Rattle.lease_manager.proofs.tables.queues.Queues.ask_with.Goals as goal
 
 pub returns : goal.returns

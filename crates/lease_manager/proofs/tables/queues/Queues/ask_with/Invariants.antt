@@ -1,6 +1,6 @@
 use Rattle.lease_laws.proofs.Words.{◌≡◌, list_any}
 use Rattle.std.specs.BTreeMap.{values}
-use Rattle.lease_manager.proofs.Queuing.{asks_in}
+use Rattle.lease_manager.proofs.waits.Queuing.{asks_in}
 use Rattle.lease_manager.proofs.tables.queues.Queues.ask_with.Given as goal
 
 abbrev pub invariant-loop-queue : goal.invariant-loop-queue

@@ -1,5 +1,5 @@
 use Rattle.lease_laws.proofs.Words.{◌++◌, ◌∙◌, ap, append-nil, rules, sym}
-use Rattle.lease_manager.proofs.Queuing.{one_on}
+use Rattle.lease_manager.proofs.waits.Queuing.{one_on}
 use Rattle.lease_manager.proofs.tables.queues.Queues.files.Goals as goal
 
 pub loop-file-preserved : goal.loop-file-preserved

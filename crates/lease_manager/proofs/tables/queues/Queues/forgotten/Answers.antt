@@ -1,6 +1,6 @@
 use Rattle.lease_laws.proofs.Words.{rules, sym, without}
 use Rattle.manager_model.specs.Handling.{is_of}
-use Rattle.lease_manager.proofs.Queuing.{edited_at, unfound_at}
+use Rattle.lease_manager.proofs.waits.Queuing.{edited_at, unfound_at}
 use Rattle.lease_manager.proofs.tables.queues.Queues.forgotten.Goals as goal
 
 pub returns-in-Some : goal.returns-in-Some

@@ -1,6 +1,6 @@
 use Rattle.lease_laws.proofs.Words.{◌++◌, ◌∷◌, [], on_ok_weaker, rules, sym}
 use Rattle.std.proofs.lemmas.Result.{on_err_weaker}
-use Rattle.lease_manager.proofs.Queuing.{edited_at, first_at, kept_at}
+use Rattle.lease_manager.proofs.waits.Queuing.{edited_at, first_at, kept_at}
 use Rattle.lease_manager.proofs.tables.queues.Queues.push.Goals as goal
 
 pub returns-in-Some-clause-more : goal.returns-in-Some-clause-more

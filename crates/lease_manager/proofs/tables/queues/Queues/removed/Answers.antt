@@ -1,6 +1,6 @@
 use Rattle.lease_laws.proofs.Words.{arith, rules, sym}
 use Rattle.std.specs.List.{remove}
-use Rattle.lease_manager.proofs.Queuing.{edited_at}
+use Rattle.lease_manager.proofs.waits.Queuing.{edited_at}
 use Rattle.lease_manager.proofs.tables.queues.Queues.removed.Goals as goal
 
 pub returns-in-Some : goal.returns-in-Some

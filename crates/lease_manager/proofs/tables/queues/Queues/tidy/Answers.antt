@@ -1,5 +1,5 @@
 use Rattle.lease_laws.proofs.Words.{◌∙◌, sym}
-use Rattle.lease_manager.proofs.Queuing.{dropped_at, no_items}
+use Rattle.lease_manager.proofs.waits.Queuing.{dropped_at, no_items}
 use Rattle.lease_manager.proofs.tables.queues.Queues.tidy.Goals as goal
 
 pub returns-then-is_empty : goal.returns-then-is_empty

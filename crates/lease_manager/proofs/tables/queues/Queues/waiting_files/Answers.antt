@@ -1,6 +1,6 @@
 use Rattle.lease_laws.proofs.Words.{◌++◌, ◌∙◌, ap, append-nil, filter, sym}
 use Rattle.lease_manager.specs.Queues.{is_file}
-use Rattle.lease_manager.proofs.Queuing.{waiting_files_are}
+use Rattle.lease_manager.proofs.waits.Queuing.{waiting_files_are}
 use Rattle.lease_manager.proofs.tables.queues.Queues.waiting_files.Goals as goal
 
 pub returns : goal.returns

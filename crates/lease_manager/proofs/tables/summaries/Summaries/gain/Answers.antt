@@ -1,8 +1,8 @@
 use Rattle.lease_laws.proofs.Words.{◌∙◌, sym}
 use Rattle.lease_manager.specs.Summaries.{lease_in, record_at}
-use Rattle.lease_manager.proofs.Agreeing.{agrees_from, files_kept, leases_same, after_gain, after_keyless, at_home}
-use Rattle.lease_manager.proofs.Ordering.{has_key_own}
-use Rattle.lease_manager.proofs.Recording.{records_gain, records_keyless, lease_put}
+use Rattle.lease_manager.proofs.sums.Agreeing.{agrees_from, files_kept, leases_same, after_gain, after_keyless, at_home}
+use Rattle.lease_manager.proofs.sums.Ordering.{has_key_own}
+use Rattle.lease_manager.proofs.sums.Recording.{records_gain, records_keyless, lease_put}
 use Rattle.lease_manager.proofs.tables.summaries.Summaries.gain.Goals as goal
 
 pub returns-in_ok-gain_on_file-in-Some : goal.returns-in_ok-gain_on_file-in-Some

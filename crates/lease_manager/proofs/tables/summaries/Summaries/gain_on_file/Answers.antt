@@ -1,6 +1,6 @@
 use Rattle.lease_laws.proofs.Words.{rules, sym}
-use Rattle.lease_manager.specs.contracts.values.open.Open.{the_view}
-use Rattle.lease_manager.proofs.Summing.{summaries_gain, changed_at, known_sums_up, none_is_open}
+use Rattle.lease_manager.specs.contracts.values.open.OpenEntry.{the_view}
+use Rattle.lease_manager.proofs.sums.Summing.{summaries_gain, changed_at, known_sums_up, none_is_open}
 use Rattle.lease_manager.proofs.tables.summaries.Summaries.gain_on_file.Goals as goal
 
 pub returns-in_ok-gain-in-Some-clause-files : goal.returns-in_ok-gain-in-Some-clause-files

@@ -1,4 +1,4 @@
-use Rattle.lease_manager.proofs.Recording.{key_changed}
+use Rattle.lease_manager.proofs.sums.Recording.{key_changed}
 use Rattle.lease_manager.proofs.tables.summaries.Summaries.gain_record.Goals as goal
 
 pub returns-clause-changed : goal.returns-clause-changed

@@ -1,6 +1,6 @@
 use Rattle.lease_laws.proofs.Words.{◌∙◌, sym}
 use Rattle.lease_manager.specs.Summaries.{lease_in}
-use Rattle.lease_manager.proofs.Asking.{conflict_known, conflict_none}
+use Rattle.lease_manager.proofs.sums.Asking.{conflict_known, conflict_none}
 use Rattle.lease_manager.proofs.tables.summaries.Summaries.has_conflict_on.Goals as goal
 
 pub returns-in-Some : goal.returns-in-Some

@@ -1,5 +1,5 @@
 use Rattle.lease_laws.proofs.Words.{◌∙◌}
-use Rattle.lease_manager.proofs.Asking.{is_known}
+use Rattle.lease_manager.proofs.sums.Asking.{is_known}
 use Rattle.lease_manager.proofs.tables.summaries.Summaries.has_lease.Goals as goal
 
 pub returns : goal.returns

@@ -1,7 +1,7 @@
 use Rattle.lease_laws.proofs.Words.{sym}
 use Rattle.lease_manager.specs.Summaries.{lease_in}
-use Rattle.lease_manager.proofs.Asking.{other_none}
-use Rattle.lease_manager.proofs.Summing.{known_sums_up}
+use Rattle.lease_manager.proofs.sums.Asking.{other_none}
+use Rattle.lease_manager.proofs.sums.Summing.{known_sums_up}
 use Rattle.lease_manager.proofs.tables.summaries.Summaries.has_other_on.Goals as goal
 
 pub returns-in-Some : goal.returns-in-Some

@@ -1,5 +1,5 @@
 use Rattle.lease_laws.proofs.Words.{sym}
-use Rattle.lease_manager.proofs.Homing.{home_known, home_none}
+use Rattle.lease_manager.proofs.tries.Homing.{home_known, home_none}
 use Rattle.lease_manager.proofs.tables.summaries.Summaries.home.Goals as goal
 
 pub returns-in-Some : goal.returns-in-Some

@@ -1,5 +1,5 @@
 use Rattle.lease_laws.proofs.Words.{◌∙◌, sym}
-use Rattle.lease_manager.proofs.Asking.{elsewhere_known, elsewhere_none}
+use Rattle.lease_manager.proofs.sums.Asking.{elsewhere_known, elsewhere_none}
 use Rattle.lease_manager.proofs.tables.summaries.Summaries.is_elsewhere.Goals as goal
 
 pub returns-in-Some : goal.returns-in-Some

@@ -1,7 +1,7 @@
 use Rattle.lease_laws.proofs.Words.{◌∙◌, sym}
 use Rattle.lease_manager.specs.Summaries.{lease_in}
-use Rattle.lease_manager.proofs.Hindering.{hindered_by, hindered_none}
-use Rattle.lease_manager.proofs.Summing.{known_sums_up, none_is_open}
+use Rattle.lease_manager.proofs.sums.Hindering.{hindered_by, hindered_none}
+use Rattle.lease_manager.proofs.sums.Summing.{known_sums_up, none_is_open}
 use Rattle.lease_manager.proofs.tables.summaries.Summaries.is_hindered.Goals as goal
 
 pub returns-in-Some : goal.returns-in-Some

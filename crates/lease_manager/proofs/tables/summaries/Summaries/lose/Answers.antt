@@ -1,7 +1,7 @@
 use Rattle.lease_laws.proofs.Words.{◌∙◌, Key, List, Open, refl, sym}
 use Rattle.lease_manager.specs.Summaries.{IsOneMore, RecordFits, lease_in, record_at}
-use Rattle.lease_manager.proofs.Agreeing.{agrees_from, files_kept, leases_same, last_on, never_has}
-use Rattle.lease_manager.proofs.Recording.{own_has, home_of, lease_left, lease_kept_left, are_left, records_stay}
+use Rattle.lease_manager.proofs.sums.Agreeing.{agrees_from, files_kept, leases_same, last_on, never_has}
+use Rattle.lease_manager.proofs.sums.Recording.{own_has, home_of, lease_left, lease_kept_left, are_left, records_stay}
 use Rattle.lease_manager.proofs.tables.summaries.Summaries.lose.Goals as goal
 
 pub returns-in-Some : goal.returns-in-Some

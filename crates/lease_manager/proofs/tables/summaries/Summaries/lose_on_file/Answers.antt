@@ -1,6 +1,6 @@
 use Rattle.lease_laws.proofs.Words.{◌∙◌, rules, sym}
-use Rattle.lease_manager.specs.contracts.values.open.Open.{the_view}
-use Rattle.lease_manager.proofs.Summing.{summaries_lose, summaries_end, changed_at, changed_at_twice, never_closed}
+use Rattle.lease_manager.specs.contracts.values.open.OpenEntry.{the_view}
+use Rattle.lease_manager.proofs.sums.Summing.{summaries_lose, summaries_end, changed_at, changed_at_twice, never_closed}
 use Rattle.lease_manager.proofs.tables.summaries.Summaries.lose_on_file.Goals as goal
 
 pub returns-then-is_empty-clause-files : goal.returns-then-is_empty-clause-files

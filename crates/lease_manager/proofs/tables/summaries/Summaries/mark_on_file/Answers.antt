@@ -1,5 +1,5 @@
 use Rattle.lease_laws.proofs.Words.{rules, sym}
-use Rattle.lease_manager.proofs.Summing.{summaries_put, changed_at, never_on}
+use Rattle.lease_manager.proofs.sums.Summing.{summaries_put, changed_at, never_on}
 use Rattle.lease_manager.proofs.tables.summaries.Summaries.mark_on_file.Goals as goal
 
 pub returns-in_ok-mark-in-Some-clause-files : goal.returns-in_ok-mark-in-Some-clause-files

@@ -3,9 +3,9 @@ use Rattle.lease_manager.specs.Hindering.{marks_of}
 use Rattle.lease_manager.specs.Leases.{lease_of}
 use Rattle.lease_manager.specs.Summaries.{lease_in, lease_or_none, record_at, summary_at}
 use Rattle.lease_manager.specs.declared.tables.summaries.Summaries.{Summaries}
-use Rattle.lease_manager.proofs.Agreeing.{agrees_from, leases_same, is_put, record_there, never_unknown}
-use Rattle.lease_manager.proofs.Recording.{key_changed, records_put, lease_put, on_file_alike}
-use Rattle.lease_manager.proofs.Summing.{summaries_alike, marks_same}
+use Rattle.lease_manager.proofs.sums.Agreeing.{agrees_from, leases_same, is_put, record_there, never_unknown}
+use Rattle.lease_manager.proofs.sums.Recording.{key_changed, records_put, lease_put, on_file_alike}
+use Rattle.lease_manager.proofs.sums.Summing.{summaries_alike, marks_same}
 use Rattle.lease_manager.proofs.tables.summaries.Summaries.put.Goals as goal
 
 pub returns-in_ok-mark_on_file-in-Some : goal.returns-in_ok-mark_on_file-in-Some

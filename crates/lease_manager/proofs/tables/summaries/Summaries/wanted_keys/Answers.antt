@@ -1,7 +1,7 @@
 use Rattle.lease_laws.proofs.Words.{◌∙◌, sym}
 use Rattle.lease_manager.specs.Summaries.{lease_in}
-use Rattle.lease_manager.proofs.Demanding.{wanted_are, wanted_none}
-use Rattle.lease_manager.proofs.Summing.{known_sums_up, none_is_open}
+use Rattle.lease_manager.proofs.sums.Demanding.{wanted_are, wanted_none}
+use Rattle.lease_manager.proofs.sums.Summing.{known_sums_up, none_is_open}
 use Rattle.lease_manager.proofs.tables.summaries.Summaries.wanted_keys.Goals as goal
 
 pub returns-in_ok-wanted-in-Some : goal.returns-in_ok-wanted-in-Some

@@ -1,5 +1,5 @@
 use Rattle.lease_laws.proofs.Words.{None}
-use Rattle.lease_manager.proofs.StillWaiting.{count_changed}
+use Rattle.lease_manager.proofs.waits.StillWaiting.{count_changed}
 use Rattle.lease_manager.proofs.tables.waiting.Waiting.forget.Goals as goal
 
 pub returns : goal.returns

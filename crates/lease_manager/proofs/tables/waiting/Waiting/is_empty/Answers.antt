@@ -1,4 +1,4 @@
-use Rattle.lease_manager.proofs.Counted.{none_in}
+use Rattle.lease_manager.proofs.waits.Counted.{none_in}
 use Rattle.lease_manager.proofs.tables.waiting.Waiting.is_empty.Goals as goal
 
 pub returns : goal.returns

@@ -1,5 +1,5 @@
 use Rattle.lease_laws.proofs.Words.{Some}
-use Rattle.lease_manager.proofs.StillWaiting.{count_changed}
+use Rattle.lease_manager.proofs.waits.StillWaiting.{count_changed}
 use Rattle.lease_manager.proofs.tables.waiting.Waiting.put.Goals as goal
 
 pub returns-clause-put : goal.returns-clause-put

@@ -1,0 +1,5 @@
+pub mod Charges
+pub mod Completing
+pub mod Covering
+pub mod Dues
+pub mod Late

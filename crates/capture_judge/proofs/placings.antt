@@ -1,0 +1,5 @@
+pub mod Feasible
+pub mod Filtered
+pub mod Orders
+pub mod Places
+pub mod Positions

@@ -1,0 +1,302 @@
+-- The opens that wait for their clients, as opens come, go, are left and are connected again.
+use Rattle.lease_laws.proofs.Words.{◌&&◌, ◌++◌, ◌<◌, ◌==◌, ◌∙◌, ◌∷◌, ◌≡◌, Among, AreInOrder, Bool, Decides-eqb, FileId, Key, Less}
+use Rattle.lease_laws.proofs.Words.{List, None, Open, Option, Some, ℕ, [], ap, ap₂, arith, drop, false, filter, find}
+use Rattle.lease_laws.proofs.Words.{get_or, has_key, if◌then◌else◌, inl, inr, is_key, is_left_open, length, list_any, map}
+use Rattle.lease_laws.proofs.Words.{nat_cmp, nat_tests, option_map, refl, subst, sym, true, true≢false, without}
+use Rattle.std.specs.BTreeSet.{insert_key}
+use Rattle.std.specs.List.{slice_get}
+use Rattle.std.specs.Set.{remove_key}
+use Rattle.std.specs.declared.cmp.Ordering.{Ordering}
+use Rattle.std.specs.declared.cmp.Ordering.TheVariants.{Equal, Greater}
+use Rattle.lease_laws.proofs.server.Lists.{either, among_filter, find_has, none_has, not_true}
+use Rattle.lease_manager.proofs.opens.Filing.{test_at, at_id, none_behind, some_same, none_changed, greater}
+use Rattle.lease_manager.specs.Filed.{has_id, connected_at, file_id_order}
+use Rattle.lease_manager.specs.LeftOpens.{AreWaiting, has_key_in, ids_of, is_owner, left_at, numbers}
+use Rattle.lease_manager.specs.Looks.{is_elsewhere, is_left_by}
+use Rattle.lease_manager.specs.declared.tables.left_opens.LeftOpens.{LeftOpens}
+use Rattle.lease_manager.specs.declared.tables.left_opens.Owner.{Owner}
+
+abbrev waits : Owner → Open → Bool
+waits owner = is_left_by owner.client.0 owner.file.0
+
+-- the open is the client's, on the file
+abbrev pub is_its : Owner → Open → Bool
+is_its owner one = one.client == owner.client.0 && one.file == owner.file.0
+
+present : (owner : Owner) (one : Open) → one.connected ≡ true → waits owner one ≡ false
+present owner one here = grind (arith, nat_tests, here)
+
+another : (owner : Owner) (one : Open) → is_its owner one ≡ false → waits owner one ≡ false
+another owner one apart = grind (arith, nat_tests, apart)
+
+left_now : (owner : Owner) (one : Open) → is_its owner one ≡ true → waits owner (record one { connected = false }) ≡ true
+left_now owner one its = grind (arith, nat_tests, its)
+
+pub apart_from : (other owner : Owner) (one : Open) → owner.client.0 ≡ one.client → owner.file.0 ≡ one.file
+    → is_owner other owner ≡ false → is_its other one ≡ false
+apart_from other owner one client file apart = grind (arith, nat_tests, client, file, apart)
+
+pub its_own : (other owner : Owner) (one : Open) → owner.client.0 ≡ one.client → owner.file.0 ≡ one.file
+    → is_owner other owner ≡ true → is_its other one ≡ true
+its_own other owner one client file same = grind (arith, nat_tests, client, file, same)
+
+-- ---- lists of numbers
+
+at_head : (x : FileId) (xs : List FileId) (one : Open) (opens : List Open)
+    → numbers (x ∷ xs) ≡ ids_of (one ∷ opens) → x.0 ≡ one.file_id
+at_head x xs one opens same = ap (λ l. get_or l 0 0) same
+
+behind_head : (x : FileId) (xs : List FileId) (one : Open) (opens : List Open)
+    → numbers (x ∷ xs) ≡ ids_of (one ∷ opens) → numbers xs ≡ ids_of opens
+behind_head x xs one opens same = ap (λ l. drop 1 l) same
+
+removed_id : (n : ℕ) (ids : List FileId) (opens : List Open) → numbers ids ≡ ids_of opens → AreInOrder opens
+    → numbers (remove_key (test_at n) ids) ≡ ids_of (without (has_id n) opens)
+removed_id n [] [] same order = refl
+removed_id n [] (one ∷ opens) same order = absurd (cc same)
+removed_id n (x ∷ ids) [] same order = absurd (cc same)
+removed_id n (x ∷ ids) (one ∷ opens) same order =
+    let first = at_head x ids one opens same in
+    let later = behind_head x ids one opens same in
+    either (has_id n one)
+    (λ its.
+    let at : test_at n x ≡ true = at_id n x.0 ∙ (ap (λ m. m == n) first ∙ its) in
+    let is = (Decides-eqb one.file_id n).0 its in
+    rw (at, its) (later ∙ ap ids_of (sym (none_behind n opens (λ other a. subst (λ m. m < other.file_id) is (order.0 other a))))))
+    (λ its.
+    let at : test_at n x ≡ false = at_id n x.0 ∙ (ap (λ m. m == n) first ∙ its) in
+    rw (at, its) (ap₂ (λ m l. m ∷ l) first (removed_id n ids opens later order.1)))
+
+ordered : {P : Type 0} (o : Ordering) → (o ≡ Less → P) → (o ≡ Equal → P) → (o ≡ Greater → P) → P
+ordered o less equal more = grind arith
+
+pub inserted_id : (fid : FileId) (ids : List FileId)
+    → numbers (insert_key file_id_order ids fid) ≡ insert_key nat_cmp (numbers ids) fid.0
+inserted_id fid [] = refl
+inserted_id fid (x ∷ ids) = let later = inserted_id fid ids in grind arith
+
+less_is : (n m : ℕ) → n < m → nat_cmp n m ≡ Less
+less_is n m less = grind (arith, nat_tests, less)
+
+equal_is : (n : ℕ) → nat_cmp n n ≡ Equal
+equal_is n = grind (arith, nat_tests)
+
+pub inserted_first : (n : ℕ) (opens : List Open) → ((other : Open) → Among other opens → n < other.file_id)
+    → insert_key nat_cmp (ids_of opens) n ≡ n ∷ ids_of opens
+inserted_first n [] above = refl
+inserted_first n (one ∷ opens) above = rw (less_is n one.file_id (above one (inl refl))) refl
+
+-- ---- a new open waits for nobody
+
+pub none_more : (owner : Owner) (opens : List Open) (one : Open) → one.connected ≡ true
+    → filter (waits owner) (opens ++ one ∷ []) ≡ filter (waits owner) opens
+none_more owner [] one here = rw (present owner one here) refl
+none_more owner (x ∷ opens) one here = let later = none_more owner opens one here in grind arith
+
+-- ---- an open goes
+
+waiting_without : (n : ℕ) (owner : Owner) (opens : List Open)
+    → filter (waits owner) (without (has_id n) opens) ≡ without (has_id n) (filter (waits owner) opens)
+waiting_without n owner [] = refl
+waiting_without n owner (x ∷ opens) = let later = waiting_without n owner opens in grind arith
+
+none_waits : (n : ℕ) (owner : Owner) (opens : List Open) (one : Open) → AreInOrder opens
+    → find (has_id n) opens ≡ Some one → waits owner one ≡ false
+    → without (has_id n) (filter (waits owner) opens) ≡ filter (waits owner) opens
+none_waits n owner [] one order found away = refl
+none_waits n owner (x ∷ opens) one order found away = either (has_id n x)
+    (λ its.
+    let is : x ≡ one = some_same (rw its at found) in
+    let here : waits owner x ≡ false = ap (waits owner) is ∙ away in
+    let same = (Decides-eqb x.file_id n).0 its in
+    rw here (none_behind n (filter (waits owner) opens)
+    (λ other a. subst (λ m. m < other.file_id) same (order.0 other (among_filter (waits owner) other opens a).0))))
+    (λ its.
+    let later = none_waits n owner opens one order.1 (rw its at found) away in
+    either (waits owner x) (λ w. rw (w, its) (ap (λ l. x ∷ l) later)) (λ w. rw w later))
+
+-- the lists without the FileId are those of the opens without the open
+still_waiting : (old new : LeftOpens) (n : ℕ) (owner : Owner) (opens : List Open) (one : Open) → AreInOrder opens
+    → find (has_id n) opens ≡ Some one → owner.client.0 ≡ one.client → owner.file.0 ≡ one.file → AreWaiting old opens
+    → ((other : Owner) → left_at new other
+    ≡ (if is_owner other owner then remove_key (test_at n) (left_at old other) else left_at old other))
+    → (other : Owner) → numbers (left_at new other) ≡ ids_of (without (has_id n) (filter (waits other) opens))
+still_waiting old new n owner opens one order found client file waiting changed other = either (is_owner other owner)
+    (λ its. rw (changed other, its) (removed_id n (left_at old other) (filter (waits other) opens) (waiting other)
+    (in_order_filter (waits other) opens order)))
+    (λ its.
+    let apart = another other one (apart_from other owner one client file its) in
+    rw (changed other, its) (waiting other ∙ ap ids_of (sym (none_waits n other opens one order found apart))))
+  where
+    in_order_filter : (test : Open → Bool) (opens : List Open) → AreInOrder opens → AreInOrder (filter test opens)
+    in_order_filter test [] order = tt
+    in_order_filter test (x ∷ opens) order = either (test x)
+        (λ t. rw t (
+          λ other a. order.0 other (among_filter test other opens a).0,
+          in_order_filter test opens order.1,
+        ))
+        (λ t. rw t (in_order_filter test opens order.1))
+
+pub waiting_taken : (old new : LeftOpens) (n : ℕ) (owner : Owner) (opens : List Open) (one : Open) → AreInOrder opens
+    → find (has_id n) opens ≡ Some one → owner.client.0 ≡ one.client → owner.file.0 ≡ one.file → AreWaiting old opens
+    → ((other : Owner) → left_at new other
+    ≡ (if is_owner other owner then remove_key (test_at n) (left_at old other) else left_at old other))
+    → AreWaiting new (without (has_id n) opens)
+waiting_taken old new n owner opens one order found client file waiting changed = λ other.
+    still_waiting old new n owner opens one order found client file waiting changed other
+    ∙ ap ids_of (sym (waiting_without n other opens))
+
+-- ---- an open is connected again
+
+connected_now : (n : ℕ) (owner : Owner) (opens : List Open)
+    → filter (waits owner) (map (connected_at n true) opens) ≡ without (has_id n) (filter (waits owner) opens)
+connected_now n owner [] = refl
+connected_now n owner (x ∷ opens) = let later = connected_now n owner opens in grind arith
+
+pub waiting_again : (old new : LeftOpens) (n : ℕ) (owner : Owner) (opens : List Open) (one : Open) → AreInOrder opens
+    → find (has_id n) opens ≡ Some one → owner.client.0 ≡ one.client → owner.file.0 ≡ one.file → AreWaiting old opens
+    → ((other : Owner) → left_at new other
+    ≡ (if is_owner other owner then remove_key (test_at n) (left_at old other) else left_at old other))
+    → AreWaiting new (map (connected_at n true) opens)
+waiting_again old new n owner opens one order found client file waiting changed = λ other.
+    still_waiting old new n owner opens one order found client file waiting changed other
+    ∙ ap ids_of (sym (connected_now n other opens))
+
+-- ---- an open is left
+
+rest_unchanged : (n : ℕ) (connected : Bool) (one : Open) (opens : List Open) → one.file_id ≡ n
+    → ((other : Open) → Among other opens → one.file_id < other.file_id) → map (connected_at n connected) opens ≡ opens
+rest_unchanged n connected one opens is above = none_changed n (λ (o : Open). record o { connected = connected }) opens
+    (λ other a. subst (λ m. m < other.file_id) is (above other a))
+
+one_more : (n : ℕ) (owner : Owner) (opens : List Open) (one : Open) → AreInOrder opens
+    → find (has_id n) opens ≡ Some one → is_its owner one ≡ true → insert_key nat_cmp (ids_of (filter (waits owner) opens)) n
+    ≡ ids_of (filter (waits owner) (map (connected_at n false) opens))
+one_more n owner [] one order found its = absurd (cc found)
+one_more n owner (x ∷ opens) one order found its = either (has_id n x)
+    (λ at.
+    let is : x ≡ one = some_same (rw at at found) in
+    let same = (Decides-eqb x.file_id n).0 at in
+    let rest = rest_unchanged n false x opens same order.0 in
+    let now : waits owner (record x { connected = false }) ≡ true = left_now owner x (ap (is_its owner) is ∙ its) in
+    either (waits owner x)
+    (λ w. rw (w, at, rest, now, same, equal_is n) refl)
+    (λ w. rw (w, at, rest, now) (inserted_first n (filter (waits owner) opens)
+    (λ other a. subst (λ m. m < other.file_id) same (order.0 other (among_filter (waits owner) other opens a).0))
+    ∙ ap (λ m. m ∷ ids_of (filter (waits owner) opens)) (sym same))))
+    (λ at.
+    let behind = find_has (has_id n) one opens (rw at at found) in
+    let later = one_more n owner opens one order.1 (rw at at found) its in
+    let above = subst (λ m. x.file_id < m) ((Decides-eqb one.file_id n).0 behind.1) (order.0 one behind.0) in
+    either (waits owner x)
+    (λ w. rw (w, at, w, greater n x.file_id above) (ap (λ l. x.file_id ∷ l) later))
+    (λ w. rw (w, at, w) later))
+
+none_left : (n : ℕ) (owner : Owner) (opens : List Open) (one : Open) → AreInOrder opens
+    → find (has_id n) opens ≡ Some one → is_its owner one ≡ false
+    → filter (waits owner) (map (connected_at n false) opens) ≡ filter (waits owner) opens
+none_left n owner [] one order found apart = refl
+none_left n owner (x ∷ opens) one order found apart = either (has_id n x)
+    (λ at.
+    let is : x ≡ one = some_same (rw at at found) in
+    let same = (Decides-eqb x.file_id n).0 at in
+    let rest = rest_unchanged n false x opens same order.0 in
+    let not_its : is_its owner x ≡ false = ap (is_its owner) is ∙ apart in
+    let before = another owner x not_its in
+    let now = another owner (record x { connected = false }) not_its in
+    rw (at, rest, now, before) refl)
+    (λ at.
+    let later = none_left n owner opens one order.1 (rw at at found) apart in
+    either (waits owner x) (λ w. rw (at, w) (ap (λ l. x ∷ l) later)) (λ w. rw (at, w) later))
+
+pub waiting_left : (old new : LeftOpens) (fid : FileId) (owner : Owner) (opens : List Open) (one : Open) → AreInOrder opens
+    → find (has_id fid.0) opens ≡ Some one → owner.client.0 ≡ one.client → owner.file.0 ≡ one.file → AreWaiting old opens
+    → ((other : Owner) → left_at new other
+    ≡ (if is_owner other owner then insert_key file_id_order (left_at old other) fid else left_at old other))
+    → AreWaiting new (map (connected_at fid.0 false) opens)
+waiting_left old new fid owner opens one order found client file waiting changed = λ other. either (is_owner other owner)
+    (λ its. rw (changed other, its) (inserted_id fid (left_at old other) ∙ (ap (λ l. insert_key nat_cmp l fid.0) (waiting other)
+    ∙ one_more fid.0 other opens one order found (its_own other owner one client file its))))
+    (λ its. rw (changed other, its) (waiting other
+    ∙ ap ids_of (sym (none_left fid.0 other opens one order found (apart_from other owner one client file its)))))
+
+-- ---- what is asked
+
+found_first : (test : Open → Bool) (opens : List Open) → find test opens ≡ slice_get (filter test opens) 0
+found_first test [] = refl
+found_first test (one ∷ opens) = either (test one) (λ t. rw t refl) (λ t. rw t (found_first test opens))
+
+pub first_waiting : (ids : List FileId) (test : Open → Bool) (opens : List Open) → numbers ids ≡ ids_of (filter test opens)
+    → option_map (λ file_id. file_id.0) (slice_get ids 0) ≡ option_map (λ one. one.file_id) (find test opens)
+first_waiting ids test opens same = first_mapped ids ∙ (ap (λ l. slice_get l 0) same ∙ (first_open (filter test opens)
+    ∙ ap (option_map (λ one. one.file_id)) (sym (found_first test opens))))
+  where
+    first_mapped : (xs : List FileId) → option_map (λ file_id. file_id.0) (slice_get xs 0) ≡ slice_get (numbers xs) 0
+    first_mapped [] = refl
+    first_mapped (x ∷ xs) = refl
+
+    first_open : (xs : List Open) → slice_get (ids_of xs) 0 ≡ option_map (λ one. one.file_id) (slice_get xs 0)
+    first_open [] = refl
+    first_open (x ∷ xs) = refl
+
+found_itself : (opens : List Open) (one : Open) → AreInOrder opens → Among one opens → find (has_id one.file_id) opens ≡ Some one
+found_itself [] one order among = absurd among
+found_itself (x ∷ opens) one order (inl same) = grind arith
+found_itself (x ∷ opens) one order (inr among) =
+    let its : has_id one.file_id x ≡ false = below x.file_id one.file_id (order.0 one among) in
+    rw its (found_itself opens one order.1 among)
+  where
+    below : (n m : ℕ) → n < m → (n == m) ≡ false
+    below n m less = grind (arith, nat_tests, less)
+
+pub picked_of_key : (key : Key) (opens : List Open) → AreInOrder opens → (ids : List FileId) (some : List Open)
+    → numbers ids ≡ ids_of some → ((one : Open) → Among one some → Among one opens)
+    → numbers (filter (has_key_in opens key) ids) ≡ ids_of (filter (has_key key) some)
+picked_of_key key opens order [] [] same there = refl
+picked_of_key key opens order [] (one ∷ some) same there = absurd (cc same)
+picked_of_key key opens order (x ∷ ids) [] same there = absurd (cc same)
+picked_of_key key opens order (x ∷ ids) (one ∷ some) same there =
+    let first = at_head x ids one some same in
+    let found : find (has_id x.0) opens ≡ Some one =
+    ap (λ n. find (has_id n) opens) first ∙ found_itself opens one order (there one (inl refl)) in
+    let later = picked_of_key key opens order ids some (behind_head x ids one some same) (λ other a. there other (inr a)) in
+    either (has_key key one)
+    (λ has. rw (found, has) (ap₂ (λ m l. m ∷ l) first later))
+    (λ has. rw (found, has) later)
+
+pub left_of_key : (key : Key) (file : ℕ) (opens : List Open) → list_any (is_elsewhere key file) opens ≡ false
+    → filter (has_key key) (filter (is_left_by key.client file) opens) ≡ filter (is_left_open key) opens
+left_of_key key file [] home = refl
+left_of_key key file (x ∷ opens) home =
+    let here : is_elsewhere key file x ≡ false = none_has (is_elsewhere key file) x (x ∷ opens) home (inl refl) in
+    let later = left_of_key key file opens (rw here at home) in
+    either (is_left_by key.client file x)
+    (λ left. either (has_key key x)
+    (λ has.
+    let both : is_left_open key x ≡ true = grind (arith, nat_tests, has, left) in
+    rw (left, both, has) (ap (λ l. x ∷ l) later))
+    (λ has. rw (left, has) later))
+    (λ left.
+    let away : is_left_open key x ≡ false = not_true (is_left_open key x) (λ is. apart key x file here left is) in
+    rw (left, away) later)
+  where
+    of_key : (key : Key) (client : ℕ) (own : Option (List ℕ)) → is_key key client own ≡ true → (client == key.client) ≡ true
+    of_key key client own has = grind arith
+
+    of_client : (key : Key) (x : Open) → has_key key x ≡ true → (x.client == key.client) ≡ true
+    of_client key x has = of_key key x.client x.lease_key has
+
+    apart : (key : Key) (x : Open) (file : ℕ) → is_elsewhere key file x ≡ false → is_left_by key.client file x ≡ false
+        → is_left_open key x ≡ true → ⊥
+    apart key x file here left is = grind arith
+
+pub none_of_key : (key : Key) (opens : List Open) → list_any (has_key key) opens ≡ false → filter (is_left_open key) opens ≡ []
+none_of_key key [] none = refl
+none_of_key key (x ∷ opens) none =
+    let here : has_key key x ≡ false = none_has (has_key key) x (x ∷ opens) none (inl refl) in
+    rw here (none_of_key key opens (rw here at none))
+
+pub none_first : (ids : List FileId) (test : Open → Bool) (opens : List Open) → (0 < length ids → false ≡ true)
+    → numbers ids ≡ ids_of (filter test opens) → None ≡ option_map (λ one. one.file_id) (find test opens)
+none_first [] test opens none same = first_waiting [] test opens same
+none_first (x ∷ ids) test opens none same = absurd (true≢false (sym (none (omega arith))))

@@ -1,0 +1,10 @@
+pub mod Agreeing
+pub mod Asking
+pub mod Demanding
+pub mod Hindering
+pub mod Mapping
+pub mod Ordering
+pub mod Recording
+pub mod Summing
+pub mod Tallies
+pub mod Wanting

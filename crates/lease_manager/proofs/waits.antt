@@ -1,0 +1,6 @@
+pub mod Counted
+pub mod OneFile
+pub mod Passing
+pub mod Queuing
+pub mod Settled
+pub mod StillWaiting
