@@ -1,4 +1,4 @@
-// The same work as crates/client_bench, written by hand in plain Rust, for bench/client: a client of one file
+// The same work as `lease_bench client`, written by hand in plain Rust, for bench/client: a client of one file
 // with the parts that this work needs, and for each read a plain copy of the file and one more hold on it.
 use std::env;
 use std::hint::black_box;
@@ -199,7 +199,7 @@ fn read_many(count: u32) -> u64 {
 }
 
 fn main() {
-    let words: Vec<String> = env::args().skip(1).collect();
+    let words: Vec<String> = env::args().skip(2).collect();
     let count: u32 = words.get(1).and_then(|word| word.parse().ok()).unwrap_or_else(|| exit(2));
     let sum = match words[0].as_str() {
         "write" => write_many(count),

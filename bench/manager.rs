@@ -1,4 +1,4 @@
-// The same calls as crates/manager_bench, with the manager of plain_manager.rs, for bench/manager.
+// The same calls as `lease_bench manager`, with the manager of plain_manager.rs, for bench/manager.
 use std::env;
 use std::process::exit;
 
@@ -202,7 +202,7 @@ fn played(words: &[String]) -> Option<Stage> {
 }
 
 fn main() {
-    let words: Vec<String> = env::args().skip(1).collect();
+    let words: Vec<String> = env::args().skip(2).collect();
     let Some(stage) = played(&words) else { exit(2) };
     println!("{} {}", stage.calls, stage.sum);
 }

@@ -1,4 +1,4 @@
-// The same work as crates/wire_bench, written by hand in plain Rust, for bench/contexts.
+// The same work as `lease_bench contexts`, written by hand in plain Rust, for bench/contexts.
 use std::env;
 use std::process::exit;
 
@@ -163,7 +163,7 @@ fn write_many<F: Fn(u32) -> Ask>(count: u32, ask_at: F) -> u64 {
 }
 
 fn main() {
-    let words: Vec<String> = env::args().skip(1).collect();
+    let words: Vec<String> = env::args().skip(2).collect();
     let count = words.get(1).and_then(|word| word.parse().ok()).unwrap_or(0);
     match words.first().map(String::as_str) {
         Some("read") => println!("{}", read_many(count)),

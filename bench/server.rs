@@ -1,4 +1,4 @@
-// The same session as crates/server_bench, with the server of plain_server.rs, for bench/server.
+// The same session as `lease_bench server`, with the server of plain_server.rs, for bench/server.
 use std::env;
 use std::process::exit;
 
@@ -84,8 +84,8 @@ fn session(calls: u32, standing: u32, same: bool) -> u64 {
 }
 
 fn main() {
-    let Some(calls) = env::args().nth(1).and_then(|word| word.parse().ok()) else { exit(2) };
-    let standing = env::args().nth(2).and_then(|word| word.parse().ok()).unwrap_or(0);
-    let same = env::args().nth(3).is_some_and(|word| word == "same");
+    let Some(calls) = env::args().nth(2).and_then(|word| word.parse().ok()) else { exit(2) };
+    let standing = env::args().nth(3).and_then(|word| word.parse().ok()).unwrap_or(0);
+    let same = env::args().nth(4).is_some_and(|word| word == "same");
     println!("{}", session(calls, standing, same));
 }

@@ -1,5 +1,5 @@
-use crate::asks::{client, key, leased, plain, state};
-use crate::stage::Stage;
+use crate::manager::asks::{client, key, leased, plain, state};
+use crate::manager::stage::Stage;
 use lease_manager::{Ask, CreateAsk, FileNo};
 use lease_state::{Access, FileId, Memory, Share};
 

@@ -1,17 +1,11 @@
-//! A session of a file server with eight clients on eight files, for `bench/server` to time from outside:
-//! each client opens a file, writes and reads it; another opens it too, which breaks the first one's lease;
-//! the first acknowledges that, and both close. A second word is how many opens stand all the while: on a ninth
-//! file, or, where the third word is `same`, on the session's files.
-#![tactic(auto)]
+//! A session of a file server with eight clients on eight files, for `bench/server`: each client opens a file, writes and
+//! reads it; another opens it too, which breaks the first one's lease; the first acknowledges that, and both close.
 
 use lease_state::{
     Access, Bytes, ClientNo, Content, FileId, FileNo, Memory, Patch, Reply, Request, Share,
 };
 use share_server::{Out, Server};
 use std::alloc::Global;
-use std::process::ExitCode;
-use std::rt::Env;
-use std::{env, io};
 
 // How many clients there are, and how many files.
 const COUNT: u32 = 8;
@@ -189,34 +183,18 @@ fn session(alloc: Global, calls: u32, standing: Standing) -> Result<u64, Memory>
     Ok(sum)
 }
 
-fn words_given<R: Env + AllocGlobal>(rt: &R) -> io::Result<Vec<String>> {
-    let words: Vec<String> = env::args(rt)?.skip(1).collect(rt.alloc())?;
-    Ok(words)
-}
-
-fn sum_of(alloc: Global, words: &[String]) -> Option<u64> {
-    let calls = words.first()?.as_str().parse::<u32>().ok()?;
+/// How many calls there are, then how many opens stand all the while: on a ninth file, or, where the third word is `same`, on
+/// the session's files. A number for what the server gave out.
+pub(crate) fn sum_of(alloc: Global, words: &[&str]) -> Option<u64> {
+    let calls = words.first()?.parse::<u32>().ok()?;
     let count = match words.get(1) {
-        Some(word) => word.as_str().parse::<u32>().ok()?,
+        Some(word) => word.parse::<u32>().ok()?,
         None => 0,
     };
     let same_files = match words.get(2) {
-        Some(word) => word.as_str() == "same",
+        Some(word) => *word == "same",
         None => false,
     };
     let standing = Standing { count, same_files };
     session(alloc, calls, standing).ok()
-}
-
-fn main(rt: HostRuntime) -> ExitCode {
-    let Ok(words) = words_given(&rt) else {
-        return ExitCode::from(2);
-    };
-    match sum_of(rt.alloc(), words.as_slice()) {
-        Some(sum) => {
-            let _ = println!(rt; "{sum}");
-            ExitCode::from(0)
-        }
-        None => ExitCode::from(2),
-    }
 }

@@ -1,5 +1,5 @@
-use crate::asks::{again, client, key, leased, plain, state};
-use crate::stage::Stage;
+use crate::manager::asks::{again, client, key, leased, plain, state};
+use crate::manager::stage::Stage;
 use lease_manager::{ClientNo, CreateAsk, FileNo};
 use lease_state::{FileId, Memory};
 

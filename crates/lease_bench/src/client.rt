@@ -1,13 +1,9 @@
-//! Calls a client many times, for `bench/client` to time from outside.
-#![tactic(auto)]
+//! A client that is called many times, for `bench/client`.
 
 use lease_client::{Answer, Client, Command, lease_key};
 use lease_state::{Access, Bytes, FileId, FileNo, LeaseState, Memory, Patch, Reply, Share};
 use lease_wire::{CreateAnswer, write_create_reply};
 use std::alloc::{AllocError, Global};
-use std::process::ExitCode;
-use std::rt::Env;
-use std::{env, io};
 
 const GUID: [u8; 16] = [0x11; 16];
 
@@ -82,29 +78,12 @@ fn read_many(alloc: Global, count: u32) -> Result<u64, Memory> {
     Ok(sum)
 }
 
-fn words_given<R: Env + AllocGlobal>(rt: &R) -> io::Result<Vec<String>> {
-    let words: Vec<String> = env::args(rt)?.skip(1).collect(rt.alloc())?;
-    Ok(words)
-}
-
-fn sum_of(alloc: Global, words: &[String]) -> Option<u64> {
-    let count = words.get(1)?.as_str().parse::<u32>().ok()?;
-    match words.first()?.as_str() {
+/// `write` or `read`, and how often: a number for what the client gave.
+pub(crate) fn sum_of(alloc: Global, words: &[&str]) -> Option<u64> {
+    let count = words.get(1)?.parse::<u32>().ok()?;
+    match *words.first()? {
         "write" => write_many(alloc, count).ok(),
         "read" => read_many(alloc, count).ok(),
         _ => None,
-    }
-}
-
-fn main(rt: HostRuntime) -> ExitCode {
-    let Ok(words) = words_given(&rt) else {
-        return ExitCode::from(2);
-    };
-    match sum_of(rt.alloc(), words.as_slice()) {
-        Some(sum) => {
-            let _ = println!(rt; "{sum}");
-            ExitCode::from(0)
-        }
-        None => ExitCode::from(2),
     }
 }

@@ -1,7 +1,5 @@
 //! A capture of clients that open, use and close files of one server under leases which are broken as others open them, for
-//! timing from outside: words say how many clients, files and opens there are. A fourth word `walk` leaves the chains out, and
-//! `lost` puts a gap at the end of each connection.
-#![tactic(auto)]
+//! `bench/walk`.
 
 use capture_judge::Level;
 use capture_walk::{
@@ -11,9 +9,6 @@ use capture_walk::{
 use capture_wire::{Guid, Smb2FileId};
 use lease_state::{LeaseKey, Memory};
 use std::alloc::Global;
-use std::process::ExitCode;
-use std::rt::Env;
-use std::{env, io};
 
 // How many requests use an open before others are opened.
 const USES: u32 = 4;
@@ -215,13 +210,8 @@ fn count_changes(alloc: Global, walk: &Walk) -> Result<(u64, u64), Memory> {
     Ok((chains, changes))
 }
 
-fn words_given<R: Env + AllocGlobal>(rt: &R) -> io::Result<Vec<String>> {
-    let words: Vec<String> = env::args(rt)?.skip(1).collect(rt.alloc())?;
-    Ok(words)
-}
-
-fn number_at(words: &[String], place: usize) -> Option<u32> {
-    words.get(place)?.as_str().parse::<u32>().ok()
+fn number_at(words: &[&str], place: usize) -> Option<u32> {
+    words.get(place)?.parse::<u32>().ok()
 }
 
 fn lose(capture: &mut Capture, clients: u32) -> Result<(), Memory> {
@@ -231,37 +221,36 @@ fn lose(capture: &mut Capture, clients: u32) -> Result<(), Memory> {
     Ok(())
 }
 
-// How many messages, events, chains and changes.
-fn counts(alloc: Global, words: &[String]) -> Option<(u64, u64, u64, u64)> {
+/// What a capture has.
+pub(crate) struct Extent {
+    pub(crate) messages: u64,
+    pub(crate) events: u64,
+    pub(crate) chains: u64,
+    pub(crate) changes: u64,
+}
+
+/// How many clients, files and opens there are; a fourth word `walk` leaves the chains out, and `lost` puts a gap at the end
+/// of each connection.
+pub(crate) fn counts(alloc: Global, words: &[&str]) -> Option<Extent> {
     let traffic = Traffic {
         clients: number_at(words, 0)?,
         files: number_at(words, 1)?,
         opens: number_at(words, 2)?,
     };
     let mut capture = capture_of(alloc, traffic).ok()?;
-    let option = words.get(3).map(|word| word.as_str());
+    let option = words.get(3).copied();
     if option == Some("lost") {
         lose(&mut capture, traffic.clients).ok()?;
     }
-    let events = capture.walk.events().len() as u64;
-    if option == Some("walk") {
-        return Some((capture.count, events, 0, 0));
-    }
-    let (chains, changes) = count_changes(alloc, &capture.walk).ok()?;
-    Some((capture.count, events, chains, changes))
-}
-
-fn main(rt: HostRuntime) -> ExitCode {
-    let Ok(words) = words_given(&rt) else {
-        return ExitCode::from(2);
+    let (chains, changes) = if option == Some("walk") {
+        (0, 0)
+    } else {
+        count_changes(alloc, &capture.walk).ok()?
     };
-    match counts(rt.alloc(), words.as_slice()) {
-        Some((messages, events, chains, changes)) => {
-            let _ = println!(rt;
-                "{messages} messages, {events} events, {chains} chains, {changes} changes"
-            );
-            ExitCode::from(0)
-        }
-        None => ExitCode::from(2),
-    }
+    Some(Extent {
+        messages: capture.count,
+        events: capture.walk.events().len() as u64,
+        chains,
+        changes,
+    })
 }

@@ -1,5 +1,5 @@
-use crate::asks::create;
-use crate::weights::weight;
+use crate::manager::asks::create;
+use crate::manager::weights::weight;
 use lease_manager::{Ask, ClientNo, CreateAsk, Decision, FileNo, Manager, Tag};
 use lease_state::{FileId, LeaseKey, LeaseState, Memory, Rules};
 use std::alloc::Global;

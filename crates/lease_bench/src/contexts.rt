@@ -1,12 +1,8 @@
-//! Reads or writes create contexts many times, for `bench/contexts` to time from outside.
-#![tactic(auto)]
+//! Create contexts that are read or written many times, for `bench/contexts`.
 
 use lease_state::{FileId, LeaseKey, LeaseState, Memory};
 use lease_wire::{CreateAsk, read_create, write_create_ask};
 use std::alloc::{AllocError, Global};
-use std::process::ExitCode;
-use std::rt::Env;
-use std::{env, io};
 
 // A request with a lease of RWH, a foreign context and a durable open.
 const CHAIN: [u8; 120] = *b"\x38\0\0\0\x10\0\x04\0\0\0\x18\0\x20\0\0\0RqLs\0\0\0\0\
@@ -60,30 +56,13 @@ fn write_many<F: Fn(u32) -> CreateAsk>(alloc: Global, count: u32, ask_at: F) -> 
     Ok(sum)
 }
 
-fn words_given<R: Env + AllocGlobal>(rt: &R) -> io::Result<Vec<String>> {
-    let words: Vec<String> = env::args(rt)?.skip(1).collect(rt.alloc())?;
-    Ok(words)
-}
-
-fn sum_of(alloc: Global, words: &[String]) -> Option<u64> {
-    let count = words.get(1)?.as_str().parse::<u32>().ok()?;
-    match words.first()?.as_str() {
+/// `read`, `write` or `write_others`, and how often: a number for what was read or written.
+pub(crate) fn sum_of(alloc: Global, words: &[&str]) -> Option<u64> {
+    let count = words.get(1)?.parse::<u32>().ok()?;
+    match *words.first()? {
         "read" => Some(read_many(count)),
         "write" => write_many(alloc, count, same_ask).ok(),
         "write_others" => write_many(alloc, count, other_ask).ok(),
         _ => None,
-    }
-}
-
-fn main(rt: HostRuntime) -> ExitCode {
-    let Ok(words) = words_given(&rt) else {
-        return ExitCode::from(2);
-    };
-    match sum_of(rt.alloc(), words.as_slice()) {
-        Some(sum) => {
-            let _ = println!(rt; "{sum}");
-            ExitCode::from(0)
-        }
-        None => ExitCode::from(2),
     }
 }
