@@ -1,6 +1,6 @@
 //! Events of a run that do nothing, and what stands in their way.
 
-use crate::tests::runs::{open, setup, write};
+use crate::running::runs::{open, setup, write};
 use lease_client::{Command, Refusal};
 use lease_state::{ClientNo, FileNo, Rules};
 use lease_world::{Event, Idle, Obstacle, obstacles_are_exact, run_explained_under, run_under};

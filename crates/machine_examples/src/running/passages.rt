@@ -1,6 +1,6 @@
 //! What becomes of the requests of a run.
 
-use crate::tests::runs::{open, setup};
+use crate::running::runs::{open, setup};
 use lease_state::{ClientNo, Rules};
 use lease_world::{Event, Passage, run_explained_under};
 use std::test::Fail;

@@ -1,5 +1,5 @@
 // Records of what is found in a capture, of messages that are laid out by hand.
-use crate::tests::capture_lines::{answer, ask, ask_at_once, close, read_and_echo, send, use_open};
+use crate::wire::capture_lines::{answer, ask, ask_at_once, close, read_and_echo, send, use_open};
 use capture_records::{RecordLine, notes_of, record_of};
 use capture_texts::{Capture, Judged, MessageName, MessagePart, Report, Side};
 use capture_wire::Command;

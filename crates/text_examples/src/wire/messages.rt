@@ -1,5 +1,5 @@
 // Whole SMB2 messages: a header, and after it a body.
-use crate::tests::{ASK, KEY};
+use crate::wire::{ASK, KEY};
 use lease_state::LeaseState;
 use lease_wire::{
     Direction, HEADER_SIZE, Notification, WireFault, begins_message, contexts_of_create,

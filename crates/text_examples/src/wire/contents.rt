@@ -1,5 +1,5 @@
 // Whole messages of a capture, by bytes that are laid out by hand as MS-SMB2 has them.
-use crate::tests::KEY;
+use crate::wire::KEY;
 use capture_wire::{
     CloseRequest, Command, Content, CreateContexts, LeaseContext, Message, MessageFault, Request,
     Response, Smb2FileId, Unreadable, read_create_contexts, read_message,

@@ -1,5 +1,5 @@
 // Captures of two clients, as the notes of their messages, and what they show of leases.
-use crate::tests::KEY;
+use crate::wire::KEY;
 use capture_judge::{Change, Charge, Level, Placing, judge_placing};
 use capture_walk::{
     Asked, BreakNote, CreateAsked, CreateGiven, Event, Frame, FrameFault, KeyLevel, LeaseGiven,

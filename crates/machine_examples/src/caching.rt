@@ -6,7 +6,7 @@ mod parting;
 mod replies;
 mod setting;
 
-use crate::tests::setting::{GUID, open, open_all, read, refuses};
+use crate::caching::setting::{GUID, open, open_all, read, refuses};
 use lease_client::{Client, Refusal, lease_key};
 use lease_state::{Access, FileNo, LeaseKey, LeaseState, Share};
 use std::test::Fail;

@@ -1,7 +1,7 @@
 //! Reads from a client's cache, in runs: what is seen is kept, and shared by the facts that show it.
 
-use crate::tests::runs::{open, setup, write};
-use crate::tests::words::{
+use crate::running::runs::{open, setup, write};
+use crate::running::words::{
     believes, buffered, changed, joined, opened, read, record, sent, settled, start, took,
 };
 use lease_client::{Command, Settlement};

@@ -1,5 +1,5 @@
 // Captures as lines: two clients that ask for leases on a file, and what is found of them.
-use crate::tests::KEY;
+use crate::wire::KEY;
 use capture_texts::{
     Capture, CaptureVerdict, ClientName, EpochFinding, Judged, LineFault, Report, Side,
     verdicts_are_of_files,

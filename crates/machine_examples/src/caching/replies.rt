@@ -1,5 +1,5 @@
 // What replies do, and why commands are refused.
-use crate::tests::setting::{
+use crate::caching::setting::{
     FILE, ack, after, answers, believes, break_to, connected, create_failed, created,
     created_in_break, open_all, opened, opened_as, read, read_done, refuses, told, write,
     write_failed, write_request,

@@ -1,5 +1,5 @@
 // One file's life: opened, written and read under RWH, broken and closed.
-use crate::tests::setting::{
+use crate::caching::setting::{
     FILE, ack, after, answers, asked, believes, break_to, bytes, cached_read, connected, create,
     created, open_all, opened, patch, read, read_done, read_request, told, write, write_done,
     write_request,

@@ -1,5 +1,5 @@
 // Asking for more under one key.
-use crate::tests::setting::{
+use crate::caching::setting::{
     FILE, after, answers, asked, believes, bytes, cached_read, connected, create, create_failed,
     created, created_in_break, open, opened, opened_as, read, read_done, refuses, told, write,
     write_failed,

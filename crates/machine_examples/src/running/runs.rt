@@ -1,6 +1,6 @@
 //! Runs: which are refused, and the records of the others.
 
-use crate::tests::words::{
+use crate::running::words::{
     believes, buffered, changed, joined, opened, patch, record, sent, settled, start, took,
 };
 use lease_client::{Command, Settlement};

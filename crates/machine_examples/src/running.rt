@@ -5,7 +5,7 @@ mod runs;
 mod verdicts;
 mod words;
 
-use crate::tests::words::{joined, read, record, sent, start, took};
+use crate::running::words::{joined, read, record, sent, start, took};
 use lease_world::{Judge, Rule, RunFault, Verdict, judge_each};
 use std::alloc::Global;
 use std::test::Fail;

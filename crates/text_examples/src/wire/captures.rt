@@ -1,5 +1,5 @@
 // What the messages of a capture say, by bytes that are laid out by hand as MS-SMB2 has them.
-use crate::tests::KEY;
+use crate::wire::KEY;
 use capture_wire::{
     DurableReconnectV2, DurableRequestV2, DurableResponseV2, Guid, Header, LeaseV2, MessageFault,
     Smb2FileId, TreeOrAsync, read_durable_reconnect_v2, read_durable_request_v2,

@@ -1,5 +1,7 @@
 // Calls that change a client in its place, compared with those that take it and give it back.
-use crate::tests::setting::{FILE, break_to, connected, created, open_all, opened_durable, write};
+use crate::caching::setting::{
+    FILE, break_to, connected, created, open_all, opened_durable, write,
+};
 use lease_client::{Client, Given, Step};
 use std::test::Fail;
 

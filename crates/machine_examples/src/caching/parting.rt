@@ -1,5 +1,5 @@
 // Lost connections: what is kept, and what becomes of it.
-use crate::tests::setting::{
+use crate::caching::setting::{
     FILE, after, answers, asked_again, asked_durable, believes, connected, create, create_failed,
     created, open_all, opened, opened_durable, read, read_done, read_request, refuses, told, write,
     write_request,

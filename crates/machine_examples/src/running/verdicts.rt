@@ -1,6 +1,6 @@
 //! Verdicts on short records.
 
-use crate::tests::words::{
+use crate::running::words::{
     believes, buffered, changed, dropped, expired, joined, opened, patch, read, record, sent,
     settled, start, strayed, through, took,
 };

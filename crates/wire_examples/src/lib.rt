@@ -1,6 +1,0 @@
-//! Worked examples of `lease_wire`, the contexts and break messages, as tests. They stand apart from it, so that it is
-//! proved once and not a second time with them.
-#![tactic(auto)]
-
-#[cfg(test)]
-mod tests;
