@@ -1,5 +1,5 @@
 -- Why bytes hold no value: the first test that they fail.
-use Rattle.std.specs.Prelude.{ℕ, ◌+◌, ◌*◌, ◌==◌, nat_lt, not, ◌&&◌, ◌||◌, if◌then◌else◌, List, length, codes, Option, Some, None}
+use Rattle.std.specs.Prelude.{ℕ, ◌+◌, ◌*◌, ◌==◌, nat_lt, not, ◌&&◌, ◌||◌, if◌then◌else◌, List, length, Option, Some, None}
 use Rattle.lease_wire.specs.Field.{number_at}
 use Rattle.lease_wire.specs.Message.{begins_message}
 use Rattle.capture_wire.specs.declared.fault.MessageFault.{MessageFault}
@@ -62,11 +62,3 @@ rename_fault buffer =
 -- FileDispositionInformation (MS-FSCC 2.4.11): DeletePending at 0
 abbrev pub disposition_fault : List ℕ → Option MessageFault
 disposition_fault buffer = if nat_lt (length buffer) 1 then Some Short else None
-
--- the text of a fault
-abbrev pub fault_text : MessageFault → List ℕ
-fault_text Short = codes "too few bytes"
-fault_text WrongProtocol = codes "no SMB2 message"
-fault_text WrongSize = codes "the StructureSize of another message"
-fault_text WrongLength = codes "data of another length"
-fault_text Outside = codes "a part outside the message"

@@ -1,35 +1,21 @@
-use std::fmt;
+use thiserror::Error;
 
 /// Why bytes are refused. As text a fault is a few words of English.
-#[derive(Clone, Copy, Debug, PartialEq, Eq)]
+#[derive(Clone, Copy, Debug, PartialEq, Eq, Error)]
 pub enum MessageFault {
     /// There are fewer bytes than the fixed part takes, which begins with the header in a message.
+    #[error("too few bytes")]
     Short,
     /// ProtocolId is not that of an SMB2 message.
+    #[error("no SMB2 message")]
     WrongProtocol,
     /// StructureSize is that of another message.
+    #[error("the StructureSize of another message")]
     WrongSize,
     /// The data of a create context have another length than their structure.
+    #[error("data of another length")]
     WrongLength,
     /// A name or another part is not after the fixed part and within the message.
+    #[error("a part outside the message")]
     Outside,
 }
-
-impl fmt::Display for MessageFault {
-    ghost use Rattle.std.specs.Prelude.{Some};
-    ghost use Rattle.capture_wire.specs.Faults.{fault_text};
-
-    ghost output = { λ fault. Some (fault_text fault) };
-
-    fn fmt<W: fmt::Write>(&self, f: &mut fmt::Formatter<W>) -> fmt::Result {
-        f.write_str(match self {
-            MessageFault::Short => "too few bytes",
-            MessageFault::WrongProtocol => "no SMB2 message",
-            MessageFault::WrongSize => "the StructureSize of another message",
-            MessageFault::WrongLength => "data of another length",
-            MessageFault::Outside => "a part outside the message",
-        })
-    }
-}
-
-impl std::error::Error for MessageFault {}

@@ -1,3 +1,4 @@
+pub mod Retold
 mod Notes
 mod Rows
 pub mod Places

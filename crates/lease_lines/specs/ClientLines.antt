@@ -1,10 +1,10 @@
 -- The lines that client machines are given: a row for each kind.
 use Rattle.std.specs.Prelude.{ℕ, List, [], ◌∷◌, codes, Option, None}
-use Rattle.lease_client.specs.{Answers.command_of, declared.values.command.Command.Command}
+use Rattle.lease_client.specs.Answers.{command_of}
 use Rattle.lease_model.specs.{client.Calls.ClientCall, messages.FromBytes.reply_of}
 use Rattle.lease_texts.specs.{Complaints.Table, Complaints.table, Lines.told_in, declared.kinds.Field.Field}
 use Rattle.lease_lines.specs.declared.client_lines.{ClientLine.ClientLine, Asked.Asked}
-use Rattle.{lease_state.specs.declared.number.ClientNo.ClientNo, lease_texts.specs.Kinds.Kind, lease_texts.specs.Kinds.kind}
+use Rattle.lease_texts.specs.{Commands.Asking, Commands.command_kinds, Commands.told_as, Kinds.Kind, Kinds.kind}
 
 -- the number of a status that was given by its number
 abbrev pub other_of : Asked → Option ℕ
@@ -20,8 +20,8 @@ call_of Asked.Notice = ClientCall.Noticed
 call_of Asked.Connect = ClientCall.Connected
 call_of (Asked.Take arrival) = ClientCall.Taken (reply_of arrival.reply)
 
-abbrev pub app : ClientNo → Command → ClientLine
-app client command = ClientLine.Asks client (Asked.App command)
+abbrev pub app : Asking → ClientLine
+app asking = ClientLine.Asks asking.0 (Asked.App asking.1)
 
 abbrev pub client_kinds : List (Kind ClientLine)
 client_kinds =
@@ -30,15 +30,7 @@ client_kinds =
     ∷ kind (codes "connect") (Field.Client ∷ []) (λ client. ClientLine.Asks client Asked.Connect)
     ∷ kind (codes "notice") (Field.Client ∷ []) (λ client. ClientLine.Asks client Asked.Notice)
     ∷ kind (codes "take") (Field.Client ∷ Field.Reply ∷ []) (λ client arrival. ClientLine.Asks client (Asked.Take arrival))
-    ∷ kind (codes "open")
-    (Field.Client ∷ Field.File ∷ Field.Access ∷ Field.Share ∷ Field.State ∷ Field.Durable ∷ [])
-    (λ client file access share want durable. app client (Command.Open file access share want durable))
-    ∷ kind (codes "close") (Field.Client ∷ Field.File ∷ []) (λ client file. app client (Command.Close file))
-    ∷ kind (codes "read") (Field.Client ∷ Field.File ∷ []) (λ client file. app client (Command.Read file))
-    ∷ kind (codes "flush") (Field.Client ∷ Field.File ∷ []) (λ client file. app client (Command.Flush file))
-    ∷ kind (codes "write") (Field.Client ∷ Field.File ∷ Field.Offset ∷ Field.Bytes ∷ [])
-    (λ client file offset bytes. app client (Command.Write file (record { offset = offset; bytes = bytes })))
-    ∷ []
+    ∷ told_as app command_kinds
 
 abbrev pub client_table : Table
 client_table = table (codes "a kind of line") client_kinds

@@ -1,11 +1,14 @@
 ghost use Rattle.std.specs.Prelude.{◌≡◌, None, drop};
 ghost use Rattle.lease_texts.specs.{Complaints.table_of, Kinds.named, Lines.field_read, Takes.Takes, Takes.Reads};
-ghost use Rattle.lease_lines.specs.ClientLines.{app, client_kinds, client_line_in, client_place, client_table, other_of};
+ghost use Rattle.lease_lines.specs.ClientLines.{client_kinds, client_line_in, client_place, client_table, other_of};
 
 use lease_client::Command;
-use lease_state::{ClientNo, Patch};
-use lease_texts::Field::{Access, Bytes, Client, Durable, File, Guid, Offset, Reply, Share, State};
-use lease_texts::{Arrival, Fields, LineFault, Row, Table, is, read_arrival};
+use lease_state::ClientNo;
+use lease_texts::Field::{Client, File, Guid, Reply};
+use lease_texts::{
+    Arrival, CLOSE, FLUSH, Fields, LineFault, OPEN, READ, Row, Table, WRITE, is, read_arrival,
+    read_command,
+};
 use std::alloc::Global;
 
 /// What a line asks of client machines.
@@ -65,11 +68,11 @@ const LINES: &[Row] = &[
     Row("connect", &[Client]),
     Row("notice", &[Client]),
     Row("take", &[Client, Reply]),
-    Row("open", &[Client, File, Access, Share, State, Durable]),
-    Row("close", &[Client, File]),
-    Row("read", &[Client, File]),
-    Row("flush", &[Client, File]),
-    Row("write", &[Client, File, Offset, Bytes]),
+    OPEN,
+    CLOSE,
+    READ,
+    FLUSH,
+    WRITE,
 ];
 
 /// The lines that client machines are given.
@@ -79,45 +82,13 @@ pub fn client_table() -> Table
     Table("a kind of line", LINES)
 }
 
-fn app(client: ClientNo, command: Command) -> ClientLine
-    ensures { result ≡ app client command }
-{
-    ClientLine::Asks(client, Asked::App(command))
-}
-
-#[tactic(auto, unfolding(lease_texts::specs::Kinds::named, lease_texts::specs::Kinds::taken))]
-fn read_command(alloc: Global, word: &[u8], fields: &mut Fields) -> Result<ClientLine, LineFault>
+// What an application asks.
+#[tactic(auto, using(crate::proofs::Retold::asked_alone, crate::proofs::Retold::refused_alone))]
+fn read_asking(alloc: Global, word: &[u8], fields: &mut Fields) -> Result<ClientLine, LineFault>
     ensures { Takes (named field_read (drop 5 client_kinds) word.now) fields.old fields.new result }
 {
-    if is(word, b"open") {
-        let client = fields.client()?;
-        Ok(app(
-            client,
-            Command::Open {
-                file: fields.file()?,
-                access: fields.access()?,
-                share: fields.share()?,
-                want: fields.state()?,
-                durable: fields.durable()?,
-            },
-        ))
-    } else if is(word, b"close") {
-        let (client, file) = (fields.client()?, fields.file()?);
-        Ok(app(client, Command::Close { file }))
-    } else if is(word, b"read") {
-        let (client, file) = (fields.client()?, fields.file()?);
-        Ok(app(client, Command::Read { file }))
-    } else if is(word, b"flush") {
-        let (client, file) = (fields.client()?, fields.file()?);
-        Ok(app(client, Command::Flush { file }))
-    } else if is(word, b"write") {
-        let (client, file) = (fields.client()?, fields.file()?);
-        let (offset, bytes) = (fields.offset()?, fields.bytes(alloc)?);
-        let patch = Patch { offset, bytes };
-        Ok(app(client, Command::Write { file, patch }))
-    } else {
-        Err(LineFault::Refused)
-    }
+    let (client, command) = read_command(alloc, word, fields)?;
+    Ok(ClientLine::Asks(client, Asked::App(command)))
 }
 
 #[tactic(auto, unfolding(lease_texts::specs::Kinds::named, lease_texts::specs::Kinds::taken))]
@@ -133,7 +104,7 @@ fn read_named(alloc: Global, word: &[u8], fields: &mut Fields) -> Result<ClientL
             let client = fields.client()?;
             Ok(ClientLine::Asks(client, Asked::Take(read_arrival(alloc, fields)?)))
         }
-        _ => read_command(alloc, word, fields),
+        _ => read_asking(alloc, word, fields),
     }
 }
 

@@ -15,6 +15,7 @@ pub mod Schedules
 pub mod Drafts
 pub mod Written
 pub mod Quoting
+pub mod Commands
 pub mod Complaints
 pub mod FirstFaults
 pub mod Laws

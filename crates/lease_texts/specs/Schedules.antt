@@ -2,26 +2,18 @@
 use Rattle.std.specs.Prelude.{ℕ, ◌++◌, List, [], ◌∷◌, codes, if◌then◌else◌, Option, Some, None, Result}
 use Rattle.lease_texts.specs.{Kinds.Kind, Kinds.Line, Kinds.kind, Kinds.line, Kinds.say, Lines.line_text, Lines.told_in}
 use Rattle.lease_texts.specs.{Reading.reads_on, Reading.is_passed_over, declared.kinds.Field.Field, Pieces.lines_of}
-use Rattle.{lease_client.specs.declared.values.command.Command.Command, lease_state.specs.declared.number.ClientNo.ClientNo}
+use Rattle.lease_client.specs.declared.values.command.Command.{Command}
+use Rattle.lease_texts.specs.Commands.{Asking, command_kinds, told_as}
 use Rattle.{lease_texts.specs.declared.parts.Part.Part, std.specs.List.flat_map, lease_facts.specs.declared.setup.Event.Event}
 
 -- what an application asks
-abbrev pub app : ClientNo → Command → Part
-app client asked = Part.Happens (Event.App client asked)
+abbrev pub app : Asking → Part
+app asking = Part.Happens (Event.App asking.0 asking.1)
 
-abbrev pub part_kinds : List (Kind Part)
-part_kinds =
-    kind (codes "file") (Field.Content ∷ []) Part.File
-    ∷ kind (codes "client") (Field.Guid ∷ []) Part.Client
-    ∷ kind (codes "open")
-    (Field.Client ∷ Field.File ∷ Field.Access ∷ Field.Share ∷ Field.State ∷ Field.Durable ∷ [])
-    (λ client file access share want durable. app client (Command.Open file access share want durable))
-    ∷ kind (codes "close") (Field.Client ∷ Field.File ∷ []) (λ client file. app client (Command.Close file))
-    ∷ kind (codes "read") (Field.Client ∷ Field.File ∷ []) (λ client file. app client (Command.Read file))
-    ∷ kind (codes "flush") (Field.Client ∷ Field.File ∷ []) (λ client file. app client (Command.Flush file))
-    ∷ kind (codes "write") (Field.Client ∷ Field.File ∷ Field.Offset ∷ Field.Bytes ∷ [])
-    (λ client file offset bytes. app client (Command.Write file (record { offset = offset; bytes = bytes })))
-    ∷ kind (codes "serve") (Field.Client ∷ []) (λ client. Part.Happens (Event.ServerTakes client))
+-- what else happens
+abbrev pub event_kinds : List (Kind Part)
+event_kinds =
+    kind (codes "serve") (Field.Client ∷ []) (λ client. Part.Happens (Event.ServerTakes client))
     ∷ kind (codes "take") (Field.Client ∷ []) (λ client. Part.Happens (Event.ClientTakes client))
     ∷ kind (codes "cut") (Field.Client ∷ []) (λ client. Part.Happens (Event.Cut client))
     ∷ kind (codes "notice") (Field.Client ∷ []) (λ client. Part.Happens (Event.Notice client))
@@ -30,6 +22,12 @@ part_kinds =
     ∷ kind (codes "scavenge") (Field.Client ∷ Field.File ∷ []) (λ client file. Part.Happens (Event.Scavenge client file))
     ∷ kind (codes "raw") (Field.Client ∷ Field.Request ∷ []) (λ client asked. Part.Happens (Event.Raw client asked))
     ∷ []
+
+abbrev pub part_kinds : List (Kind Part)
+part_kinds =
+    kind (codes "file") (Field.Content ∷ []) Part.File
+    ∷ kind (codes "client") (Field.Guid ∷ []) Part.Client
+    ∷ told_as app command_kinds ++ event_kinds
 
 abbrev pub event_said : Event → Line
 event_said (Event.App client (Command.Open file access share want durable)) = line (codes "open") (say Field.Client client

@@ -6,6 +6,7 @@
 //! docs/FORMATS.md has every line.
 #![tactic(auto)]
 
+mod commands;
 mod complaints;
 mod fault;
 mod fields;
@@ -24,6 +25,7 @@ mod schedule;
 mod status;
 mod words;
 
+pub use commands::{CLOSE, FLUSH, OPEN, READ, WRITE, read_command};
 pub use complaints::{Complaint, Expected, complaint_about, push_complaint, push_complaint_line};
 pub use fault::{LineFault, TextFault};
 pub use fields::Fields;

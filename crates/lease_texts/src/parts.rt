@@ -2,9 +2,10 @@
 
 ghost use Rattle.std.specs.Prelude.{◌≡◌, ◌++◌, OnOk, drop};
 ghost use Rattle.std.specs.String.{string_bytes};
-ghost use Rattle.lease_texts.specs.{Kinds.named, Lines.field_read, Takes.Takes, Takes.Reads, Schedules.app, Schedules.event_line};
+ghost use Rattle.lease_texts.specs.{Kinds.named, Lines.field_read, Takes.Takes, Takes.Reads, Schedules.event_kinds, Schedules.event_line};
 ghost use Rattle.lease_texts.specs.{Schedules.part_in, Schedules.part_kinds, Complaints.part_table, Complaints.table_of};
 
+use crate::commands::{CLOSE, FLUSH, OPEN, READ, WRITE, is_command, read_command};
 use crate::fault::LineFault;
 use crate::fields::Fields;
 use crate::kinds::Field::{
@@ -15,7 +16,7 @@ use crate::requests::read_request;
 use crate::said::line;
 use lease_client::Command;
 use lease_facts::{Event, is};
-use lease_state::{ClientNo, Patch};
+use lease_state::ClientNo;
 use std::alloc::{AllocError, Global};
 
 /// What one line adds to a schedule.
@@ -31,11 +32,11 @@ pub enum Part {
 const PARTS: &[Row] = &[
     Row("file", &[Content]),
     Row("client", &[Guid]),
-    Row("open", &[Client, File, Access, Share, State, Durable]),
-    Row("close", &[Client, File]),
-    Row("read", &[Client, File]),
-    Row("flush", &[Client, File]),
-    Row("write", &[Client, File, Offset, Bytes]),
+    OPEN,
+    CLOSE,
+    READ,
+    FLUSH,
+    WRITE,
     Row("serve", &[Client]),
     Row("take", &[Client]),
     Row("cut", &[Client]),
@@ -55,15 +56,9 @@ pub fn part_table() -> Table
 
 // ---- reading
 
-fn app(client: ClientNo, command: Command) -> Part
-    ensures { result ≡ app client command }
-{
-    Part::Happens(Event::App(client, command))
-}
-
 #[tactic(auto, unfolding(crate::specs::Kinds::named, crate::specs::Kinds::taken))]
 fn read_event(alloc: Global, word: &[u8], fields: &mut Fields) -> Result<Part, LineFault>
-    ensures { Takes (named field_read (drop 7 part_kinds) word.now) fields.old fields.new result }
+    ensures { Takes (named field_read event_kinds word.now) fields.old fields.new result }
 {
     Ok(Part::Happens(match word {
         _ if is(word, b"serve") => Event::ServerTakes(fields.client()?),
@@ -78,36 +73,14 @@ fn read_event(alloc: Global, word: &[u8], fields: &mut Fields) -> Result<Part, L
     }))
 }
 
-#[tactic(auto, unfolding(crate::specs::Kinds::named, crate::specs::Kinds::taken))]
-fn read_command(alloc: Global, word: &[u8], fields: &mut Fields) -> Result<Part, LineFault>
+// What happens, by the word of its line and the fields after it.
+#[tactic(auto, using(crate::proofs::Retold::asked_here, crate::proofs::Retold::refused_here, crate::proofs::Retold::others_here))]
+fn read_happening(alloc: Global, word: &[u8], fields: &mut Fields) -> Result<Part, LineFault>
     ensures { Takes (named field_read (drop 2 part_kinds) word.now) fields.old fields.new result }
 {
-    if is(word, b"open") {
-        let client = fields.client()?;
-        Ok(app(
-            client,
-            Command::Open {
-                file: fields.file()?,
-                access: fields.access()?,
-                share: fields.share()?,
-                want: fields.state()?,
-                durable: fields.durable()?,
-            },
-        ))
-    } else if is(word, b"close") {
-        let (client, file) = (fields.client()?, fields.file()?);
-        Ok(app(client, Command::Close { file }))
-    } else if is(word, b"read") {
-        let (client, file) = (fields.client()?, fields.file()?);
-        Ok(app(client, Command::Read { file }))
-    } else if is(word, b"flush") {
-        let (client, file) = (fields.client()?, fields.file()?);
-        Ok(app(client, Command::Flush { file }))
-    } else if is(word, b"write") {
-        let (client, file) = (fields.client()?, fields.file()?);
-        let (offset, bytes) = (fields.offset()?, fields.bytes(alloc)?);
-        let patch = Patch { offset, bytes };
-        Ok(app(client, Command::Write { file, patch }))
+    if is_command(word) {
+        let (client, command) = read_command(alloc, word, fields)?;
+        Ok(Part::Happens(Event::App(client, command)))
     } else {
         read_event(alloc, word, fields)
     }
@@ -121,7 +94,7 @@ fn read_named(alloc: Global, word: &[u8], fields: &mut Fields) -> Result<Part, L
     match word {
         _ if is(word, b"file") => Ok(Part::File(fields.content(alloc)?)),
         _ if is(word, b"client") => Ok(Part::Client(fields.guid()?)),
-        _ => read_command(alloc, word, fields),
+        _ => read_happening(alloc, word, fields),
     }
 }
 

@@ -7,6 +7,7 @@ use capture_wire::{
 };
 use lease_state::{LeaseKey, LeaseState};
 use lease_wire::Direction;
+use std::alloc::{AllocError, Global};
 use std::test::Fail;
 
 const GUID: Guid = Guid(*b"guid of a create");
@@ -127,4 +128,25 @@ fn the_epoch_after_a_break_is_read(rt: HostRuntime) {
     message[64..68].copy_from_slice(b"\x2c\0\x03\x04");
     assert_eq!(&rt; read_new_epoch(&message), Ok(0x0403));
     assert_eq!(&rt; read_new_epoch(&message[..107]), Err(MessageFault::Short));
+}
+
+fn says(alloc: Global, fault: MessageFault, words: &str) -> Result<bool, AllocError> {
+    Ok(format!(in alloc; "{fault}")?.as_str() == words)
+}
+
+#[test]
+fn faults_say_what_is_wrong(rt: HostRuntime) -> Result<(), Fail> {
+    let alloc = rt.alloc();
+    assert!(rt; says(alloc, MessageFault::Short, "too few bytes")?);
+    assert!(rt; says(alloc, MessageFault::WrongProtocol, "no SMB2 message")?);
+    assert!(rt;
+        says(
+            alloc,
+            MessageFault::WrongSize,
+            "the StructureSize of another message"
+        )?
+    );
+    assert!(rt; says(alloc, MessageFault::WrongLength, "data of another length")?);
+    assert!(rt; says(alloc, MessageFault::Outside, "a part outside the message")?);
+    Ok(())
 }

@@ -1,0 +1,78 @@
+//! The lines by which a client's application asks something, in schedules and for client machines alike.
+
+ghost use Rattle.std.specs.Prelude.{◌≡◌};
+ghost use Rattle.lease_texts.specs.{Commands.command_kinds, Commands.is_named, Kinds.named, Lines.field_read, Takes.Takes};
+
+use crate::fault::LineFault;
+use crate::fields::Fields;
+use crate::kinds::Field::{Access, Bytes, Client, Durable, File, Offset, Share, State};
+use crate::kinds::Row;
+use lease_client::Command;
+use lease_facts::is;
+use lease_state::{ClientNo, Patch};
+use std::alloc::Global;
+
+/// The row of an open, and those of the other commands below.
+pub const OPEN: Row = Row("open", &[Client, File, Access, Share, State, Durable]);
+
+pub const CLOSE: Row = Row("close", &[Client, File]);
+
+pub const READ: Row = Row("read", &[Client, File]);
+
+pub const FLUSH: Row = Row("flush", &[Client, File]);
+
+pub const WRITE: Row = Row("write", &[Client, File, Offset, Bytes]);
+
+/// Whether a line that begins with this word is one by which an application asks something.
+pub(crate) fn is_command(word: &[u8]) -> bool
+    ensures { result ≡ is_named word.now command_kinds }
+{
+    is(word, b"open")
+        || is(word, b"close")
+        || is(word, b"read")
+        || is(word, b"flush")
+        || is(word, b"write")
+}
+
+/// What is asked of which client, by the first word of a line and the fields after it.
+///
+/// # Errors
+///
+/// `Refused` where the word begins no such line or the fields don't say what such a line has; `Memory` where there is none left
+/// for the bytes of a write.
+#[tactic(auto, unfolding(crate::specs::Kinds::named, crate::specs::Kinds::taken))]
+pub fn read_command(
+    alloc: Global,
+    word: &[u8],
+    fields: &mut Fields,
+) -> Result<(ClientNo, Command), LineFault>
+    ensures { Takes (named field_read command_kinds word.now) fields.old fields.new result }
+{
+    if is(word, b"open") {
+        let client = fields.client()?;
+        let open = Command::Open {
+            file: fields.file()?,
+            access: fields.access()?,
+            share: fields.share()?,
+            want: fields.state()?,
+            durable: fields.durable()?,
+        };
+        Ok((client, open))
+    } else if is(word, b"close") {
+        let (client, file) = (fields.client()?, fields.file()?);
+        Ok((client, Command::Close { file }))
+    } else if is(word, b"read") {
+        let (client, file) = (fields.client()?, fields.file()?);
+        Ok((client, Command::Read { file }))
+    } else if is(word, b"flush") {
+        let (client, file) = (fields.client()?, fields.file()?);
+        Ok((client, Command::Flush { file }))
+    } else if is(word, b"write") {
+        let (client, file) = (fields.client()?, fields.file()?);
+        let (offset, bytes) = (fields.offset()?, fields.bytes(alloc)?);
+        let patch = Patch { offset, bytes };
+        Ok((client, Command::Write { file, patch }))
+    } else {
+        Err(LineFault::Refused)
+    }
+}
