@@ -1,4 +1,5 @@
 pub mod Closing
+pub mod Coming
 pub mod Ending
 pub mod Filed
 pub mod Findings

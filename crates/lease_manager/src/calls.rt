@@ -1,5 +1,6 @@
 ghost use Rattle.std.specs.Prelude.{◌≡◌, [], true, false, IsOk, OnOk, Some, None};
 ghost use Rattle.std.specs.List.{list_any};
+ghost use Rattle.lease_manager.specs.Coming.{applies, handled};
 ghost use Rattle.lease_manager.specs.Outs.{handling_of};
 ghost use Rattle.lease_manager.specs.Requests.{request_like};
 ghost use Rattle.lease_manager.specs.Table.{manager_of, queue_at, server_of};
@@ -17,6 +18,7 @@ use crate::requests::passes::try_all;
 use crate::tables::Tables;
 use crate::told::Told;
 use crate::values::closing::Closing;
+use crate::values::coming::Coming;
 use crate::values::key::LeaseName;
 use crate::values::number::{ClientNo, FileNo, Tag};
 use crate::values::request::Ask;
@@ -24,6 +26,23 @@ use lease_state::{FileId, LeaseState, Memory, Status};
 
 /// The tag of what answers no request under a tag.
 const NO_TAG: Tag = Tag(0);
+
+/// Something comes that a host is told decisions of.
+pub fn handle(tables: &mut Tables, told: &mut Told, coming: Coming) -> Result<(), Memory>
+    requires { told.old ≡ [] }
+    ensures step { OnOk result (handling_of tables.new told.new ≡ handled coming (manager_of tables.old)) }
+    ensures idle { applies coming tables.old ≡ false → IsOk result }
+{
+    match coming {
+        Coming::Asks { client, tag, ask } => receive(tables, told, client, tag, ask),
+        Coming::Acknowledges { key, state } => acknowledge(tables, told, key, state),
+        Coming::IsMalformed(client) => acknowledge_malformed(tables, told, client),
+        Coming::IsCut(client) => cut(tables, told, client),
+        Coming::Expires(key) => expire(tables, told, key),
+        Coming::Scavenges(fid) => scavenge(tables, told, fid),
+        Coming::Withdraws { file, client, tag } => withdraw(tables, told, file, client, tag),
+    }
+}
 
 /// A client connects.
 #[tactic(auto, unfolding(manager_model::specs::Handling::join))]

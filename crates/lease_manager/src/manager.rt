@@ -1,6 +1,7 @@
 ghost use Rattle.std.specs.Prelude.{◌≡◌, [], true, false, IsOk, IfOk, OnErr, OnOk, length, map, Some, None, ◌==◌};
 ghost use Rattle.std.specs.List.{list_any};
 ghost use Rattle.std.specs.Option.{option_map};
+ghost use Rattle.lease_manager.specs.Coming.{applies, handled};
 ghost use Rattle.lease_manager.specs.Leases.{lease_of};
 ghost use Rattle.lease_manager.specs.Listing.{open_of};
 ghost use Rattle.lease_manager.specs.Outs.{IsAfter};
@@ -18,6 +19,7 @@ use crate::calls;
 use crate::laws::managers_are_those_of_hosts;
 use crate::tables::Tables;
 use crate::told::Told;
+use crate::values::coming::Coming;
 use crate::values::decision::Decision;
 use crate::values::key::LeaseName;
 use crate::values::lease::HeldLease;
@@ -77,11 +79,30 @@ impl Manager {
         self.tables.files()
     }
 
-    // All is forgotten but the rules and the last number of a file, which are these.
-    fn forget(&mut self, rules: Rules, files: FileNo)
-        ensures { manager_of self.new ≡ fresh_manager rules files.0 }
+    // A call came to this. Where memory ran out all is forgotten but the rules and the last number of a file, which are these.
+    fn ended(&mut self, came: Result<(), Memory>, rules: Rules, files: FileNo) -> Result<(), Memory>
+        ensures same { result ≡ came }
+        ensures kept { OnOk came (self.new ≡ self.old) }
+        ensures forgotten { OnErr came (manager_of self.new ≡ fresh_manager rules files.0) }
     {
-        self.tables = Tables::new(self.tables.alloc(), rules, files);
+        if came.is_err() {
+            self.tables = Tables::new(self.tables.alloc(), rules, files);
+        }
+        came
+    }
+
+    // Something comes, and what is decided is on the list afterwards.
+    fn call(&mut self, coming: Coming, decisions: &mut Vec<Decision>) -> Result<(), Memory>
+        ensures after { OnOk result (IsAfter self.new decisions.new.items (handled coming (manager_of self.old))) }
+        ensures idle { applies coming self.old ≡ false → IsOk result }
+        ensures forgotten { OnErr result
+            (manager_of self.new ≡ fresh_manager (server_of self.old).rules (server_of self.old).files) }
+    {
+        let (rules, files) = (self.rules(), self.files());
+        let mut told = Told::over(taken_out(decisions));
+        let came = calls::handle(&mut self.tables, &mut told, coming);
+        *decisions = told.into_vec();
+        self.ended(came, rules, files)
     }
 
     /// A client connects (MS-SMB2 3.3.5.1). The keys of its leases whose timer ran out may be granted states again
@@ -97,15 +118,9 @@ impl Manager {
         ensures forgotten { OnErr result
             (manager_of self.new ≡ fresh_manager (server_of self.old).rules (server_of self.old).files) }
     {
-        let kept = self.tables.rules();
-        let files = self.tables.files();
-        match calls::join(&mut self.tables, client) {
-            Ok(()) => Ok(()),
-            Err(fault) => {
-                self.forget(kept, files);
-                Err(fault)
-            }
-        }
+        let (rules, files) = (self.rules(), self.files());
+        let came = calls::join(&mut self.tables, client);
+        self.ended(came, rules, files)
     }
 
     /// A client asks something of a file, under a tag under which nothing of it waits (MS-SMB2 3.3.5). It is refused at once
@@ -132,19 +147,7 @@ impl Manager {
         ensures forgotten { OnErr result
             (manager_of self.new ≡ fresh_manager (server_of self.old).rules (server_of self.old).files) }
     {
-        let kept = self.tables.rules();
-        let files = self.tables.files();
-        let mut given = Told::over(taken_out(decisions));
-        match calls::receive(&mut self.tables, &mut given, client, tag, ask) {
-            Ok(()) => {
-                *decisions = given.into_vec();
-                Ok(())
-            }
-            Err(fault) => {
-                self.forget(kept, files);
-                Err(fault)
-            }
-        }
+        self.call(Coming::Asks { client, tag, ask }, decisions)
     }
 
     /// A client acknowledges a break of its lease of this key, with this state (MS-SMB2 3.3.5.22.2). Then what waits is tried
@@ -168,24 +171,13 @@ impl Manager {
         ensures forgotten { OnErr result
             (manager_of self.new ≡ fresh_manager (server_of self.old).rules (server_of self.old).files) }
     {
-        let kept = self.tables.rules();
-        let files = self.tables.files();
-        let mut given = Told::over(taken_out(decisions));
-        match calls::acknowledge(
-            &mut self.tables,
-            &mut given,
-            LeaseName { client, bytes: key },
-            state,
-        ) {
-            Ok(()) => {
-                *decisions = given.into_vec();
-                Ok(())
-            }
-            Err(fault) => {
-                self.forget(kept, files);
-                Err(fault)
-            }
-        }
+        self.call(
+            Coming::Acknowledges {
+                key: LeaseName { client, bytes: key },
+                state,
+            },
+            decisions,
+        )
     }
 
     /// A client sends an acknowledgment that can't be read: it is answered with `InvalidParameter`. Then what waits is tried
@@ -206,19 +198,7 @@ impl Manager {
         ensures forgotten { OnErr result
             (manager_of self.new ≡ fresh_manager (server_of self.old).rules (server_of self.old).files) }
     {
-        let kept = self.tables.rules();
-        let files = self.tables.files();
-        let mut given = Told::over(taken_out(decisions));
-        match calls::acknowledge_malformed(&mut self.tables, &mut given, client) {
-            Ok(()) => {
-                *decisions = given.into_vec();
-                Ok(())
-            }
-            Err(fault) => {
-                self.forget(kept, files);
-                Err(fault)
-            }
-        }
+        self.call(Coming::IsMalformed(client), decisions)
     }
 
     /// A client's connection is lost (MS-SMB2 3.3.7.1). Its opens that are durable, and whose lease holds `HANDLE_CACHING` and
@@ -237,19 +217,7 @@ impl Manager {
         ensures forgotten { OnErr result
             (manager_of self.new ≡ fresh_manager (server_of self.old).rules (server_of self.old).files) }
     {
-        let kept = self.tables.rules();
-        let files = self.tables.files();
-        let mut given = Told::over(taken_out(decisions));
-        match calls::cut(&mut self.tables, &mut given, client) {
-            Ok(()) => {
-                *decisions = given.into_vec();
-                Ok(())
-            }
-            Err(fault) => {
-                self.forget(kept, files);
-                Err(fault)
-            }
-        }
+        self.call(Coming::IsCut(client), decisions)
     }
 
     /// The timer of a lease break runs out (MS-SMB2 3.3.6.5): the opens of the client's lease of this key end, and the key is
@@ -273,23 +241,7 @@ impl Manager {
         ensures forgotten { OnErr result
             (manager_of self.new ≡ fresh_manager (server_of self.old).rules (server_of self.old).files) }
     {
-        let kept = self.tables.rules();
-        let files = self.tables.files();
-        let mut given = Told::over(taken_out(decisions));
-        match calls::expire(
-            &mut self.tables,
-            &mut given,
-            LeaseName { client, bytes: key },
-        ) {
-            Ok(()) => {
-                *decisions = given.into_vec();
-                Ok(())
-            }
-            Err(fault) => {
-                self.forget(kept, files);
-                Err(fault)
-            }
-        }
+        self.call(Coming::Expires(LeaseName { client, bytes: key }), decisions)
     }
 
     /// The timer of a durable open runs out (MS-SMB2 3.3.6.2): the open of this FileId ends, if it waits for its client. Then
@@ -307,19 +259,7 @@ impl Manager {
         ensures forgotten { OnErr result
             (manager_of self.new ≡ fresh_manager (server_of self.old).rules (server_of self.old).files) }
     {
-        let kept = self.tables.rules();
-        let files = self.tables.files();
-        let mut given = Told::over(taken_out(decisions));
-        match calls::scavenge(&mut self.tables, &mut given, fid) {
-            Ok(()) => {
-                *decisions = given.into_vec();
-                Ok(())
-            }
-            Err(fault) => {
-                self.forget(kept, files);
-                Err(fault)
-            }
-        }
+        self.call(Coming::Scavenges(fid), decisions)
     }
 
     /// A request that waits on the file is taken back, the client's under this tag (MS-SMB2 3.3.5.16). Then what waits is
@@ -343,19 +283,7 @@ impl Manager {
         ensures forgotten { OnErr result
             (manager_of self.new ≡ fresh_manager (server_of self.old).rules (server_of self.old).files) }
     {
-        let kept = self.tables.rules();
-        let files = self.tables.files();
-        let mut given = Told::over(taken_out(decisions));
-        match calls::withdraw(&mut self.tables, &mut given, file, client, tag) {
-            Ok(()) => {
-                *decisions = given.into_vec();
-                Ok(())
-            }
-            Err(fault) => {
-                self.forget(kept, files);
-                Err(fault)
-            }
-        }
+        self.call(Coming::Withdraws { file, client, tag }, decisions)
     }
 
     /// Whether the client is connected (MS-SMB2 3.3.1.7, ConnectionList).

@@ -1,6 +1,7 @@
 //! What a manager keeps, is asked and decides.
 
 pub mod closing;
+pub mod coming;
 pub mod decision;
 pub mod key;
 pub mod lease;
