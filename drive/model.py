@@ -6,11 +6,10 @@ from dataclasses import dataclass
 from enum import Enum
 
 from smblease import Acknowledgment, CreateAnswer, CreateAsk, Fault, LeaseState, Notification, Response
-from smblease.decisions import granted_form
 from smblease.outs import Changed, Opened
 from smblease.replies import AcknowledgeDone, Break, Closed, Created, ReadDone, Reply, WriteDone, failed
 from smblease.requests import AcknowledgeRequest, CloseRequest, CreateRequest, ReadRequest, Request, WriteRequest
-from smblease.values import LARGEST_FILE, Status
+from smblease.values import LARGEST_FILE, Status, granted_form
 
 from drive.records import Arrival, applied
 

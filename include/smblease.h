@@ -1,7 +1,7 @@
 /*
  * libsmblease reads and writes the messages of SMB 2.1 leases (MS-SMB2), without the SMB2 header: create
- * contexts, and the lease break notification, acknowledgment and response. It also makes the decisions of
- * a server on leases. What each function does is proved, for all bytes and all values; docs/C.md is where to
+ * contexts, and the lease break notification, acknowledgment and response. It also says what is true of
+ * states and opens. What each function does is proved, for all bytes and all values; docs/C.md is where to
  * start, docs/FORMATS.md has the layouts, docs/PROOF.md what is trusted. "(profile)" marks a choice of this
  * library where MS-SMB2 leaves room.
  *
@@ -292,134 +292,13 @@ size_t smblease_write_response(const struct smblease_response *message, uint8_t 
 bool smblease_acknowledgment_due(const struct smblease_notification *notification, struct smblease_acknowledgment *out);
 
 /*
- * The decisions of a server on leases, for one that keeps its own tables. Each call is given the opens
- * and the leases of one file, in any order, and looks at nothing else; it answers as the server of this
- * profile does that has them on the file. Where MS-SMB2 leaves a rule to the server, this profile chose one;
- * docs/PROFILE.md has these rules.
- *
- * To try a request, look at what it finds. A status that isn't 0 refuses it. Where leases are to be broken
- * first, each wanted lease loses its disconnected opens. A lease with no open left is gone; one that is
- * breaking is left alone; for any other, send its holder a notification of its state and the lowered one.
- * Where smblease_needs_acknowledgment says so of its state, the lease is breaking to the lowered state from
- * then on; else it has that state at once. A create waits as long as a wanted lease is breaking, and a write
- * as long as one is breaking to more than 0; a write goes on where each wanted lease is breaking to 0. Else
- * look again.
+ * Questions of states and opens. An open's access is what it may do: 1 for reading, plus 2 for writing. Its share
+ * is what it lets other opens do, by the same numbers. Other bits are passed over, in states too.
  */
-
-/* An open of the file (3.3.1.10). */
-struct smblease_open {
-    /* the number of its client, which stands for the ClientGuid */
-    uint64_t client;
-    /* the lease key, where has_key is set */
-    uint8_t key[16];
-    /* it was opened with a lease context; one that wasn't counts as a key of its own */
-    uint8_t has_key;
-    /* what it may do: 1 for reading, plus 2 for writing. An open that does neither is passed over, as one
-       of attributes alone. */
-    uint8_t access;
-    /* what it lets other opens do: 1 for reading, plus 2 for writing; other bits are passed over */
-    uint8_t share;
-    uint8_t reserved[5];
-};
-
-/* A lease of the file (3.3.1.12). Of two with one client and key the first counts. */
-struct smblease_lease {
-    uint64_t client;
-    uint8_t key[16];
-    /* the state that it has */
-    uint32_t state;
-    /* the state that it is broken to, where breaking is set; else a call writes 0 */
-    uint32_t broken_to;
-    /* a break waits for its acknowledgment */
-    uint8_t breaking;
-    /* the timer of a break of this key ran out since its client connected: it is granted nothing */
-    uint8_t expired;
-    uint8_t reserved[6];
-};
-
-/* A request for the file, and who asks. */
-struct smblease_request {
-    uint64_t client;
-    /* the lease key of its lease context, or of the open that it names, where has_key is set */
-    uint8_t key[16];
-    /* the state that a create wants */
-    uint32_t state;
-    uint8_t has_key;
-    /* access and share of a create, or of the open that a read or write names, as in smblease_open */
-    uint8_t access;
-    uint8_t share;
-    uint8_t reserved[9];
-};
-
-/* What a look at a request finds. */
-struct smblease_finding {
-    /* the status that refuses it, or SMBLEASE_STATUS_SUCCESS */
-    uint32_t status;
-    /* it wants leases broken */
-    uint8_t wants_breaks;
-    uint8_t reserved[3];
-};
-
-/* What a request wants of a lease. */
-struct smblease_want {
-    /* the state that it is to be lowered to, where wanted is set; else 0 */
-    uint32_t lowered;
-    /* it is to be broken */
-    uint8_t wanted;
-    uint8_t reserved[3];
-};
-
-/* Returns what a create finds that is no reconnect (3.3.5.9): SMBLEASE_STATUS_SHARING_VIOLATION where it
-   conflicts with an open and no other key that has a conflicting open caches handles,
-   SMBLEASE_STATUS_INVALID_PARAMETER where its access is 0. Where it conflicts, handles are wanted of the
-   keys of these opens, else writes of every other key. The caller finds out before whether its key has a
-   lease on another file. */
-struct smblease_finding smblease_create_finding(const struct smblease_open *opens, size_t open_count,
-                                                const struct smblease_lease *leases, size_t lease_count,
-                                                const struct smblease_request *request);
-
-/* Returns what that create wants of one of the leases. */
-struct smblease_want smblease_create_want(const struct smblease_open *opens, size_t open_count,
-                                          const struct smblease_lease *leases, size_t lease_count,
-                                          const struct smblease_request *request, const struct smblease_lease *lease);
-
-/* Returns what a write finds (3.3.5.13): SMBLEASE_STATUS_ACCESS_DENIED where its open doesn't write. It
-   wants every other key to cache nothing. The caller looks at where the write ends. */
-struct smblease_finding smblease_write_finding(const struct smblease_open *opens, size_t open_count,
-                                               const struct smblease_lease *leases, size_t lease_count,
-                                               const struct smblease_request *request);
-
-/* Returns what that write wants of one of the leases. */
-struct smblease_want smblease_write_want(const struct smblease_open *opens, size_t open_count,
-                                         const struct smblease_lease *leases, size_t lease_count,
-                                         const struct smblease_request *request, const struct smblease_lease *lease);
-
-/* Returns what a read finds (3.3.5.12): SMBLEASE_STATUS_ACCESS_DENIED where its open doesn't read. It
-   wants nothing broken. */
-struct smblease_finding smblease_read_finding(const struct smblease_request *request);
 
 /* Returns whether two opens of a file conflict (2.2.13, 3.3.5.9): whether the access of one isn't within
    the share of the other. One whose access is 0 conflicts with none. */
 bool smblease_opens_conflict(uint8_t access, uint8_t share, uint8_t other_access, uint8_t other_share);
-
-/* Returns the state that may be granted: the granted form of the one that is wanted, without
-   SMBLEASE_WRITE_CACHING where an open has another key. */
-uint32_t smblease_allowed(const struct smblease_open *opens, size_t open_count, const struct smblease_request *request);
-
-/* Writes the lease that the request's key has after a grant to *out, and returns true; where has_key isn't
-   set it returns false, and *out is as it was. One that is breaking stays as it is, and the response says so;
-   one whose state is within the granted form of the want gets what may be granted, or nothing where its
-   timer ran out; any other stays. The open is durable where that was asked and the lease then holds
-   SMBLEASE_HANDLE_CACHING. */
-bool smblease_lease_after_grant(const struct smblease_open *opens, size_t open_count, const struct smblease_lease *leases,
-                                size_t lease_count, const struct smblease_request *request, struct smblease_lease *out);
-
-/* Judges an acknowledgment of this state for a lease that was found by its client and key (3.3.5.22.2), and
-   returns the status that answers it. SMBLEASE_STATUS_SUCCESS: the lease now has the granted form of the
-   state, and isn't breaking. SMBLEASE_STATUS_UNSUCCESSFUL: it wasn't breaking.
-   SMBLEASE_STATUS_REQUEST_NOT_ACCEPTED: the state isn't within the one that it is broken to. In these two
-   cases the lease is as it was. Where no lease is found the answer is SMBLEASE_STATUS_OBJECT_NAME_NOT_FOUND. */
-uint32_t smblease_acknowledge(struct smblease_lease *lease, uint32_t state);
 
 /* Returns a state as a server grants it: itself, or 0 where it has no SMBLEASE_READ_CACHING (profile). */
 uint32_t smblease_granted_form(uint32_t state);

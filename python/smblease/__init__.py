@@ -1,6 +1,5 @@
 """SMB 2.1 leases and durable opens by libsmblease, which is proved: messages, create contexts, and the client and the server as
-machines, and a manager of leases (docs/PYTHON.md). The decisions of a server on leases are in smblease.decisions, those of a
-manager in smblease.manager_decisions."""
+machines, and a manager of leases (docs/PYTHON.md), whose decisions are in smblease.manager_decisions."""
 from smblease.client import Client, lease_key
 from smblease.contexts import Context, CreateAnswer, CreateAsk, append_context, each_context, find_context, replace_data
 from smblease.faults import Fault, MachineLost
@@ -14,7 +13,8 @@ from smblease.requests import AcknowledgeRequest, CloseRequest, CreateRequest, R
 from smblease.server import Server
 from smblease.steps import (Answer, Believes, CachedRead, Done, Failed, FileBytes, Note, Quiet, Refusal, Refused, Settled,
                             Settlement, Step, Waiting, Wrote)
-from smblease.values import Access, LeaseState, Order, Rise, Rules, Share, Status
+from smblease.values import (Access, LeaseState, Order, Rise, Rules, Share, Status, granted_form, is_within,
+                             needs_acknowledgment, opens_conflict)
 
 __version__ = "0.3.0"
 __all__ = [
@@ -24,5 +24,6 @@ __all__ = [
     "MachineLost", "Manager", "MessageKind", "Note", "Notification", "Opened", "Order", "Out", "Quiet", "ReadDone",
     "ReadFailed", "ReadRequest", "Refusal", "Refused", "Reply", "Request", "Response", "Rise", "Rules", "Sent", "Server",
     "Settled", "Settlement", "Share", "Status", "Step", "Waiting", "WriteDone", "WriteFailed", "WriteRequest", "Wrote",
-    "append_context", "each_context", "find_context", "lease_key", "replace_data",
+    "append_context", "each_context", "find_context", "granted_form", "is_within", "lease_key", "needs_acknowledgment",
+    "opens_conflict", "replace_data",
 ]

@@ -9,10 +9,6 @@ _ROOM = (POINTER(c_char), c_size_t)
 _CLIENT = POINTER(structs.Client)
 _SERVER = POINTER(structs.Server)
 _MANAGER = POINTER(structs.Manager)
-_OPENS = (POINTER(structs.Open), c_size_t)
-_TABLES = (*_OPENS, POINTER(structs.Lease), c_size_t)
-_REQUEST = POINTER(structs.Request)
-_LEASE = POINTER(structs.Lease)
 _KEY = POINTER(structs.Key)
 
 Signature = Tuple[Any, Tuple[Any, ...]]
@@ -34,16 +30,8 @@ CODEC: Dict[str, Signature] = {
     "acknowledgment_due": (c_bool, (POINTER(structs.Notification), POINTER(structs.Acknowledgment))),
 }
 
-DECISIONS: Dict[str, Signature] = {
-    "create_finding": (structs.Finding, (*_TABLES, _REQUEST)),
-    "create_want": (structs.Want, (*_TABLES, _REQUEST, _LEASE)),
-    "write_finding": (structs.Finding, (*_TABLES, _REQUEST)),
-    "write_want": (structs.Want, (*_TABLES, _REQUEST, _LEASE)),
-    "read_finding": (structs.Finding, (_REQUEST,)),
+STATES: Dict[str, Signature] = {
     "opens_conflict": (c_bool, (c_uint8, c_uint8, c_uint8, c_uint8)),
-    "allowed": (c_uint32, (*_OPENS, _REQUEST)),
-    "lease_after_grant": (c_bool, (*_TABLES, _REQUEST, _LEASE)),
-    "acknowledge": (c_uint32, (_LEASE, c_uint32)),
     "granted_form": (c_uint32, (c_uint32,)),
     "needs_acknowledgment": (c_bool, (c_uint32,)),
     "is_within": (c_bool, (c_uint32, c_uint32)),
@@ -134,4 +122,4 @@ MANAGER: Dict[str, Signature] = {
     "manager_listed_at": (c_uint32, (_MANAGER, c_size_t, POINTER(structs.ListedOpen))),
 }
 
-FUNCTIONS: Dict[str, Signature] = {**CODEC, **DECISIONS, **CLIENT, **SERVER, **MANAGER}
+FUNCTIONS: Dict[str, Signature] = {**CODEC, **STATES, **CLIENT, **SERVER, **MANAGER}

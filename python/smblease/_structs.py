@@ -39,29 +39,6 @@ class Response(ctypes.Structure):
     _fields_ = [("key", c_uint8 * 16), ("state", c_uint32), ("reserved", c_uint8 * 12)]
 
 
-class Open(ctypes.Structure):
-    _fields_ = [("client", c_uint64), ("key", c_uint8 * 16), ("has_key", c_uint8), ("access", c_uint8), ("share", c_uint8),
-                ("reserved", c_uint8 * 5)]
-
-
-class Lease(ctypes.Structure):
-    _fields_ = [("client", c_uint64), ("key", c_uint8 * 16), ("state", c_uint32), ("broken_to", c_uint32), ("breaking", c_uint8),
-                ("expired", c_uint8), ("reserved", c_uint8 * 6)]
-
-
-class Request(ctypes.Structure):
-    _fields_ = [("client", c_uint64), ("key", c_uint8 * 16), ("state", c_uint32), ("has_key", c_uint8), ("access", c_uint8),
-                ("share", c_uint8), ("reserved", c_uint8 * 9)]
-
-
-class Finding(ctypes.Structure):
-    _fields_ = [("status", c_uint32), ("wants_breaks", c_uint8), ("reserved", c_uint8 * 3)]
-
-
-class Want(ctypes.Structure):
-    _fields_ = [("lowered", c_uint32), ("wanted", c_uint8), ("reserved", c_uint8 * 3)]
-
-
 class Guid(ctypes.Structure):
     _fields_ = [("bytes", c_uint8 * 16)]
 

@@ -2,7 +2,9 @@
 from __future__ import annotations
 
 import enum
-from typing import NamedTuple
+from typing import NamedTuple, Optional
+
+from smblease._library import library
 
 # The most bytes that a file has.
 LARGEST_FILE = 1048576
@@ -79,6 +81,46 @@ class Share(enum.Enum):
     READ = 1
     WRITE = 2
     READ_WRITE = 3
+
+
+def _uses(access: Optional[Access]) -> int:
+    return 0 if access is None else Access(access).value
+
+
+def opens_conflict(access: Optional[Access], share: Share, other_access: Optional[Access], other_share: Share) -> bool:
+    """Whether two opens of a file conflict (2.2.13, 3.3.5.9). The access is None where an open neither reads nor writes.
+
+    >>> opens_conflict(Access.READ, Share.READ, Access.WRITE, Share.READ_WRITE)
+    True
+    """
+    return bool(library.smblease_opens_conflict(_uses(access), Share(share).value, _uses(other_access), Share(other_share).value))
+
+
+def granted_form(state: LeaseState) -> LeaseState:
+    """A state as a server grants it: itself, or nothing where it doesn't cache reads.
+
+    >>> granted_form(LeaseState.of("WH"))
+    <LeaseState none>
+    """
+    return LeaseState(library.smblease_granted_form(LeaseState(state).value))
+
+
+def needs_acknowledgment(state: LeaseState) -> bool:
+    """Whether a break of a lease of this state is to be acknowledged (3.3.4.7).
+
+    >>> needs_acknowledgment(LeaseState.R), needs_acknowledgment(LeaseState.of("RH"))
+    (False, True)
+    """
+    return bool(library.smblease_needs_acknowledgment(LeaseState(state).value))
+
+
+def is_within(state: LeaseState, other: LeaseState) -> bool:
+    """Whether all that a state caches is cached in the other too.
+
+    >>> is_within(LeaseState.of("RH"), LeaseState.of("RWH"))
+    True
+    """
+    return bool(library.smblease_is_within(LeaseState(state).value, LeaseState(other).value))
 
 
 class Order(enum.Enum):

@@ -1,5 +1,4 @@
-/* All headers in one program, which is C and C++. With MACHINES_FIRST defined they come in the other order. Two of them have a
-   request: the one that decisions are made on, and the one that a client sends. */
+/* All headers in one program, which is C and C++. With MACHINES_FIRST defined they come in the other order. */
 #ifdef MACHINES_FIRST
 #include <smblease_manager.h>
 #include <smblease_machines.h>
@@ -10,13 +9,11 @@
 #include <smblease_manager.h>
 #endif
 
-uint32_t status_of_a_read(struct smblease_client *client, struct smblease_request *decided);
+bool is_refused_beside_a_writer(struct smblease_client *client);
 
-uint32_t status_of_a_read(struct smblease_client *client, struct smblease_request *decided) {
+bool is_refused_beside_a_writer(struct smblease_client *client) {
     struct smblease_client_request sent = {0, 0, 0, 0, 0, 0, 0, 0, {0}};
     if (smblease_client_request_at(client, 0, &sent, NULL, 0) != SMBLEASE_DONE)
-        return SMBLEASE_STATUS_UNSUCCESSFUL;
-    decided->access = sent.access;
-    decided->share = sent.share;
-    return smblease_read_finding(decided).status;
+        return false;
+    return smblease_opens_conflict(sent.access, sent.share, 2, 3);
 }

@@ -13,12 +13,11 @@ from pathlib import Path
 import pytest
 
 import smblease
-import smblease.decisions
 import smblease.manager_decisions
 from tests.paths import EXAMPLE, PACKAGES, RUNS, TOP
 
 MODULES = [it.name for it in pkgutil.iter_modules(smblease.__path__)]
-GIVEN = [it for module in (smblease, smblease.decisions, smblease.manager_decisions)
+GIVEN = [it for module in (smblease, smblease.manager_decisions)
          for it in map(vars(module).get, module.__all__) if inspect.isclass(it) or inspect.isfunction(it)]
 EXAMPLES = TOP / "examples/python"
 LEASE = ("10000400000018002000000052714c7300000000000102030405060708090a0b0c0d0e0f"

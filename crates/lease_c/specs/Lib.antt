@@ -5,6 +5,7 @@ pub mod Kind
 pub mod Create
 pub mod OtherLease
 pub mod Messages
+pub mod Numbers
 pub mod Context
 pub mod Found
 pub mod Appended

@@ -1,15 +1,9 @@
--- What the numbers in a struct stand for. A byte that says yes or no is no where it is 0, and is written as 0 or 1.
-use Rattle.std.specs.Prelude.{ℕ, Bool, true, false, not, ◌==◌, if◌then◌else◌, Option, Some, None}
+-- What the numbers of an open stand for, and whether two opens conflict.
+use Rattle.std.specs.Prelude.{ℕ, Bool, true, false, ◌==◌, Option, Some, None}
 use Rattle.std.specs.Int.RustNames.{bit_and}
 use Rattle.lease_state.specs.Access.{conflict}
 use Rattle.lease_state.specs.declared.access.Access.{Access}
 use Rattle.lease_state.specs.declared.access.Share.{Share}
-
-abbrev pub is_set : ℕ → Bool
-is_set flag = not (flag == 0)
-
-abbrev pub flag_of : Bool → ℕ
-flag_of yes_or_no = if yes_or_no then 1 else 0
 
 -- an open that neither reads nor writes has no access in the profile
 abbrev pub access_of : Bool → Bool → Option Access

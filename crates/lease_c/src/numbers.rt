@@ -1,6 +1,6 @@
 ghost use Rattle.std.specs.Prelude.{◌≡◌};
 ghost use Rattle.lease_state.specs.State.{bits_of_state, state_of_bits, granted_form_of, needs_acknowledgment, is_state_within};
-ghost use Rattle.decisions_c.specs.Numbers.{access_of_bits, share_of_bits, conflict_of};
+ghost use Rattle.lease_c.specs.Numbers.{access_of_bits, share_of_bits, conflict_of};
 
 use lease_state::{Access, LeaseState, Share};
 

@@ -1,3 +1,0 @@
-pub mod Held
-pub mod Wanted
-pub mod Written

@@ -1,8 +1,0 @@
--- The code's leases as the definitions see them.
-use Rattle.std.specs.Option.{option_map}
-use Rattle.lease_state.specs.State.{state_of}
-use Rattle.lease_model.specs.server.State as model
-use Rattle.decisions_c.specs.declared.tables.Lease.{Lease}
-
-abbrev pub lease_of : Lease → model.Lease
-lease_of lease = record { state = state_of lease.state; broken_to = option_map state_of lease.broken_to }
