@@ -27,7 +27,7 @@ use lease_state::{FileId, LeaseState, Memory, Status};
 /// The tag of what answers no request under a tag.
 const NO_TAG: Tag = Tag(0);
 
-/// Something comes that a host is told decisions of.
+/// Something comes whose decisions a host has to carry out.
 pub fn handle(tables: &mut Tables, told: &mut Told, coming: Coming) -> Result<(), Memory>
     requires { told.old ≡ [] }
     ensures step { OnOk result (handling_of tables.new told.new ≡ handled coming (manager_of tables.old)) }
