@@ -1,1 +1,0 @@
-"""Which edit stands for which exported function."""
