@@ -5,3 +5,6 @@ pub mod Taken
 pub mod Found
 pub mod Losses
 pub mod Verdicts
+pub mod Casting
+pub mod Changing
+pub mod Recording

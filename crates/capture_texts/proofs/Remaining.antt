@@ -1,5 +1,6 @@
 -- The names of messages that are left to tell.
-use Rattle.std.proofs.Common.{◌≡◌, ◌≤◌, ◌-◌, ◌++◌, ◌∙◌, ℕ, zero, suc, List, [], ◌∷◌, drop, length, true, false, inl, inr, if◌then◌else◌, ◌==◌, take, refl, ap, sym, arith}
+use Rattle.std.proofs.Common.{◌≡◌, ◌≤◌, ◌-◌, ◌++◌, ◌∙◌, ℕ, zero, suc, List, [], ◌∷◌, drop, length, true, false, inl, inr}
+use Rattle.std.proofs.Common.{if◌then◌else◌, ◌==◌, take, refl, ap, sym, arith}
 use Rattle.std.proofs.lemmas.Bool.{cases_Bool}
 use Rattle.std.proofs.lemmas.List.{append_assoc, append-nil, length-drop, length-take}
 use Rattle.lease_wire.specs.Message.{first_message, next_command_of}

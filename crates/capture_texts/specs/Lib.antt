@@ -7,3 +7,4 @@ pub mod Captures
 pub mod Reports
 pub mod Verdicts
 pub mod Laws
+pub mod records

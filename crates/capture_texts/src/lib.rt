@@ -10,6 +10,17 @@
 //! }
 //! ```
 //!
+//! The record of a report is what its clients cache, as facts that `judge` reads, with remarks that lead back to the packets:
+//!
+//! ```
+//! for line in &record_of(alloc, &report)? {
+//!     match line {
+//!         RecordLine::Fact(fact) => push_fact(&mut text, fact)?,
+//!         RecordLine::Remark(remark) => writeln!(&mut text, "# {remark}")?,
+//!     }
+//! }
+//! ```
+//!
 //! docs/FORMATS.md has the lines. What the report says of each file is proved to be what the definitions of `capture_walk` and
 //! `capture_judge` say of the lines that were taken.
 #![tactic(auto)]
@@ -21,6 +32,7 @@ mod laws;
 mod line;
 mod names;
 mod reading;
+mod records;
 mod report;
 mod servers;
 mod texts;
@@ -36,4 +48,5 @@ pub use laws::verdicts_are_of_files;
 pub use lease_texts::{LineFault, TextFault};
 pub use line::{Moment, Side};
 pub use names::{MessageName, MessageNames, MessagePart};
+pub use records::{RecordLine, notes_of, record_of};
 pub use whole::read_capture;

@@ -1,2 +1,4 @@
 pub mod Facts
+pub mod Passages
 pub mod Setups
+pub mod Verdicts

@@ -1,5 +1,6 @@
 ghost use Rattle.std.specs.Prelude.{◌≡◌, ◌↔◌, None};
-ghost use Rattle.lease_facts.specs.Facts.{IsStart, fact_of, client_about, client_number, kind_of, client_of, client_word, client_deed};
+ghost use Rattle.lease_facts.specs.Facts.{IsStart, fact_of, client_about, client_number, kind_of, client_of, client_word};
+ghost use Rattle.lease_facts.specs.Facts.{client_deed};
 ghost use Rattle.lease_facts.specs.Facts.{client_fact, client_named, kind_word, facts_listed};
 
 use crate::words::is;

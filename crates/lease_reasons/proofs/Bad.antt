@@ -7,8 +7,8 @@ use Rattle.lease_laws.proofs.Words.{true, verdict, verdict_from}
 use Rattle.std.proofs.lemmas.List.{take-append-drop}
 use Rattle.lease_facts.specs.Facts.{fact_of}
 use Rattle.lease_facts.specs.declared.fact.Fact as code
-use Rattle.lease_world.proofs.worlds.First.{drop_rest}
-use Rattle.lease_world.specs.declared.verdict.Rule.{Rule}
+use Rattle.lease_facts.proofs.Places.{drop_rest}
+use Rattle.lease_facts.specs.declared.verdict.Rule.{Rule}
 use Rattle.lease_reasons.specs.Places.{past_of}
 use Rattle.lease_reasons.specs.Reasons.{Told, IsReasonAt}
 use Rattle.lease_reasons.specs.declared.reason.Reason.{Reason}

@@ -8,7 +8,7 @@ use Rattle.std.proofs.lemmas.List.{take-append-drop}
 use Rattle.lease_facts.specs.Facts.{fact_of}
 use Rattle.lease_facts.specs.declared.fact.Fact as code
 use Rattle.lease_state.proofs.PatchLemmas.{patches-append}
-use Rattle.lease_world.proofs.records.Sendings.{last-part, PartOf}
+use Rattle.lease_facts.proofs.Sendings.{last-part, PartOf}
 use Rattle.lease_reasons.specs.Marks.{fits}
 use Rattle.lease_reasons.specs.Messages.{mail_of, last_sent, place_behind}
 use Rattle.lease_reasons.specs.Places.{past_of, last_place}

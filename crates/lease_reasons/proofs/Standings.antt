@@ -6,7 +6,7 @@ use Rattle.std.specs.List.{filter}
 use Rattle.lease_reasons.proofs.Lists.{any-append, filter_alike}
 use Rattle.lease_facts.specs.Facts.{client_about}
 use Rattle.lease_model.specs.records.Past.{has_joined, has_strayed, is_served}
-use Rattle.lease_world.proofs.Places.{value_put, value_there}
+use Rattle.lease_facts.proofs.Places.{value_put, value_there}
 use Rattle.lease_reasons.specs.Clients.{is_good_in, standing_of, standing_after, standing_in, unseen, HasSameStandings, Describes}
 use Rattle.lease_reasons.specs.Extent.{clients_named, with_client, numbers}
 use Rattle.lease_reasons.specs.declared.clients.Clients.{Clients}

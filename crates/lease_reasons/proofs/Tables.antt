@@ -10,7 +10,7 @@ use Rattle.lease_facts.specs.declared.fact.Fact as code
 use Rattle.lease_facts.specs.declared.fact.Fact.TheVariants as told
 use Rattle.lease_state.specs.declared.number.ClientNo.{ClientNo}
 use Rattle.lease_state.specs.declared.state.LeaseState.{LeaseState}
-use Rattle.lease_world.proofs.Places.{value_put, value_there}
+use Rattle.lease_facts.proofs.Places.{value_put, value_there}
 use Rattle.lease_reasons.specs.Beliefs.{last_noted, noted_of, cell_in, row_in, is_empty, HasBelief, IsLast, AreLast}
 use Rattle.lease_reasons.specs.Beliefs.{AreListed, HasCell, HasSameRows}
 use Rattle.lease_reasons.specs.declared.last_beliefs.LastBeliefs.{LastBeliefs}

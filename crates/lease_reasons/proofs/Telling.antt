@@ -10,8 +10,8 @@ use Rattle.lease_facts.specs.declared.fact.Fact as code
 use Rattle.lease_facts.specs.declared.fact.Fact.TheVariants as fact
 use Rattle.lease_model.specs.records.Past.{has_number}
 use Rattle.lease_state.specs.Content.{end_of}
-use Rattle.lease_world.specs.declared.verdict.Rule.{Rule}
-use Rattle.lease_world.specs.declared.verdict.Rule.TheVariants as rule
+use Rattle.lease_facts.specs.declared.verdict.Rule.{Rule}
+use Rattle.lease_facts.specs.declared.verdict.Rule.TheVariants as rule
 use Rattle.lease_reasons.specs.Marks.{fits}
 use Rattle.lease_reasons.specs.Messages.{mail_of, place_behind}
 use Rattle.lease_reasons.specs.Places.{last_place, first_place}

@@ -8,8 +8,8 @@ use Rattle.lease_state.specs.declared.number.ClientNo.{ClientNo}
 use Rattle.lease_reasons.specs.Places.{past_of}
 use Rattle.lease_reasons.specs.declared.extent.Extent.{Extent}
 use Rattle.lease_model.specs.records.Facts.{Fact}
-use Rattle.lease_world.specs.declared.verdict.Verdict.{Verdict}
-use Rattle.lease_world.specs.declared.verdict.Verdict.TheVariants as verdict
+use Rattle.lease_facts.specs.declared.verdict.Verdict.{Verdict}
+use Rattle.lease_facts.specs.declared.verdict.Verdict.TheVariants as verdict
 
 abbrev pub with_client : List ℕ → Option ℕ → List ℕ
 with_client clients None = clients

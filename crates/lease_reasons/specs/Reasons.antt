@@ -7,10 +7,10 @@ use Rattle.lease_model.specs.records.Facts.{Fact}
 use Rattle.lease_model.specs.records.Past.{is_started, is_good, has_joined, has_strayed, is_accepted, last_sending, sendings}
 use Rattle.lease_model.specs.records.Past.{takings}
 use Rattle.lease_model.specs.values.Patches.{is_within_limit}
-use Rattle.lease_world.specs.declared.verdict.Verdict.{Verdict}
-use Rattle.lease_world.specs.declared.verdict.Verdict.TheVariants as verdict
-use Rattle.lease_world.specs.declared.verdict.Rule.{Rule}
-use Rattle.lease_world.specs.declared.verdict.Rule.TheVariants as rule
+use Rattle.lease_facts.specs.declared.verdict.Verdict.{Verdict}
+use Rattle.lease_facts.specs.declared.verdict.Verdict.TheVariants as verdict
+use Rattle.lease_facts.specs.declared.verdict.Rule.{Rule}
+use Rattle.lease_facts.specs.declared.verdict.Rule.TheVariants as rule
 use Rattle.lease_reasons.specs.Beliefs.{AreRivals}
 use Rattle.lease_reasons.specs.Marks.{fits}
 use Rattle.lease_reasons.specs.Places.{last_place, first_place}

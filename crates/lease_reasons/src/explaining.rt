@@ -2,8 +2,8 @@ ghost use Rattle.std.specs.Prelude.{◌≡◌, ◌<◌, ◌+◌, ◌⊎◌, ◌�
 ghost use Rattle.lease_facts.specs.Facts.{fact_of};
 ghost use Rattle.lease_model.specs.records.Facts as model;
 ghost use Rattle.lease_model.specs.records.Verdict as verdicts;
-ghost use Rattle.lease_world.specs.Verdicts.{verdict_of, rule_number};
-ghost use Rattle.lease_world.specs.declared.verdict.Rule.TheVariants as rule;
+ghost use Rattle.lease_facts.specs.Verdicts.{verdict_of, rule_number};
+ghost use Rattle.lease_facts.specs.declared.verdict.Rule.TheVariants as rule;
 ghost use Rattle.lease_reasons.specs.Places.{past_of};
 ghost use Rattle.lease_reasons.specs.Reasons.{Told, IsReasonAt, Explains};
 ghost use Rattle.lease_reasons.specs.Searches.{late, done, IsReadReason, TellsRead};
@@ -14,9 +14,8 @@ use crate::reads::expected;
 use crate::reason::Reason;
 use crate::writes::{false_done, late_write};
 use lease_client::Settlement;
-use lease_facts::Fact;
+use lease_facts::{Fact, Rule, Verdict};
 use lease_state::{ClientNo, FileNo, Memory};
-use lease_world::{Rule, Verdict};
 use std::alloc::Global;
 
 // Why the client's cached read of the file isn't fresh.

@@ -1,13 +1,12 @@
 ghost use Rattle.std.specs.Prelude.{◌≡◌, not, IfOk};
 ghost use Rattle.std.specs.List.{filter};
-ghost use Rattle.lease_world.specs.Verdicts.{verdict_of};
+ghost use Rattle.lease_facts.specs.Verdicts.{verdict_of};
 ghost use Rattle.lease_reasons.specs.Clients.{standing_in};
 ghost use Rattle.lease_reasons.specs.Extent.{judged_count, IsExtent};
 
 use crate::clients::Clients;
-use lease_facts::Fact;
+use lease_facts::{Fact, Verdict};
 use lease_state::{ClientNo, Memory};
-use lease_world::Verdict;
 use std::alloc::Global;
 
 /// How much of a record was judged. A judge goes no further than the first bad fact.

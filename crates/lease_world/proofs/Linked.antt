@@ -10,7 +10,7 @@ use Rattle.lease_world.specs.declared.judging.covers.Layer.{Layer}
 use Rattle.lease_world.specs.judge.Covers.{stack_in, seen_byte, layers_of, layers_from, layers_under, IsOpenOnTop, IsUncovered}
 use Rattle.lease_world.specs.judge.Covers.{EndsCovered, AreLinked, AreTops}
 use Rattle.lease_world.specs.judge.Seen.{Numbers, is_among, is_open}
-use Rattle.lease_world.proofs.Places.{get-put, get-push}
+use Rattle.lease_facts.proofs.Places.{get-put, get-push}
 
 -- ---- the layers from a cover down
 

@@ -7,7 +7,7 @@ use Rattle.std.proofs.lemmas.Option.{slice_get-get_or}
 use Rattle.lease_world.specs.judge.Clients.{HasWrites}
 use Rattle.lease_world.specs.judge.Seen.{SeenWrite, no_writes, is_first, write_at}
 use Rattle.lease_world.specs.judge.Seen.{write_by}
-use Rattle.lease_world.proofs.Places.{get-put, get-push}
+use Rattle.lease_facts.proofs.Places.{get-put, get-push}
 
 -- ---- writes
 

@@ -15,7 +15,6 @@ pub mod OneCache
 pub mod Others
 pub mod Pending
 pub mod Reads
-pub mod Sendings
 pub mod Skips
 pub mod Telling
 pub mod Views

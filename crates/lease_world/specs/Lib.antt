@@ -1,5 +1,4 @@
 pub use Rattle.lease_facts.specs.Facts
 pub use Rattle.lease_facts.specs.Setups
-pub mod Verdicts
 pub mod judge
 pub mod world

@@ -4,12 +4,11 @@ ghost use Rattle.lease_model.specs.records.Safe.{Safe};
 ghost use Rattle.lease_model.specs.records.Verdict.{verdict};
 ghost use Rattle.lease_laws.specs.records.Verdicts.{Says};
 ghost use Rattle.lease_facts.specs.Facts.{fact_of};
-ghost use Rattle.lease_world.specs.Verdicts.{verdict_of};
+ghost use Rattle.lease_facts.specs.Verdicts.{verdict_of};
 ghost use Rattle.lease_world.specs.judge.Judged.{HasJudged, JudgesOneMore};
 
 use crate::judging::known::Known;
-use crate::verdict::Verdict;
-use lease_facts::Fact;
+use lease_facts::{Fact, Verdict};
 use lease_state::Memory;
 use std::alloc::Global;
 use std::marker::Model;
@@ -133,7 +132,7 @@ impl Judge {
 #[cfg(test)]
 mod tests {
     use super::Judge;
-    use lease_facts::Fact;
+    use lease_facts::{Fact, Verdict};
     use lease_state::{ClientNo, Memory};
     use std::alloc::Global;
     use std::test::Fail;

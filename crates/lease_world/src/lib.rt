@@ -18,21 +18,17 @@
 mod copies;
 mod judging;
 mod obstacle;
-mod passage;
 mod running;
 mod setup;
-mod verdict;
 mod whole;
 mod world;
 
 pub use judging::Judge;
-pub use lease_facts::{Event, Fact, Setup};
+pub use lease_facts::{Event, Fact, Passage, Rule, Setup, Verdict};
 pub use obstacle::{Idle, Obstacle};
-pub use passage::Passage;
 pub use running::{
     Told, obstacles_are_exact, run, run_explained_under, run_under, run_with_messages,
     run_with_messages_under,
 };
 pub use setup::RunFault;
-pub use verdict::{Rule, Verdict};
 pub use whole::{judge, judge_each};

@@ -6,20 +6,20 @@ ghost use Rattle.lease_model.specs.world.Allowed.{is_allowed_setup, are_too_many
 ghost use Rattle.lease_model.specs.world.Events.{after, recorded, recorded_under};
 ghost use Rattle.lease_model.specs.world.World.{first_world_under};
 ghost use Rattle.lease_facts.specs.Facts.{fact_of};
+ghost use Rattle.lease_facts.specs.Passages.{passage_meant};
 ghost use Rattle.lease_facts.specs.Setups.{setup_of, event_of};
 ghost use Rattle.lease_world.specs.world.Messages.{messages_told, messages_told_under, speaking};
 ghost use Rattle.lease_world.specs.world.Obstacles.{idle_meant, idle_noted, idle_told_under, ObstaclesAreExact, RefusalsAreNamed};
-ghost use Rattle.lease_world.specs.world.Passages.{passage_meant, passages_told_under};
+ghost use Rattle.lease_world.specs.world.Passages.{passages_told_under};
 ghost use Rattle.lease_world.specs.world.Stands.{Stands};
 ghost use Rattle.lease_world.specs.world.Worlds.{KeepsBehind};
 
 use crate::obstacle::{Idle, Obstacle};
-use crate::passage::Passage;
 use crate::setup::{RunFault, is_allowed};
 use crate::world::World;
 use crate::world::messages::Messages;
 use lease_coherence::coherent;
-use lease_facts::{Event, Fact, Setup};
+use lease_facts::{Event, Fact, Passage, Setup};
 use lease_laws::verdict_decides;
 use lease_state::{Memory, Reply, Rules};
 use std::alloc::Global;

@@ -5,11 +5,10 @@ ghost use Rattle.lease_model.specs.records.Safe.{Safe};
 ghost use Rattle.lease_model.specs.records.Verdict.{verdict};
 ghost use Rattle.lease_laws.specs.records.Verdicts.{Says};
 ghost use Rattle.lease_facts.specs.Facts.{fact_of};
-ghost use Rattle.lease_world.specs.Verdicts.{verdict_of, IsVerdictOn};
+ghost use Rattle.lease_facts.specs.Verdicts.{verdict_of, IsVerdictOn};
 
 use crate::judging::Judge;
-use crate::verdict::Verdict;
-use lease_facts::Fact;
+use lease_facts::{Fact, Verdict};
 use lease_state::Memory;
 use std::alloc::Global;
 

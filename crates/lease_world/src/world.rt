@@ -22,14 +22,13 @@ ghost use Rattle.lease_model.specs.world.World.{first_world_under};
 
 use crate::copies::{copy_command, copy_request};
 use crate::obstacle::Obstacle;
-use crate::passage::Passage;
 use crate::world::contents::Contents;
 use crate::world::delivering::{deliver, tell_notes};
 use crate::world::link::Link;
 use crate::world::messages::Messages;
 use crate::world::seat::Seat;
 use lease_client::{Command, Given, lease_key};
-use lease_facts::{Event, Fact, Setup};
+use lease_facts::{Event, Fact, Passage, Setup};
 use lease_state::{ClientNo, FileId, FileNo, LeaseKey, Memory, Reply, Request, Rules};
 use share_server::{Out, Server};
 use std::alloc::Global;
@@ -594,9 +593,25 @@ fn push_gone(
         ≡ passages.old.items ++ (if are_gone then gone_noted event.now facts ∷ [] else [])) }
 {
     if are_gone {
-        passages.push(Passage::gone(event, facts))?;
+        passages.push(gone(event, facts))?;
     }
     Ok(())
+}
+
+// What became of requests that aren't on their way any more after an event.
+fn gone(event: &Event, facts: usize) -> Passage
+    ensures { result ≡ gone_noted event.now facts }
+{
+    match event {
+        Event::ServerTakes(client) => Passage::Taken {
+            client: *client,
+            facts,
+        },
+        _ => Passage::Lost {
+            client: event.client(),
+            facts,
+        },
+    }
 }
 
 // Where the seat of a client is.

@@ -3,11 +3,11 @@ use Rattle.lease_laws.proofs.Words.{◌++◌, ◌+◌, ◌-◌, ◌<◌, ◌^◌
 use Rattle.lease_laws.proofs.Words.{[], ap, append-nil, append_assoc, arith, inl, inr, length, length-append, map, refl, subst}
 use Rattle.lease_laws.proofs.Words.{sym}
 use Rattle.std.specs.Io.KnownBytes.{Consumes, IsAtEnd}
-use Rattle.lease_world.specs.declared.verdict.Verdict.{Verdict}
+use Rattle.lease_facts.specs.declared.verdict.Verdict.{Verdict}
 use Rattle.lease_facts.specs.Facts.{fact_of}
 use Rattle.lease_model.specs.records.Facts as told
 use Rattle.lease_model.specs.records.Verdict as model
-use Rattle.lease_world.specs.Verdicts.{verdict_of}
+use Rattle.lease_facts.specs.Verdicts.{verdict_of}
 use Rattle.lease_world.specs.judge.Judged.{HasJudged}
 use Rattle.lease_texts.specs.Pieces.{lines_of, pieces}
 use Rattle.lease_texts.specs.Reading.{reads_on}

@@ -2,9 +2,9 @@
 use Rattle.std.specs.Prelude.{◌≡◌, ℕ, true, ◌++◌, List, [], ◌∷◌, codes}
 use Rattle.std.specs.List.{flat_map}
 use Rattle.std.specs.String.{string_bytes}
-use Rattle.capture_records.specs.Records.{IsRecord, are_lines, facts_in}
-use Rattle.capture_records.specs.declared.record.RecordLine.{RecordLine}
-use Rattle.capture_records.specs.declared.record.RecordLine.TheVariants as line
+use Rattle.capture_texts.specs.records.Records.{IsRecord, are_lines, facts_in}
+use Rattle.capture_texts.specs.declared.records.record.RecordLine.{RecordLine}
+use Rattle.capture_texts.specs.declared.records.record.RecordLine.TheVariants as line
 use Rattle.capture_texts.specs.Reports.{verdict_of}
 use Rattle.capture_texts.specs.Verdicts.{IsReportOn}
 use Rattle.capture_texts.specs.declared.finding.CaptureVerdict.{CaptureVerdict}

@@ -11,22 +11,23 @@ use Rattle.lease_reasons.specs.declared.extent.Extent.{Extent}
 use Rattle.lease_reasons.specs.declared.reason.Reason.{Reason}
 use Rattle.lease_texts.specs.Records.{record_in}
 use Rattle.lease_texts.specs.Schedules.{Draft, schedule_in}
-use Rattle.lease_world.specs.Verdicts.{verdict_of}
-use Rattle.lease_world.specs.declared.verdict.Verdict.{Verdict}
-use Rattle.reason_texts.specs.BadPlaces.{bad_places}
-use Rattle.reason_texts.specs.Explained.{bad_lines, bad_place, extent_lines}
-use Rattle.reason_texts.specs.Placed.{IsPlaced}
-use Rattle.reason_texts.specs.declared.placed.Placed.{Placed}
+use Rattle.lease_facts.specs.Verdicts.{verdict_of}
+use Rattle.lease_facts.specs.declared.verdict.Verdict.{Verdict}
+use Rattle.record_words.specs.words.BadPlaces.{bad_places}
+use Rattle.record_words.specs.words.Explained.{bad_lines, bad_place, extent_lines}
+use Rattle.record_words.specs.words.Placed.{IsPlaced}
+use Rattle.record_words.specs.declared.words.placed.Placed.{Placed}
 use Rattle.lease_facts.specs.Setups.{event_of}
-use Rattle.lease_world.specs.declared.passage.Passage.{Passage}
-use Rattle.lease_world.specs.world.Passages.{passage_meant, passages_told_under}
-use Rattle.record_pictures.specs.Captions.{captions, seen_mark}
-use Rattle.record_pictures.specs.Remarks.{said_of, words_of}
-use Rattle.record_pictures.specs.Requests.{requests_drawn, seen_request}
-use Rattle.record_pictures.specs.Svg.{picture_text}
-use Rattle.record_pictures.specs.declared.picture.Picture.{Picture}
-use Rattle.record_pictures.specs.declared.fault.PictureFault.{PictureFault}
-use Rattle.record_pictures.specs.declared.fault.PictureFault.TheVariants as fault
+use Rattle.lease_facts.specs.declared.passage.Passage.{Passage}
+use Rattle.lease_facts.specs.Passages.{passage_meant}
+use Rattle.lease_world.specs.world.Passages.{passages_told_under}
+use Rattle.record_words.specs.pictures.Captions.{captions, seen_mark}
+use Rattle.record_words.specs.pictures.Remarks.{said_of, words_of}
+use Rattle.record_words.specs.pictures.Requests.{requests_drawn, seen_request}
+use Rattle.record_words.specs.pictures.Svg.{picture_text}
+use Rattle.record_words.specs.declared.pictures.picture.Picture.{Picture}
+use Rattle.record_words.specs.declared.pictures.fault.PictureFault.{PictureFault}
+use Rattle.record_words.specs.declared.pictures.fault.PictureFault.TheVariants as fault
 use Rattle.lease_state.specs.Rules.{profile_rules}
 use Rattle.leasecheck.specs.Comments.{comments}
 use Rattle.leasecheck.specs.Replayed.{record_of, run_refusal, setup_of, verdict_line}

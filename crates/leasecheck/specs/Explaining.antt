@@ -2,11 +2,11 @@
 use Rattle.std.specs.Prelude.{◌≡◌, ℕ, List, map}
 use Rattle.lease_model.specs.records.Verdict as model
 use Rattle.lease_facts.specs.Facts.{fact_of}
-use Rattle.lease_world.specs.Verdicts.{verdict_of}
-use Rattle.lease_world.specs.declared.verdict.Verdict.{Verdict}
-use Rattle.reason_texts.specs.Explained.{IsExplained}
-use Rattle.reason_texts.specs.Placed.{IsPlaced}
-use Rattle.reason_texts.specs.declared.placed.Placed.{Placed}
+use Rattle.lease_facts.specs.Verdicts.{verdict_of}
+use Rattle.lease_facts.specs.declared.verdict.Verdict.{Verdict}
+use Rattle.record_words.specs.words.Explained.{IsExplained}
+use Rattle.record_words.specs.words.Placed.{IsPlaced}
+use Rattle.record_words.specs.declared.words.placed.Placed.{Placed}
 
 -- The text is a record with this verdict, and that is what is said of the verdict by the facts and their lines.
 pub record ExplainsVerdict (text : List ℕ) (told : Verdict) (explanation : List ℕ) : Type 0 where

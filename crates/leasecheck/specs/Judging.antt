@@ -5,9 +5,9 @@ use Rattle.std.specs.String.{string_bytes}
 use Rattle.std.specs.declared.io.ErrorKind.{ErrorKind}
 use Rattle.lease_model.specs.records.Verdict as model
 use Rattle.lease_facts.specs.Facts.{fact_of}
-use Rattle.lease_world.specs.Verdicts.{verdict_of}
+use Rattle.lease_facts.specs.Verdicts.{verdict_of}
 use Rattle.lease_facts.specs.declared.fact.Fact.{Fact}
-use Rattle.lease_world.specs.declared.verdict.Verdict.{Verdict}
+use Rattle.lease_facts.specs.declared.verdict.Verdict.{Verdict}
 use Rattle.lease_world.specs.judge.Judged.{Judging, HasJudged}
 use Rattle.lease_texts.specs.Pieces.{lines_of}
 use Rattle.lease_texts.specs.declared.fault.LineFault.{LineFault}

@@ -8,7 +8,7 @@ use Rattle.capture_texts.specs.declared.finding.CaptureVerdict.{CaptureVerdict}
 use Rattle.capture_texts.specs.declared.line.Side.{Side}
 use Rattle.leasecheck.specs.Arguments.{Gives}
 use Rattle.leasecheck.specs.Capturing.{capture_line, capture_status, TellsRecord}
-use Rattle.lease_world.specs.declared.verdict.Verdict.{Verdict}
+use Rattle.lease_facts.specs.declared.verdict.Verdict.{Verdict}
 use Rattle.leasecheck.specs.Drawing.{Draws}
 use Rattle.leasecheck.specs.Shown.{Shows}
 use Rattle.leasecheck.specs.Explaining.{ExplainsVerdict}

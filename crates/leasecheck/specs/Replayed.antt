@@ -10,12 +10,12 @@ use Rattle.lease_model.specs.world.Allowed.{is_allowed_setup, are_too_many}
 use Rattle.lease_model.specs.world.Events.{recorded_under}
 use Rattle.lease_facts.specs.Facts.{fact_of}
 use Rattle.lease_facts.specs.Setups.{event_of}
-use Rattle.lease_world.specs.Verdicts.{rule_number}
+use Rattle.lease_facts.specs.Verdicts.{rule_number}
 use Rattle.lease_facts.specs.declared.fact.Fact.{Fact}
 use Rattle.lease_world.specs.declared.setup.RunFault.{RunFault}
 use Rattle.lease_world.specs.declared.setup.RunFault.TheVariants as run
-use Rattle.lease_world.specs.declared.verdict.Verdict.{Verdict}
-use Rattle.lease_world.specs.declared.verdict.Verdict.TheVariants as verdict
+use Rattle.lease_facts.specs.declared.verdict.Verdict.{Verdict}
+use Rattle.lease_facts.specs.declared.verdict.Verdict.TheVariants as verdict
 use Rattle.lease_state.specs.declared.reply.Reply.{Reply}
 use Rattle.lease_texts.specs.Records.{record_text}
 use Rattle.lease_texts.specs.Schedules.{Draft, schedule_in}

@@ -5,7 +5,7 @@ use Rattle.lease_facts.specs.declared.fact.Fact.{Fact}
 use Rattle.lease_state.specs.declared.rules.Rules.{Rules}
 use Rattle.lease_texts.specs.Records.{record_in}
 use Rattle.lease_texts.specs.Schedules.{Draft, schedule_in}
-use Rattle.lease_world.specs.declared.verdict.Verdict.TheVariants as verdict
+use Rattle.lease_facts.specs.declared.verdict.Verdict.TheVariants as verdict
 use Rattle.leasecheck.specs.Judging.{IsVerdictOn}
 use Rattle.leasecheck.specs.Replayed.{Replays, record_of, replay_refusal}
 use Rattle.leasecheck.specs.declared.tasks.Telling.{Telling}

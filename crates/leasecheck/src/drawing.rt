@@ -5,12 +5,12 @@ ghost use Rattle.lease_facts.specs.Facts.{fact_of};
 ghost use Rattle.lease_texts.specs.Drafts.{draft_of};
 ghost use Rattle.lease_texts.specs.Records.{record_in};
 ghost use Rattle.lease_texts.specs.Schedules.{schedule_in};
-ghost use Rattle.reason_texts.specs.Explained.{bad_lines, bad_place, extent_lines};
-ghost use Rattle.reason_texts.specs.Placed.{IsPlaced};
-ghost use Rattle.record_pictures.specs.Svg.{picture_text};
+ghost use Rattle.record_words.specs.words.Explained.{bad_lines, bad_place, extent_lines};
+ghost use Rattle.record_words.specs.words.Placed.{IsPlaced};
+ghost use Rattle.record_words.specs.pictures.Svg.{picture_text};
 ghost use Rattle.leasecheck.specs.Drawing.{ArePassagesOf, Draws, IsDrawn, IsRunOf, RefusesDraw, facts_line, too_many_facts};
 ghost use Rattle.leasecheck.specs.Drawing.{run_facts_refusal};
-ghost use Rattle.lease_world.specs.declared.passage.Passage as code_passage;
+ghost use Rattle.lease_facts.specs.declared.passage.Passage as code_passage;
 ghost use Rattle.leasecheck.specs.Remarks.{Says, IsDrawRemark, record_remark, run_remark};
 ghost use Rattle.lease_state.specs.Rules.{profile_rules};
 ghost use Rattle.leasecheck.specs.Replayed.{RefusesRun, record_of, verdict_line};
@@ -25,8 +25,8 @@ use lease_reasons::{Extent, Reason, explain, extent_of};
 use lease_state::{Bytes, Reply, Rules};
 use lease_texts::{Schedule, TextFault, read_schedule};
 use lease_world::{Passage, Told, Verdict, judge, run_explained_under};
-use reason_texts::{Placed, bad_places, push_reasoned};
-use record_pictures::{MOST_FACTS, Picture, PictureFault, picture_of, push_picture};
+use record_words::{MOST_FACTS, Picture, PictureFault, Placed};
+use record_words::{bad_places, picture_of, push_picture, push_reasoned};
 use std::alloc::{AllocError, Global};
 
 // The verdict on facts, why it is that, and how much was judged.

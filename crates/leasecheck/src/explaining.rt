@@ -1,7 +1,7 @@
 ghost use Rattle.std.specs.Prelude.{◌≡◌, ◌⊎◌, ◌++◌, ℕ, List, Some, None, IfOk, IfErr, OnOk};
 ghost use Rattle.std.specs.String.{string_bytes};
 ghost use Rattle.lease_texts.specs.Records.{record_in};
-ghost use Rattle.reason_texts.specs.Placed.{IsPlaced};
+ghost use Rattle.record_words.specs.words.Placed.{IsPlaced};
 ghost use Rattle.leasecheck.specs.Explaining.{ExplainsVerdict};
 ghost use Rattle.leasecheck.specs.Refusals.{line_refusal};
 ghost use Rattle.leasecheck.specs.Remarks.{Says, record_remark};
@@ -13,7 +13,7 @@ use crate::refusal::Refusal;
 use crate::remarks::line_at;
 use lease_texts::TextFault;
 use lease_world::{Verdict, judge};
-use reason_texts::{Placed, push_explanation, read_placed};
+use record_words::{Placed, push_explanation, read_placed};
 use std::alloc::Global;
 
 /// The facts of a text, with their lines.

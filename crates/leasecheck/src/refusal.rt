@@ -9,7 +9,7 @@ use crate::tasks::{Kind, Task};
 use lease_state::Memory;
 use lease_texts::Schedule;
 use lease_world::RunFault;
-use record_pictures::PictureFault;
+use record_words::PictureFault;
 use std::alloc::{AllocError, AllocFailed, Global};
 
 /// Why a task is refused, and what else is said of it.
@@ -48,7 +48,7 @@ impl Refusal {
     ghost use Rattle.leasecheck.specs.Drawing.{facts_line, picture_failure};
     ghost use Rattle.leasecheck.specs.FileFaults.{IsUnreadRemark};
     ghost use Rattle.leasecheck.specs.Judging.{SaysLine};
-    ghost use Rattle.record_pictures.specs.declared.fault.PictureFault.TheVariants as picture_fault;
+    ghost use Rattle.record_words.specs.declared.pictures.fault.PictureFault.TheVariants as picture_fault;
     ghost use Rattle.leasecheck.specs.LineRemarks.{capture_remark, line_at, part_remark};
     ghost use Rattle.leasecheck.specs.Paths.{path_of};
     ghost use Rattle.leasecheck.specs.Remarks.{Says, IsArgumentRemark, IsGivenRemark, run_remark};

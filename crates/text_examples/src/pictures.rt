@@ -1,10 +1,10 @@
 use lease_reasons::{Messages, explain, extent_of};
 use lease_state::{Bytes, ClientNo, FileId, Request};
 use lease_world::judge;
-use reason_texts::{bad_places, push_explanation, push_fact_words, push_reasoned, read_placed};
-use record_pictures::{
+use record_words::{
     Caption, ClientFact, FactKind, Look, Mark, Passage, Picture, PictureFault, Point, Remark,
-    Shape, Size, picture_of, push_picture,
+    Shape, Size, bad_places, picture_of, push_explanation, push_fact_words, push_picture,
+    push_reasoned, read_placed,
 };
 use std::test::Fail;
 

@@ -4,9 +4,9 @@ use Rattle.lease_laws.proofs.Words.{Option, Patch, Settlement, Some, State, ℕ,
 use Rattle.lease_laws.proofs.Words.{has_strayed, has_two_caches, if◌then◌else◌, is_false_done, is_good, is_late_write, is_served}
 use Rattle.lease_laws.proofs.Words.{is_some, is_stale_read, is_started, is_well_formed, is_within_limit, length, not, refl, sym}
 use Rattle.lease_laws.proofs.Words.{true}
-use Rattle.lease_world.specs.Verdicts.{verdict_of}
-use Rattle.lease_world.specs.declared.verdict.Rule.{Rule}
-use Rattle.lease_world.specs.declared.verdict.Verdict.{Verdict}
+use Rattle.lease_facts.specs.Verdicts.{verdict_of}
+use Rattle.lease_facts.specs.declared.verdict.Rule.{Rule}
+use Rattle.lease_facts.specs.declared.verdict.Verdict.{Verdict}
 use Rattle.lease_world.specs.judge.Added.{PutsClient, PutsFile, IsSafe, StartAdds, JoinedAdds, LeavingAdds, ExpiredAdds}
 use Rattle.lease_world.specs.judge.Added.{StrayedAdds, SentAdds, TookAdds, OpenedAdds, ChangedAdds, WroteAdds, SettledAdds}
 use Rattle.lease_world.specs.judge.Added.{BelievesAdds, CachedReadAdds, ShowsAt, Adds, is_late, is_false, is_rival}

@@ -4,15 +4,15 @@ use Rattle.lease_laws.proofs.Words.{false, flaw_at, has_joined, has_strayed, is_
 use Rattle.lease_laws.proofs.Words.{is_started, last_sending, length, length-append, length-reverse, or_else, refl, reverse}
 use Rattle.lease_laws.proofs.Words.{reverse-append, sendings, start_of, subst, suc, sym, takings, true, verdict_from, zero}
 use Rattle.lease_model.specs.records.Verdict as model
-use Rattle.lease_world.specs.Verdicts.{verdict_of}
-use Rattle.lease_world.specs.declared.verdict.Verdict.{Verdict}
+use Rattle.lease_facts.specs.Verdicts.{verdict_of}
+use Rattle.lease_facts.specs.declared.verdict.Verdict.{Verdict}
 use Rattle.lease_world.specs.judge.Judged.{Judging, is_safe, Steps, HasJudged, JudgesOneMore}
 use Rattle.lease_world.specs.judge.Knows.{KnowsFile, KnowsCache, KnowsClient, HasContents, KnowsHolders, Knows, held, how_many}
 use Rattle.lease_world.specs.judge.Seen.{unseen_file, unseen_cache, unseen_client, unheld, is_among, has_settled, file_in}
 use Rattle.lease_world.specs.judge.Seen.{client_in, cache_in}
 use Rattle.lease_world.specs.judge.Told.{placed_changes, last_touch, write_of, pending}
 use Rattle.lease_world.proofs.Numbered.{nothing_written}
-use Rattle.lease_world.proofs.Places.{past_the_end}
+use Rattle.lease_facts.proofs.Places.{past_the_end}
 use Rattle.lease_world.proofs.records.Adding.{Judges, judged}
 use Rattle.lease_world.proofs.records.Flaws.{verdict-more}
 use Rattle.lease_world.proofs.records.Knowing.{match_bool}

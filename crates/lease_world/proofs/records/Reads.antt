@@ -14,15 +14,15 @@ use Rattle.lease_world.specs.judge.Knows.{KnowsFile, KnowsCache, KnowsClient, Is
 use Rattle.lease_world.specs.judge.Seen.{Change, KeptFacts, Snapshot, SeenFile, SeenCache, SeenClient, cache_in, client_in}
 use Rattle.lease_world.specs.judge.Seen.{file_in, is_open, is_good_client}
 use Rattle.lease_world.specs.judge.Tables.{HasSameFiles, is_started_in}
-use Rattle.lease_world.specs.declared.verdict.Rule.{Rule}
-use Rattle.lease_world.specs.declared.verdict.Verdict.{Verdict}
+use Rattle.lease_facts.specs.declared.verdict.Rule.{Rule}
+use Rattle.lease_facts.specs.declared.verdict.Verdict.{Verdict}
 use Rattle.lease_world.specs.judge.Told.{placed_changes, pending, place_of, is_unsettled, write_of}
 use Rattle.lease_world.proofs.records.Caches.{cache_over}
 use Rattle.lease_world.proofs.records.Contents.{changes-told, unsettled-told, before-told}
 use Rattle.lease_world.proofs.records.Covered.{CoversWith, shown_patched}
 use Rattle.lease_world.proofs.records.Others.{client_over}
 use Rattle.lease_world.proofs.records.Pending.{filter-and}
-use Rattle.lease_world.proofs.records.Sendings.{PartOf, last-part}
+use Rattle.lease_facts.proofs.Sendings.{PartOf, last-part}
 use Rattle.lease_world.proofs.records.Views.{brought_bytes, brought_base, content_before}
 use Rattle.lease_world.proofs.records.Written.{each_cache}
 

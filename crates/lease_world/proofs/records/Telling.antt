@@ -3,8 +3,8 @@ use Rattle.lease_laws.proofs.Words.{◌∙◌, ◌≡◌, Fact, List, Safe, Says
 use Rattle.std.specs.Prelude.{◌↔◌}
 use Rattle.lease_model.specs.records.Verdict as model
 use Rattle.lease_laws.proofs.records.VerdictLemmas.{verdict-safe, safe-verdict, verdict-says}
-use Rattle.lease_world.specs.Verdicts.{verdict_of, IsVerdictOn}
-use Rattle.lease_world.specs.declared.verdict.Verdict.{Verdict}
+use Rattle.lease_facts.specs.Verdicts.{verdict_of, IsVerdictOn}
+use Rattle.lease_facts.specs.declared.verdict.Verdict.{Verdict}
 
 told_safe : (told : Verdict) → verdict_of told ≡ model.Verdict.Safe → told ≡ Verdict.Safe
 told_safe told e = grind arith

@@ -13,6 +13,7 @@ use Rattle.lease_state.specs.declared.reply.Reply as code_reply
 use Rattle.lease_model.specs.world.Allowed.{are_apart, are_too_many}
 use Rattle.lease_model.specs.values.Limits.{clients_limit, events_limit}
 use Rattle.lease_world.specs.world.First.{IsNew, AreNew}
+use Rattle.lease_facts.proofs.Places.{drop_rest}
 use Rattle.lease_facts.specs.Facts.{fact_of}
 use Rattle.lease_facts.specs.Setups.{event_of}
 use Rattle.lease_facts.specs.declared.setup.Event as code_event
@@ -28,16 +29,6 @@ pub take_next : {X : Type 0} (xs : List X) (n : ℕ) (d : X) → n < length xs �
 take_next xs n d lt =
     let e : suc n ≡ n + 1 = omega arith in
     subst (λ (m : ℕ). take m xs ≡ take n xs ++ get_or xs n d ∷ []) e (take-suc xs n d lt)
-
-drop_next : {X : Type 0} (xs : List X) (n : ℕ) (d : X) → n < length xs → drop n xs ≡ get_or xs n d ∷ drop (suc n) xs
-drop_next [] n d lt = absurd (omega arith)
-drop_next (x ∷ xs) zero d lt = refl
-drop_next (x ∷ xs) (suc n) d lt = drop_next xs n d (omega arith)
-
-pub drop_rest : {X : Type 0} (xs : List X) (n : ℕ) (d : X) → n < length xs → drop n xs ≡ get_or xs n d ∷ drop (n + 1) xs
-drop_rest xs n d lt =
-    let e : suc n ≡ n + 1 = omega arith in
-    subst (λ (m : ℕ). drop n xs ≡ get_or xs n d ∷ drop m xs) e (drop_next xs n d lt)
 
 drop_all : {X : Type 0} (xs : List X) (n : ℕ) → length xs ≤ n → drop n xs ≡ []
 drop_all [] zero le = refl

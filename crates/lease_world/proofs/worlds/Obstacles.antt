@@ -21,7 +21,7 @@ use Rattle.lease_world.specs.world.Stands.{CodeWorld, link_of, Stands}
 use Rattle.lease_client.specs.Known.{client_of as client_of_known}
 use Rattle.lease_client.specs.declared.values.command.Command as code_command
 use Rattle.lease_laws.proofs.Words.{Answer, Command, commanded}
-use Rattle.lease_world.proofs.Places.{value_there}
+use Rattle.lease_facts.proofs.Places.{value_there}
 use Rattle.lease_world.proofs.worlds.First.{next_event, take_all}
 use Rattle.share_server.specs.Table.{server_of}
 

@@ -11,8 +11,9 @@ use Rattle.lease_facts.specs.Setups.{event_client, event_of}
 use Rattle.lease_facts.specs.declared.setup.Event as code_event
 use Rattle.lease_state.specs.declared.number.ClientNo.{ClientNo}
 use Rattle.lease_state.specs.declared.request.Request as code_request
-use Rattle.lease_world.specs.declared.passage.Passage as code
-use Rattle.lease_world.specs.world.Passages.{Passage, gone, gone_noted, noted_between, passage_meant, passages_between}
+use Rattle.lease_facts.specs.Passages.{Passage, passage_meant}
+use Rattle.lease_facts.specs.declared.passage.Passage as code
+use Rattle.lease_world.specs.world.Passages.{gone, gone_noted, noted_between, passages_between}
 use Rattle.lease_world.specs.world.Passages.{passages_from, passages_in, passages_noted, sent_noted}
 use Rattle.lease_world.specs.world.Seats.{seat_in, IsPresent}
 use Rattle.lease_world.specs.world.Stands.{CodeWorld, Stands}

@@ -2,7 +2,7 @@
 use Rattle.lease_laws.proofs.Words.{◌+◌, ◌<◌, ◌==◌, ◌∙◌, ◌≡◌, ◌≢◌, List, ℕ, arith, false, get_or}
 use Rattle.lease_laws.proofs.Words.{length, length-set, refl, slice_set, subst, suc, sym, true, zero}
 use Rattle.lease_world.specs.world.Seats.{Seat, seat_in, no_seat, IsPresent, ChangesSeat}
-use Rattle.lease_world.proofs.Places.{value_put, value_there}
+use Rattle.lease_facts.proofs.Places.{value_put, value_there}
 
 same_number : (n : ℕ) → (n == n) ≡ true
 same_number n = grind arith

@@ -7,8 +7,8 @@ use Rattle.lease_state.specs.declared.patch.Patch.{Patch}
 use Rattle.lease_model.specs.values.Patches.{is_within_limit}
 use Rattle.lease_model.specs.client.Commands.{Settlement}
 use Rattle.lease_model.specs.records.Facts.{Fact}
-use Rattle.lease_world.specs.declared.verdict.Rule.{Rule}
-use Rattle.lease_world.specs.declared.verdict.Verdict.{Verdict}
+use Rattle.lease_facts.specs.declared.verdict.Rule.{Rule}
+use Rattle.lease_facts.specs.declared.verdict.Verdict.{Verdict}
 use Rattle.lease_world.specs.judge.Clients.{can_take, after_taking, is_buffered_before, is_accepted_write, taken_of, Accepts}
 use Rattle.lease_world.specs.judge.Clients.{Writes, Settles, Believes, Sees}
 use Rattle.lease_world.specs.judge.Holders.{without_holder, conflicts_with, is_newcomer, HasConflict, HasNoConflict, HasEntered}

@@ -2,8 +2,8 @@
 use Rattle.std.specs.Prelude.{◌≡◌, ℕ, ◌+◌, Bool, true, false, List, [], ◌∷◌, ◌++◌, length, reverse, MatchBool}
 use Rattle.lease_model.specs.records.Facts.{Fact}
 use Rattle.lease_model.specs.records.Verdict as model
-use Rattle.lease_world.specs.Verdicts.{verdict_of}
-use Rattle.lease_world.specs.declared.verdict.Verdict.{Verdict}
+use Rattle.lease_facts.specs.Verdicts.{verdict_of}
+use Rattle.lease_facts.specs.declared.verdict.Verdict.{Verdict}
 use Rattle.lease_world.specs.judge.Added.{Adds}
 use Rattle.lease_world.specs.judge.Knows.{Knows}
 use Rattle.lease_world.specs.judge.Seen.{KeptFacts}

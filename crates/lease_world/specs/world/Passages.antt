@@ -1,24 +1,17 @@
 -- What becomes of the requests of a run on their way to the server.
 use Rattle.std.specs.Prelude.{ℕ, nat_le, nat_lt, ◌&&◌, List, [], ◌∷◌, ◌++◌, length, map, drop, if◌then◌else◌}
-use Rattle.lease_model.specs.messages.FromBytes.{request_of}
 use Rattle.lease_model.specs.messages.Requests.{Request}
 use Rattle.lease_model.specs.world.Events.{Event, client_of, happens}
 use Rattle.lease_model.specs.world.World.{World, Setup, has_client, first_world_under}
+use Rattle.lease_facts.specs.Passages.{Passage}
 use Rattle.lease_facts.specs.Setups.{event_client}
+use Rattle.lease_facts.specs.declared.passage.Passage as code
 use Rattle.lease_facts.specs.declared.setup.Event as code_event
 use Rattle.lease_state.specs.declared.number.ClientNo.{ClientNo}
 use Rattle.lease_state.specs.declared.request.Request as code_request
 use Rattle.lease_state.specs.declared.rules.Rules.{Rules}
-use Rattle.lease_world.specs.declared.passage.Passage as code
 use Rattle.lease_world.specs.world.Seats.{seat_in}
 use Rattle.lease_world.specs.world.Stands.{CodeWorld}
-
--- Sent: a client sends a request; the record has so many facts by then. Taken: the server takes the client's oldest request.
--- Lost: all of the client's requests are lost with its connection. Before these two the record has so many facts.
-pub data Passage : Type 0 where
-  Sent : (client : ℕ) (request : Request) (facts : ℕ) → Passage
-  Taken : (client : ℕ) (facts : ℕ) → Passage
-  Lost : (client : ℕ) (facts : ℕ) → Passage
 
 -- what became of requests that aren't on their way any more after an event
 abbrev pub gone : Event → ℕ → Passage
@@ -49,11 +42,6 @@ abbrev pub passages_told_under : Rules → Setup → List Event → List Passage
 passages_told_under rules setup events = passages_from (first_world_under rules setup) events
 
 -- ---- the same of the code
-
-abbrev pub passage_meant : code.Passage → Passage
-passage_meant (code.TheVariants.Sent client request facts) = Passage.Sent client.0 (request_of request) facts
-passage_meant (code.TheVariants.Taken client facts) = Passage.Taken client.0 facts
-passage_meant (code.TheVariants.Lost client facts) = Passage.Lost client.0 facts
 
 abbrev pub gone_noted : code_event.Event → ℕ → code.Passage
 gone_noted (code_event.TheVariants.ServerTakes client) facts = code.TheVariants.Taken client facts

@@ -8,11 +8,11 @@ ghost use Rattle.lease_model.specs.client.Commanded.{commanded};
 ghost use Rattle.lease_world.specs.world.Seats.{is_link, with_replies, with_requests, PopsRequest, PopsReply, StepsSeat};
 
 use crate::copies::copy_request;
-use crate::passage::Passage;
 use crate::world::contents::Contents;
 use crate::world::link::Link;
 use crate::world::replies::Replies;
 use lease_client::{Client, Command, Given};
+use lease_facts::Passage;
 use lease_state::{ClientNo, Memory, Reply, Request};
 use std::alloc::Global;
 use std::collections::VecDeque;

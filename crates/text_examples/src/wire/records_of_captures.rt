@@ -1,7 +1,8 @@
 // Records of what is found in a capture, of messages that are laid out by hand.
 use crate::wire::capture_lines::{answer, ask, ask_at_once, close, read_and_echo, send, use_open};
-use capture_records::{RecordLine, notes_of, record_of};
-use capture_texts::{Capture, Judged, MessageName, MessagePart, Report, Side};
+use capture_texts::{
+    Capture, Judged, MessageName, MessagePart, RecordLine, Report, Side, notes_of, record_of,
+};
 use capture_wire::Command;
 use lease_texts::push_fact;
 use std::alloc::Global;

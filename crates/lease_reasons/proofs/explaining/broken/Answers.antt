@@ -1,7 +1,7 @@
 use Rattle.lease_laws.proofs.Words.{Option, Some, refl, subst, sym, take}
 use Rattle.std.proofs.lemmas.Result.{IfOk-weaker}
 use Rattle.lease_facts.specs.Facts.{fact_of}
-use Rattle.lease_world.specs.declared.verdict.Rule.TheVariants as rule
+use Rattle.lease_facts.specs.declared.verdict.Rule.TheVariants as rule
 use Rattle.lease_reasons.specs.Places.{past_of}
 use Rattle.lease_reasons.specs.Reasons.{Told}
 use Rattle.lease_reasons.specs.declared.reason.Reason.{Reason}

@@ -2,7 +2,7 @@ use Rattle.lease_laws.proofs.Words.{◌+◌, ◌<◌, ◌∙◌, ◌≡◌, ◌�
 use Rattle.lease_laws.proofs.Words.{take, verdict}
 use Rattle.std.proofs.lemmas.Result.{IfOk-weaker}
 use Rattle.lease_facts.specs.Facts.{fact_of}
-use Rattle.lease_world.specs.Verdicts.{rule_number}
+use Rattle.lease_facts.specs.Verdicts.{rule_number}
 use Rattle.lease_reasons.specs.Places.{past_of}
 use Rattle.lease_reasons.specs.Reasons.{Told, IsReasonAt}
 use Rattle.lease_reasons.specs.declared.reason.Reason.{Reason}

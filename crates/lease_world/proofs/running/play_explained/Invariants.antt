@@ -3,8 +3,9 @@ use Rattle.lease_facts.specs.Setups.{setup_of, event_of}
 use Rattle.lease_world.specs.declared.obstacle.Idle.{Idle}
 use Rattle.lease_world.specs.world.Messages.{messages_from}
 use Rattle.lease_world.specs.world.Obstacles.{idle_from, idle_meant}
-use Rattle.lease_world.specs.declared.passage.Passage.{Passage}
-use Rattle.lease_world.specs.world.Passages.{passage_meant, passages_from}
+use Rattle.lease_facts.specs.declared.passage.Passage.{Passage}
+use Rattle.lease_facts.specs.Passages.{passage_meant}
+use Rattle.lease_world.specs.world.Passages.{passages_from}
 use Rattle.lease_world.specs.world.Stands.{CodeWorld, Stands}
 use Rattle.lease_world.specs.world.Worlds.{KeepsBehind}
 use Rattle.lease_model.specs.world.Events as model

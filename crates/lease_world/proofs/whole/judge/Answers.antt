@@ -1,7 +1,7 @@
 use Rattle.lease_laws.proofs.Words.{◌∙◌, ◌∷◌, ◌≡◌, List, [], ap, map, refl, subst}
 use Rattle.std.proofs.lemmas.Result.{IfOk-weaker}
 use Rattle.lease_facts.specs.Facts.{fact_of}
-use Rattle.lease_world.specs.Verdicts.{IsVerdictOn}
+use Rattle.lease_facts.specs.Verdicts.{IsVerdictOn}
 use Rattle.lease_world.proofs.whole.judge.Goals as goal
 
 map-map : {A B C : Type 0} (f : B → C) (g : A → B) (xs : List A) → map (λ x. f (g x)) xs ≡ map f (map g xs)

@@ -4,7 +4,7 @@ use Rattle.std.proofs.lemmas.List.{append_assoc}
 use Rattle.capture_texts.specs.Reports.{IsReport, verdict_of}
 use Rattle.capture_texts.specs.declared.finding.CaptureVerdict.{CaptureVerdict}
 use Rattle.capture_texts.specs.declared.line.Side.{Side}
-use Rattle.capture_records.specs.declared.record.RecordLine.{RecordLine}
+use Rattle.capture_texts.specs.declared.records.record.RecordLine.{RecordLine}
 use Rattle.leasecheck.specs.Capturing.{capture_line, capture_status, lines_printed}
 use Rattle.leasecheck.proofs.capturing.capture_record.Goals as goal
 

@@ -4,8 +4,8 @@ use Rattle.lease_facts.specs.declared.fact.Fact.{Fact}
 use Rattle.lease_model.specs.records.Verdict as model
 use Rattle.lease_reasons.specs.Extent.{IsExtent}
 use Rattle.lease_reasons.specs.Reasons.{Explains}
-use Rattle.record_pictures.specs.Captions.{captions}
-use Rattle.record_pictures.specs.Remarks.{said_of}
+use Rattle.record_words.specs.pictures.Captions.{captions}
+use Rattle.record_words.specs.pictures.Remarks.{said_of}
 use Rattle.leasecheck.proofs.drawing.drawn.Goals as goal
 
 pub returns-in-Ok-clause-drawn : goal.returns-in-Ok-clause-drawn

@@ -1,6 +1,6 @@
 use Rattle.lease_laws.proofs.Words.{List, [], subst}
 use Rattle.std.specs.String.{string_bytes}
-use Rattle.lease_world.specs.declared.passage.Passage.{Passage}
+use Rattle.lease_facts.specs.declared.passage.Passage.{Passage}
 use Rattle.leasecheck.specs.Drawing.{IsDrawn}
 use Rattle.leasecheck.proofs.drawing.run_drawn.Goals as goal
 

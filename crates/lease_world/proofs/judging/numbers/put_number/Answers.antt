@@ -1,4 +1,4 @@
-use Rattle.lease_world.proofs.Places.{value_at}
+use Rattle.lease_facts.proofs.Places.{value_at}
 use Rattle.lease_world.proofs.judging.numbers.put_number.Goals as goal
 
 pub returns : goal.returns

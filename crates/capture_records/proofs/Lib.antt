@@ -1,3 +1,0 @@
-pub mod Casting
-pub mod Changing
-pub mod Recording

@@ -1,7 +1,0 @@
-use Rattle.std.proofs.Common.{◌≡◌, ◌++◌, map, drop}
-use Rattle.capture_records.specs.Changes.{shown, changes_in}
-use Rattle.capture_records.proofs.change.push_changes.Given as goal
-
-abbrev pub invariant-loop-belief : goal.invariant-loop-belief
-invariant-loop-belief l = map shown l.changes.items ++ changes_in l.clients l.file (drop l.belief l.beliefs)
-    ≡ map shown l.initial.changes.items ++ changes_in l.clients l.file l.beliefs

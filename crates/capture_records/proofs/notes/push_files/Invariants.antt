@@ -1,9 +1,0 @@
-use Rattle.std.proofs.Common.{◌≡◌}
-use Rattle.capture_records.specs.Records.{are_lines, facts_in}
-use Rattle.capture_records.proofs.notes.push_files.Given as goal
-
-abbrev pub invariant-loop-file : goal.invariant-loop-file
-invariant-loop-file l = record {
-  facts : facts_in l.lines.items ≡ facts_in l.initial.lines.items;
-  lines : are_lines l.lines.items ≡ are_lines l.initial.lines.items;
-}

@@ -1,7 +1,0 @@
-use Rattle.std.proofs.Common.{ap, ◌∙◌}
-use Rattle.capture_records.specs.Records.{facts_in}
-use Rattle.capture_records.proofs.Recording.{fact-push}
-use Rattle.capture_records.proofs.record.push_fact.Goals as goal
-
-pub returns-clause-facts : goal.returns-clause-facts
-returns-clause-facts c = ap facts_in c.in_ok-push.ensures.items ∙ fact-push c.args.lines.now.items c.args.fact

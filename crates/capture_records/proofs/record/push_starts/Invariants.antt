@@ -1,9 +1,0 @@
-use Rattle.std.proofs.Common.{◌≡◌, ◌++◌}
-use Rattle.capture_records.specs.Records.{are_lines, facts_in, starts}
-use Rattle.capture_records.proofs.record.push_starts.Given as goal
-
-abbrev pub invariant-loop-index : goal.invariant-loop-index
-invariant-loop-index l = record {
-  facts : facts_in l.lines.items ≡ facts_in l.initial.lines.items ++ starts l.index;
-  lines : are_lines l.lines.items ≡ are_lines l.initial.lines.items;
-}

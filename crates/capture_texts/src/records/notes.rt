@@ -1,0 +1,76 @@
+ghost use Rattle.std.specs.Prelude.{◌≡◌, [], true, IfOk, OnOk};
+ghost use Rattle.capture_texts.specs.records.Records.{are_lines, facts_in};
+
+use crate::finding::{ClientFinding, EpochFinding, FileFinding, Report};
+use crate::records::record::{RecordLine, push_remark};
+use lease_state::Memory;
+use std::alloc::Global;
+use std::fmt::Write as _;
+
+fn push_files(
+    alloc: Global,
+    lines: &mut Vec<RecordLine>,
+    files: &[FileFinding],
+) -> Result<(), Memory>
+    ensures facts { OnOk result (facts_in lines.new.items ≡ facts_in lines.old.items) }
+    ensures lines { OnOk result (are_lines lines.new.items ≡ are_lines lines.old.items) }
+{
+    for file in files {
+        let mut remark = String::new(alloc);
+        write!(&mut remark, "{file}")?;
+        push_remark(lines, remark)?;
+    }
+    Ok(())
+}
+
+fn push_clients(
+    alloc: Global,
+    lines: &mut Vec<RecordLine>,
+    clients: &[ClientFinding],
+) -> Result<(), Memory>
+    ensures facts { OnOk result (facts_in lines.new.items ≡ facts_in lines.old.items) }
+    ensures lines { OnOk result (are_lines lines.new.items ≡ are_lines lines.old.items) }
+{
+    for client in clients {
+        let mut remark = String::new(alloc);
+        write!(&mut remark, "{client}")?;
+        push_remark(lines, remark)?;
+    }
+    Ok(())
+}
+
+fn push_epochs(
+    alloc: Global,
+    lines: &mut Vec<RecordLine>,
+    epochs: &[EpochFinding],
+) -> Result<(), Memory>
+    ensures facts { OnOk result (facts_in lines.new.items ≡ facts_in lines.old.items) }
+    ensures lines { OnOk result (are_lines lines.new.items ≡ are_lines lines.old.items) }
+{
+    for epoch in epochs {
+        let mut remark = String::new(alloc);
+        write!(&mut remark, "{epoch}")?;
+        push_remark(lines, remark)?;
+    }
+    Ok(())
+}
+
+/// Remarks on what is found in a capture: of each file, of each client that isn't judged, of each epoch that doesn't follow on,
+/// and how much there was.
+///
+/// # Errors
+///
+/// `Memory` where there is none left.
+pub fn notes_of(alloc: Global, report: &Report) -> Result<Vec<RecordLine>, Memory>
+    ensures facts { IfOk result (λ notes. facts_in notes.items ≡ []) }
+    ensures lines { IfOk result (λ notes. are_lines notes.items ≡ true) }
+{
+    let mut notes = Vec::new(alloc);
+    push_files(alloc, &mut notes, report.files.as_slice())?;
+    push_clients(alloc, &mut notes, report.clients.as_slice())?;
+    push_epochs(alloc, &mut notes, report.epochs.as_slice())?;
+    let mut counts = String::new(alloc);
+    write!(&mut counts, "{}", report.counts)?;
+    push_remark(&mut notes, counts)?;
+    Ok(notes)
+}

@@ -1,9 +1,0 @@
-use Rattle.std.proofs.Common.{◌≡◌, ◌++◌, take}
-use Rattle.std.specs.List.{flat_map}
-use Rattle.std.specs.String.{string_bytes}
-use Rattle.reason_texts.specs.ReasonWords.{unanswered_line}
-use Rattle.reason_texts.proofs.reason_words.push_waiting.Given as goal
-
-abbrev pub invariant-loop-place : goal.invariant-loop-place
-invariant-loop-place l =
-    string_bytes l.text ≡ string_bytes l.fn.text ++ flat_map (unanswered_line l.placed) (take l.place-index l.places)

@@ -1,0 +1,3 @@
+pub mod Chain
+pub mod Fitting
+pub mod Named

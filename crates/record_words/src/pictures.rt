@@ -1,0 +1,20 @@
+//! Sequence pictures of records, and their texts as SVG.
+
+mod captions;
+mod fault;
+mod labels;
+mod lanes;
+mod layout;
+mod marks;
+mod picture;
+mod remarks;
+mod requests;
+mod rows;
+mod shape;
+mod svg;
+
+pub use fault::PictureFault;
+pub use layout::{MOST_FACTS, MOST_REQUESTS, picture_of};
+pub use picture::{Caption, Mark, Picture, Remark, RequestMark};
+pub use shape::{Look, Point, Shape, Size};
+pub use svg::push_picture;
