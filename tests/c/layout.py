@@ -21,7 +21,7 @@ NAMES = {
     "ClientHandle": "smblease_client", "ServerHandle": "smblease_server", "FilesHandle": "smblease_files",
     "ManagerHandle": "smblease_manager",
     "ClientGuid": "smblease_guid", "KeyBytes": "smblease_key", "MaybeKey": "smblease_maybe_key",
-    "BreakMessage": "smblease_break_message", "AckMessage": "smblease_ack_message", "ResponseMessage": "smblease_ack_message",
+    "BreakMessage": "smblease_break_message", "AckMessage": "smblease_ack_message",
     "ClientOpen": "smblease_open_terms", "ClientAnswer": "smblease_answer", "ClientRequest": "smblease_client_request",
     "ClientNote": "smblease_note", "ServerOut": "smblease_server_out",
 }
@@ -42,7 +42,7 @@ class Field:
 def sources() -> Iterator[str]:
     crates = subprocess.run([TOP / "tools/c_crates"], stdout=subprocess.PIPE, check=True).stdout.decode().split()
     for crate in crates:
-        for path in sorted((TOP / "crates" / crate / "src").glob("*.rt")):
+        for path in sorted((TOP / "crates" / crate / "src").rglob("*.rt")):
             yield path.read_text(encoding="utf-8")
 
 

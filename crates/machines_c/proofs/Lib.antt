@@ -1,0 +1,8 @@
+pub mod ClientHandles
+pub mod FilesHandles
+pub mod Held
+pub mod Holding
+pub mod Idle
+pub mod LooseValues
+pub mod ManagerHandles
+pub mod ServerHandles

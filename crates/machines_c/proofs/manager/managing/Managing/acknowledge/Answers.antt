@@ -1,0 +1,10 @@
+use Rattle.lease_manager.specs.Table.{manager_of}
+use Rattle.lease_state.specs.State.{state_of}
+use Rattle.std.proofs.Common.{Some}
+use Rattle.machines_c.proofs.Idle.{none_acknowledged, silent}
+use Rattle.machines_c.proofs.manager.managing.Managing.acknowledge.Goals as goal
+
+pub returns-clause-idle : goal.returns-clause-idle
+returns-clause-idle c = λ idle. c.note.ensures.silent (silent _ _ _ c.in_ok-acknowledge.ensures.after
+    (none_acknowledged (manager_of c.args.self.now.manager) c.args.client.0
+    (Some (record { key = c.args.key.0; state = state_of c.args.state })) idle))

@@ -1,0 +1,5 @@
+pub mod Values
+pub mod client
+pub mod handles
+pub mod manager
+pub mod server

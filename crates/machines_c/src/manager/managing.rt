@@ -1,0 +1,173 @@
+ghost use Rattle.std.specs.Prelude.{◌≡◌, true, [], Some, None, IsOk, OnOk, map};
+ghost use Rattle.break_timers.specs.Numbering.{noted_all, numbers_told};
+ghost use Rattle.break_timers.specs.Timers.{timers_of};
+ghost use Rattle.lease_state.specs.State.{state_of};
+ghost use Rattle.lease_model.specs.server.Naming.{key_of};
+ghost use Rattle.lease_manager.specs.Outs.{decisions};
+ghost use Rattle.lease_manager.specs.Requests.{request_like};
+ghost use Rattle.lease_manager.specs.Table.{manager_of};
+ghost use Rattle.manager_model.specs.Handling as rules;
+ghost use Rattle.machines_c.specs.manager.Asked.{is_present, is_absent, is_settled, is_gone, is_answered, is_over};
+ghost use Rattle.machines_c.specs.manager.Calls.{Expired, Handled, RunOut};
+ghost use Rattle.machines_c.specs.manager.Fields.{number_field};
+
+use crate::manager::numbering::note_all;
+use break_timers::{BreakNo, BreakTimers};
+use lease_manager::{Ask, ClientNo, Decision, FileNo, LeaseName, ListedOpen, Manager, Tag};
+use lease_state::{FileId, LeaseKey, LeaseState, Memory};
+use std::alloc::Global;
+
+/// A manager, the decisions of its last call, the timers of breaks, and the opens that were listed since.
+#[derive(Debug, Drop)]
+pub struct Managing {
+    pub manager: Manager,
+    pub decisions: Vec<Decision>,
+    pub timers: BreakTimers,
+    /// Of each decision, the number of the timer that it starts, or 0.
+    pub numbers: Vec<u64>,
+    pub opens: Vec<ListedOpen>,
+}
+
+impl Managing {
+    // Timers start and stop as the decisions of the call say.
+    fn note(&mut self) -> Result<(), Memory>
+        ensures timers { OnOk result
+            (timers_of self.new.timers ≡ noted_all (decisions self.old.decisions.items) (timers_of self.old.timers)) }
+        ensures numbers { OnOk result (self.new.numbers.items
+            ≡ map number_field (numbers_told (decisions self.old.decisions.items) (timers_of self.old.timers))) }
+        ensures same { OnOk result ((self.new.manager ≡ self.old.manager) × (self.new.decisions ≡ self.old.decisions)
+            × (self.new.opens ≡ self.old.opens)) }
+        ensures silent { decisions self.old.decisions.items ≡ [] → IsOk result }
+    {
+        self.numbers.clear();
+        note_all(&mut self.timers, &self.decisions, &mut self.numbers)
+    }
+
+    /// A client connects.
+    pub(crate) fn join(&mut self, alloc: Global, client: ClientNo) -> Result<(), Memory>
+        ensures after { OnOk result (Handled (λ one. rules.join one client.0) self.old self.new) }
+        ensures idle { is_present client.0 (manager_of self.old.manager) ≡ true → IsOk result }
+    {
+        self.opens = Vec::new(alloc);
+        self.decisions = Vec::new(alloc);
+        self.manager.join(client)?;
+        self.note()
+    }
+
+    /// A client asks something of a file, under a tag.
+    pub(crate) fn ask(
+        &mut self,
+        alloc: Global,
+        client: ClientNo,
+        tag: Tag,
+        ask: Ask,
+    ) -> Result<(), Memory>
+        ensures after { OnOk result
+            (Handled (λ one. rules.receive one client.0 tag.0 (request_like ask)) self.old self.new) }
+        ensures idle { is_absent client.0 (manager_of self.old.manager) ≡ true → IsOk result }
+    {
+        self.opens = Vec::new(alloc);
+        self.manager.ask(client, tag, ask, &mut self.decisions)?;
+        self.note()
+    }
+
+    /// A client acknowledges a break of its lease of this key, with this state.
+    pub(crate) fn acknowledge(
+        &mut self,
+        alloc: Global,
+        client: ClientNo,
+        key: LeaseKey,
+        state: LeaseState,
+    ) -> Result<(), Memory>
+        ensures after { OnOk result (Handled (λ one. rules.acknowledge one client.0
+            (Some (record { key = key.0; state = state_of state }))) self.old self.new) }
+        ensures idle { is_absent client.0 (manager_of self.old.manager) ≡ true → IsOk result }
+    {
+        self.opens = Vec::new(alloc);
+        self.manager
+            .acknowledge(client, key, state, &mut self.decisions)?;
+        self.note()
+    }
+
+    /// A client sends an acknowledgment that can't be read.
+    pub(crate) fn acknowledge_malformed(
+        &mut self,
+        alloc: Global,
+        client: ClientNo,
+    ) -> Result<(), Memory>
+        ensures after { OnOk result (Handled (λ one. rules.acknowledge one client.0 None) self.old self.new) }
+        ensures idle { is_absent client.0 (manager_of self.old.manager) ≡ true → IsOk result }
+    {
+        self.opens = Vec::new(alloc);
+        self.manager
+            .acknowledge_malformed(client, &mut self.decisions)?;
+        self.note()
+    }
+
+    /// A client's connection is lost.
+    pub(crate) fn cut(&mut self, alloc: Global, client: ClientNo) -> Result<(), Memory>
+        ensures after { OnOk result (Handled (λ one. rules.cut one client.0) self.old self.new) }
+        ensures idle { is_absent client.0 (manager_of self.old.manager) ≡ true → IsOk result }
+    {
+        self.opens = Vec::new(alloc);
+        self.manager.cut(client, &mut self.decisions)?;
+        self.note()
+    }
+
+    /// The timer of the break of a client's lease runs out.
+    pub(crate) fn expire(
+        &mut self,
+        alloc: Global,
+        client: ClientNo,
+        key: LeaseKey,
+    ) -> Result<(), Memory>
+        ensures after { OnOk result (Expired (key_of client.0 key.0) self.old self.new) }
+        ensures idle { is_settled client.0 key.0 (manager_of self.old.manager) ≡ true → IsOk result }
+    {
+        self.opens = Vec::new(alloc);
+        self.timers.stop(LeaseName { client, bytes: key });
+        self.manager.expire(client, key, &mut self.decisions)?;
+        self.note()
+    }
+
+    /// The timer of this number, of a break, runs out.
+    pub(crate) fn run_out(&mut self, alloc: Global, number: BreakNo) -> Result<(), Memory>
+        ensures after { OnOk result (RunOut number.0 self.old self.new) }
+        ensures idle { is_over number.0 (timers_of self.old.timers) (manager_of self.old.manager) ≡ true → IsOk result }
+    {
+        self.opens = Vec::new(alloc);
+        self.decisions.clear();
+        if let Some(key) = self.timers.run_out(number) {
+            self.manager
+                .expire(key.client, key.bytes, &mut self.decisions)?;
+        }
+        self.note()
+    }
+
+    /// The timer of a durable open runs out.
+    pub(crate) fn scavenge(&mut self, alloc: Global, fid: FileId) -> Result<(), Memory>
+        ensures after { OnOk result (Handled (λ one. rules.scavenge one fid.0) self.old self.new) }
+        ensures idle { is_gone fid.0 (manager_of self.old.manager) ≡ true → IsOk result }
+    {
+        self.opens = Vec::new(alloc);
+        self.manager.scavenge(fid, &mut self.decisions)?;
+        self.note()
+    }
+
+    /// A request that waits on the file is taken back.
+    pub(crate) fn withdraw(
+        &mut self,
+        alloc: Global,
+        file: FileNo,
+        client: ClientNo,
+        tag: Tag,
+    ) -> Result<(), Memory>
+        ensures after { OnOk result (Handled (λ one. rules.withdraw one file.0 client.0 tag.0) self.old self.new) }
+        ensures idle { is_answered client.0 tag.0 file.0 (manager_of self.old.manager) ≡ true → IsOk result }
+    {
+        self.opens = Vec::new(alloc);
+        self.manager
+            .withdraw(file, client, tag, &mut self.decisions)?;
+        self.note()
+    }
+}

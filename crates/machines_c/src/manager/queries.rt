@@ -1,0 +1,148 @@
+ghost use Rattle.std.specs.Prelude.{◌≡◌, None, IfSome, length, ◌==◌};
+ghost use Rattle.std.specs.List.{list_any};
+ghost use Rattle.lease_model.specs.server.Calls.{is_left_behind};
+ghost use Rattle.lease_model.specs.server.Naming.{key_of};
+ghost use Rattle.lease_model.specs.server.Queries as queries;
+ghost use Rattle.machines_c.specs.handles.Codes.{flag_of};
+ghost use Rattle.lease_manager.specs.Table.{queue_at, server_of};
+ghost use Rattle.manager_model.specs.Handling.{is_under};
+
+use crate::manager::handle::ManagerHandle;
+use crate::values::KeyBytes;
+use lease_manager::{ClientNo, FileNo, Tag};
+use lease_state::{FileId, LeaseKey};
+use std::alloc::Global;
+
+/// 1 where the client is connected (MS-SMB2 3.3.1.7, ConnectionList), and else 0.
+#[unsafe(no_mangle)]
+pub extern "C" fn smblease_manager_connected(
+    alloc: Global,
+    manager: &mut ManagerHandle,
+    client: u64,
+) -> u32
+    ensures some { IfSome manager.old.held (λ one. result ≡ flag_of ((server_of one.manager).present client)) }
+    ensures none { manager.old.held ≡ None → result ≡ 0 }
+    ensures same { manager.new.held ≡ manager.old.held }
+{
+    match manager.take(alloc) {
+        None => 0,
+        Some(managing) => {
+            let is_connected = managing.manager.is_connected(ClientNo(client));
+            manager.put(alloc, managing);
+            u32::from(is_connected)
+        }
+    }
+}
+
+/// 1 where a break of the client's lease of this key waits for its acknowledgment (3.3.1.12,
+/// Breaking), and else 0.
+#[unsafe(no_mangle)]
+pub extern "C" fn smblease_manager_breaking(
+    alloc: Global,
+    manager: &mut ManagerHandle,
+    client: u64,
+    key: &KeyBytes,
+) -> u32
+    ensures some { IfSome manager.old.held (λ one. result
+        ≡ flag_of (queries.breaking (server_of one.manager) (key_of client key.now.bytes))) }
+    ensures none { manager.old.held ≡ None → result ≡ 0 }
+    ensures same { manager.new.held ≡ manager.old.held }
+{
+    match manager.take(alloc) {
+        None => 0,
+        Some(managing) => {
+            let key = LeaseKey(key.bytes);
+            let is_breaking = managing.manager.is_breaking(ClientNo(client), key);
+            manager.put(alloc, managing);
+            u32::from(is_breaking)
+        }
+    }
+}
+
+/// 1 where a request of the client under the tag waits on the file, and else 0.
+#[unsafe(no_mangle)]
+pub extern "C" fn smblease_manager_waiting(
+    alloc: Global,
+    manager: &mut ManagerHandle,
+    client: u64,
+    tag: u64,
+    file: u64,
+) -> u32
+    ensures some { IfSome manager.old.held (λ one. result
+        ≡ flag_of (list_any (is_under client tag) (queue_at one.manager.queues file))) }
+    ensures none { manager.old.held ≡ None → result ≡ 0 }
+    ensures same { manager.new.held ≡ manager.old.held }
+{
+    match manager.take(alloc) {
+        None => 0,
+        Some(managing) => {
+            let is_waiting = managing
+                .manager
+                .is_waiting(FileNo(file), ClientNo(client), Tag(tag));
+            manager.put(alloc, managing);
+            u32::from(is_waiting)
+        }
+    }
+}
+
+/// 1 where an open of this FileId waits for its client to connect again (3.3.1.10, IsDurable), and
+/// else 0.
+#[unsafe(no_mangle)]
+pub extern "C" fn smblease_manager_left_behind(
+    alloc: Global,
+    manager: &mut ManagerHandle,
+    file_id: u64,
+) -> u32
+    ensures some { IfSome manager.old.held (λ one. result
+        ≡ flag_of (list_any (is_left_behind file_id) (server_of one.manager).opens)) }
+    ensures none { manager.old.held ≡ None → result ≡ 0 }
+    ensures same { manager.new.held ≡ manager.old.held }
+{
+    match manager.take(alloc) {
+        None => 0,
+        Some(managing) => {
+            let is_left = managing.manager.has_left_behind(FileId(file_id));
+            manager.put(alloc, managing);
+            u32::from(is_left)
+        }
+    }
+}
+
+/// 1 where there is an open of this FileId, connected or not, and else 0.
+#[unsafe(no_mangle)]
+pub extern "C" fn smblease_manager_has_open(
+    alloc: Global,
+    manager: &mut ManagerHandle,
+    file_id: u64,
+) -> u32
+    ensures some { IfSome manager.old.held (λ one. result
+        ≡ flag_of (list_any (λ other. other.file_id == file_id) (server_of one.manager).opens)) }
+    ensures none { manager.old.held ≡ None → result ≡ 0 }
+    ensures same { manager.new.held ≡ manager.old.held }
+{
+    match manager.take(alloc) {
+        None => 0,
+        Some(managing) => {
+            let has_open = managing.manager.has_open(FileId(file_id));
+            manager.put(alloc, managing);
+            u32::from(has_open)
+        }
+    }
+}
+
+/// How many opens there are, those that wait for their clients too; 0 where there is no manager.
+#[unsafe(no_mangle)]
+pub extern "C" fn smblease_manager_open_count(alloc: Global, manager: &mut ManagerHandle) -> usize
+    ensures some { IfSome manager.old.held (λ one. result ≡ length (server_of one.manager).opens) }
+    ensures none { manager.old.held ≡ None → result ≡ 0 }
+    ensures same { manager.new.held ≡ manager.old.held }
+{
+    match manager.take(alloc) {
+        None => 0,
+        Some(managing) => {
+            let count = managing.manager.open_count();
+            manager.put(alloc, managing);
+            count
+        }
+    }
+}

@@ -1,3 +1,0 @@
-pub mod Handles
-pub mod Holding
-pub mod Idle

@@ -1,2 +1,0 @@
-pub mod FilesHandles
-pub mod Handles
