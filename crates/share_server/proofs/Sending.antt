@@ -1,6 +1,6 @@
 -- Break messages are written as what is read in them.
 use Rattle.lease_laws.proofs.Words.{◌∙◌, ◌≡◌, AcknowledgmentIsFound, List, NotificationIsFound, Some, ℕ, acknowledged_in, ap}
-use Rattle.lease_laws.proofs.Words.{arith, notice_in, sym, take, take_all}
+use Rattle.lease_laws.proofs.Words.{arith, notice_in, sym, take_all}
 use Rattle.lease_laws.specs.messages.Bytes.{noticed_as, acknowledged_as}
 use Rattle.lease_model.specs.messages.ToBytes.{notice_bytes, lease_message_bytes}
 use Rattle.lease_wire.specs.Acknowledgment.{KeyAndState, IsAcknowledgment, acknowledgment_bytes}

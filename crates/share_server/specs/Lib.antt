@@ -1,4 +1,5 @@
 pub mod Calling
+pub mod Coming
 pub mod Laws
 pub mod Outs
 pub mod Requests

@@ -14,11 +14,13 @@ ghost use Rattle.lease_wire.specs.Gathering.{value_of};
 ghost use Rattle.lease_wire.specs.declared.create.Direction.{Direction};
 ghost use Rattle.manager_model.specs.Hosting.{call_of};
 ghost use Rattle.share_server.specs.Calling.{IsUnderWay};
+ghost use Rattle.share_server.specs.Coming.{applies, call_asked};
 ghost use Rattle.share_server.specs.Requests.{file_request_of};
 ghost use Rattle.share_server.specs.Table.{IsCalled, IsServer, table_of};
 
 use crate::host::Host;
 use crate::outs::Outs;
+use crate::values::coming::Coming;
 use crate::values::number::client_no;
 use crate::values::request::FileRequest;
 use lease_laws::{bytes_laws, laws_of_servers};
@@ -28,6 +30,29 @@ use lease_state::{
 };
 use lease_wire::{Acknowledgment, read_create};
 use manager_model::{law_of_answers, law_of_hosts};
+
+/// Something comes to a server.
+pub fn handle(
+    manager: &mut Manager,
+    host: &mut Host,
+    told: &mut Vec<Decision>,
+    outs: &mut Outs,
+    coming: Coming,
+) -> Result<(), Memory>
+    requires given { outs.old ≡ [] }
+    requires server { IsServer (table_of manager.old host.old) }
+    ensures step { OnOk result (IsCalled (table_of manager.old host.old) (call_asked coming)
+        (table_of manager.new host.new) outs.new) }
+    ensures idle { applies coming manager.old ≡ false → IsOk result }
+{
+    match coming {
+        Coming::Joins(client) => join(manager, host, outs, client),
+        Coming::Asks(client, request) => receive(manager, host, told, outs, client, request),
+        Coming::IsCut(client) => cut(manager, host, told, outs, client),
+        Coming::Expires(client, key) => expire(manager, host, told, outs, client, key),
+        Coming::Scavenges(fid) => scavenge(manager, host, told, outs, fid),
+    }
+}
 
 /// A client connects.
 pub fn join(

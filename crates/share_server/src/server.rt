@@ -8,6 +8,7 @@ ghost use Rattle.lease_model.specs.server.Calls as rules;
 ghost use Rattle.lease_model.specs.server.Naming.{key_of, key_under};
 ghost use Rattle.lease_model.specs.server.Queries as queries;
 ghost use Rattle.lease_model.specs.server.State.{new_server, new_server_under};
+ghost use Rattle.share_server.specs.Coming.{applies, call_asked};
 ghost use Rattle.share_server.specs.Laws.{HasOneWriter, HasNoConflict, KeepsWhatLasts, BreaksToLess};
 ghost use Rattle.share_server.specs.Outs.{IsAfter};
 ghost use Rattle.lease_manager.specs.Table as table;
@@ -17,6 +18,7 @@ ghost use Rattle.share_server.specs.Table.{server_of};
 use crate::calls;
 use crate::host::Host;
 use crate::outs::Outs;
+use crate::values::coming::Coming;
 use crate::values::number::{client_no, file_no};
 use crate::values::out::Out;
 use lease_laws::laws_of_servers;
@@ -93,6 +95,24 @@ impl Server {
         self.parts.manager.rules()
     }
 
+    // Something comes: the server after it, and what it gave out.
+    fn call(self, coming: Coming) -> Result<(Server, Vec<Out>), Memory>
+        ensures after { IfOk result (λ r. IsAfter r.0 r.1.items (rules.called (server_of self) (call_asked coming))) }
+        ensures idle { applies coming self.manager ≡ false → IsOk result }
+    {
+        let Server { mut parts } = self;
+        let inside = &mut *parts;
+        let mut outs = Outs::new(*inside.told.allocator());
+        calls::handle(
+            &mut inside.manager,
+            &mut inside.host,
+            &mut inside.told,
+            &mut outs,
+            coming,
+        )?;
+        Ok((Server { parts }, outs.into_vec()))
+    }
+
     /// A client connects (MS-SMB2 3.3.5.1). The keys of its leases whose timer ran out may be
     /// granted states again (profile). Where the client is connected nothing changes, and nothing
     /// is given out.
@@ -104,11 +124,7 @@ impl Server {
         ensures after { IfOk result (λ r. IsAfter r.0 r.1.items (rules.join (server_of self) client.0)) }
         ensures idle { (server_of self).present client.0 ≡ true → IsOk result }
     {
-        let Server { mut parts } = self;
-        let inside = &mut *parts;
-        let mut outs = Outs::new(*inside.told.allocator());
-        calls::join(&mut inside.manager, &mut inside.host, &mut outs, client)?;
-        Ok((Server { parts }, outs.into_vec()))
+        self.call(Coming::Joins(client))
     }
 
     /// A request of a client comes (MS-SMB2 3.3.5). It is refused at once where its create contexts
@@ -127,18 +143,7 @@ impl Server {
             (rules.receive (server_of self) client.0 (request_of request))) }
         ensures idle { (server_of self).present client.0 ≡ false → IsOk result }
     {
-        let Server { mut parts } = self;
-        let inside = &mut *parts;
-        let mut outs = Outs::new(*inside.told.allocator());
-        calls::receive(
-            &mut inside.manager,
-            &mut inside.host,
-            &mut inside.told,
-            &mut outs,
-            client,
-            request,
-        )?;
-        Ok((Server { parts }, outs.into_vec()))
+        self.call(Coming::Asks(client, request))
     }
 
     /// A client's connection is lost (MS-SMB2 3.3.7.1). Its opens that are durable, and whose lease
@@ -153,17 +158,7 @@ impl Server {
         ensures after { IfOk result (λ r. IsAfter r.0 r.1.items (rules.cut (server_of self) client.0)) }
         ensures idle { (server_of self).present client.0 ≡ false → IsOk result }
     {
-        let Server { mut parts } = self;
-        let inside = &mut *parts;
-        let mut outs = Outs::new(*inside.told.allocator());
-        calls::cut(
-            &mut inside.manager,
-            &mut inside.host,
-            &mut inside.told,
-            &mut outs,
-            client,
-        )?;
-        Ok((Server { parts }, outs.into_vec()))
+        self.call(Coming::IsCut(client))
     }
 
     /// The timer of a lease break runs out (MS-SMB2 3.3.6.5): the opens of the client's lease of
@@ -179,18 +174,7 @@ impl Server {
             (rules.expire (server_of self) (key_of client.0 key.0))) }
         ensures idle { queries.breaking (server_of self) (key_of client.0 key.0) ≡ false → IsOk result }
     {
-        let Server { mut parts } = self;
-        let inside = &mut *parts;
-        let mut outs = Outs::new(*inside.told.allocator());
-        calls::expire(
-            &mut inside.manager,
-            &mut inside.host,
-            &mut inside.told,
-            &mut outs,
-            client,
-            key,
-        )?;
-        Ok((Server { parts }, outs.into_vec()))
+        self.call(Coming::Expires(client, key))
     }
 
     /// The timer of a durable open runs out (MS-SMB2 3.3.6.2): the open of this FileId is closed, if it
@@ -204,17 +188,7 @@ impl Server {
         ensures after { IfOk result (λ r. IsAfter r.0 r.1.items (rules.scavenge (server_of self) fid.0)) }
         ensures idle { list_any (rules.is_left_behind fid.0) (server_of self).opens ≡ false → IsOk result }
     {
-        let Server { mut parts } = self;
-        let inside = &mut *parts;
-        let mut outs = Outs::new(*inside.told.allocator());
-        calls::scavenge(
-            &mut inside.manager,
-            &mut inside.host,
-            &mut inside.told,
-            &mut outs,
-            fid,
-        )?;
-        Ok((Server { parts }, outs.into_vec()))
+        self.call(Coming::Scavenges(fid))
     }
 
     /// What holds of every server, whatever was asked of it. Where a lease caches writes, every open on a

@@ -1,3 +1,4 @@
+pub mod coming;
 pub mod number;
 pub mod out;
 pub mod request;

@@ -1,0 +1,16 @@
+use lease_state::{ClientNo, FileId, LeaseKey, Request};
+
+/// What comes to a server.
+#[derive(Debug, Drop)]
+pub enum Coming {
+    /// A client connects.
+    Joins(ClientNo),
+    /// A request of a client comes.
+    Asks(ClientNo, Request),
+    /// A client's connection is lost.
+    IsCut(ClientNo),
+    /// The timer of the break of a client's lease runs out.
+    Expires(ClientNo, LeaseKey),
+    /// The timer of a durable open runs out.
+    Scavenges(FileId),
+}
