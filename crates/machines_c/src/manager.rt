@@ -2,6 +2,7 @@
 //! the timers of breaks, and what was listed since.
 
 pub mod calls;
+pub mod coming;
 pub mod decision;
 pub mod handle;
 pub mod leases;

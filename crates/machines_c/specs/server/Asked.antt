@@ -1,5 +1,5 @@
 -- What numbers and bytes from C ask of a server.
-use Rattle.std.specs.Prelude.{ℕ, Bool, not, List, Option, Some, None, if◌then◌else◌}
+use Rattle.std.specs.Prelude.{ℕ, Bool, not, List, Option, Some, None}
 use Rattle.std.specs.List.{list_any}
 use Rattle.lease_state.specs.declared.access.Access.{Access}
 use Rattle.lease_state.specs.declared.access.Share.{Share}
@@ -11,7 +11,7 @@ use Rattle.lease_model.specs.server.Calls.{is_left_behind}
 use Rattle.lease_model.specs.server.Naming.{key_of}
 use Rattle.lease_model.specs.server.Queries as queries
 use Rattle.lease_model.specs.server.State.{Server}
-use Rattle.machines_c.specs.handles.Codes.{access_of, share_of, is_set}
+use Rattle.machines_c.specs.handles.Codes.{access_of, share_of}
 
 -- a create with this access and this share, where the numbers stand for them
 abbrev pub create_with : ℕ → List ℕ → Option Access → Option Share → Option Request

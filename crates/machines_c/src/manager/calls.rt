@@ -1,12 +1,14 @@
 ghost use Rattle.std.specs.Prelude.{◌≡◌, None, Some, MatchResult};
 ghost use Rattle.lease_model.specs.server.Naming.{key_of};
-ghost use Rattle.machines_c.specs.handles.Calls.{IsCall};
+ghost use Rattle.machines_c.specs.handles.Calls.{IsCall, code_of};
 ghost use Rattle.machines_c.specs.declared.handles.outcome.Outcome.TheVariants as outcomes;
 ghost use Rattle.manager_model.specs.Handling as rules;
 ghost use Rattle.machines_c.specs.manager.Asked.{is_present, is_absent, is_settled, is_gone, is_answered};
+ghost use Rattle.machines_c.specs.manager.Coming.{Came, MayBeLostBy};
 ghost use Rattle.machines_c.specs.manager.Calls.{Expired, Handled, MayBeLostUnless, MayBeLostUnlessOver, RunOut};
 
 use crate::handles::Outcome;
+use crate::manager::coming::Coming;
 use crate::manager::handle::ManagerHandle;
 use crate::manager::managing::Managing;
 use crate::values::KeyBytes;
@@ -16,13 +18,8 @@ use lease_state::{FileId, LeaseKey, Memory};
 use std::alloc::Global;
 
 impl ManagerHandle {
-    /// What a call came to is held from now on; where it ran out of memory nothing is.
-    pub(crate) fn keep(
-        &mut self,
-        alloc: Global,
-        managing: Box<Managing>,
-        came: Result<(), Memory>,
-    ) -> Outcome
+    // What a call came to is held from now on; where it ran out of memory nothing is.
+    fn keep(&mut self, alloc: Global, managing: Box<Managing>, came: Result<(), Memory>) -> Outcome
         requires { self.old.held ≡ None }
         ensures { MatchResult came (λ _. (self.new.held ≡ Some managing.value) × (result ≡ outcomes.Done))
             (λ _. (self.new.held ≡ None) × (result ≡ outcomes.Lost)) }
@@ -33,6 +30,19 @@ impl ManagerHandle {
                 Outcome::Done
             }
             Err(_) => Outcome::Lost,
+        }
+    }
+
+    /// Something comes to the manager that is held.
+    pub(crate) fn call(&mut self, alloc: Global, coming: Coming) -> Outcome
+        ensures { IsCall (Came coming) (MayBeLostBy coming) (code_of result) self.old.held self.new.held }
+    {
+        match self.take(alloc) {
+            None => Outcome::Nothing,
+            Some(mut managing) => {
+                let came = managing.call(alloc, coming);
+                self.keep(alloc, managing, came)
+            }
         }
     }
 }
@@ -50,13 +60,7 @@ pub extern "C" fn smblease_manager_join(
     ensures { IsCall (Handled (λ one. rules.join one client)) (MayBeLostUnless (is_present client))
         result manager.old.held manager.new.held }
 {
-    match manager.take(alloc) {
-        None => Outcome::Nothing.code(),
-        Some(mut managing) => {
-            let came = managing.join(alloc, ClientNo(client));
-            manager.keep(alloc, managing, came).code()
-        }
-    }
+    manager.call(alloc, Coming::Joins(ClientNo(client))).code()
 }
 
 /// A client's connection is lost (3.3.7.1). Where it isn't connected nothing changes. The outcomes
@@ -70,13 +74,7 @@ pub extern "C" fn smblease_manager_cut(
     ensures { IsCall (Handled (λ one. rules.cut one client)) (MayBeLostUnless (is_absent client))
         result manager.old.held manager.new.held }
 {
-    match manager.take(alloc) {
-        None => Outcome::Nothing.code(),
-        Some(mut managing) => {
-            let came = managing.cut(alloc, ClientNo(client));
-            manager.keep(alloc, managing, came).code()
-        }
-    }
+    manager.call(alloc, Coming::IsCut(ClientNo(client))).code()
 }
 
 /// The timer of the break of a client's lease runs out (3.3.6.5). Where no break of it waits for its
@@ -91,13 +89,12 @@ pub extern "C" fn smblease_manager_expire(
     ensures { IsCall (Expired (key_of client key.now.bytes))
         (MayBeLostUnless (is_settled client key.now.bytes)) result manager.old.held manager.new.held }
 {
-    match manager.take(alloc) {
-        None => Outcome::Nothing.code(),
-        Some(mut managing) => {
-            let came = managing.expire(alloc, ClientNo(client), LeaseKey(key.bytes));
-            manager.keep(alloc, managing, came).code()
-        }
-    }
+    manager
+        .call(
+            alloc,
+            Coming::Expires(ClientNo(client), LeaseKey(key.bytes)),
+        )
+        .code()
 }
 
 /// The timer of this number, of a break, runs out (3.3.6.5). Where it doesn't run, or no break of
@@ -111,13 +108,7 @@ pub extern "C" fn smblease_manager_run_out(
 ) -> u32
     ensures { IsCall (RunOut number) (MayBeLostUnlessOver number) result manager.old.held manager.new.held }
 {
-    match manager.take(alloc) {
-        None => Outcome::Nothing.code(),
-        Some(mut managing) => {
-            let came = managing.run_out(alloc, BreakNo(number));
-            manager.keep(alloc, managing, came).code()
-        }
-    }
+    manager.call(alloc, Coming::RunsOut(BreakNo(number))).code()
 }
 
 /// The timer of a durable open runs out (3.3.6.2). Where no such open waits for its client nothing
@@ -131,13 +122,9 @@ pub extern "C" fn smblease_manager_scavenge(
     ensures { IsCall (Handled (λ one. rules.scavenge one file_id)) (MayBeLostUnless (is_gone file_id))
         result manager.old.held manager.new.held }
 {
-    match manager.take(alloc) {
-        None => Outcome::Nothing.code(),
-        Some(mut managing) => {
-            let came = managing.scavenge(alloc, FileId(file_id));
-            manager.keep(alloc, managing, came).code()
-        }
-    }
+    manager
+        .call(alloc, Coming::Scavenges(FileId(file_id)))
+        .code()
 }
 
 /// A request of a client that waits on the file under the tag is taken back (3.3.5.16). Where none
@@ -153,11 +140,10 @@ pub extern "C" fn smblease_manager_withdraw(
     ensures { IsCall (Handled (λ one. rules.withdraw one file client tag)) (MayBeLostUnless (is_answered client tag file))
         result manager.old.held manager.new.held }
 {
-    match manager.take(alloc) {
-        None => Outcome::Nothing.code(),
-        Some(mut managing) => {
-            let came = managing.withdraw(alloc, FileNo(file), ClientNo(client), Tag(tag));
-            manager.keep(alloc, managing, came).code()
-        }
-    }
+    manager
+        .call(
+            alloc,
+            Coming::Withdraws(FileNo(file), ClientNo(client), Tag(tag)),
+        )
+        .code()
 }

@@ -9,8 +9,10 @@ ghost use Rattle.lease_manager.specs.Table.{manager_of};
 ghost use Rattle.manager_model.specs.Handling as rules;
 ghost use Rattle.machines_c.specs.manager.Asked.{is_present, is_absent, is_settled, is_gone, is_answered, is_over};
 ghost use Rattle.machines_c.specs.manager.Calls.{Expired, Handled, RunOut};
+ghost use Rattle.machines_c.specs.manager.Coming.{Came, is_idle};
 ghost use Rattle.machines_c.specs.manager.Fields.{number_field};
 
+use crate::manager::coming::Coming;
 use crate::manager::numbering::note_all;
 use break_timers::{BreakNo, BreakTimers};
 use lease_manager::{Ask, ClientNo, Decision, FileNo, LeaseName, ListedOpen, Manager, Tag};
@@ -43,8 +45,26 @@ impl Managing {
         note_all(&mut self.timers, &self.decisions, &mut self.numbers)
     }
 
-    /// A client connects.
-    pub(crate) fn join(&mut self, alloc: Global, client: ClientNo) -> Result<(), Memory>
+    /// Something comes.
+    pub(crate) fn call(&mut self, alloc: Global, coming: Coming) -> Result<(), Memory>
+        ensures after { OnOk result (Came coming self.old self.new) }
+        ensures idle { is_idle coming self.old ≡ true → IsOk result }
+    {
+        match coming {
+            Coming::Joins(client) => self.join(alloc, client),
+            Coming::Asks(client, tag, ask) => self.ask(alloc, client, tag, ask),
+            Coming::Acknowledges(client, key, state) => self.acknowledge(alloc, client, key, state),
+            Coming::IsMalformed(client) => self.acknowledge_malformed(alloc, client),
+            Coming::IsCut(client) => self.cut(alloc, client),
+            Coming::Expires(client, key) => self.expire(alloc, client, key),
+            Coming::RunsOut(number) => self.run_out(alloc, number),
+            Coming::Scavenges(fid) => self.scavenge(alloc, fid),
+            Coming::Withdraws(file, client, tag) => self.withdraw(alloc, file, client, tag),
+        }
+    }
+
+    // A client connects.
+    fn join(&mut self, alloc: Global, client: ClientNo) -> Result<(), Memory>
         ensures after { OnOk result (Handled (λ one. rules.join one client.0) self.old self.new) }
         ensures idle { is_present client.0 (manager_of self.old.manager) ≡ true → IsOk result }
     {
@@ -54,14 +74,8 @@ impl Managing {
         self.note()
     }
 
-    /// A client asks something of a file, under a tag.
-    pub(crate) fn ask(
-        &mut self,
-        alloc: Global,
-        client: ClientNo,
-        tag: Tag,
-        ask: Ask,
-    ) -> Result<(), Memory>
+    // A client asks something of a file, under a tag.
+    fn ask(&mut self, alloc: Global, client: ClientNo, tag: Tag, ask: Ask) -> Result<(), Memory>
         ensures after { OnOk result
             (Handled (λ one. rules.receive one client.0 tag.0 (request_like ask)) self.old self.new) }
         ensures idle { is_absent client.0 (manager_of self.old.manager) ≡ true → IsOk result }
@@ -71,8 +85,8 @@ impl Managing {
         self.note()
     }
 
-    /// A client acknowledges a break of its lease of this key, with this state.
-    pub(crate) fn acknowledge(
+    // A client acknowledges a break of its lease of this key, with this state.
+    fn acknowledge(
         &mut self,
         alloc: Global,
         client: ClientNo,
@@ -89,12 +103,8 @@ impl Managing {
         self.note()
     }
 
-    /// A client sends an acknowledgment that can't be read.
-    pub(crate) fn acknowledge_malformed(
-        &mut self,
-        alloc: Global,
-        client: ClientNo,
-    ) -> Result<(), Memory>
+    // A client sends an acknowledgment that can't be read.
+    fn acknowledge_malformed(&mut self, alloc: Global, client: ClientNo) -> Result<(), Memory>
         ensures after { OnOk result (Handled (λ one. rules.acknowledge one client.0 None) self.old self.new) }
         ensures idle { is_absent client.0 (manager_of self.old.manager) ≡ true → IsOk result }
     {
@@ -104,8 +114,8 @@ impl Managing {
         self.note()
     }
 
-    /// A client's connection is lost.
-    pub(crate) fn cut(&mut self, alloc: Global, client: ClientNo) -> Result<(), Memory>
+    // A client's connection is lost.
+    fn cut(&mut self, alloc: Global, client: ClientNo) -> Result<(), Memory>
         ensures after { OnOk result (Handled (λ one. rules.cut one client.0) self.old self.new) }
         ensures idle { is_absent client.0 (manager_of self.old.manager) ≡ true → IsOk result }
     {
@@ -114,13 +124,8 @@ impl Managing {
         self.note()
     }
 
-    /// The timer of the break of a client's lease runs out.
-    pub(crate) fn expire(
-        &mut self,
-        alloc: Global,
-        client: ClientNo,
-        key: LeaseKey,
-    ) -> Result<(), Memory>
+    // The timer of the break of a client's lease runs out.
+    fn expire(&mut self, alloc: Global, client: ClientNo, key: LeaseKey) -> Result<(), Memory>
         ensures after { OnOk result (Expired (key_of client.0 key.0) self.old self.new) }
         ensures idle { is_settled client.0 key.0 (manager_of self.old.manager) ≡ true → IsOk result }
     {
@@ -130,8 +135,8 @@ impl Managing {
         self.note()
     }
 
-    /// The timer of this number, of a break, runs out.
-    pub(crate) fn run_out(&mut self, alloc: Global, number: BreakNo) -> Result<(), Memory>
+    // The timer of this number, of a break, runs out.
+    fn run_out(&mut self, alloc: Global, number: BreakNo) -> Result<(), Memory>
         ensures after { OnOk result (RunOut number.0 self.old self.new) }
         ensures idle { is_over number.0 (timers_of self.old.timers) (manager_of self.old.manager) ≡ true → IsOk result }
     {
@@ -144,8 +149,8 @@ impl Managing {
         self.note()
     }
 
-    /// The timer of a durable open runs out.
-    pub(crate) fn scavenge(&mut self, alloc: Global, fid: FileId) -> Result<(), Memory>
+    // The timer of a durable open runs out.
+    fn scavenge(&mut self, alloc: Global, fid: FileId) -> Result<(), Memory>
         ensures after { OnOk result (Handled (λ one. rules.scavenge one fid.0) self.old self.new) }
         ensures idle { is_gone fid.0 (manager_of self.old.manager) ≡ true → IsOk result }
     {
@@ -154,8 +159,8 @@ impl Managing {
         self.note()
     }
 
-    /// A request that waits on the file is taken back.
-    pub(crate) fn withdraw(
+    // A request that waits on the file is taken back.
+    fn withdraw(
         &mut self,
         alloc: Global,
         file: FileNo,

@@ -1,33 +1,18 @@
 ghost use Rattle.std.specs.Prelude.{◌≡◌, ◌≢◌, None, Some, IfSome};
 ghost use Rattle.lease_model.specs.messages.Requests.{FileRequest};
-ghost use Rattle.machines_c.specs.handles.Calls.{IsCall, code_of};
+ghost use Rattle.machines_c.specs.handles.Calls.{IsCall};
 ghost use Rattle.lease_manager.specs.Requests.{request_like};
 ghost use Rattle.manager_model.specs.Handling as rules;
 ghost use Rattle.machines_c.specs.manager.Asked.{create_asked, write_asked, kept_by, is_absent};
 ghost use Rattle.machines_c.specs.manager.Calls.{Handled, MayBeLostUnless};
 
 use crate::handles::{Outcome, access_of, share_of};
+use crate::manager::coming::Coming;
 use crate::manager::handle::ManagerHandle;
 use crate::manager::values::{AckFields, CreateFields};
 use lease_manager::{Ask, ClientNo, FileNo, Tag};
 use lease_state::{FileId, LeaseKey, LeaseState};
 use std::alloc::Global;
-
-impl ManagerHandle {
-    // A client asks something of a file, under a tag.
-    fn hear(&mut self, alloc: Global, client: u64, tag: u64, ask: Ask) -> Outcome
-        ensures call { IsCall (Handled (λ one. rules.receive one client tag (request_like ask)))
-            (MayBeLostUnless (is_absent client)) (code_of result) self.old.held self.new.held }
-    {
-        match self.take(alloc) {
-            None => Outcome::Nothing,
-            Some(mut managing) => {
-                let came = managing.ask(alloc, ClientNo(client), Tag(tag), ask);
-                self.keep(alloc, managing, came)
-            }
-        }
-    }
-}
 
 /// A client asks to open a file (MS-SMB2 3.3.5.9), or to connect a durable open again (3.3.5.9.7).
 /// Where it isn't connected nothing changes.
@@ -60,7 +45,9 @@ pub extern "C" fn smblease_manager_create(
         share,
         ask: ask.ask(),
     };
-    manager.hear(alloc, client, tag, create).code()
+    manager
+        .call(alloc, Coming::Asks(ClientNo(client), Tag(tag), create))
+        .code()
 }
 
 /// A client asks to read by an open (3.3.5.12). Where it isn't connected nothing changes.
@@ -79,7 +66,12 @@ pub extern "C" fn smblease_manager_read(
         (MayBeLostUnless (is_absent client)) result manager.old.held manager.new.held }
 {
     let fid = FileId(file_id);
-    manager.hear(alloc, client, tag, Ask::Read { fid }).code()
+    manager
+        .call(
+            alloc,
+            Coming::Asks(ClientNo(client), Tag(tag), Ask::Read { fid }),
+        )
+        .code()
 }
 
 /// A client asks to write by an open (3.3.5.13), within what the host allows of a file (any number
@@ -100,7 +92,9 @@ pub extern "C" fn smblease_manager_write(
         fid: FileId(file_id),
         fits: fits != 0,
     };
-    manager.hear(alloc, client, tag, write).code()
+    manager
+        .call(alloc, Coming::Asks(ClientNo(client), Tag(tag), write))
+        .code()
 }
 
 /// A client asks to close an open (3.3.5.10). The outcomes are those of `smblease_manager_read`.
@@ -116,7 +110,12 @@ pub extern "C" fn smblease_manager_close(
         (MayBeLostUnless (is_absent client)) result manager.old.held manager.new.held }
 {
     let fid = FileId(file_id);
-    manager.hear(alloc, client, tag, Ask::Close { fid }).code()
+    manager
+        .call(
+            alloc,
+            Coming::Asks(ClientNo(client), Tag(tag), Ask::Close { fid }),
+        )
+        .code()
 }
 
 /// A client acknowledges the break of a lease (3.3.5.22.2). The outcomes are those of
@@ -131,14 +130,10 @@ pub extern "C" fn smblease_manager_acknowledge(
     ensures { IsCall (Handled (λ one. rules.acknowledge one client (Some (kept_by given.now))))
         (MayBeLostUnless (is_absent client)) result manager.old.held manager.new.held }
 {
-    match manager.take(alloc) {
-        None => Outcome::Nothing.code(),
-        Some(mut managing) => {
-            let (key, state) = (LeaseKey(given.key), LeaseState::from_wire(given.state));
-            let came = managing.acknowledge(alloc, ClientNo(client), key, state);
-            manager.keep(alloc, managing, came).code()
-        }
-    }
+    let (key, state) = (LeaseKey(given.key), LeaseState::from_wire(given.state));
+    manager
+        .call(alloc, Coming::Acknowledges(ClientNo(client), key, state))
+        .code()
 }
 
 /// A client sends an acknowledgment that can't be read. The outcomes are those of
@@ -152,11 +147,7 @@ pub extern "C" fn smblease_manager_acknowledge_malformed(
     ensures { IsCall (Handled (λ one. rules.acknowledge one client None))
         (MayBeLostUnless (is_absent client)) result manager.old.held manager.new.held }
 {
-    match manager.take(alloc) {
-        None => Outcome::Nothing.code(),
-        Some(mut managing) => {
-            let came = managing.acknowledge_malformed(alloc, ClientNo(client));
-            manager.keep(alloc, managing, came).code()
-        }
-    }
+    manager
+        .call(alloc, Coming::IsMalformed(ClientNo(client)))
+        .code()
 }

@@ -1,0 +1,40 @@
+-- What comes to a manager: what a call of it comes to, and whether it does nothing.
+use Rattle.std.specs.Prelude.{◌≡◌, Bool, true, Some, None}
+use Rattle.break_timers.specs.Timers.{timers_of}
+use Rattle.lease_state.specs.State.{state_of}
+use Rattle.lease_model.specs.server.Naming.{key_of}
+use Rattle.lease_manager.specs.Requests.{request_like}
+use Rattle.lease_manager.specs.Table.{manager_of}
+use Rattle.manager_model.specs.Handling as rules
+use Rattle.machines_c.specs.manager.Asked.{is_absent, is_answered, is_gone, is_over, is_present, is_settled}
+use Rattle.machines_c.specs.manager.Calls.{Expired, Handled, RunOut}
+use Rattle.machines_c.specs.declared.manager.coming.Coming.{Coming}
+use Rattle.machines_c.specs.declared.manager.coming.Coming.TheVariants as coming
+use Rattle.machines_c.specs.declared.manager.managing.Managing.{Managing}
+
+abbrev pub Came : Coming → Managing → Managing → Type 0
+Came (coming.Joins client) old new = Handled (λ one. rules.join one client.0) old new
+Came (coming.Asks client tag ask) old new = Handled (λ one. rules.receive one client.0 tag.0 (request_like ask)) old new
+Came (coming.Acknowledges client key state) old new =
+    Handled (λ one. rules.acknowledge one client.0 (Some (record { key = key.0; state = state_of state }))) old new
+Came (coming.IsMalformed client) old new = Handled (λ one. rules.acknowledge one client.0 None) old new
+Came (coming.IsCut client) old new = Handled (λ one. rules.cut one client.0) old new
+Came (coming.Expires client key) old new = Expired (key_of client.0 key.0) old new
+Came (coming.RunsOut number) old new = RunOut number.0 old new
+Came (coming.Scavenges fid) old new = Handled (λ one. rules.scavenge one fid.0) old new
+Came (coming.Withdraws file client tag) old new = Handled (λ one. rules.withdraw one file.0 client.0 tag.0) old new
+
+abbrev pub is_idle : Coming → Managing → Bool
+is_idle (coming.Joins client) old = is_present client.0 (manager_of old.manager)
+is_idle (coming.Asks client tag ask) old = is_absent client.0 (manager_of old.manager)
+is_idle (coming.Acknowledges client key state) old = is_absent client.0 (manager_of old.manager)
+is_idle (coming.IsMalformed client) old = is_absent client.0 (manager_of old.manager)
+is_idle (coming.IsCut client) old = is_absent client.0 (manager_of old.manager)
+is_idle (coming.Expires client key) old = is_settled client.0 key.0 (manager_of old.manager)
+is_idle (coming.RunsOut number) old = is_over number.0 (timers_of old.timers) (manager_of old.manager)
+is_idle (coming.Scavenges fid) old = is_gone fid.0 (manager_of old.manager)
+is_idle (coming.Withdraws file client tag) old = is_answered client.0 tag.0 file.0 (manager_of old.manager)
+
+-- Where a call does nothing, the manager is never lost.
+abbrev pub MayBeLostBy : Coming → Managing → Type 0
+MayBeLostBy coming old = is_idle coming old ≡ true → ⊥
