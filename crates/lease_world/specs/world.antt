@@ -1,4 +1,5 @@
 pub mod First
+pub mod Kept
 pub mod Messages
 pub mod Obstacles
 pub mod Passages

@@ -26,9 +26,6 @@ mod world;
 pub use judging::Judge;
 pub use lease_facts::{Event, Fact, Passage, Rule, Setup, Verdict};
 pub use obstacle::{Idle, Obstacle};
-pub use running::{
-    Told, obstacles_are_exact, run, run_explained_under, run_under, run_with_messages,
-    run_with_messages_under,
-};
+pub use running::{Kept, Told, obstacles_are_exact, run, run_under};
 pub use setup::RunFault;
 pub use whole::{judge, judge_each};

@@ -1,5 +1,5 @@
 -- The lines of events that did nothing: where none is left, and one after the other.
-use Rattle.lease_laws.proofs.Words.{◌++◌, ◌+◌, ◌==◌, ◌≡◌, ◌<◌, ◌-◌, ◌≤◌, ◌∙◌, ◌∷◌, Err, IfOk, List, Ok, Result, ℕ, [], ap}
+use Rattle.lease_laws.proofs.Words.{◌++◌, ◌+◌, ◌==◌, ◌≡◌, ◌<◌, ◌-◌, ◌≤◌, ◌∙◌, ◌∷◌, Err, List, Ok, Result, ℕ, [], ap}
 use Rattle.lease_laws.proofs.Words.{append-nil, append_assoc, arith, drop, false, get_or, if◌then◌else◌, length, nat_le, subst}
 use Rattle.lease_laws.proofs.Words.{sym, take, true}
 use Rattle.std.proofs.lemmas.Bool.Decides.{nat_tests}
@@ -25,11 +25,6 @@ pub on_ok : {A E : Type 0} (result : Result A E) (new more same : List ℕ)
     → new ≡ (if is_ok result then more else same) → OnOk result (new ≡ more)
 on_ok (Ok done) new more same is = is
 on_ok (Err why) new more same is = tt
-
-pub on_all : {A E : Type 0} (P Q : A → Type 0) (result : Result A E) → ((done : A) → P done → Q done) → IfOk result P
-    → IfOk result Q
-on_all P Q (Ok done) leads is = leads done is
-on_all P Q (Err why) leads is = tt
 
 -- ---- events before a fact
 

@@ -8,8 +8,9 @@ ghost use Rattle.leasecheck.specs.Remarks.{IsCaptureRemark, Says};
 
 use crate::failure::Failure;
 use crate::refusal::Refusal;
-use capture_texts::{Capture, CaptureVerdict, RecordLine, Report, Side};
-use capture_texts::{notes_of, read_capture, record_of};
+use capture_texts::{
+    Capture, CaptureVerdict, RecordLine, Report, Side, notes_of, read_capture, record_of,
+};
 use lease_texts::{TextFault, push_fact};
 use std::alloc::{AllocError, Global};
 use std::fmt::Write as _;

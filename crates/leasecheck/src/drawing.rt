@@ -24,9 +24,10 @@ use crate::replaying::not_run;
 use lease_reasons::{Extent, Reason, explain, extent_of};
 use lease_state::{Bytes, Reply, Rules};
 use lease_texts::{Schedule, TextFault, read_schedule};
-use lease_world::{Passage, Told, Verdict, judge, run_explained_under};
-use record_words::{MOST_FACTS, Picture, PictureFault, Placed};
-use record_words::{bad_places, picture_of, push_picture, push_reasoned};
+use lease_world::{Kept, Passage, Told, Verdict, judge, run_under};
+use record_words::{
+    MOST_FACTS, Picture, PictureFault, Placed, bad_places, picture_of, push_picture, push_reasoned,
+};
 use std::alloc::{AllocError, Global};
 
 // The verdict on facts, why it is that, and how much was judged.
@@ -108,7 +109,12 @@ fn ran(alloc: Global, schedule: &Schedule) -> Result<Played, Refusal>
     ensures said { IfErr result (λ told. Says told (λ failure line. run_remark failure (draft_of schedule.now) ≡ Some line)) }
 {
     let (rules, events) = (Rules::profile(), schedule.events.as_slice());
-    match run_explained_under(alloc, rules, &schedule.setup, events) {
+    let kept = Kept {
+        messages: true,
+        idle: false,
+        passages: true,
+    };
+    match run_under(alloc, rules, kept, &schedule.setup, events) {
         Ok(told) => {
             let Told {
                 facts,

@@ -1,4 +1,4 @@
-ghost use Rattle.std.specs.Prelude.{◌≡◌, ◌⊎◌, ℕ, List, [], true, false, if◌then◌else◌, Some, Ok, Err};
+ghost use Rattle.std.specs.Prelude.{◌≡◌, ◌⊎◌, ℕ, true, Some, Ok, Err};
 ghost use Rattle.std.specs.Prelude.{IfOk, IfErr};
 ghost use Rattle.lease_texts.specs.Drafts.{draft_of};
 ghost use Rattle.lease_texts.specs.Schedules.{schedule_in};
@@ -14,9 +14,9 @@ use crate::idle::{event_lines, unsaid_is_plain};
 use crate::recording::Record;
 use crate::refusal::Refusal;
 use crate::tasks::Telling;
-use lease_state::{Reply, Rules};
+use lease_state::Rules;
 use lease_texts::{Schedule, TextFault, read_schedule};
-use lease_world::{RunFault, run_explained_under, run_under, run_with_messages_under};
+use lease_world::{Kept, RunFault, run_under};
 use std::alloc::Global;
 use text_laws::{facts_are_typed, remarks_change_nothing};
 
@@ -43,83 +43,23 @@ fn ran(
     ensures refused { RefusesRun (draft_of schedule.now) result }
     ensures said { IfErr result (λ told. Says told (λ failure line. run_remark failure (draft_of schedule.now) ≡ Some line)) }
 {
-    match (telling.messages, telling.idle) {
-        (false, false) => ran_alone(alloc, rules, schedule),
-        (true, false) => ran_with_messages(alloc, rules, schedule),
-        (messages, true) => ran_explained(alloc, messages, rules, schedule, lines),
-    }
-}
-
-fn ran_alone(alloc: Global, rules: Rules, schedule: &Schedule) -> Result<Record, Refusal>
-    ensures told { IfOk result (λ ran. (lines : List ℕ)
-        → Tells (record { messages = false; idle = false }) rules (draft_of schedule.now) lines (facts_told ran)) }
-    ensures rules { IfOk result (λ ran. ran.rules ≡ rules) }
-    ensures refused { RefusesRun (draft_of schedule.now) result }
-    ensures said { IfErr result (λ told. Says told (λ failure line. run_remark failure (draft_of schedule.now) ≡ Some line)) }
-{
-    match run_under(alloc, rules, &schedule.setup, schedule.events.as_slice()) {
-        Ok(facts) => {
-            facts_are_typed(facts.as_slice());
-            Ok(Record {
-                facts,
-                messages: Vec::new(alloc),
-                lines: Vec::new(alloc),
-                idle: Vec::new(alloc),
-                rules,
-            })
-        }
-        Err(fault) => Err(Refusal::of_run(alloc, not_run(fault), schedule)),
-    }
-}
-
-fn ran_with_messages(alloc: Global, rules: Rules, schedule: &Schedule) -> Result<Record, Refusal>
-    ensures told { IfOk result (λ ran. (lines : List ℕ)
-        → Tells (record { messages = true; idle = false }) rules (draft_of schedule.now) lines (facts_told ran)) }
-    ensures rules { IfOk result (λ ran. ran.rules ≡ rules) }
-    ensures refused { RefusesRun (draft_of schedule.now) result }
-    ensures said { IfErr result (λ told. Says told (λ failure line. run_remark failure (draft_of schedule.now) ≡ Some line)) }
-{
-    match run_with_messages_under(alloc, rules, &schedule.setup, schedule.events.as_slice()) {
-        Ok((facts, messages)) => {
-            facts_are_typed(facts.as_slice());
-            Ok(Record {
-                facts,
-                messages,
-                lines: Vec::new(alloc),
-                idle: Vec::new(alloc),
-                rules,
-            })
-        }
-        Err(fault) => Err(Refusal::of_run(alloc, not_run(fault), schedule)),
-    }
-}
-
-// The messages, where they are asked for.
-fn asked_for(alloc: Global, asked: bool, messages: Vec<Reply>) -> Vec<Reply>
-    ensures { result.items ≡ (if asked then messages.items else []) }
-{
-    if asked { messages } else { Vec::new(alloc) }
-}
-
-fn ran_explained(
-    alloc: Global,
-    messages: bool,
-    rules: Rules,
-    schedule: &Schedule,
-    lines: Vec<u64>,
-) -> Result<Record, Refusal>
-    ensures told { IfOk result (λ ran.
-        Tells (record { messages = messages; idle = true }) rules (draft_of schedule.now) lines.items (facts_told ran)) }
-    ensures rules { IfOk result (λ ran. ran.rules ≡ rules) }
-    ensures refused { RefusesRun (draft_of schedule.now) result }
-    ensures said { IfErr result (λ told. Says told (λ failure line. run_remark failure (draft_of schedule.now) ≡ Some line)) }
-{
-    match run_explained_under(alloc, rules, &schedule.setup, schedule.events.as_slice()) {
+    let kept = Kept {
+        messages: telling.messages,
+        idle: telling.idle,
+        passages: false,
+    };
+    match run_under(
+        alloc,
+        rules,
+        kept,
+        &schedule.setup,
+        schedule.events.as_slice(),
+    ) {
         Ok(told) => {
             facts_are_typed(told.facts.as_slice());
             Ok(Record {
                 facts: told.facts,
-                messages: asked_for(alloc, messages, told.messages),
+                messages: told.messages,
                 lines,
                 idle: told.idle,
                 rules,

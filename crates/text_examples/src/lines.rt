@@ -12,7 +12,7 @@ use lease_texts::{
 use lease_world::{Event, Fact};
 use std::alloc::Global;
 use std::test::Fail;
-use text_laws::{facts_are_typed, judged_run, judged_run_under};
+use text_laws::{facts_are_typed, judged_run};
 
 mod machines;
 
@@ -210,7 +210,8 @@ fn a_run_is_judged(rt: HostRuntime) -> Result<(), Fail> {
     let alloc = rt.alloc();
     let text = b"file 616263\nclient 11111111111111111111111111111111\nconnect 1\nnotice 1";
     let schedule = read_schedule(alloc, text)?;
-    let facts = judged_run(alloc, &schedule.setup, schedule.events.as_slice())?;
+    let (setup, events) = (&schedule.setup, schedule.events.as_slice());
+    let facts = judged_run(alloc, Rules::profile(), setup, events)?;
     facts_are_typed(facts.as_slice());
     let mut expected = Vec::new(alloc);
     expected.push(Fact::Start(FileNo(1), bytes(alloc, b"abc")?))?;
@@ -220,7 +221,7 @@ fn a_run_is_judged(rt: HostRuntime) -> Result<(), Fail> {
         order: Order::ByKey,
         rise: Rise::Whole,
     };
-    let facts = judged_run_under(alloc, rules, &schedule.setup, schedule.events.as_slice())?;
+    let facts = judged_run(alloc, rules, setup, events)?;
     assert!(&rt; facts == expected);
     Ok(())
 }

@@ -6,6 +6,6 @@ mod judged;
 mod reading_back;
 mod typing;
 
-pub use judged::{judged_run, judged_run_under, replays_are_judged_safe};
+pub use judged::{judged_run, replays_are_judged_safe};
 pub use reading_back::{remarks_change_nothing, runs_are_read_back};
 pub use typing::facts_are_typed;

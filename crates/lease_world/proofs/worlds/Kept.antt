@@ -1,9 +1,13 @@
 -- Messages that are kept with what happens.
-use Rattle.lease_laws.proofs.Words.{◌++◌, ◌∙◌, ◌≡◌, Call, CallHasFullKey, List, None, Option, Progress, Reply, Some, World, []}
-use Rattle.lease_laws.proofs.Words.{ap, append-nil, append_assoc, arith, called, map, map-append, option_map, refl, reply_of, sym}
+use Rattle.lease_laws.proofs.Words.{◌++◌, ◌∙◌, ◌≡◌, Bool, Call, CallHasFullKey, List, None, Option, Progress, Reply, Some}
+use Rattle.lease_laws.proofs.Words.{World, []}
+use Rattle.lease_laws.proofs.Words.{ap, append-nil, append_assoc, arith, called, false, if◌then◌else◌, map, map-append}
+use Rattle.lease_laws.proofs.Words.{option_map, refl}
+use Rattle.lease_laws.proofs.Words.{reply_of, sym, true, unwrap_or}
 use Rattle.lease_laws.proofs.messages.ReadBack as readback
 use Rattle.lease_laws.proofs.messages.ServerBytes.{replies_have_bytes}
 use Rattle.lease_state.specs.declared.reply.Reply as code
+use Rattle.lease_world.specs.world.Kept.{IfKept}
 use Rattle.lease_world.specs.world.Messages.{sent_by}
 use Rattle.lease_world.specs.world.Seats.{HasKept, replies_among}
 use Rattle.lease_world.specs.world.Stands.{CodeWorld, Stands}
@@ -87,3 +91,37 @@ served_keeps old new call outs after kept keyed world s =
     ∙ replies_given readback.replies_back progress.outs bytes.0 in
     kept_keeps old new (replies_among outs) kept
     ∙ ap (λ (rs : List Reply). option_map (λ replies. replies ++ rs) (messages_kept old)) sent
+
+-- ---- what a run keeps, where that is asked for
+
+-- nothing, before it
+pub kept_none : {X : Type 0} (b : Bool) (kept : List X) (So : Type 0) → kept ≡ [] → So → IfKept b kept So
+kept_none true kept So none so = so
+kept_none false kept So none so = none
+
+-- with more
+pub kept_more : {X : Type 0} (b : Bool) (old new more : List X) (Old New : Type 0) → IfKept b old Old
+    → new ≡ old ++ (if b then more else []) → (Old → new ≡ old ++ more → New) → IfKept b new New
+kept_more true old new more Old New so is step = step so is
+kept_more false old new more Old New none is step = is ∙ ap (λ (xs : List _). xs ++ []) none
+
+-- what follows of it
+pub kept_so : {X : Type 0} (b : Bool) (kept : List X) (Old New : Type 0) → IfKept b kept Old → (Old → New) → IfKept b kept New
+kept_so true kept Old New so step = step so
+kept_so false kept Old New none step = none
+
+some_same : (kept : Option (List code.Reply)) (more : List Reply) → option_map (map reply_of) kept ≡ Some more
+    → map reply_of (unwrap_or kept []) ≡ more
+some_same None more e = let c : ⊥ = cc in absurd c
+some_same (Some kept) more e = grind arith
+
+none_same : (kept : Option (List code.Reply)) → option_map (map reply_of) kept ≡ None → unwrap_or kept [] ≡ []
+none_same None e = refl
+none_same (Some kept) e = let c : ⊥ = cc in absurd c
+
+-- the messages of a world that keeps them behind none
+pub kept_messages : (b : Bool) (world : CodeWorld) (kept : List code.Reply) (more : List Reply)
+    → kept ≡ unwrap_or world.messages [] → KeepsBehind (if b then Some [] else None) more world
+    → IfKept b kept (map reply_of kept ≡ more)
+kept_messages true world kept more is keeps = ap (map reply_of) is ∙ some_same world.messages more keeps
+kept_messages false world kept more is keeps = is ∙ none_same world.messages keeps

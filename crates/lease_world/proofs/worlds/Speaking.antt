@@ -11,9 +11,11 @@ use Rattle.lease_model.specs.world.Events.{recorded_under}
 use Rattle.lease_facts.specs.Facts.{fact_of as fact_told}
 use Rattle.lease_facts.specs.declared.fact.Fact as code_fact
 use Rattle.lease_state.specs.declared.reply.Reply as code_reply
+use Rattle.lease_world.specs.world.Kept.{IfKept}
 use Rattle.lease_world.specs.world.Messages.{sent_among, sent_by_oldest, oldest, sent_by_cut, sent_by_join, sent_by_scavenge}
 use Rattle.lease_world.specs.world.Messages.{messages_of, messages_in, messages_from, messages_told_under, speaking}
 use Rattle.lease_world.proofs.worlds.Delivered.{told, delivers, notes_told}
+use Rattle.lease_world.proofs.worlds.Kept.{kept_so}
 
 speaking_both : (xs ys : List Fact) → speaking (xs ++ ys) ≡ speaking xs + speaking ys
 unfolding speaking
@@ -179,3 +181,12 @@ pub each_told : (facts : List code_fact.Fact) (replies : List code_reply.Reply) 
     → speaking (map fact_told facts) ≡ length replies
 each_told facts replies rules setup events same messages =
     ap speaking same ∙ (each_has_one rules setup events ∙ (ap length (sym messages) ∙ length-map replies reply_of))
+
+-- the same, where they are kept
+pub each_kept : (b : Bool) (facts : List code_fact.Fact) (replies : List code_reply.Reply) (rules : Rules) (setup : Setup)
+    (events : List Event) → map fact_told facts ≡ recorded_under rules setup events
+    → IfKept b replies (map reply_of replies ≡ messages_told_under rules setup events)
+    → IfKept b replies (speaking (map fact_told facts) ≡ length replies)
+each_kept b facts replies rules setup events same messages =
+    kept_so b replies (map reply_of replies ≡ messages_told_under rules setup events)
+    (speaking (map fact_told facts) ≡ length replies) messages (each_told facts replies rules setup events same)

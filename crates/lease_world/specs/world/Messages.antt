@@ -1,6 +1,5 @@
 -- The messages that the facts of a run speak of: the reply of each `sent` and of each `took`, in the order of the facts.
 use Rattle.std.specs.Prelude.{ℕ, suc, Option, Some, None, List, [], ◌∷◌, ◌++◌, if◌then◌else◌}
-use Rattle.lease_state.specs.Rules.{profile_rules}
 use Rattle.lease_state.specs.declared.rules.Rules.{Rules}
 use Rattle.lease_model.specs.messages.Replies.{Reply, Out}
 use Rattle.lease_model.specs.messages.Requests.{Request}
@@ -67,10 +66,6 @@ messages_from world (event ∷ events) = messages_in world event ++ messages_fro
 -- of a run, in the order of its record
 abbrev pub messages_told_under : Rules → Setup → List Event → List Reply
 messages_told_under rules setup events = messages_from (first_world_under rules setup) events
-
--- the same with the profile's rules
-abbrev pub messages_told : Setup → List Event → List Reply
-messages_told setup events = messages_told_under profile_rules setup events
 
 -- how many facts speak of a message
 unfoldable pub speaking : List Fact → ℕ

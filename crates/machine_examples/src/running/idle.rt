@@ -3,7 +3,7 @@
 use crate::running::runs::{open, setup, write};
 use lease_client::{Command, Refusal};
 use lease_state::{ClientNo, FileNo, Rules};
-use lease_world::{Event, Idle, Obstacle, obstacles_are_exact, run_explained_under, run_under};
+use lease_world::{Event, Idle, Kept, Obstacle, obstacles_are_exact, run, run_under};
 use std::test::Fail;
 
 // Two clients of one file. Of the events in between each changes something: the connects, the open with its way to the server
@@ -33,8 +33,14 @@ fn dead_events_are_told(rt: HostRuntime) -> Result<(), Fail> {
         Event::App(two, Command::Read { file }),
         Event::Cut(two),
     ];
-    let told = run_explained_under(alloc, Rules::profile(), &setup(alloc, 1, 2)?, &events)?;
-    let alone = run_under(alloc, Rules::profile(), &setup(alloc, 1, 2)?, &events)?;
+    let told = run_under(
+        alloc,
+        Rules::profile(),
+        Kept::all(),
+        &setup(alloc, 1, 2)?,
+        &events,
+    )?;
+    let alone = run(alloc, &setup(alloc, 1, 2)?, &events)?;
     assert!(rt; told.facts.as_slice() == alone.as_slice());
     assert_eq!(rt; told.messages.len(), 2);
     // Facts: the start, joined; opened, sent; took, believes; wrote; dropped.

@@ -2,7 +2,7 @@
 
 use crate::running::runs::{open, setup};
 use lease_state::{ClientNo, Rules};
-use lease_world::{Event, Passage, run_explained_under};
+use lease_world::{Event, Kept, Passage, run_under};
 use std::test::Fail;
 
 const ONE: ClientNo = ClientNo(1);
@@ -11,7 +11,13 @@ const ONE: ClientNo = ClientNo(1);
 fn requests_are_taken(rt: HostRuntime) -> Result<(), Fail> {
     let alloc = rt.alloc();
     let events = [Event::Connect(ONE), open(1, 7), Event::ServerTakes(ONE)];
-    let told = run_explained_under(alloc, Rules::profile(), &setup(alloc, 1, 1)?, &events)?;
+    let told = run_under(
+        alloc,
+        Rules::profile(),
+        Kept::all(),
+        &setup(alloc, 1, 1)?,
+        &events,
+    )?;
     // Facts: the start and joined, then what the server does.
     assert_eq!(rt; told.passages.len(), 2);
     let taken = Passage::Taken {
@@ -26,7 +32,13 @@ fn requests_are_taken(rt: HostRuntime) -> Result<(), Fail> {
 fn requests_are_lost(rt: HostRuntime) -> Result<(), Fail> {
     let alloc = rt.alloc();
     let events = [Event::Connect(ONE), open(1, 7), Event::Cut(ONE)];
-    let told = run_explained_under(alloc, Rules::profile(), &setup(alloc, 1, 1)?, &events)?;
+    let told = run_under(
+        alloc,
+        Rules::profile(),
+        Kept::all(),
+        &setup(alloc, 1, 1)?,
+        &events,
+    )?;
     assert_eq!(rt; told.passages.len(), 2);
     let lost = Passage::Lost {
         client: ONE,

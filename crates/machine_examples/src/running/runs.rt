@@ -7,10 +7,7 @@ use lease_client::{Command, Settlement};
 use lease_state::{
     Access, Bytes, ClientNo, Content, FileId, FileNo, LeaseState, Order, Reply, Rise, Rules, Share,
 };
-use lease_world::{
-    Event, Fact, RunFault, Setup, Verdict, judge, run, run_under, run_with_messages,
-    run_with_messages_under,
-};
+use lease_world::{Event, Fact, Kept, RunFault, Setup, Verdict, judge, run, run_under};
 use std::alloc::Global;
 use std::test::Fail;
 
@@ -139,9 +136,16 @@ fn a_run_gives_what_is_in_its_messages(rt: HostRuntime) -> Result<(), Fail> {
         Event::ServerTakes(two),
         Event::ClientTakes(one),
     ];
-    let (facts, messages) = run_with_messages(alloc, &setup(alloc, 1, 2)?, &events)?;
+    let kept = Kept {
+        messages: true,
+        idle: false,
+        passages: false,
+    };
+    let told = run_under(alloc, Rules::profile(), kept, &setup(alloc, 1, 2)?, &events)?;
     let alone = run(alloc, &setup(alloc, 1, 2)?, &events)?;
-    assert!(rt; facts.as_slice() == alone.as_slice());
+    assert!(rt; told.facts.as_slice() == alone.as_slice());
+    assert!(rt; told.idle.is_empty() && told.passages.is_empty());
+    let messages = told.messages;
     assert_eq!(rt; messages.len(), 4);
     let contexts = Vec::from_slice(alloc, &GRANTED)?;
     let created = Reply::Created {
@@ -172,13 +176,16 @@ fn risen(alloc: Global, rules: Rules) -> Result<LeaseState, Fail> {
         Event::ServerTakes(one),
         Event::ClientTakes(one),
     ];
-    let facts = run_under(alloc, rules, &setup(alloc, 1, 2)?, &events)?;
-    let (same, messages) = run_with_messages_under(alloc, rules, &setup(alloc, 1, 2)?, &events)?;
-    if facts.as_slice() != same.as_slice() || messages.len() != 6 {
+    let told = run_under(alloc, rules, Kept::nothing(), &setup(alloc, 1, 2)?, &events)?;
+    let all = run_under(alloc, rules, Kept::all(), &setup(alloc, 1, 2)?, &events)?;
+    if told.facts.as_slice() != all.facts.as_slice() || all.messages.len() != 6 {
         return Err("another run")?;
     }
+    if !told.messages.is_empty() || !told.idle.is_empty() || !told.passages.is_empty() {
+        return Err("more than the record")?;
+    }
     let mut believed = LeaseState::NONE;
-    for fact in facts.as_slice() {
+    for fact in told.facts.as_slice() {
         if let Fact::Believes(ClientNo(1), _, state) = fact {
             believed = *state;
         }
