@@ -1,7 +1,7 @@
 -- A call of what a handle holds, which is done, or never runs out of memory where it doesn't apply.
 use Rattle.lease_laws.proofs.Words.{Err, None, Ok, ap, Option, Result, Some, ⊤, ℕ, ◌∙◌, ◌≡◌, sym, true≢false}
 use Rattle.std.specs.Prelude.{IsOk, MatchResult, OnOk}
-use Rattle.machines_c.specs.handles.Calls.{IsCall, code_of}
+use Rattle.machines_c.specs.handles.Outcomes.{IsCall, code_of}
 use Rattle.machines_c.specs.declared.handles.outcome.Outcome.{Outcome}
 use Rattle.machines_c.specs.declared.handles.outcome.Outcome.TheVariants as outcomes
 use Rattle.lease_state.specs.declared.memory.Memory.{Memory}

@@ -1,4 +1,4 @@
-pub mod Calls
+pub mod Outcomes
 pub mod Codes
 pub mod Owned
 pub mod Rules

@@ -1,3 +1,3 @@
 pub mod Asked
-pub mod Calls
+pub mod Served
 pub mod Fields

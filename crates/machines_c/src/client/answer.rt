@@ -1,5 +1,5 @@
 ghost use Rattle.std.specs.Prelude.{◌≡◌, None, IfSome};
-ghost use Rattle.machines_c.specs.handles.Calls.{IsFilled, reading};
+ghost use Rattle.machines_c.specs.handles.Outcomes.{IsFilled, reading};
 ghost use Rattle.machines_c.specs.client.Fields.{answer_fields, answer_bytes, number_of_refusal};
 
 use crate::client::handle::ClientHandle;

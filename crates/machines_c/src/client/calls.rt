@@ -7,7 +7,7 @@ ghost use Rattle.lease_model.specs.client.State as clients;
 ghost use Rattle.lease_model.specs.client.Step.{quiet_step};
 ghost use Rattle.lease_model.specs.messages.FromBytes.{reply_of};
 ghost use Rattle.lease_client.specs.Steps.{IsStep};
-ghost use Rattle.machines_c.specs.handles.Calls.{IsCall, code_of};
+ghost use Rattle.machines_c.specs.handles.Outcomes.{IsCall, code_of};
 ghost use Rattle.machines_c.specs.declared.handles.outcome.Outcome.TheVariants as outcomes;
 ghost use Rattle.lease_state.specs.State.{bits_of_state};
 ghost use Rattle.machines_c.specs.client.Calls.{Commanded, MayBeLostBy, Took, Linked, Always, Never};

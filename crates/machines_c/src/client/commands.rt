@@ -2,7 +2,7 @@ ghost use Rattle.std.specs.Prelude.{◌≡◌, ◌≢◌, IfSome, None};
 ghost use Rattle.std.specs.Option.{option_map};
 ghost use Rattle.lease_client.specs.Answers.{command_of};
 ghost use Rattle.lease_model.specs.client.Commands as asked;
-ghost use Rattle.machines_c.specs.handles.Calls.{IsCall};
+ghost use Rattle.machines_c.specs.handles.Outcomes.{IsCall};
 ghost use Rattle.machines_c.specs.client.Asked.{open_asked, write_asked};
 ghost use Rattle.machines_c.specs.client.Calls.{Commanded, MayBeLostBy};
 

@@ -1,6 +1,6 @@
 ghost use Rattle.std.specs.Prelude.{◌≡◌, ◌≢◌, None, IfSome, length, slice_get};
 ghost use Rattle.std.specs.Option.{option_map};
-ghost use Rattle.machines_c.specs.handles.Calls.{IsFilled};
+ghost use Rattle.machines_c.specs.handles.Outcomes.{IsFilled};
 ghost use Rattle.machines_c.specs.declared.handles.outcome.Outcome.TheVariants as outcomes;
 ghost use Rattle.machines_c.specs.client.Fields.{note_fields, note_bytes, notes_of, number_of_settlement};
 

@@ -1,5 +1,5 @@
 ghost use Rattle.std.specs.Prelude.{◌≡◌, ◌≢◌};
-ghost use Rattle.machines_c.specs.handles.Calls.{IsCall};
+ghost use Rattle.machines_c.specs.handles.Outcomes.{IsCall};
 ghost use Rattle.machines_c.specs.handles.Codes as codes;
 ghost use Rattle.lease_model.specs.messages.FromBytes.{notice_in, acknowledged_in};
 ghost use Rattle.lease_model.specs.messages.Replies as told;

@@ -1,5 +1,5 @@
 ghost use Rattle.std.specs.Prelude.{◌≡◌};
-ghost use Rattle.machines_c.specs.handles.Calls.{code_of};
+ghost use Rattle.machines_c.specs.handles.Outcomes.{code_of};
 
 /// What became of a call of a machine that a handle holds (profile).
 #[derive(Clone, Copy, Debug, PartialEq, Eq)]

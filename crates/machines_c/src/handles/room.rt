@@ -1,6 +1,6 @@
 ghost use Rattle.std.specs.Prelude.{◌≡◌, length, IfOk, MatchOption};
 ghost use Rattle.machines_c.specs.declared.handles.outcome.Outcome.TheVariants as outcomes;
-ghost use Rattle.machines_c.specs.handles.Calls.{IsFilled};
+ghost use Rattle.machines_c.specs.handles.Outcomes.{IsFilled};
 
 use crate::handles::Outcome;
 use lease_state::{Bytes, FileId, Memory};

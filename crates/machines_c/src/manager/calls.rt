@@ -1,6 +1,6 @@
 ghost use Rattle.std.specs.Prelude.{◌≡◌, None, Some, MatchResult};
 ghost use Rattle.lease_model.specs.server.Naming.{key_of};
-ghost use Rattle.machines_c.specs.handles.Calls.{IsCall, code_of};
+ghost use Rattle.machines_c.specs.handles.Outcomes.{IsCall, code_of};
 ghost use Rattle.machines_c.specs.declared.handles.outcome.Outcome.TheVariants as outcomes;
 ghost use Rattle.manager_model.specs.Handling as rules;
 ghost use Rattle.machines_c.specs.manager.Asked.{is_present, is_absent, is_settled, is_gone, is_answered};

@@ -1,6 +1,6 @@
 ghost use Rattle.std.specs.Prelude.{◌≡◌, ◌≢◌, None, Some, IfSome};
 ghost use Rattle.lease_model.specs.messages.Requests.{FileRequest};
-ghost use Rattle.machines_c.specs.handles.Calls.{IsCall};
+ghost use Rattle.machines_c.specs.handles.Outcomes.{IsCall};
 ghost use Rattle.lease_manager.specs.Requests.{request_like};
 ghost use Rattle.manager_model.specs.Handling as rules;
 ghost use Rattle.machines_c.specs.manager.Asked.{create_asked, write_asked, kept_by, is_absent};

@@ -2,10 +2,10 @@ ghost use Rattle.std.specs.Prelude.{◌≡◌, ◌≢◌, None, true, not, Match
 ghost use Rattle.lease_model.specs.messages.FromBytes.{request_of};
 ghost use Rattle.lease_model.specs.server.Calls as rules;
 ghost use Rattle.lease_model.specs.server.Naming.{key_of};
-ghost use Rattle.machines_c.specs.handles.Calls.{IsCall, code_of};
+ghost use Rattle.machines_c.specs.handles.Outcomes.{IsCall, code_of};
 ghost use Rattle.machines_c.specs.declared.handles.outcome.Outcome.TheVariants as outcomes;
 ghost use Rattle.machines_c.specs.server.Asked.{is_present, is_absent, is_settled, is_gone};
-ghost use Rattle.machines_c.specs.server.Calls.{running, Served, MayBeLostUnless};
+ghost use Rattle.machines_c.specs.server.Served.{running, Served, MayBeLostUnless};
 
 use crate::handles::Outcome;
 use crate::server::handle::{Hosted, ServerHandle};

@@ -1,8 +1,8 @@
 ghost use Rattle.std.specs.Prelude.{◌≡◌, ◌≢◌, None, IfSome, length, slice_get};
 ghost use Rattle.std.specs.Option.{option_map};
-ghost use Rattle.machines_c.specs.handles.Calls.{IsFilled};
+ghost use Rattle.machines_c.specs.handles.Outcomes.{IsFilled};
 ghost use Rattle.machines_c.specs.declared.handles.outcome.Outcome.TheVariants as outcomes;
-ghost use Rattle.machines_c.specs.server.Calls.{running, outs_given};
+ghost use Rattle.machines_c.specs.server.Served.{running, outs_given};
 ghost use Rattle.machines_c.specs.server.Fields.{about, reply_fields, reply_bytes, out_fields, out_bytes};
 
 use crate::handles::{Outcome, fill};

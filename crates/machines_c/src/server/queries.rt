@@ -6,12 +6,12 @@ ghost use Rattle.lease_model.specs.server.Calls as rules;
 ghost use Rattle.lease_model.specs.server.Naming.{key_of, key_under};
 ghost use Rattle.lease_model.specs.server.Queries as queries;
 ghost use Rattle.share_server.specs.Table.{server_of};
-ghost use Rattle.machines_c.specs.handles.Calls.{IsFilled};
+ghost use Rattle.machines_c.specs.handles.Outcomes.{IsFilled};
 ghost use Rattle.machines_c.specs.handles.Codes.{flag_of};
 ghost use Rattle.machines_c.specs.declared.handles.outcome.Outcome.TheVariants as outcomes;
 ghost use Rattle.std.specs.Option.{option_map};
 ghost use Rattle.machines_c.specs.Values.{key_given};
-ghost use Rattle.machines_c.specs.server.Calls.{running};
+ghost use Rattle.machines_c.specs.server.Served.{running};
 
 use crate::handles::{Outcome, fill, write_id};
 use crate::server::handle::ServerHandle;

@@ -1,8 +1,8 @@
 ghost use Rattle.std.specs.Prelude.{◌≡◌, ◌≢◌, None, IfSome};
 ghost use Rattle.lease_model.specs.server.Calls as rules;
-ghost use Rattle.machines_c.specs.handles.Calls.{IsCall};
+ghost use Rattle.machines_c.specs.handles.Outcomes.{IsCall};
 ghost use Rattle.machines_c.specs.server.Asked.{create_asked, read_asked, write_asked, close_asked, acknowledged, is_absent};
-ghost use Rattle.machines_c.specs.server.Calls.{running, Served, MayBeLostUnless};
+ghost use Rattle.machines_c.specs.server.Served.{running, Served, MayBeLostUnless};
 
 use crate::handles::{Outcome, access_of, copied, share_of};
 use crate::server::handle::ServerHandle;

@@ -1,9 +1,9 @@
 ghost use Rattle.std.specs.Prelude.{◌≡◌, ◌≢◌, ◌≤◌, ◌<◌, ◌++◌, ◌∷◌, [], length, Some, None, IfOk, IfNone, IfSome, OnOk, OnErr, IsSomeAnd};
-ghost use Rattle.machines_c.specs.handles.Calls.{code_of};
+ghost use Rattle.machines_c.specs.handles.Outcomes.{code_of};
 ghost use Rattle.machines_c.specs.handles.Rules.{rules_given};
 ghost use Rattle.lease_model.specs.server.State.{new_server, new_server_under};
 ghost use Rattle.share_server.specs.Table.{server_of};
-ghost use Rattle.machines_c.specs.server.Calls.{running, files_in};
+ghost use Rattle.machines_c.specs.server.Served.{running, files_in};
 
 use crate::handles::{Outcome, rules_of};
 use crate::server::files::{Files, FilesHandle};
