@@ -22,8 +22,8 @@ def test_make() -> None:
 
 
 # `fields`, `machine_fields` and `manager` have each field of each struct, `messages` rooms, faults and odd numbers, `appended`
-# contexts that are appended one by one, `states` states and conflicts of opens, `nothing` and `manager` handles that hold nothing,
-# and `long_reads` answers to reads of more than 64 KiB.
+# contexts that are appended one by one, `states` states and conflicts of opens, `nothing` and `manager` handles that hold
+# nothing, and `long_reads` answers to reads of more than 64 KiB.
 @pytest.mark.parametrize("name", ["fields", "machine_fields", "manager", "messages", "appended", "states", "nothing",
                                   "long_reads"])
 def test_program(folder: Path, name: str) -> None:
