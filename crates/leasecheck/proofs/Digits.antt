@@ -1,11 +1,10 @@
 -- How the digits of an argument are taken from its text.
-use Rattle.lease_laws.proofs.Words.{◌&&◌, ◌++◌, ◌-◌, ◌<◌, ◌∙◌, ◌∷◌, ◌≡◌, ◌≤◌, List, Ok, ℕ, [], and_parts, ap, arith, drop, false}
+use Rattle.lease_laws.proofs.Words.{◌++◌, ◌-◌, ◌<◌, ◌∙◌, ◌∷◌, ◌≡◌, ◌≤◌, List, Ok, ℕ, [], and_parts, ap, arith, drop, false}
 use Rattle.lease_laws.proofs.Words.{length, list_all, refl, slice_index, subst, sym, take, take_all, true}
 use Rattle.std.proofs.lemmas.List.Sums.{list_all-from_AllPass}
 use Rattle.hex.specs.Hex.{decode_of, is_hex_digit}
 use Rattle.hex.proofs.HexLemmas.{decode_of-ok}
 use Rattle.leasecheck.specs.Arguments.{is_separator, digits_in, without_prefix, argument_bytes}
-use Rattle.leasecheck.specs.HexRemarks.{from_bad, from_other}
 
 -- a byte and another one, with and without a separator between them
 separated : (a b c d : ℕ) (rest : List ℕ) → is_separator c ≡ true
@@ -82,55 +81,3 @@ unfolding argument_bytes
 plain_argument text bytes plain =
     let all = list_all-from_AllPass is_hex_digit text (decode_of-ok text bytes plain).1 in
     rw (without_more text all, plain_digits text all) plain
-
--- ---- the first character that is no digit
-
-bad_apart : (a b c d : ℕ) (rest : List ℕ) → (is_hex_digit a && is_hex_digit b) ≡ true → is_separator c ≡ true
-    → from_bad (a ∷ b ∷ c ∷ d ∷ rest) ≡ from_bad (d ∷ rest)
-unfolding from_bad
-bad_apart a b c d rest digits is = rw (digits, is) refl
-
-bad_together : (a b c d : ℕ) (rest : List ℕ) → (is_hex_digit a && is_hex_digit b) ≡ true → is_separator c ≡ false
-    → from_bad (a ∷ b ∷ c ∷ d ∷ rest) ≡ from_bad (c ∷ d ∷ rest)
-unfolding from_bad
-bad_together a b c d rest digits is = rw (digits, is) refl
-
-pub bad_separated : (text behind : List ℕ) (n : ℕ) → 3 < length text → behind ≡ drop 2 text
-    → n ≡ length behind - 1 → is_separator (slice_index behind 0) ≡ true
-    → (is_hex_digit (slice_index text 0) && is_hex_digit (slice_index text 1)) ≡ true
-    → from_bad text ≡ from_bad (take n (drop 1 behind))
-bad_separated [] behind n more aft all is digits = absurd (omega arith)
-bad_separated (a ∷ []) behind n more aft all is digits = absurd (omega arith)
-bad_separated (a ∷ b ∷ []) behind n more aft all is digits = absurd (omega arith)
-bad_separated (a ∷ b ∷ c ∷ []) behind n more aft all is digits = absurd (omega arith)
-bad_separated (a ∷ b ∷ c ∷ d ∷ rest) behind n more aft all is digits =
-    let count : n ≡ length (c ∷ d ∷ rest) - 1 = subst (λ t. n ≡ length t - 1) aft all in
-    let whole : take n (d ∷ rest) ≡ d ∷ rest = take_all n (d ∷ rest) (omega (arith, count)) in
-    rw aft (bad_apart a b c d rest digits (subst (λ t. is_separator (slice_index t 0) ≡ true) aft is) ∙ ap from_bad (sym whole))
-
-pub bad_joined : (text behind : List ℕ) → 3 < length text → behind ≡ drop 2 text → is_separator (slice_index behind 0) ≡ false
-    → (is_hex_digit (slice_index text 0) && is_hex_digit (slice_index text 1)) ≡ true → from_bad text ≡ from_bad behind
-bad_joined [] behind more aft is digits = absurd (omega arith)
-bad_joined (a ∷ []) behind more aft is digits = absurd (omega arith)
-bad_joined (a ∷ b ∷ []) behind more aft is digits = absurd (omega arith)
-bad_joined (a ∷ b ∷ c ∷ []) behind more aft is digits = absurd (omega arith)
-bad_joined (a ∷ b ∷ c ∷ d ∷ rest) behind more aft is digits =
-    rw aft (bad_together a b c d rest digits (subst (λ t. is_separator (slice_index t 0) ≡ false) aft is))
-
--- a byte of other characters, and what is too short for two bytes
-pub bad_here : (text : List ℕ) → 3 < length text
-    → (is_hex_digit (slice_index text 0) && is_hex_digit (slice_index text 1)) ≡ false → from_bad text ≡ from_other text
-unfolding from_bad
-bad_here [] more digits = absurd (omega arith)
-bad_here (a ∷ []) more digits = absurd (omega arith)
-bad_here (a ∷ b ∷ []) more digits = absurd (omega arith)
-bad_here (a ∷ b ∷ c ∷ []) more digits = absurd (omega arith)
-bad_here (a ∷ b ∷ c ∷ d ∷ rest) more digits = rw digits refl
-
-pub bad_end : (text : List ℕ) → length text ≤ 3 → from_bad text ≡ from_other text
-unfolding from_bad
-bad_end [] few = refl
-bad_end (a ∷ []) few = refl
-bad_end (a ∷ b ∷ []) few = refl
-bad_end (a ∷ b ∷ c ∷ []) few = refl
-bad_end (a ∷ b ∷ c ∷ d ∷ rest) few = absurd (omega arith)

@@ -10,7 +10,6 @@ use Rattle.hex.specs.declared.error.FromHexError.{FromHexError}
 use Rattle.lease_wire.specs.declared.fault.WireFault.{WireFault}
 use Rattle.leasecheck.specs.Arguments.{GivesBy, argument_bytes}
 use Rattle.leasecheck.specs.Refusals.{MayEndBy, argument_refusal, given_refusal}
-use Rattle.leasecheck.specs.Remarks.{IsRemarkBy}
 use Rattle.leasecheck.specs.declared.failure.Failure.{Failure}
 use Rattle.leasecheck.specs.declared.failure.Failure.TheVariants.{Hex, Memory, Wire}
 
@@ -45,14 +44,6 @@ pub digits_refused : (fault : List ℕ → Option WireFault) (argument file : Li
 digits_refused fault argument file failure (inl memory) = inl memory
 digits_refused fault argument file failure (inr bad) =
     inr (no_digits fault (argument_bytes argument) bad.1 ∙ ap (λ (f : Failure). Some f) (sym bad.0))
-
--- ---- what is said
-
-pub given_said : (remark : List ℕ → WireFault → List ℕ) (argument : List ℕ) (path : Option (List ℕ)) (file bytes : List ℕ)
-    (fault : WireFault) (line : List ℕ) → GivesBy path argument file bytes → line ≡ remark bytes fault
-    → IsRemarkBy remark argument path file (Wire fault) line
-given_said remark argument None file bytes fault line gives is = (bytes, gives, is)
-given_said remark argument (Some path) file bytes fault line gives is = is ∙ ap (λ bs. remark bs fault) gives
 
 -- ---- the file that an argument names
 

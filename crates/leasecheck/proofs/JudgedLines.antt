@@ -8,8 +8,7 @@ use Rattle.lease_facts.specs.declared.fact.Fact.{Fact}
 use Rattle.lease_world.specs.judge.Judged.{Judging, HasJudged}
 use Rattle.lease_texts.specs.Reading.{reads_on, is_passed_over}
 use Rattle.lease_texts.specs.Records.{fact_in, with_fact, with_line}
-use Rattle.leasecheck.specs.Judging.{HasRead, HasReadText, ReadsBlock, EndsLine, RunsOut, RefusesLine, SaysLine, bare}
-use Rattle.leasecheck.proofs.LinesAt.{line_behind}
+use Rattle.leasecheck.specs.Judging.{HasRead, HasReadText, ReadsBlock, EndsLine, RunsOut, RefusesLine, bare}
 use Rattle.leasecheck.proofs.Blocks.{lines_behind, lines_count, ends_with_take}
 use Rattle.leasecheck.specs.declared.judging.Progress.{Progress}
 use Rattle.leasecheck.specs.declared.failure.Failure.TheVariants as failure
@@ -70,15 +69,14 @@ read_line old new line lines has next taken = record {
 }
 
 pub refuse_line : (old : Progress) (line : List ℕ) (lines : List (List ℕ)) (told : Refusal) → (has : HasRead old lines)
-    → (told ≡ bare failure.Memory) ⊎ ((with_line has.facts line ≡ None) × (told.failure ≡ failure.Line old.number)
-    × SaysLine old.number line told) → (told ≡ bare failure.Memory) ⊎ RunsOut (length (lines ++ line ∷ [])) told
+    → (told ≡ bare failure.Memory) ⊎ ((with_line has.facts line ≡ None) × (told.failure ≡ failure.Line old.number))
+    → (told ≡ bare failure.Memory) ⊎ RunsOut (length (lines ++ line ∷ [])) told
     ⊎ ((more : List (List ℕ)) → RefusesLine (lines ++ (line ∷ [] ++ more)) told)
 refuse_line old line lines told has (inl memory) = inl memory
 refuse_line old line lines told has (inr refused) = inr (inr (λ more. (
   old.number,
   refused_line line more old.number has.facts _ refused.0 (has.read (line ∷ more)),
   refused.1,
-  subst (λ l. SaysLine old.number l told) (sym (line_behind lines line more old.number has.counted)) refused.2,
 )))
 
 pub run_out : (old : Progress) (line : List ℕ) (lines : List (List ℕ)) → HasRead old lines → old.number ≡ 2 ^ 64 - 1

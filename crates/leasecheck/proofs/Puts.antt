@@ -1,17 +1,15 @@
 -- Texts of which a beginning was written.
-use Rattle.lease_laws.proofs.Words.{◌++◌, ◌-◌, ◌∙◌, ◌∷◌, ◌≡◌, ◌==◌, ◌⊎◌, [], ℕ, Appends, Bool, Err, IfSome, List, None, Ok}
+use Rattle.lease_laws.proofs.Words.{◌++◌, ◌-◌, ◌∙◌, ◌∷◌, ◌≡◌, ◌==◌, [], ℕ, Appends, Bool, Err, List, None, Ok}
 use Rattle.lease_laws.proofs.Words.{Option, Result, Some, ap, append-nil, append_assoc, arith, drop, false, inl, inr, length}
-use Rattle.lease_laws.proofs.Words.{length-drop, option_map, refl, string_bytes, subst, sym, take, take_all, true, true≢false}
-use Rattle.lease_laws.proofs.Words.{unwrap_or}
+use Rattle.lease_laws.proofs.Words.{length-drop, refl, string_bytes, subst, sym, take, take_all, true, true≢false}
 use Rattle.std.proofs.lemmas.List.{take-append-drop}
 use Rattle.lease_wire.specs.WireFaults.{message_fault}
 use Rattle.std.proofs.KnownBytes.{Keeps-refl}
-use Rattle.leasecheck.specs.FileFaults.{FailsReading, IsUnreadRemark}
+use Rattle.leasecheck.specs.FileFaults.{FailsReading}
 use Rattle.leasecheck.specs.Known.{OfBytes}
 use Rattle.leasecheck.specs.Made.{PrintsOrEnds}
 use Rattle.leasecheck.specs.Paths.{path_of}
-use Rattle.leasecheck.specs.Remarks.{IsRemark, Says, second_of}
-use Rattle.leasecheck.specs.Refusals.{Begins, Ends, EndsOf, IsSecond, MayEnd, MayEndBy, Puts, failure_line, shown_fault}
+use Rattle.leasecheck.specs.Refusals.{Begins, Ends, EndsOf, MayEnd, MayEndBy, Puts, failure_line, second_of, shown_fault}
 use Rattle.leasecheck.specs.declared.failure.Failure.{Failure}
 use Rattle.leasecheck.specs.declared.refusal.Refusal.{Refusal}
 use Rattle.leasecheck.specs.declared.tasks.Task.{Task}
@@ -69,53 +67,18 @@ pub begins_longer : (old new : Option (List ℕ)) (line second : List ℕ) → B
 begins_longer old new line second (part, rest, is, has) =
     (part, rest ++ second, ap (λ t. t ++ second) is ∙ append_assoc part rest second, has)
 
--- what is said, or nothing
-of_second : {X : Type 0} (bytes : X → List ℕ) (P : List ℕ → Type 0) (second : Option X) → IfSome second (λ x. P (bytes x))
-    → (unwrap_or (option_map bytes second) [] ≡ []) ⊎ P (unwrap_or (option_map bytes second) [])
-of_second bytes P None says = inl refl
-of_second bytes P (Some line) says = inr says
-
--- A second line that is the old one, or says this, says this or what the old one says.
-either_said : {X : Type 0} (P Q : X → Type 0) (old new : Option X) → IfSome new (λ x. (old ≡ Some x) ⊎ P x) → IfSome old Q
-    → IfSome new (λ x. P x ⊎ Q x)
-either_said P Q old None said says = tt
-either_said P Q old (Some line) (inl same) says = inr (subst (λ second. IfSome second Q) same says)
-either_said P Q old (Some line) (inr unread) says = inl unread
-
--- what is said of a task's file that can't be read, or else of its input
-pub is_second : (asked : Task) (file : List ℕ) (old new : Refusal)
-    → IfSome new.second (λ line. (old.second ≡ Some line) ⊎ IsUnreadRemark (path_of asked) old.failure (string_bytes line))
-    → Says old (IsRemark asked file) → IsSecond asked file old.failure (second_of new)
-is_second asked file old new said says = of_second (λ line. string_bytes line)
-    (λ line. IsUnreadRemark (path_of asked) old.failure line ⊎ IsRemark asked file old.failure line) new.second
-    (either_said (λ line. IsUnreadRemark (path_of asked) old.failure (string_bytes line))
-    (λ line. IsRemark asked file old.failure (string_bytes line)) old.second new.second said says)
-
-of_more : {X : Type 0} (bytes : X → List ℕ) (P Q : List ℕ → Type 0) (second : Option X) → ((line : List ℕ) → P line → Q line)
-    → IfSome second (λ x. P (bytes x)) → IfSome second (λ x. Q (bytes x))
-of_more bytes P Q None more says = tt
-of_more bytes P Q (Some line) more says = more (bytes line) says
-
-pub says_more : (refusal : Refusal) (P Q : Failure → List ℕ → Type 0)
-    → ((line : List ℕ) → P refusal.failure line → Q refusal.failure line) → Says refusal P → Says refusal Q
-says_more refusal P Q more says = of_more (λ line. string_bytes line) (P refusal.failure) (Q refusal.failure) refusal.second more
-    says
-
 -- ---- tasks that end with status 1
 
 pub ended_of : (asked : Task) (known old new faults told : Option (List ℕ)) (refusal full : Refusal)
     → OfBytes known (λ file. PrintsOrEnds asked file old new (Err refusal)) → full.failure ≡ refusal.failure
-    → IfSome full.second (λ line. (refusal.second ≡ Some line)
-    ⊎ IsUnreadRemark (path_of asked) refusal.failure (string_bytes line))
     → Begins faults told (failure_line full.failure ++ second_of full) → Ends asked known old new faults told
-ended_of asked known old new faults told refusal full (file, has, (ended, says)) same said begins = (
+ended_of asked known old new faults told refusal full (file, has, ended) same begins = (
   file,
   has,
   inr (
     refusal.failure,
     second_of full,
     ended,
-    is_second asked file refusal full said says,
     subst (λ (f : Failure). Begins faults told (failure_line f ++ second_of full)) same begins,
   ),
 )
@@ -135,15 +98,11 @@ may_end_unread (task.Capture name side form) path file failed is fails = inr (in
 may_end_unread task.Version path file failed is fails = let no : ⊥ = cc in absurd no
 
 pub unopened : (asked : Task) (path : List ℕ) (old faults told : Option (List ℕ)) (refusal full : Refusal)
-    → path_of asked ≡ Some path → FailsReading refusal.failure → refusal.second ≡ None → full.failure ≡ refusal.failure
-    → IfSome full.second (λ line. (refusal.second ≡ Some line)
-    ⊎ IsUnreadRemark (path_of asked) refusal.failure (string_bytes line))
+    → path_of asked ≡ Some path → FailsReading refusal.failure → full.failure ≡ refusal.failure
     → Begins faults told (failure_line full.failure ++ second_of full) → EndsOf asked [] old old faults told
-unopened asked path old faults told refusal full is fails none same said begins = inr (
+unopened asked path old faults told refusal full is fails same begins = inr (
   refusal.failure,
   second_of full,
   inr (Keeps-refl old, may_end_unread asked path [] refusal.failure is fails),
-  is_second asked [] refusal full said
-      (subst (λ second. IfSome second (λ line. IsRemark asked [] refusal.failure (string_bytes line))) (sym none) tt),
   subst (λ (f : Failure). Begins faults told (failure_line f ++ second_of full)) same begins,
 )

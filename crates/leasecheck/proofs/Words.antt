@@ -8,7 +8,8 @@ use Rattle.clap.specs.declared.error.Error.{Error}
 use Rattle.clap.specs.declared.error.kind.ErrorKind.{ErrorKind}
 use Rattle.clap.specs.declared.error.kind.ErrorKind.TheVariants as error
 use Rattle.clap.specs.declared.parser.matches.ArgMatches.{ArgMatches}
-use Rattle.leasecheck.specs.CommandLine.{AreRefused, AsksFor, Parsers, Errs, Parses, IsUsageOf, Request, TellsUsage, leasecheck_app}
+use Rattle.leasecheck.specs.CommandLine.{AreRefused, AsksFor, Parsers, Errs, Parses, IsUsageOf, Request, TellsUsage}
+use Rattle.leasecheck.specs.CommandLine.{leasecheck_app}
 use Rattle.leasecheck.specs.CommandLine.{requested_by}
 use Rattle.leasecheck.specs.declared.tasks.Usage.{Usage}
 use Rattle.leasecheck.specs.declared.tasks.Usage.TheVariants as usage

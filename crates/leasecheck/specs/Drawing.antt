@@ -1,20 +1,16 @@
 -- The picture of a record, or of the run of a schedule, and why there is none.
-use Rattle.std.specs.Prelude.{◌≡◌, ◌⊎◌, ℕ, ◌++◌, nat_lt, Bool, true, false, List, [], length, map, codes, if◌then◌else◌}
+use Rattle.std.specs.Prelude.{◌≡◌, ◌⊎◌, ℕ, nat_lt, Bool, true, false, List, [], length, map, if◌then◌else◌}
 use Rattle.std.specs.Prelude.{Option, Some, None, Result, Ok, Err, MatchResult}
-use Rattle.std.specs.String.{string_bytes}
 use Rattle.lease_model.specs.records.Verdict as model
 use Rattle.lease_facts.specs.Facts.{fact_of}
 use Rattle.lease_facts.specs.declared.fact.Fact.{Fact}
-use Rattle.lease_reasons.specs.Extent.{IsExtent}
 use Rattle.lease_reasons.specs.Reasons.{Explains}
-use Rattle.lease_reasons.specs.declared.extent.Extent.{Extent}
 use Rattle.lease_reasons.specs.declared.reason.Reason.{Reason}
 use Rattle.lease_texts.specs.Records.{record_in}
 use Rattle.lease_texts.specs.Schedules.{Draft, schedule_in}
 use Rattle.lease_facts.specs.Verdicts.{verdict_of}
 use Rattle.lease_facts.specs.declared.verdict.Verdict.{Verdict}
 use Rattle.record_words.specs.words.BadPlaces.{bad_places}
-use Rattle.record_words.specs.words.Explained.{bad_lines, bad_place, extent_lines}
 use Rattle.record_words.specs.words.Placed.{IsPlaced}
 use Rattle.record_words.specs.declared.words.placed.Placed.{Placed}
 use Rattle.lease_facts.specs.Setups.{event_of}
@@ -24,37 +20,29 @@ use Rattle.lease_world.specs.world.Passages.{passages_told_under}
 use Rattle.record_words.specs.pictures.Captions.{captions, seen_mark}
 use Rattle.record_words.specs.pictures.Remarks.{said_of, words_of}
 use Rattle.record_words.specs.pictures.Requests.{requests_drawn, seen_request}
-use Rattle.record_words.specs.pictures.Svg.{picture_text}
 use Rattle.record_words.specs.declared.pictures.picture.Picture.{Picture}
 use Rattle.record_words.specs.declared.pictures.fault.PictureFault.{PictureFault}
 use Rattle.record_words.specs.declared.pictures.fault.PictureFault.TheVariants as fault
 use Rattle.lease_state.specs.Rules.{profile_rules}
 use Rattle.leasecheck.specs.Comments.{comments}
-use Rattle.leasecheck.specs.Replayed.{record_of, run_refusal, setup_of, verdict_line}
-use Rattle.leasecheck.specs.SetupRemarks.{too_many_line}
+use Rattle.leasecheck.specs.Replayed.{record_of, run_refusal, setup_of}
 use Rattle.leasecheck.specs.declared.failure.Failure.{Failure}
 use Rattle.leasecheck.specs.declared.failure.Failure.TheVariants as failure
 use Rattle.leasecheck.specs.declared.refusal.Refusal.{Refusal}
 
 -- ---- what is drawn
 
--- A picture of facts has one mark for each of them, in their order, with the fact in words, and beside them what comments say
--- of them. The marks of the facts that make the record bad say so, and below the marks stands what `judge --explain` says. Where it
--- is known what became of the requests of clients, there is a mark for each of these.
-pub record IsDrawn (placed : Placed) (said : List (List ℕ)) (passages : List Passage) (text : List ℕ) : Type 0 where
+-- A picture of facts has one mark for each of them, in their order, and beside them what comments say of them. The marks of
+-- the facts that make the record bad say so. Where it is known what became of the requests of clients, there is a mark for
+-- each of these. Of words, shapes and the text of a picture nothing is said here.
+pub record IsDrawn (placed : Placed) (said : List (List ℕ)) (passages : List Passage) (picture : Picture) : Type 0 where
   pub verdict : Verdict
   pub reason : Option Reason
-  pub extent : Extent
-  pub picture : Picture
   pub verdict_is : verdict_of verdict ≡ model.verdict (map fact_of placed.facts.items)
   pub explains : Explains (map fact_of placed.facts.items) verdict reason
-  pub judged : IsExtent placed.facts.items verdict extent
   pub marks : map seen_mark picture.marks.items ≡ captions (bad_places verdict reason) 1 placed.facts.items
   pub requests : map seen_request picture.requests.items ≡ requests_drawn passages
   pub remarks : map words_of picture.remarks.items ≡ said_of (length placed.facts.items) said
-  pub notes : string_bytes picture.notes
-      ≡ verdict_line verdict ++ (bad_lines placed (bad_place verdict) reason ++ extent_lines extent)
-  pub text_is : text ≡ picture_text picture
 
 -- the facts of a run of this draft
 abbrev pub IsRunOf : Draft → Placed → Type 0
@@ -65,13 +53,13 @@ abbrev pub ArePassagesOf : Draft → List Passage → Type 0
 ArePassagesOf draft passages =
     map passage_meant passages ≡ passages_told_under profile_rules (setup_of draft) (map event_of draft.events)
 
--- The text is the picture of the record that the file is, with its comments, or else of the run of the schedule that it is, with
--- its requests.
-abbrev pub Draws : List ℕ → List ℕ → Type 0
-Draws file text = (placed : Placed) × (passages : List Passage)
-    × ((IsPlaced file placed × (passages ≡ []) × IsDrawn placed (comments file) passages text)
+-- The picture is of the record that the file is, with its comments, or else of the run of the schedule that it is, with its
+-- requests.
+abbrev pub Draws : List ℕ → Picture → Type 0
+Draws file picture = (placed : Placed) × (passages : List Passage)
+    × ((IsPlaced file placed × (passages ≡ []) × IsDrawn placed (comments file) passages picture)
     ⊎ ((draft : Draft) × (schedule_in file ≡ Ok draft) × IsRunOf draft placed × ArePassagesOf draft passages
-    × IsDrawn placed [] passages text))
+    × IsDrawn placed [] passages picture))
 
 -- ---- why there is no picture
 
@@ -111,13 +99,3 @@ draw_refusal file = either_refusal (record_in file) (schedule_in file)
 abbrev pub RefusesDraw : {X : Type 0} → List ℕ → Result X Refusal → Type 0
 RefusesDraw file answer = MatchResult answer (λ _. draw_refusal file ≡ None)
     (λ told. (told.failure ≡ failure.Memory) ⊎ (draw_refusal file ≡ Some told.failure))
-
--- ---- what is said of a file that is refused
-
-abbrev pub facts_line : ℕ → List ℕ
-facts_line count = too_many_line (codes "facts") 5000 count
-
-abbrev pub count_of : Result (List Fact) ℕ → Result Draft ℕ → ℕ
-count_of (Ok facts) draft = length facts
-count_of (Err number) (Ok draft) = length (record_of profile_rules draft)
-count_of (Err number) (Err other) = 0

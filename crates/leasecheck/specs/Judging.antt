@@ -1,7 +1,6 @@
 -- Records that are judged as they are read, block by block.
 use Rattle.std.specs.Prelude.{◌≡◌, ◌⊎◌, ◌++◌, ◌+◌, ◌^◌, ◌≤◌, ℕ, map, List, [], ◌∷◌, length, Option, Some, None, Result, Ok, Err}
-use Rattle.std.specs.Prelude.{MatchResult, IfSome}
-use Rattle.std.specs.String.{string_bytes}
+use Rattle.std.specs.Prelude.{MatchResult}
 use Rattle.std.specs.declared.io.ErrorKind.{ErrorKind}
 use Rattle.lease_model.specs.records.Verdict as model
 use Rattle.lease_facts.specs.Facts.{fact_of}
@@ -22,7 +21,6 @@ use Rattle.leasecheck.specs.declared.judging.Progress.{Progress}
 use Rattle.leasecheck.specs.declared.judging.Stop.{Stop}
 use Rattle.leasecheck.specs.declared.judging.Stop.TheVariants as stop
 use Rattle.leasecheck.specs.declared.refusal.Refusal.{Refusal}
-use Rattle.leasecheck.specs.LineRemarks.{fact_remark, line_among}
 
 -- ---- the verdict on a text
 
@@ -39,15 +37,10 @@ bare failure = record { failure = failure; second = None }
 abbrev pub IsUnread : Refusal → Type 0
 IsUnread told = (why : ErrorKind) × (told ≡ bare (reading_failure why))
 
--- what is said of a line is said, or nothing
-abbrev pub SaysLine : ℕ → List ℕ → Refusal → Type 0
-SaysLine number line told = IfSome told.second (λ text. fact_remark number line ≡ Some (string_bytes text))
-
--- The refusal tells the first of the lines that is refused, and says no more than what is wrong with that.
+-- The refusal tells the first of the lines that is refused.
 abbrev pub RefusesLine : List (List ℕ) → Refusal → Type 0
 RefusesLine lines told =
     (number : ℕ) × (reads_on with_line 1 [] lines ≡ Err number) × (told.failure ≡ failure.Line number)
-    × SaysLine number (line_among lines number) told
 
 -- There are more lines than numbers of 64 bits, which only a text of so many bytes has.
 abbrev pub RunsOut : ℕ → Refusal → Type 0
@@ -80,10 +73,10 @@ TakesLine facts line judge answer = MatchResult answer
     (λ fault. fault ≡ Refused → with_line facts line ≡ None)
 
 -- What is told where the line of this number isn't taken.
-abbrev pub TellsStop : ℕ → List ℕ → Stop → Refusal → Type 0
-TellsStop number line stop.Lines told = told ≡ bare failure.Lines
-TellsStop number line stop.Memory told = told ≡ bare failure.Memory
-TellsStop number line stop.Refused told = (told.failure ≡ failure.Line number) × SaysLine number line told
+abbrev pub TellsStop : ℕ → Stop → Refusal → Type 0
+TellsStop number stop.Lines told = told ≡ bare failure.Lines
+TellsStop number stop.Memory told = told ≡ bare failure.Memory
+TellsStop number stop.Refused told = told.failure ≡ failure.Line number
 
 -- Lines are read after those that were, or one of them is refused.
 abbrev pub ReadsMore : List (List ℕ) → List (List ℕ) → Result Progress Refusal → Type 0

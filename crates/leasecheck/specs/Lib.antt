@@ -1,11 +1,7 @@
 pub mod Arguments
 pub mod Known
-pub mod HexRemarks
 pub mod FileFaults
 pub mod Paths
-pub mod SetupRemarks
-pub mod LineRemarks
-pub mod WireRemarks
 pub mod Answer
 pub mod Words
 pub mod Shown
@@ -19,7 +15,6 @@ pub mod Comments
 pub mod Drawing
 pub mod Capturing
 pub mod Printed
-pub mod Remarks
 pub mod Refusals
 pub mod Recording
 pub mod Made

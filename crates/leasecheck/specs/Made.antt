@@ -5,7 +5,6 @@ use Rattle.leasecheck.specs.Arguments.{Gives}
 use Rattle.leasecheck.specs.Printed.{IsTextOf, PrintsOf}
 use Rattle.leasecheck.specs.Recording.{recorded_text}
 use Rattle.leasecheck.specs.Refusals.{EndsWith, MayEnd, refusal_of}
-use Rattle.leasecheck.specs.Remarks.{IsRemark, Says}
 use Rattle.leasecheck.specs.declared.failure.Failure.{Failure}
 use Rattle.leasecheck.specs.declared.refusal.Refusal.{Refusal}
 use Rattle.leasecheck.specs.declared.tasks.Task.{Task}
@@ -31,16 +30,13 @@ status_made (Record one) = 0
 -- ---- what a task answers
 
 -- This is the text and the status, and nothing is refused; or this may end it, and no more than that is said.
-abbrev pub Answers : (List ℕ → ℕ → Type 0) → Option Failure → (Failure → Type 0) → (Failure → List ℕ → Type 0)
-    → Result Made Refusal → Type 0
-Answers IsText refusal MayEndIt IsSaid answer = MatchResult answer
-    (λ made. IsText (text_made made) (status_made made) × (refusal ≡ None))
-    (λ refused. MayEndIt refused.failure × Says refused IsSaid)
+abbrev pub Answers : (List ℕ → ℕ → Type 0) → Option Failure → (Failure → Type 0) → Result Made Refusal → Type 0
+Answers IsText refusal MayEndIt answer = MatchResult answer
+    (λ made. IsText (text_made made) (status_made made) × (refusal ≡ None)) (λ refused. MayEndIt refused.failure)
 
 -- what a task answers whose file has these bytes
 abbrev pub AnswersTo : Task → List ℕ → Result Made Refusal → Type 0
-AnswersTo asked file answer =
-    Answers (IsTextOf asked file) (refusal_of asked file) (MayEnd asked file) (IsRemark asked file) answer
+AnswersTo asked file answer = Answers (IsTextOf asked file) (refusal_of asked file) (MayEnd asked file) answer
 
 -- These bytes are what a task goes by whose file has those: the bytes that its argument gives, or else the file's.
 abbrev pub IsGiven : Task → List ℕ → List ℕ → Type 0
@@ -57,4 +53,4 @@ IsGiven task.Version file given = ⊤
 abbrev pub PrintsOrEnds : Task → List ℕ → Option (List ℕ) → Option (List ℕ) → Result ℕ Refusal → Type 0
 PrintsOrEnds asked file old new answer = MatchResult answer
     (λ status. PrintsOf asked file old new status × (refusal_of asked file ≡ None))
-    (λ refused. EndsWith asked file old new refused.failure × Says refused (IsRemark asked file))
+    (λ refused. EndsWith asked file old new refused.failure)

@@ -9,7 +9,6 @@ use Rattle.capture_texts.specs.declared.line.Side.{Side}
 use Rattle.leasecheck.specs.Arguments.{Gives}
 use Rattle.leasecheck.specs.Capturing.{capture_line, capture_status, TellsRecord}
 use Rattle.lease_facts.specs.declared.verdict.Verdict.{Verdict}
-use Rattle.leasecheck.specs.Drawing.{Draws}
 use Rattle.leasecheck.specs.Shown.{Shows}
 use Rattle.leasecheck.specs.Explaining.{ExplainsVerdict}
 use Rattle.leasecheck.specs.Judging.{IsVerdictOn}
@@ -41,7 +40,8 @@ TellsCapture form.Findings side bytes text status = (verdict : CaptureVerdict) �
     × (text ≡ capture_line verdict ++ findings) × (status ≡ capture_status verdict) × IsVerdictOnCapture side bytes verdict
 TellsCapture form.Record side bytes text status = TellsRecord side bytes text status
 
--- The text is what the task prints, and the status how it ends, where its file has these bytes.
+-- The text is what the task prints, and the status how it ends, where its file has these bytes. Of the text of a picture
+-- nothing is said here.
 abbrev pub IsTextOf : Task → List ℕ → List ℕ → ℕ → Type 0
 IsTextOf (Ack argument) file text status =
     (status ≡ 0) × (bytes : List ℕ) × Gives (string_bytes argument) file bytes × AnswersWith bytes text
@@ -50,7 +50,7 @@ IsTextOf (Show kind argument) file text status =
 IsTextOf (Replay path telling rules) file text status = (status ≡ 0) × Replays telling rules file text
 IsTextOf (Judge path) file text status = TellsVerdict file text status
 IsTextOf (Explain path) file text status = TellsReason file text status
-IsTextOf (Draw path) file text status = (status ≡ 0) × Draws file text
+IsTextOf (Draw path) file text status = status ≡ 0
 IsTextOf (Capture path side form) file text status = TellsCapture form side file text status
 IsTextOf Version file text status = (status ≡ 0) × (text ≡ version_text)
 

@@ -1,6 +1,6 @@
 -- Why a task is refused, and the line that says so.
 use Rattle.std.specs.Prelude.{◌≡◌, ℕ, ◌+◌, ◌^◌, ◌≤◌, ◌++◌, List, [], ◌∷◌, codes, drop, if◌then◌else◌, Option, Some, None, Result}
-use Rattle.std.specs.Prelude.{Ok, Err, MatchResult, ◌⊎◌, length, Bool, true, false, IsSome}
+use Rattle.std.specs.Prelude.{Ok, Err, MatchResult, ◌⊎◌, length, Bool, true, false, IsSome, unwrap_or}
 use Rattle.std.specs.Fmt.{decimal}
 use Rattle.std.specs.Option.{option_map}
 use Rattle.std.specs.Result.{result_err}
@@ -17,13 +17,13 @@ use Rattle.lease_wire.specs.declared.fault.WireFault.{WireFault}
 use Rattle.lease_texts.specs.Records.{record_in}
 use Rattle.leasecheck.specs.Arguments.{argument_bytes}
 use Rattle.leasecheck.specs.Drawing.{draw_refusal}
-use Rattle.leasecheck.specs.FileFaults.{FailsReading, IsUnreadRemark}
+use Rattle.leasecheck.specs.FileFaults.{FailsReading}
 use Rattle.leasecheck.specs.Known.{MayHave, OfBytes}
-use Rattle.leasecheck.specs.Paths.{file_named, path_of}
+use Rattle.leasecheck.specs.Paths.{file_named}
 use Rattle.leasecheck.specs.Printed.{IsTextOf, PrintsOf}
-use Rattle.leasecheck.specs.Remarks.{IsRemark}
 use Rattle.leasecheck.specs.Replayed.{replay_refusal}
 use Rattle.leasecheck.specs.declared.failure.Failure.{Failure}
+use Rattle.leasecheck.specs.declared.refusal.Refusal.{Refusal}
 use Rattle.leasecheck.specs.declared.failure.Failure.TheVariants.{Hex, Wire, File, Lines, Line, Run, Picture, Memory, Output}
 use Rattle.lease_world.specs.declared.setup.RunFault.TheVariants as run
 use Rattle.leasecheck.specs.declared.tasks.Kind.{Kind}
@@ -168,17 +168,16 @@ failure_text Output = codes "fault output"
 abbrev pub failure_line : Failure → List ℕ
 failure_line failure = failure_text failure ++ 10 ∷ []
 
--- nothing, or what is said after this failure of the task: why its file can't be read, or else what is said of its input
-abbrev pub IsSecond : Task → List ℕ → Failure → List ℕ → Type 0
-IsSecond asked file failure second =
-    (second ≡ []) ⊎ (IsUnreadRemark (path_of asked) failure second ⊎ IsRemark asked file failure second)
+-- what is told after the line of a failure: a second line, or nothing
+abbrev pub second_of : Refusal → List ℕ
+second_of refusal = unwrap_or (option_map (λ line. string_bytes line) refusal.second) []
 
 -- How a task ends with status 1: it prints what tells so, as that a record is malformed; or it has a failure, whose line is told
--- on the other stream, and after it nothing or the second line about that failure; or a beginning of this.
+-- on the other stream, and what more is said is told after that; or a beginning of this.
 abbrev pub EndsOf : Task → List ℕ → Option (List ℕ) → Option (List ℕ) → Option (List ℕ) → Option (List ℕ) → Type 0
 EndsOf asked file old new faults told =
     (PrintsOf asked file old new 1 × Keeps faults told)
-    ⊎ ((failure : Failure) × (second : List ℕ) × EndsWith asked file old new failure × IsSecond asked file failure second
+    ⊎ ((failure : Failure) × (second : List ℕ) × EndsWith asked file old new failure
     × Begins faults told (failure_line failure ++ second))
 
 -- and so where its file has bytes that its reader may have

@@ -4,7 +4,6 @@ ghost use Rattle.capture_texts.specs.Captures.{IsReadFrom, capture_in};
 ghost use Rattle.capture_texts.specs.Verdicts.{IsVerdictOnCapture};
 ghost use Rattle.leasecheck.specs.Capturing.{TellsRecord, capture_line, capture_status, lines_printed};
 ghost use Rattle.leasecheck.specs.Refusals.{line_refusal};
-ghost use Rattle.leasecheck.specs.Remarks.{IsCaptureRemark, Says};
 
 use crate::failure::Failure;
 use crate::refusal::Refusal;
@@ -20,7 +19,6 @@ fn capture_of(alloc: Global, side: Side, text: &[u8]) -> Result<Capture, Refusal
     ensures read { IfOk result (λ capture. IsReadFrom side text.now capture) }
     ensures refused { IfErr result (λ told. (told.failure ≡ Failure.Memory)
         ⊎ (line_refusal (capture_in text.now) ≡ Some told.failure)) }
-    ensures said { IfErr result (λ told. Says told IsCaptureRemark) }
 {
     match read_capture(alloc, side, text) {
         Ok(capture) => Ok(capture),
@@ -87,7 +85,6 @@ pub fn capture_text(
     ensures accepted { OnOk result (line_refusal (capture_in text.now) ≡ None) }
     ensures refused { IfErr result (λ told. (told.failure ≡ Failure.Memory)
         ⊎ (line_refusal (capture_in text.now) ≡ Some told.failure)) }
-    ensures said { IfErr result (λ told. Says told IsCaptureRemark) }
 {
     let report = capture_of(alloc, side, text)?.report(alloc)?;
     let verdict = report.verdict();
@@ -133,7 +130,6 @@ pub fn capture_record(
     ensures accepted { OnOk result (line_refusal (capture_in text.now) ≡ None) }
     ensures refused { IfErr result (λ told. (told.failure ≡ Failure.Memory)
         ⊎ (line_refusal (capture_in text.now) ≡ Some told.failure)) }
-    ensures said { IfErr result (λ told. Says told IsCaptureRemark) }
 {
     let report = capture_of(alloc, side, text)?.report(alloc)?;
     let verdict = report.verdict();

@@ -1,19 +1,10 @@
-ghost use Rattle.std.specs.Prelude.{◌≡◌, ◌⊎◌, ◌++◌, ℕ, List, [], map, length, Some, None, Ok, Err, MatchResult, IfOk, IfErr, OnOk};
-ghost use Rattle.std.specs.Prelude.{IfSome};
-ghost use Rattle.std.specs.String.{string_bytes};
-ghost use Rattle.lease_facts.specs.Facts.{fact_of};
+ghost use Rattle.std.specs.Prelude.{◌≡◌, ◌⊎◌, List, [], length, Some, None, Ok, Err, MatchResult, IfOk};
 ghost use Rattle.lease_texts.specs.Drafts.{draft_of};
 ghost use Rattle.lease_texts.specs.Records.{record_in};
-ghost use Rattle.lease_texts.specs.Schedules.{schedule_in};
-ghost use Rattle.record_words.specs.words.Explained.{bad_lines, bad_place, extent_lines};
-ghost use Rattle.record_words.specs.words.Placed.{IsPlaced};
-ghost use Rattle.record_words.specs.pictures.Svg.{picture_text};
-ghost use Rattle.leasecheck.specs.Drawing.{ArePassagesOf, Draws, IsDrawn, IsRunOf, RefusesDraw, facts_line, too_many_facts};
+ghost use Rattle.leasecheck.specs.Drawing.{ArePassagesOf, Draws, IsDrawn, IsRunOf, RefusesDraw, too_many_facts};
 ghost use Rattle.leasecheck.specs.Drawing.{run_facts_refusal};
 ghost use Rattle.lease_facts.specs.declared.passage.Passage as code_passage;
-ghost use Rattle.leasecheck.specs.Remarks.{Says, IsDrawRemark, record_remark, run_remark};
-ghost use Rattle.lease_state.specs.Rules.{profile_rules};
-ghost use Rattle.leasecheck.specs.Replayed.{RefusesRun, record_of, verdict_line};
+ghost use Rattle.leasecheck.specs.Replayed.{RefusesRun};
 
 use crate::comments::comments_of;
 use crate::explaining::placed_of;
@@ -37,19 +28,14 @@ fn notes_of(
     verdict: &Verdict,
     reason: &Option<Reason>,
     extent: &Extent,
-) -> Result<String, AllocError>
-    ensures { IfOk result (λ notes. string_bytes notes ≡ verdict_line verdict.now
-        ++ (bad_lines placed.now (bad_place verdict.now) reason.now ++ extent_lines extent.now)) }
-{
+) -> Result<String, AllocError> {
     let mut notes = String::new(alloc);
     push_verdict(&mut notes, verdict)?;
     push_reasoned(alloc, &mut notes, placed, verdict, reason, extent)?;
     Ok(notes)
 }
 
-fn text_of(alloc: Global, picture: &Picture) -> Result<String, AllocError>
-    ensures { IfOk result (λ text. string_bytes text ≡ picture_text picture.now) }
-{
+fn text_of(alloc: Global, picture: &Picture) -> Result<String, AllocError> {
     let mut text = String::new(alloc);
     push_picture(&mut text, picture)?;
     Ok(text)
@@ -63,12 +49,10 @@ fn drawn(
     said: &[Bytes],
     messages: &[Reply],
     passages: &[Passage],
-) -> Result<String, Refusal>
-    ensures drawn { IfOk result (λ text. IsDrawn placed.now said.now passages.now (string_bytes text)) }
+) -> Result<Picture, Refusal>
+    ensures drawn { IfOk result (λ picture. IsDrawn placed.now said.now passages.now picture) }
     ensures refused { MatchResult result (λ _. too_many_facts (length placed.now.facts.items) ≡ None)
         (λ told. (told.failure ≡ Failure.Memory) ⊎ (too_many_facts (length placed.now.facts.items) ≡ Some told.failure)) }
-    ensures said { IfErr result (λ told. Says told (λ failure line. (failure ≡ Failure.Picture)
-        × (line ≡ facts_line (length placed.now.facts.items)))) }
 {
     let facts = placed.facts.as_slice();
     if facts.len() > MOST_FACTS {
@@ -88,7 +72,7 @@ fn drawn(
         messages,
         passages,
     ) {
-        Ok(picture) => Ok(text_of(alloc, &picture)?),
+        Ok(picture) => Ok(picture),
         Err(fault) => Err(Refusal::of_picture(alloc, fault, facts.len())),
     }
 }
@@ -106,7 +90,6 @@ fn ran(alloc: Global, schedule: &Schedule) -> Result<Played, Refusal>
     ensures ran { IfOk result (λ run. IsRunOf (draft_of schedule.now) run.placed) }
     ensures passages { IfOk result (λ run. ArePassagesOf (draft_of schedule.now) run.passages.items) }
     ensures refused { RefusesRun (draft_of schedule.now) result }
-    ensures said { IfErr result (λ told. Says told (λ failure line. run_remark failure (draft_of schedule.now) ≡ Some line)) }
 {
     let (rules, events) = (Rules::profile(), schedule.events.as_slice());
     let kept = Kept {
@@ -134,19 +117,17 @@ fn ran(alloc: Global, schedule: &Schedule) -> Result<Played, Refusal>
 }
 
 // The picture of the run of a schedule.
-fn run_drawn(alloc: Global, schedule: &Schedule) -> Result<String, Refusal>
-    ensures drawn { IfOk result (λ text. (placed : Placed) × (passages : List code_passage.Passage)
-        × IsDrawn placed [] passages (string_bytes text)
+fn run_drawn(alloc: Global, schedule: &Schedule) -> Result<Picture, Refusal>
+    ensures drawn { IfOk result (λ picture. (placed : Placed) × (passages : List code_passage.Passage)
+        × IsDrawn placed [] passages picture
         × IsRunOf (draft_of schedule.now) placed × ArePassagesOf (draft_of schedule.now) passages) }
     ensures refused { MatchResult result (λ _. run_facts_refusal (Ok (draft_of schedule.now)) ≡ None)
         (λ told. (told.failure ≡ Failure.Memory) ⊎ (run_facts_refusal (Ok (draft_of schedule.now)) ≡ Some told.failure)) }
-    ensures said { IfErr result (λ told. Says told (λ failure line. (run_remark failure (draft_of schedule.now) ≡ Some line)
-        ⊎ ((failure ≡ Failure.Picture) × (line ≡ facts_line (length (record_of profile_rules (draft_of schedule.now))))))) }
 {
     let played = ran(alloc, schedule)?;
     let (messages, passages) = (played.messages.as_slice(), played.passages.as_slice());
-    let text = drawn(alloc, &played.placed, &[], messages, passages)?;
-    Ok(text)
+    let picture = drawn(alloc, &played.placed, &[], messages, passages)?;
+    Ok(picture)
 }
 
 // The picture of the run of a schedule that the text is, where it isn't the record that its line of this number keeps it from
@@ -156,13 +137,11 @@ fn draw_schedule(
     text: &[u8],
     number: u64,
     refusal: Refusal,
-) -> Result<String, Refusal>
+) -> Result<Picture, Refusal>
     requires read { record_in text.now ≡ Err number }
     requires failure { refusal.failure ≡ Failure.Line number }
-    requires remark { Says refusal (λ failure line. record_remark text.now failure ≡ Some line) }
-    ensures drawn { IfOk result (λ drawn. Draws text.now (string_bytes drawn)) }
+    ensures drawn { IfOk result (λ drawn. Draws text.now drawn) }
     ensures refused { RefusesDraw text.now result }
-    ensures said { IfErr result (λ told. Says told (IsDrawRemark text.now)) }
 {
     match read_schedule(alloc, text) {
         Ok(schedule) => {
@@ -180,18 +159,10 @@ fn draw_schedule(
     }
 }
 
-/// What `leasecheck draw` prints for a text that is a record, or else a schedule, which is run first: a picture as SVG.
-///
-/// # Errors
-///
-/// A text that is neither is refused as whichever it has more lines of, and as a record where both
-/// have as many: `Line` with the number of the first line that is refused. Else `Run` where there
-/// is no run of the schedule, `Picture` where there are more than 5000 facts, and `Memory` where
-/// there is none left.
-pub fn draw_text(alloc: Global, text: &[u8]) -> Result<String, Refusal>
-    ensures drawn { IfOk result (λ drawn. Draws text.now (string_bytes drawn)) }
+// The picture of a text that is a record, or else a schedule, which is run first.
+fn picture_drawn(alloc: Global, text: &[u8]) -> Result<Picture, Refusal>
+    ensures drawn { IfOk result (λ drawn. Draws text.now drawn) }
     ensures refused { RefusesDraw text.now result }
-    ensures said { IfErr result (λ told. Says told (IsDrawRemark text.now)) }
 {
     match placed_of(alloc, text) {
         Ok(placed) => {
@@ -204,4 +175,20 @@ pub fn draw_text(alloc: Global, text: &[u8]) -> Result<String, Refusal>
             _ => Err(refusal),
         },
     }
+}
+
+/// What `leasecheck draw` prints for a text that is a record, or else a schedule, which is run first: a picture as SVG.
+///
+/// # Errors
+///
+/// A text that is neither is refused as whichever it has more lines of, and as a record where both
+/// have as many: `Line` with the number of the first line that is refused. Else `Run` where there
+/// is no run of the schedule, `Picture` where there are more than 5000 facts, and `Memory` where
+/// there is none left.
+pub fn draw_text(alloc: Global, text: &[u8]) -> Result<String, Refusal>
+    ensures { RefusesDraw text.now result }
+{
+    let picture = picture_drawn(alloc, text)?;
+    let drawn = text_of(alloc, &picture)?;
+    Ok(drawn)
 }

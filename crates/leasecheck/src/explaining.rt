@@ -4,7 +4,6 @@ ghost use Rattle.lease_texts.specs.Records.{record_in};
 ghost use Rattle.record_words.specs.words.Placed.{IsPlaced};
 ghost use Rattle.leasecheck.specs.Explaining.{ExplainsVerdict};
 ghost use Rattle.leasecheck.specs.Refusals.{line_refusal};
-ghost use Rattle.leasecheck.specs.Remarks.{Says, record_remark};
 ghost use Rattle.leasecheck.specs.Replayed.{verdict_line};
 
 use crate::failure::Failure;
@@ -21,12 +20,10 @@ use std::alloc::Global;
 /// # Errors
 ///
 /// `Line` with the number of the first line that is refused, and `Memory` where there is none left.
-#[tactic(auto, unfolding(crate::specs::LineRemarks::line_at))]
 pub(crate) fn placed_of(alloc: Global, text: &[u8]) -> Result<Placed, Refusal>
     ensures read { IfOk result (λ placed. IsPlaced text.now placed) }
     ensures refused { IfErr result (λ told. (told.failure ≡ Failure.Memory)
         ⊎ (line_refusal (record_in text.now) ≡ Some told.failure)) }
-    ensures said { IfErr result (λ told. Says told (λ failure line. record_remark text.now failure ≡ Some line)) }
 {
     match read_placed(alloc, text) {
         Ok(placed) => Ok(placed),
@@ -46,7 +43,6 @@ pub fn explain_text(alloc: Global, text: &[u8]) -> Result<(String, Verdict), Ref
     ensures accepted { OnOk result (line_refusal (record_in text.now) ≡ None) }
     ensures refused { IfErr result (λ told. (told.failure ≡ Failure.Memory)
         ⊎ (line_refusal (record_in text.now) ≡ Some told.failure)) }
-    ensures said { IfErr result (λ told. Says told (λ failure line. record_remark text.now failure ≡ Some line)) }
 {
     let placed = placed_of(alloc, text)?;
     let verdict = judge(alloc, placed.facts.as_slice())?;

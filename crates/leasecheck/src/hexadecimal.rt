@@ -1,7 +1,6 @@
-ghost use Rattle.std.specs.Prelude.{◌≡◌, ◌⊎◌, ◌<◌, ◌++◌, ◌&&◌, true, ℕ, List, length, slice_index, IfOk, IfErr, IsErr};
-ghost use Rattle.hex.specs.Hex.{decode_of, is_hex_digit};
+ghost use Rattle.std.specs.Prelude.{◌≡◌, ◌⊎◌, ◌<◌, ◌++◌, ℕ, List, length, IfOk, IfErr, IsErr};
+ghost use Rattle.hex.specs.Hex.{decode_of};
 ghost use Rattle.leasecheck.specs.Arguments.{is_separator, digits_in, without_prefix, argument_bytes};
-ghost use Rattle.leasecheck.specs.HexRemarks.{from_bad};
 
 use crate::failure::Failure;
 use hex::FromHexError;
@@ -23,8 +22,6 @@ fn is_separator(code: u8) -> bool
 pub(crate) fn split_byte(text: &[u8]) -> (&[u8], &[u8])
     requires { 3 < length text.now }
     ensures digits { digits_in text.now ≡ result.0.now ++ digits_in result.1.now }
-    ensures bad { (is_hex_digit (slice_index text.now 0) && is_hex_digit (slice_index text.now 1)) ≡ true
-        → from_bad text.now ≡ from_bad result.1.now }
     ensures shorter { length result.1.now < length text.now }
 {
     let (digits, behind) = text.split_at(2);

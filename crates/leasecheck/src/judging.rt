@@ -55,7 +55,7 @@ impl Progress {
     fn take_line(&mut self, alloc: Global, line: &[u8]) -> Result<(), Stop>
         ensures { (lines : List (List ℕ)) → HasRead self.old lines
             → MatchResult result (λ _. HasRead self.new (lines ++ line.now ∷ []))
-            (λ stop. (told : Refusal) → TellsStop self.new.number line.now stop told
+            (λ stop. (told : Refusal) → TellsStop self.new.number stop told
             → ReadsMore lines (line.now ∷ []) (Err told)) }
     {
         if self.number == u64::MAX {
@@ -74,7 +74,7 @@ impl Progress {
     // What is told of the next line, which isn't taken.
     #[inline(never)]
     fn refusal(&self, alloc: Global, line: &[u8], stop: Stop) -> Refusal
-        ensures { TellsStop self.now.number line.now stop result }
+        ensures { TellsStop self.now.number stop result }
     {
         match stop {
             Stop::Lines => Refusal::bare(Failure::Lines),

@@ -1,4 +1,4 @@
-ghost use Rattle.std.specs.Prelude.{◌≡◌, ◌≢◌, ◌≤◌, ◌⊎◌, ◌++◌, ℕ, List, Option, Some, MatchResult, IfSome, IfOk, IfErr, true, false};
+ghost use Rattle.std.specs.Prelude.{◌≡◌, ◌≢◌, ◌≤◌, ◌⊎◌, ◌++◌, ℕ, List, Option, MatchResult, IfSome, IfOk, IfErr, true, false};
 ghost use Rattle.std.specs.Prelude.{[], IsOk, OnOk, length, take};
 ghost use Rattle.std.specs.String.{string_bytes};
 ghost use Rattle.std.specs.Io.KnownBytes.{Appends, Keeps};
@@ -8,18 +8,15 @@ ghost use Rattle.lease_wire.specs.WireFaults.{message_fault};
 ghost use Rattle.lease_wire.specs.declared.fault.WireFault.{WireFault};
 ghost use Rattle.leasecheck.specs.Answer.{AnswersWith};
 ghost use Rattle.leasecheck.specs.Arguments.{Gives};
-ghost use Rattle.leasecheck.specs.Drawing.{Draws, draw_refusal};
+ghost use Rattle.leasecheck.specs.Drawing.{draw_refusal};
 ghost use Rattle.leasecheck.specs.Known.{OfBytes};
 ghost use Rattle.leasecheck.specs.Made.{Answers, AnswersTo, IsGiven, PrintsOrEnds, is_record, text_made, status_made};
 ghost use Rattle.leasecheck.specs.Paths.{file_named};
 ghost use Rattle.leasecheck.specs.Printed.{Prints, TellsCapture, TellsReason, TellsVerdict};
 ghost use Rattle.leasecheck.specs.Refusals.{Begins, Ends, IsRefused, MayEnd, MayEndGiven, MayEndJudging, MayEndReading, MayStop};
-ghost use Rattle.leasecheck.specs.Refusals.{Puts, failure_line, given_refusal, is_replay, line_refusal, shown_fault};
-ghost use Rattle.leasecheck.specs.Remarks.{IsCaptureRemark, IsDrawRemark, IsGivenRemark, IsRemark, Says, record_remark, schedule_remark, second_of};
+ghost use Rattle.leasecheck.specs.Refusals.{Puts, failure_line, given_refusal, is_replay, line_refusal, second_of, shown_fault};
 ghost use Rattle.leasecheck.specs.Replayed.{Replays, replay_refusal};
 ghost use Rattle.leasecheck.specs.Shown.{Shows};
-ghost use Rattle.leasecheck.specs.WireRemarks.{bare_remark, shown_remark};
-ghost use Rattle.leasecheck.specs.declared.tasks.Kind.TheVariants as kind;
 
 use crate::capturing::{capture_record, capture_text};
 use crate::drawing::draw_text;
@@ -67,7 +64,7 @@ fn done(text: String) -> Printed
 // The verdict on the record that a reader gives, which is judged as it is read.
 fn judged<I: Read>(alloc: Global, input: &mut I) -> Result<Made, Refusal>
     ensures answers { OfBytes (I.remaining input.old) (λ bytes. Answers (TellsVerdict bytes) (line_refusal (record_in bytes))
-        (MayEndJudging bytes) (λ failure line. record_remark bytes failure ≡ Some line) result) }
+        (MayEndJudging bytes) result) }
     ensures record { IfOk result (λ made. is_record made ≡ false) }
 {
     let verdict = judge_text(alloc, input)?;
@@ -82,8 +79,6 @@ fn bytes_given<I: Read>(alloc: Global, argument: &str, input: &mut I) -> Result<
     ensures given { IfOk result (λ bytes. OfBytes (I.remaining input.old) (λ file. Gives argument.now file bytes.items)) }
     ensures refused { IfErr result (λ refusal. (fault : List ℕ → Option WireFault) (file : List ℕ)
         → MayEndGiven fault argument.now file refusal.failure) }
-    ensures said { IfErr result (λ refusal. (remark : List ℕ → WireFault → List ℕ) (file : List ℕ)
-        → Says refusal (IsGivenRemark remark argument.now file)) }
 {
     match file_named(argument) {
         Some(_) => Ok(read_all(alloc, input)?),
@@ -98,7 +93,6 @@ fn bytes_given<I: Read>(alloc: Global, argument: &str, input: &mut I) -> Result<
 fn given_to<I: Read>(alloc: Global, task: &Task, input: &mut I) -> Result<Vec<u8>, Refusal>
     ensures given { IfOk result (λ given. OfBytes (I.remaining input.old) (λ file. IsGiven task.now file given.items)) }
     ensures refused { IfErr result (λ refusal. (file : List ℕ) → MayEnd task.now file refusal.failure) }
-    ensures said { IfErr result (λ refusal. (file : List ℕ) → Says refusal (IsRemark task.now file)) }
 {
     match task {
         Task::Ack(argument) => bytes_given(alloc, argument.as_str(), input),
@@ -119,7 +113,7 @@ fn acknowledged(alloc: Global, given: &[u8]) -> Result<Made, Refusal>
     ensures answers { (argument : List ℕ) (file : List ℕ) → Gives argument file given.now
         → Answers (λ text status. (status ≡ 0) × AnswersWith given.now text)
         (given_refusal (message_fault 44) argument (file_named argument) file) (MayEndGiven (message_fault 44) argument file)
-        (IsGivenRemark (bare_remark kind.Break) argument file) result }
+        result }
     ensures record { IfOk result (λ made. is_record made ≡ false) }
 {
     match ack_lines(alloc, given) {
@@ -132,7 +126,7 @@ fn shown(alloc: Global, kind: Kind, given: &[u8]) -> Result<Made, Refusal>
     ensures answers { (argument : List ℕ) (file : List ℕ) → Gives argument file given.now
         → Answers (λ text status. (status ≡ 0) × Shows kind given.now text)
         (given_refusal (shown_fault kind) argument (file_named argument) file) (MayEndGiven (shown_fault kind) argument file)
-        (IsGivenRemark (shown_remark kind) argument file) result }
+        result }
     ensures record { IfOk result (λ made. is_record made ≡ false) }
 {
     match render(alloc, kind, given) {
@@ -143,7 +137,7 @@ fn shown(alloc: Global, kind: Kind, given: &[u8]) -> Result<Made, Refusal>
 
 fn replayed(alloc: Global, telling: Telling, rules: Rules, schedule: &[u8]) -> Result<Made, Refusal>
     ensures answers { Answers (λ text status. (status ≡ 0) × Replays telling rules schedule.now text) (replay_refusal schedule.now)
-        (MayEndReading (replay_refusal schedule.now)) (λ failure line. schedule_remark schedule.now failure ≡ Some line) result }
+        (MayEndReading (replay_refusal schedule.now)) result }
     ensures record { IfOk result (λ made. is_record made ≡ true) }
 {
     let ran = replay(alloc, telling, rules, schedule)?;
@@ -153,7 +147,7 @@ fn replayed(alloc: Global, telling: Telling, rules: Rules, schedule: &[u8]) -> R
 // The verdict on a record, and why it is that.
 fn explained(alloc: Global, bytes: &[u8]) -> Result<Made, Refusal>
     ensures answers { Answers (TellsReason bytes.now) (line_refusal (record_in bytes.now))
-        (MayEndReading (line_refusal (record_in bytes.now))) (λ failure line. record_remark bytes.now failure ≡ Some line) result }
+        (MayEndReading (line_refusal (record_in bytes.now))) result }
     ensures record { IfOk result (λ made. is_record made ≡ false) }
 {
     let (text, verdict) = explain_text(alloc, bytes)?;
@@ -163,8 +157,8 @@ fn explained(alloc: Global, bytes: &[u8]) -> Result<Made, Refusal>
 
 // The picture of a record, or of the run of a schedule.
 fn drawn(alloc: Global, file: &[u8]) -> Result<Made, Refusal>
-    ensures answers { Answers (λ text status. (status ≡ 0) × Draws file.now text) (draw_refusal file.now)
-        (MayEndReading (draw_refusal file.now)) (IsDrawRemark file.now) result }
+    ensures answers { Answers (λ text status. status ≡ 0) (draw_refusal file.now)
+        (MayEndReading (draw_refusal file.now)) result }
     ensures record { IfOk result (λ made. is_record made ≡ false) }
 {
     let text = draw_text(alloc, file)?;
@@ -174,7 +168,7 @@ fn drawn(alloc: Global, file: &[u8]) -> Result<Made, Refusal>
 // The verdict on a capture, and what is found in it.
 fn captured(alloc: Global, side: Side, form: CaptureForm, text: &[u8]) -> Result<Made, Refusal>
     ensures answers { Answers (TellsCapture form side text.now) (line_refusal (capture_in text.now))
-        (MayEndReading (line_refusal (capture_in text.now))) IsCaptureRemark result }
+        (MayEndReading (line_refusal (capture_in text.now))) result }
     ensures record { IfOk result (λ made. is_record made ≡ false) }
 {
     let (text, verdict) = match form {

@@ -1,4 +1,4 @@
-ghost use Rattle.std.specs.Prelude.{◌≡◌, Some, None, MatchResult};
+ghost use Rattle.std.specs.Prelude.{◌≡◌, None};
 
 use crate::failure::Failure;
 use crate::remarks::{
@@ -21,18 +21,14 @@ pub struct Refusal {
 }
 
 // A text that there was memory for.
-fn some(text: Result<String, AllocError>) -> Option<String>
-    ensures { MatchResult text (λ text. result ≡ Some text) (λ _. result ≡ None) }
-{
+fn some(text: Result<String, AllocError>) -> Option<String> {
     match text {
         Ok(text) => Some(text),
         Err(_) => None,
     }
 }
 
-fn some_of(text: Result<Option<String>, AllocError>) -> Option<String>
-    ensures { MatchResult text (λ text. result ≡ text) (λ _. result ≡ None) }
-{
+fn some_of(text: Result<Option<String>, AllocError>) -> Option<String> {
     match text {
         Ok(text) => text,
         Err(_) => None,
@@ -40,20 +36,7 @@ fn some_of(text: Result<Option<String>, AllocError>) -> Option<String>
 }
 
 impl Refusal {
-    ghost use Rattle.std.specs.Prelude.{◌⊎◌, List, ℕ, IfSome};
-    ghost use Rattle.std.specs.String.{string_bytes};
-    ghost use Rattle.lease_texts.specs.Drafts.{draft_of};
-    ghost use Rattle.lease_wire.specs.declared.fault.WireFault.{WireFault};
-    ghost use Rattle.leasecheck.specs.Arguments.{Gives};
-    ghost use Rattle.leasecheck.specs.Drawing.{facts_line, picture_failure};
-    ghost use Rattle.leasecheck.specs.FileFaults.{IsUnreadRemark};
-    ghost use Rattle.leasecheck.specs.Judging.{SaysLine};
-    ghost use Rattle.record_words.specs.declared.pictures.fault.PictureFault.TheVariants as picture_fault;
-    ghost use Rattle.leasecheck.specs.LineRemarks.{capture_remark, line_at, part_remark};
-    ghost use Rattle.leasecheck.specs.Paths.{path_of};
-    ghost use Rattle.leasecheck.specs.Remarks.{Says, IsArgumentRemark, IsGivenRemark, run_remark};
-    ghost use Rattle.leasecheck.specs.WireRemarks.{bare_remark, shown_remark};
-    ghost use Rattle.leasecheck.specs.declared.tasks.Kind.TheVariants as kind;
+    ghost use Rattle.leasecheck.specs.Drawing.{picture_failure};
 
     /// A failure of which no more is said.
     pub fn bare(failure: Failure) -> Refusal
@@ -68,9 +51,7 @@ impl Refusal {
 
     /// The same of a task, of whose file is said why it can't be opened or read where that is the failure.
     pub fn of_task(self, alloc: Global, task: &Task) -> Refusal
-        ensures failure { result.failure ≡ self.failure }
-        ensures said { IfSome result.second (λ line. (self.second ≡ Some line)
-            ⊎ IsUnreadRemark (path_of task.now) self.failure (string_bytes line)) }
+        ensures { result.failure ≡ self.failure }
     {
         match (self.failure, task.path()) {
             (Failure::File(fault), Some(path)) => Refusal {
@@ -83,8 +64,7 @@ impl Refusal {
 
     /// The failure of an argument that should be bytes.
     pub fn of_digits(alloc: Global, failure: Failure, argument: &str) -> Refusal
-        ensures failure { result.failure ≡ failure }
-        ensures said { (remark : List ℕ → WireFault → List ℕ) → Says result (IsArgumentRemark remark argument.now) }
+        ensures { result.failure ≡ failure }
     {
         match failure {
             Failure::Hex => Refusal {
@@ -97,9 +77,7 @@ impl Refusal {
 
     /// The failure of the bytes that an argument gives, those of a notification without a header.
     pub fn of_notification(alloc: Global, failure: Failure, bytes: &[u8]) -> Refusal
-        ensures failure { result.failure ≡ failure }
-        ensures said { (argument : List ℕ) (file : List ℕ) → Gives argument file bytes.now
-            → Says result (IsGivenRemark (bare_remark kind.Break) argument file) }
+        ensures { result.failure ≡ failure }
     {
         match failure {
             Failure::Wire(fault) => Refusal {
@@ -112,9 +90,7 @@ impl Refusal {
 
     /// The same of bytes that are shown.
     pub fn of_shown(alloc: Global, failure: Failure, kind: Kind, bytes: &[u8]) -> Refusal
-        ensures failure { result.failure ≡ failure }
-        ensures said { (argument : List ℕ) (file : List ℕ) → Gives argument file bytes.now
-            → Says result (IsGivenRemark (shown_remark kind) argument file) }
+        ensures { result.failure ≡ failure }
     {
         match failure {
             Failure::Wire(fault) => Refusal {
@@ -127,8 +103,7 @@ impl Refusal {
 
     /// A line of a record that is no fact.
     pub fn of_fact(alloc: Global, number: u64, line: &[u8]) -> Refusal
-        ensures failure { result.failure ≡ Failure.Line number }
-        ensures said { SaysLine number line.now result }
+        ensures { result.failure ≡ Failure.Line number }
     {
         Refusal {
             failure: Failure::Line(number),
@@ -138,8 +113,7 @@ impl Refusal {
 
     /// A text of which the line of this number is none of a schedule, or stands in a wrong place.
     pub fn of_part(alloc: Global, number: u64, text: &[u8]) -> Refusal
-        ensures failure { result.failure ≡ Failure.Line number }
-        ensures said { IfSome result.second (λ line. string_bytes line ≡ part_remark number (line_at text.now number)) }
+        ensures { result.failure ≡ Failure.Line number }
     {
         Refusal {
             failure: Failure::Line(number),
@@ -149,8 +123,7 @@ impl Refusal {
 
     /// A line of a capture that is refused.
     pub fn of_capture(alloc: Global, number: u64) -> Refusal
-        ensures failure { result.failure ≡ Failure.Line number }
-        ensures said { IfSome result.second (λ line. string_bytes line ≡ capture_remark number) }
+        ensures { result.failure ≡ Failure.Line number }
     {
         Refusal {
             failure: Failure::Line(number),
@@ -160,8 +133,7 @@ impl Refusal {
 
     /// Why there is no picture of so many facts.
     pub fn of_picture(alloc: Global, fault: PictureFault, count: usize) -> Refusal
-        ensures failure { result.failure ≡ picture_failure fault }
-        ensures said { IfSome result.second (λ line. (fault ≡ picture_fault.TooMany) × (string_bytes line ≡ facts_line count)) }
+        ensures { result.failure ≡ picture_failure fault }
     {
         match fault {
             PictureFault::TooMany => Refusal {
@@ -174,8 +146,7 @@ impl Refusal {
 
     /// Why there is no run of a schedule.
     pub fn of_run(alloc: Global, failure: Failure, schedule: &Schedule) -> Refusal
-        ensures failure { result.failure ≡ failure }
-        ensures said { IfSome result.second (λ line. run_remark failure (draft_of schedule.now) ≡ Some (string_bytes line)) }
+        ensures { result.failure ≡ failure }
     {
         match failure {
             Failure::Run(RunFault::BadSetup) => Refusal {
@@ -192,8 +163,6 @@ impl Refusal {
 }
 
 impl From<Failure> for Refusal {
-    ghost use Rattle.leasecheck.specs.declared.refusal.Refusal.{Refusal};
-
     ghost from_gives = { λ failure refusal. refusal ≡ record { failure = failure; second = None } };
 
     fn from(failure: Failure) -> Refusal {

@@ -1,11 +1,10 @@
-ghost use Rattle.std.specs.Prelude.{◌≡◌, ◌⊎◌, ℕ, true, Some, Ok, Err};
+ghost use Rattle.std.specs.Prelude.{◌≡◌, ◌⊎◌, ℕ, true, Ok, Err};
 ghost use Rattle.std.specs.Prelude.{IfOk, IfErr};
 ghost use Rattle.lease_texts.specs.Drafts.{draft_of};
 ghost use Rattle.lease_texts.specs.Schedules.{schedule_in};
 ghost use Rattle.lease_texts.specs.Pieces.{lines_of};
 ghost use Rattle.leasecheck.specs.Idle.{event_lines};
 ghost use Rattle.leasecheck.specs.Recording.{facts_told, recorded_text};
-ghost use Rattle.leasecheck.specs.Remarks.{Says, run_remark, schedule_remark};
 ghost use Rattle.leasecheck.specs.Replayed.{Replays, Tells, RefusesReplay, RefusesRun, run_failure};
 ghost use Rattle.leasecheck.specs.ReplayedSafe.{ReplaysAreReadBack, ReplaysAreSafe};
 
@@ -41,7 +40,6 @@ fn ran(
     ensures told { IfOk result (λ ran. Tells telling rules (draft_of schedule.now) lines.items (facts_told ran)) }
     ensures rules { IfOk result (λ ran. ran.rules ≡ rules) }
     ensures refused { RefusesRun (draft_of schedule.now) result }
-    ensures said { IfErr result (λ told. Says told (λ failure line. run_remark failure (draft_of schedule.now) ≡ Some line)) }
 {
     let kept = Kept {
         messages: telling.messages,
@@ -87,7 +85,6 @@ fn schedule_of(alloc: Global, text: &[u8]) -> Result<Schedule, Refusal>
     ensures schedule { IfOk result (λ schedule. schedule_in text.now ≡ Ok (draft_of schedule)) }
     ensures refused { IfErr result (λ told. (told.failure ≡ Failure.Memory)
         ⊎ ((number : ℕ) × (schedule_in text.now ≡ Err number) × (told.failure ≡ Failure.Line number))) }
-    ensures said { IfErr result (λ told. Says told (λ failure line. schedule_remark text.now failure ≡ Some line)) }
 {
     match read_schedule(alloc, text) {
         Ok(schedule) => Ok(schedule),
@@ -122,7 +119,6 @@ pub fn replay(
     ensures printed { IfOk result (λ ran. Replays telling rules schedule.now (recorded_text ran)) }
     ensures rules { IfOk result (λ ran. ran.rules ≡ rules) }
     ensures refused { RefusesReplay schedule.now result }
-    ensures said { IfErr result (λ told. Says told (λ failure line. schedule_remark schedule.now failure ≡ Some line)) }
 {
     unsaid_is_plain();
     replays_are_safe();

@@ -1,11 +1,4 @@
-ghost use Rattle.std.specs.Prelude.{◌≡◌, ◌++◌, ◌≤◌, ◌+◌, ◌^◌, length, None, IfOk, OnOk, IfSome};
-ghost use Rattle.std.specs.Option.{option_map};
-ghost use Rattle.std.specs.String.{string_bytes};
-ghost use Rattle.lease_wire.specs.Contexts.{items_left};
-ghost use Rattle.lease_wire.specs.Field.{number_at};
-ghost use Rattle.lease_wire.specs.Gathering.{no_values};
-ghost use Rattle.lease_wire.specs.Message.{area_fault};
-ghost use Rattle.leasecheck.specs.WireRemarks as remarks;
+ghost use Rattle.std.specs.Prelude.{◌≤◌, ◌+◌, length};
 
 use crate::tasks::Kind;
 use byteorder::{ByteOrder, LittleEndian};
@@ -18,9 +11,7 @@ use std::alloc::{AllocError, Global};
 
 // ---- create contexts
 
-fn context_meaning(fault: WireFault) -> &'static str
-    ensures { result.now ≡ remarks.context_meaning fault }
-{
+fn context_meaning(fault: WireFault) -> &'static str {
     match fault {
         WireFault::Short(_) => "fewer than 16 bytes are left for its header",
         WireFault::WrongSize(_) => "its size is another",
@@ -40,12 +31,7 @@ struct Refused<'a> {
     name: Option<&'a [u8]>,
 }
 
-#[tactic(auto, unfolding(crate::specs::WireRemarks::refused_among))]
-fn refused_among<'a>(direction: Direction, items: Contexts<'a>) -> Option<Refused<'a>>
-    ensures some { IfSome result (λ refused. record { number = refused.number; name = option_map (λ name. name.now) refused.name }
-        ≡ remarks.refused_among direction no_values 1 (items_left items.entry)) }
-    ensures none { result ≡ None → 2 ^ 64 ≤ length (items_left items.entry) + 1 }
-{
+fn refused_among<'a>(direction: Direction, items: Contexts<'a>) -> Option<Refused<'a>> {
     let mut values = ContextValues::nothing();
     let mut number = 1u64;
     for item in items {
@@ -66,10 +52,7 @@ fn refused_among<'a>(direction: Direction, items: Contexts<'a>) -> Option<Refuse
     Some(Refused { number, name: None })
 }
 
-fn push_name(alloc: Global, text: &mut String, name: Option<&[u8]>) -> Result<(), AllocError>
-    ensures { OnOk result (string_bytes text.new
-        ≡ string_bytes text.old ++ remarks.name_words (option_map (λ name. name.now) name.entry)) }
-{
+fn push_name(alloc: Global, text: &mut String, name: Option<&[u8]>) -> Result<(), AllocError> {
     match name {
         None => Ok(()),
         Some(name) => {
@@ -83,10 +66,7 @@ fn context_line(
     alloc: Global,
     refused: &Refused<'_>,
     fault: WireFault,
-) -> Result<String, AllocError>
-    ensures { IfOk result (λ text. string_bytes text ≡ remarks.context_line
-        (record { number = refused.now.number; name = option_map (λ name. name.now) refused.now.name }) fault) }
-{
+) -> Result<String, AllocError> {
     let (number, meaning) = (refused.number, context_meaning(fault));
     let mut text = String::new(alloc);
     write!(text, "context {number}")?;
@@ -100,10 +80,7 @@ fn items_remark(
     direction: Direction,
     items: Contexts<'_>,
     fault: WireFault,
-) -> Result<Option<String>, AllocError>
-    ensures { IfOk result (λ line. IfSome line (λ text. string_bytes text
-        ≡ remarks.items_remark direction (items_left items.entry) fault)) }
-{
+) -> Result<Option<String>, AllocError> {
     match refused_among(direction, items) {
         Some(refused) => Ok(Some(context_line(alloc, &refused, fault)?)),
         None => Ok(None),
@@ -112,9 +89,7 @@ fn items_remark(
 
 // ---- messages
 
-fn kind_words(kind: Kind) -> &'static str
-    ensures { result.now ≡ remarks.kind_words kind }
-{
+fn kind_words(kind: Kind) -> &'static str {
     match kind {
         Kind::Ask => "a CREATE request",
         Kind::Reply => "a CREATE response",
@@ -125,9 +100,7 @@ fn kind_words(kind: Kind) -> &'static str
 }
 
 // StructureSize, and how many bytes the fixed part takes.
-fn kind_size(kind: Kind) -> u16
-    ensures { result ≡ remarks.kind_size kind }
-{
+fn kind_size(kind: Kind) -> u16 {
     match kind {
         Kind::Ask => 57,
         Kind::Reply => 89,
@@ -137,7 +110,6 @@ fn kind_size(kind: Kind) -> u16
 }
 
 fn kind_count(kind: Kind) -> usize
-    ensures value { result ≡ remarks.kind_count kind }
     ensures least { 36 ≤ result }
     ensures most { result ≤ 88 }
 {
@@ -150,25 +122,16 @@ fn kind_count(kind: Kind) -> usize
     }
 }
 
-#[tactic(auto, unfolding(crate::specs::WireRemarks::wanted_words))]
-fn push_wanted(text: &mut String, wanted: Kind) -> Result<(), AllocError>
-    ensures { OnOk result (string_bytes text.new ≡ string_bytes text.old ++ remarks.wanted_words wanted) }
-{
+fn push_wanted(text: &mut String, wanted: Kind) -> Result<(), AllocError> {
     let (words, size) = (kind_words(wanted), kind_size(wanted));
     write!(text, "{words}, of StructureSize {size}")
 }
 
-#[tactic(auto, unfolding(crate::specs::WireRemarks::stands_words))]
-fn push_stands(text: &mut String, found: &str) -> Result<(), AllocError>
-    ensures { OnOk result (string_bytes text.new ≡ string_bytes text.old ++ remarks.stands_words found.now) }
-{
+fn push_stands(text: &mut String, found: &str) -> Result<(), AllocError> {
     write!(text, "; this is {found}")
 }
 
-#[tactic(auto, unfolding(crate::specs::WireRemarks::found_end))]
-fn push_found_end(text: &mut String, side: &str, size: u16) -> Result<(), AllocError>
-    ensures { OnOk result (string_bytes text.new ≡ string_bytes text.old ++ remarks.found_end side.now size) }
-{
+fn push_found_end(text: &mut String, side: &str, size: u16) -> Result<(), AllocError> {
     writeln!(text, "{side} of StructureSize {size}")
 }
 
@@ -178,9 +141,7 @@ fn size_line(
     found: &str,
     side: &str,
     size: u16,
-) -> Result<String, AllocError>
-    ensures { IfOk result (λ text. string_bytes text ≡ remarks.size_line wanted (found.now, side.now) size) }
-{
+) -> Result<String, AllocError> {
     let mut text = String::new(alloc);
     push_wanted(&mut text, wanted)?;
     push_stands(&mut text, found)?;
@@ -188,9 +149,7 @@ fn size_line(
     Ok(text)
 }
 
-fn short_line(alloc: Global, wanted: Kind) -> Result<String, AllocError>
-    ensures { IfOk result (λ text. string_bytes text ≡ remarks.short_line wanted) }
-{
+fn short_line(alloc: Global, wanted: Kind) -> Result<String, AllocError> {
     let (words, count) = (kind_words(wanted), kind_count(wanted));
     let mut text = String::new(alloc);
     writeln!(
@@ -203,15 +162,11 @@ fn short_line(alloc: Global, wanted: Kind) -> Result<String, AllocError>
 // The number of two bytes at a place.
 fn number_at(bytes: &[u8], place: usize) -> u16
     requires { place + 2 ≤ length bytes.now }
-    ensures { result ≡ number_at place 2 bytes.now }
 {
     LittleEndian::read_u16(&bytes[place..])
 }
 
-#[tactic(auto, unfolding(crate::specs::WireRemarks::bare_message_remark))]
-fn bare_message_remark(alloc: Global, wanted: Kind, bytes: &[u8]) -> Result<String, AllocError>
-    ensures { IfOk result (λ text. string_bytes text ≡ remarks.bare_message_remark wanted bytes.now) }
-{
+fn bare_message_remark(alloc: Global, wanted: Kind, bytes: &[u8]) -> Result<String, AllocError> {
     if bytes.len() < 2 {
         return short_line(alloc, wanted);
     }
@@ -226,9 +181,7 @@ fn bare_message_remark(alloc: Global, wanted: Kind, bytes: &[u8]) -> Result<Stri
 // ---- whole messages
 
 // SMB2 commands (MS-SMB2 2.2.1)
-fn command_word(command: u16) -> &'static str
-    ensures { result.now ≡ remarks.command_word command }
-{
+fn command_word(command: u16) -> &'static str {
     match command {
         0 => "a NEGOTIATE",
         1 => "a SESSION_SETUP",
@@ -254,9 +207,7 @@ fn command_word(command: u16) -> &'static str
 
 // Break messages have one command; the sender and StructureSize distinguish them (2.2.23 to
 // 2.2.25).
-fn break_words(from_server: bool, size: u16) -> &'static str
-    ensures { result.now ≡ remarks.break_words from_server size }
-{
+fn break_words(from_server: bool, size: u16) -> &'static str {
     match (from_server, size) {
         (true, 24) => "an oplock break notification or response",
         (true, 44) => "a lease break notification",
@@ -269,16 +220,13 @@ fn break_words(from_server: bool, size: u16) -> &'static str
     }
 }
 
-fn side_word(from_server: bool) -> &'static str
-    ensures { result.now ≡ remarks.side_word from_server }
-{
+fn side_word(from_server: bool) -> &'static str {
     if from_server { " response" } else { " request" }
 }
 
 // SERVER_TO_REDIR in the flags of the header.
 fn is_from_server(message: &[u8]) -> bool
     requires { 64 ≤ length message.now }
-    ensures { result ≡ remarks.is_from_server message.now }
 {
     LittleEndian::read_u32(&message[16..]) & 1 == 1
 }
@@ -286,7 +234,6 @@ fn is_from_server(message: &[u8]) -> bool
 // Which message stands there, in two parts.
 fn message_name(message: &[u8]) -> (&'static str, &'static str)
     requires { 66 ≤ length message.now }
-    ensures { (result.0.now, result.1.now) ≡ remarks.message_name message.now }
 {
     let command = number_at(message, 12);
     let from_server = is_from_server(message);
@@ -301,9 +248,7 @@ fn message_name(message: &[u8]) -> (&'static str, &'static str)
 }
 
 // The wanted message ends too early, or its contexts are not within it.
-fn wanted_line(alloc: Global, wanted: Kind, count: usize) -> Result<String, AllocError>
-    ensures { IfOk result (λ text. string_bytes text ≡ remarks.wanted_line wanted count) }
-{
+fn wanted_line(alloc: Global, wanted: Kind, count: usize) -> Result<String, AllocError> {
     if count < HEADER_SIZE + kind_count(wanted) {
         return short_line(alloc, wanted);
     }
@@ -313,10 +258,7 @@ fn wanted_line(alloc: Global, wanted: Kind, count: usize) -> Result<String, Allo
     )
 }
 
-#[tactic(auto, unfolding(crate::specs::WireRemarks::whole_message_remark))]
-fn whole_message_remark(alloc: Global, wanted: Kind, message: &[u8]) -> Result<String, AllocError>
-    ensures { IfOk result (λ text. string_bytes text ≡ remarks.whole_message_remark wanted message.now) }
-{
+fn whole_message_remark(alloc: Global, wanted: Kind, message: &[u8]) -> Result<String, AllocError> {
     if message.len() < HEADER_SIZE + 2 {
         return short_line(alloc, wanted);
     }
@@ -328,10 +270,7 @@ fn whole_message_remark(alloc: Global, wanted: Kind, message: &[u8]) -> Result<S
     size_line(alloc, wanted, name, side, size)
 }
 
-#[tactic(auto, unfolding(crate::specs::WireRemarks::header_remark))]
-fn header_words(bytes: &[u8]) -> &'static str
-    ensures { result.now ≡ remarks.header_remark bytes.now }
-{
+fn header_words(bytes: &[u8]) -> &'static str {
     if bytes.len() < HEADER_SIZE {
         "the header of an SMB2 message has 64 bytes; they end before that\n"
     } else if number_at(bytes, 4) == 64 {
@@ -349,10 +288,7 @@ fn create_remark(
     direction: Direction,
     message: &[u8],
     fault: WireFault,
-) -> Result<Option<String>, AllocError>
-    ensures { IfOk result (λ line. IfSome line (λ text. string_bytes text
-        ≡ remarks.create_remark (area_fault direction message.now) wanted direction message.now fault)) }
-{
+) -> Result<Option<String>, AllocError> {
     match contexts_of_create(direction, message) {
         Ok(items) => items_remark(alloc, direction, items, fault),
         Err(_) => Ok(Some(whole_message_remark(alloc, wanted, message)?)),
@@ -364,9 +300,7 @@ fn whole_remark(
     kind: Kind,
     message: &[u8],
     fault: WireFault,
-) -> Result<Option<String>, AllocError>
-    ensures { IfOk result (λ line. IfSome line (λ text. string_bytes text ≡ remarks.whole_remark kind message.now fault)) }
-{
+) -> Result<Option<String>, AllocError> {
     match kind {
         Kind::Ask => create_remark(alloc, kind, Direction::Request, message, fault),
         Kind::Reply => create_remark(alloc, kind, Direction::Reply, message, fault),
@@ -382,9 +316,7 @@ pub(crate) fn bare_remark(
     kind: Kind,
     bytes: &[u8],
     fault: WireFault,
-) -> Result<Option<String>, AllocError>
-    ensures { IfOk result (λ line. IfSome line (λ text. string_bytes text ≡ remarks.bare_remark kind bytes.now fault)) }
-{
+) -> Result<Option<String>, AllocError> {
     match kind {
         Kind::Ask => items_remark(alloc, Direction::Request, contexts(bytes), fault),
         Kind::Reply => items_remark(alloc, Direction::Reply, contexts(bytes), fault),
@@ -401,9 +333,7 @@ pub(crate) fn shown_remark(
     kind: Kind,
     bytes: &[u8],
     fault: WireFault,
-) -> Result<Option<String>, AllocError>
-    ensures { IfOk result (λ line. IfSome line (λ text. string_bytes text ≡ remarks.shown_remark kind bytes.now fault)) }
-{
+) -> Result<Option<String>, AllocError> {
     if !begins_message(bytes) {
         return bare_remark(alloc, kind, bytes, fault);
     }

@@ -1,25 +1,13 @@
-ghost use Rattle.std.specs.Prelude.{◌≡◌, ◌++◌, ◌&&◌, [], ◌∷◌, codes, IfOk, OnOk};
-ghost use Rattle.std.specs.Fmt.{decimal};
-ghost use Rattle.std.specs.String.{string_bytes};
-ghost use Rattle.hex.specs.Hex.{is_hex_digit};
-ghost use Rattle.lease_texts.specs.Quoting.{quoted};
-ghost use Rattle.leasecheck.specs.HexRemarks.{from_other, from_bad, hex_remark};
-
 use crate::hexadecimal::{digits_in, split_byte, without_prefix};
 use lease_texts::push_quoted;
 use std::alloc::{AllocError, Global};
 
-fn is_digit(code: u8) -> bool
-    ensures { result ≡ is_hex_digit code }
-{
+fn is_digit(code: u8) -> bool {
     code.is_ascii_hexdigit()
 }
 
 // A text from its first character on that is no digit.
-#[tactic(auto, unfolding(crate::specs::HexRemarks::from_other))]
-fn from_other(text: &[u8]) -> &[u8]
-    ensures { result.now ≡ from_other text.now }
-{
+fn from_other(text: &[u8]) -> &[u8] {
     let mut rest = text;
     while let [code, behind @ ..] = rest {
         if !is_digit(*code) {
@@ -30,16 +18,12 @@ fn from_other(text: &[u8]) -> &[u8]
     rest
 }
 
-fn are_digits(high: u8, low: u8) -> bool
-    ensures { result ≡ (is_hex_digit high && is_hex_digit low) }
-{
+fn are_digits(high: u8, low: u8) -> bool {
     is_digit(high) && is_digit(low)
 }
 
 // The same of a text that may have a separator between two bytes.
-fn from_bad(text: &[u8]) -> &[u8]
-    ensures { result.now ≡ from_bad text.now }
-{
+fn from_bad(text: &[u8]) -> &[u8] {
     let mut rest = text;
     while rest.len() > 3 {
         if !are_digits(rest[0], rest[1]) {
@@ -55,10 +39,7 @@ fn push_bad_digit(
     text: &mut String,
     place: usize,
     code: u8,
-) -> Result<(), AllocError>
-    ensures { OnOk result (string_bytes text.new ≡ string_bytes text.old ++ codes "HEX, character " ++ decimal place
-        ++ codes ": a hexadecimal digit; it is " ++ quoted (code ∷ []) ++ 10 ∷ []) }
-{
+) -> Result<(), AllocError> {
     write!(text, "HEX, character {place}: a hexadecimal digit; it is ")?;
     push_quoted(alloc, text, &[code])?;
     text.push_str("\n")
@@ -66,9 +47,7 @@ fn push_bad_digit(
 
 /// What is said of an argument that isn't bytes: its first character that is no digit where there
 /// has to be one, or else that the number of digits is odd.
-pub(crate) fn hex_remark(alloc: Global, argument: &[u8]) -> Result<String, AllocError>
-    ensures { IfOk result (λ text. string_bytes text ≡ hex_remark argument.now) }
-{
+pub(crate) fn hex_remark(alloc: Global, argument: &[u8]) -> Result<String, AllocError> {
     let written = without_prefix(argument);
     match from_bad(written) {
         [] => {

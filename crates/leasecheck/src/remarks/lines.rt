@@ -1,9 +1,3 @@
-ghost use Rattle.std.specs.Prelude.{◌≡◌, IfOk};
-ghost use Rattle.std.specs.Option.{option_map};
-ghost use Rattle.std.specs.String.{string_bytes};
-ghost use Rattle.lease_texts.specs.Complaints.{complaint_line, complaint_of};
-ghost use Rattle.leasecheck.specs.LineRemarks as remarks;
-
 use lease_texts::{
     Complaint, complaint_about, fact_table, first_line, part_table, push_complaint_line,
 };
@@ -13,9 +7,7 @@ fn complaint_line(
     alloc: Global,
     number: u64,
     complaint: &Complaint<'_>,
-) -> Result<String, AllocError>
-    ensures { IfOk result (λ text. string_bytes text ≡ complaint_line number (complaint_of complaint.now)) }
-{
+) -> Result<String, AllocError> {
     let mut text = String::new(alloc);
     push_complaint_line(alloc, &mut text, number, complaint)?;
     Ok(text)
@@ -26,9 +18,7 @@ pub(crate) fn fact_remark(
     alloc: Global,
     number: u64,
     line: &[u8],
-) -> Result<Option<String>, AllocError>
-    ensures { IfOk result (λ said. option_map (λ text. string_bytes text) said ≡ remarks.fact_remark number line.now) }
-{
+) -> Result<Option<String>, AllocError> {
     match complaint_about(alloc, fact_table(), line) {
         Ok(Some(complaint)) => Ok(Some(complaint_line(alloc, number, &complaint)?)),
         Ok(None) => Ok(None),
@@ -36,9 +26,7 @@ pub(crate) fn fact_remark(
     }
 }
 
-fn place_line(alloc: Global, number: u64) -> Result<String, AllocError>
-    ensures { IfOk result (λ text. string_bytes text ≡ remarks.place_line number) }
-{
+fn place_line(alloc: Global, number: u64) -> Result<String, AllocError> {
     let mut text = String::new(alloc);
     writeln!(
         text,
@@ -48,9 +36,7 @@ fn place_line(alloc: Global, number: u64) -> Result<String, AllocError>
 }
 
 /// What is said of a line of a capture that is refused.
-pub(crate) fn capture_remark(alloc: Global, number: u64) -> Result<String, AllocError>
-    ensures { IfOk result (λ text. string_bytes text ≡ remarks.capture_remark number) }
-{
+pub(crate) fn capture_remark(alloc: Global, number: u64) -> Result<String, AllocError> {
     let mut text = String::new(alloc);
     writeln!(
         text,
@@ -60,9 +46,7 @@ pub(crate) fn capture_remark(alloc: Global, number: u64) -> Result<String, Alloc
 }
 
 /// What is said of a line of a schedule that is refused.
-pub(crate) fn part_remark(alloc: Global, number: u64, line: &[u8]) -> Result<String, AllocError>
-    ensures { IfOk result (λ text. string_bytes text ≡ remarks.part_remark number line.now) }
-{
+pub(crate) fn part_remark(alloc: Global, number: u64, line: &[u8]) -> Result<String, AllocError> {
     match complaint_about(alloc, part_table(), line) {
         Ok(Some(complaint)) => complaint_line(alloc, number, &complaint),
         Ok(None) => place_line(alloc, number),
@@ -70,9 +54,7 @@ pub(crate) fn part_remark(alloc: Global, number: u64, line: &[u8]) -> Result<Str
     }
 }
 
-fn first_of(text: &[u8]) -> &[u8]
-    ensures { result.now ≡ remarks.line_at text.now 1 }
-{
+fn first_of(text: &[u8]) -> &[u8] {
     if text.is_empty() {
         &[]
     } else {
@@ -81,9 +63,7 @@ fn first_of(text: &[u8]) -> &[u8]
 }
 
 /// The line of a number, from 1; no bytes where there is none.
-pub(crate) fn line_at(text: &[u8], number: u64) -> &[u8]
-    ensures { result.now ≡ remarks.line_at text.now number }
-{
+pub(crate) fn line_at(text: &[u8], number: u64) -> &[u8] {
     let mut rest = text;
     for _passed in 1..number {
         if rest.is_empty() {

@@ -1,25 +1,17 @@
-ghost use Rattle.std.specs.Prelude.{◌≡◌, ◌<◌, bytes_eq, length, Some, IfOk, IfSome, position};
-ghost use Rattle.std.specs.Option.{option_map};
-ghost use Rattle.std.specs.String.{string_bytes};
-ghost use Rattle.lease_texts.specs.Drafts.{draft_of};
-ghost use Rattle.leasecheck.specs.Drawing.{facts_line};
-ghost use Rattle.leasecheck.specs.SetupRemarks.{twins, twins_line, too_many_line, setup_remark, events_remark};
+ghost use Rattle.std.specs.Prelude.{◌<◌, length, IfSome};
 
 use lease_texts::Schedule;
 use std::alloc::{AllocError, Global};
 
 // Where a GUID stands again.
 fn place_of(guid: &[u8; 16], guids: &[[u8; 16]]) -> Option<usize>
-    ensures place { result ≡ position (bytes_eq guid.now) guids.now }
     ensures within { IfSome result (λ place. place < length guids.now) }
 {
     guids.iter().position(|other| guid == other)
 }
 
 // The first client whose GUID a later one has, and the first of those.
-fn twins(guids: &[[u8; 16]]) -> Option<(usize, usize)>
-    ensures { result ≡ twins 1 guids.now }
-{
+fn twins(guids: &[[u8; 16]]) -> Option<(usize, usize)> {
     for place in 0..guids.len() {
         match place_of(&guids[place], &guids[place + 1..]) {
             Some(behind) => return Some((place + 1, place + 1 + 1 + behind)),
@@ -29,17 +21,13 @@ fn twins(guids: &[[u8; 16]]) -> Option<(usize, usize)>
     None
 }
 
-fn too_many(alloc: Global, what: &str, most: usize, count: usize) -> Result<String, AllocError>
-    ensures { IfOk result (λ text. string_bytes text ≡ too_many_line what.now most count) }
-{
+fn too_many(alloc: Global, what: &str, most: usize, count: usize) -> Result<String, AllocError> {
     let mut text = String::new(alloc);
     writeln!(text, "at most {most} {what}; there are {count}")?;
     Ok(text)
 }
 
-fn twins_text(alloc: Global, first: usize, second: usize) -> Result<String, AllocError>
-    ensures { IfOk result (λ text. Some (string_bytes text) ≡ twins_line (Some (first, second))) }
-{
+fn twins_text(alloc: Global, first: usize, second: usize) -> Result<String, AllocError> {
     let mut text = String::new(alloc);
     writeln!(
         text,
@@ -49,9 +37,10 @@ fn twins_text(alloc: Global, first: usize, second: usize) -> Result<String, Allo
 }
 
 /// Which limit of a setup the schedule breaks: too many files or clients, or two clients with one GUID.
-pub(crate) fn setup_remark(alloc: Global, schedule: &Schedule) -> Result<Option<String>, AllocError>
-    ensures { IfOk result (λ line. option_map (λ text. string_bytes text) line ≡ setup_remark (draft_of schedule.now)) }
-{
+pub(crate) fn setup_remark(
+    alloc: Global,
+    schedule: &Schedule,
+) -> Result<Option<String>, AllocError> {
     let (files, clients) = (schedule.setup.files.len(), schedule.setup.clients.len());
     if files > 8 {
         return Ok(Some(too_many(alloc, "files", 8, files)?));
@@ -66,15 +55,11 @@ pub(crate) fn setup_remark(alloc: Global, schedule: &Schedule) -> Result<Option<
 }
 
 /// How many events there are, which are too many.
-pub(crate) fn events_remark(alloc: Global, schedule: &Schedule) -> Result<String, AllocError>
-    ensures { IfOk result (λ text. string_bytes text ≡ events_remark (draft_of schedule.now)) }
-{
+pub(crate) fn events_remark(alloc: Global, schedule: &Schedule) -> Result<String, AllocError> {
     too_many(alloc, "events", 10_000, schedule.events.len())
 }
 
 /// How many facts there are, which are too many for a picture.
-pub(crate) fn facts_remark(alloc: Global, count: usize) -> Result<String, AllocError>
-    ensures { IfOk result (λ text. string_bytes text ≡ facts_line count) }
-{
+pub(crate) fn facts_remark(alloc: Global, count: usize) -> Result<String, AllocError> {
     too_many(alloc, "facts", 5000, count)
 }

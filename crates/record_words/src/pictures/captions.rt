@@ -3,8 +3,8 @@ ghost use Rattle.std.specs.List.{list_any};
 ghost use Rattle.record_words.specs.pictures.Captions.{caption_of, seen_caption};
 
 use crate::pictures::picture::Caption;
-use lease_facts::Fact;
 use crate::words::push_fact_words;
+use lease_facts::Fact;
 use std::alloc::{AllocError, Global};
 
 fn is_among(places: &[usize], place: usize) -> bool

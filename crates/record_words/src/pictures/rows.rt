@@ -1,6 +1,3 @@
-ghost use Rattle.std.specs.Prelude.{◌≡◌, ◌+◌, length, min, IfOk};
-ghost use Rattle.record_words.specs.pictures.Requests.{asked_from};
-
 use crate::pictures::lanes::at;
 use crate::pictures::requests::count_sent;
 use lease_facts::Passage;
@@ -24,9 +21,7 @@ fn fill(facts: &mut Vec<u16>, until: usize, sent: usize) -> Result<(), AllocErro
 
 impl Rows {
     /// The rows of so many facts, and of the requests among these passages.
-    pub fn of(alloc: Global, facts: usize, passages: &[Passage]) -> Result<Rows, Memory>
-        ensures { IfOk result (λ rows. rows.count ≡ min (facts + length (asked_from 1 passages.now)) 65535) }
-    {
+    pub fn of(alloc: Global, facts: usize, passages: &[Passage]) -> Result<Rows, Memory> {
         let mut rows = Vec::new(alloc);
         let mut sent = 0usize;
         for passage in passages {
@@ -43,9 +38,7 @@ impl Rows {
     }
 
     /// How many there are.
-    pub fn count(&self) -> u16
-        ensures { result ≡ self.now.count }
-    {
+    pub fn count(&self) -> u16 {
         self.count
     }
 

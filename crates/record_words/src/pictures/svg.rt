@@ -1,21 +1,9 @@
-ghost use Rattle.std.specs.Prelude.{◌≡◌, ◌≢◌, ◌++◌, ◌∷◌, [], codes, OnOk};
-ghost use Rattle.std.specs.List.{flat_map};
-ghost use Rattle.std.specs.String.{string_bytes};
-ghost use Rattle.lease_texts.specs.Pieces.{lines_of};
-ghost use Rattle.record_words.specs.pictures.Svg.{escaped, look_word, line_text, rectangle_text, circle_text, words_begin, shape_text};
-ghost use Rattle.record_words.specs.pictures.Svg.{badness, body_text, caption_begin, caption_text, mark_text, note_begin};
-ghost use Rattle.record_words.specs.pictures.Svg.{note_text, notes_text};
-ghost use Rattle.record_words.specs.pictures.Svg.{size_text, style_text, picture_text, remark_text, request_begin, request_text, told_text};
-
 use crate::pictures::picture::{Caption, Mark, Picture, Remark, RequestMark};
 use crate::pictures::shape::{Look, Point, Shape, Size};
 use lease_texts::first_line;
 use std::alloc::AllocError;
 
-#[tactic(auto, unfolding(crate::specs::pictures::Svg::escaped))]
-fn push_escaped_byte(text: &mut String, byte: u8) -> Result<(), AllocError>
-    ensures { OnOk result (string_bytes text.new ≡ string_bytes text.old ++ escaped byte) }
-{
+fn push_escaped_byte(text: &mut String, byte: u8) -> Result<(), AllocError> {
     if byte == b'&' {
         text.push_str("&amp;")
     } else if byte == b'<' {
@@ -29,18 +17,14 @@ fn push_escaped_byte(text: &mut String, byte: u8) -> Result<(), AllocError>
     }
 }
 
-fn push_escaped(text: &mut String, bytes: &[u8]) -> Result<(), AllocError>
-    ensures { OnOk result (string_bytes text.new ≡ string_bytes text.old ++ flat_map escaped bytes.now) }
-{
+fn push_escaped(text: &mut String, bytes: &[u8]) -> Result<(), AllocError> {
     for byte in bytes {
         push_escaped_byte(text, *byte)?;
     }
     Ok(())
 }
 
-fn look_word(look: Look) -> &'static str
-    ensures { result.now ≡ look_word look }
-{
+fn look_word(look: Look) -> &'static str {
     match look {
         Look::Heading => "heading",
         Look::Lane => "lane",
@@ -62,10 +46,7 @@ fn look_word(look: Look) -> &'static str
     }
 }
 
-#[tactic(auto, unfolding(crate::specs::pictures::Svg::line_text))]
-fn push_line(text: &mut String, look: Look, from: Point, to: Point) -> Result<(), AllocError>
-    ensures { OnOk result (string_bytes text.new ≡ string_bytes text.old ++ line_text look from to) }
-{
+fn push_line(text: &mut String, look: Look, from: Point, to: Point) -> Result<(), AllocError> {
     let class = look_word(look);
     let (x1, y1, x2, y2) = (from.x, from.y, to.x, to.y);
     write!(
@@ -74,10 +55,7 @@ fn push_line(text: &mut String, look: Look, from: Point, to: Point) -> Result<()
     )
 }
 
-#[tactic(auto, unfolding(crate::specs::pictures::Svg::rectangle_text))]
-fn push_rectangle(text: &mut String, look: Look, at: Point, size: Size) -> Result<(), AllocError>
-    ensures { OnOk result (string_bytes text.new ≡ string_bytes text.old ++ rectangle_text look at size) }
-{
+fn push_rectangle(text: &mut String, look: Look, at: Point, size: Size) -> Result<(), AllocError> {
     let class = look_word(look);
     let (x, y, width, height) = (at.x, at.y, size.width, size.height);
     write!(
@@ -86,28 +64,19 @@ fn push_rectangle(text: &mut String, look: Look, at: Point, size: Size) -> Resul
     )
 }
 
-#[tactic(auto, unfolding(crate::specs::pictures::Svg::circle_text))]
-fn push_circle(text: &mut String, look: Look, at: Point) -> Result<(), AllocError>
-    ensures { OnOk result (string_bytes text.new ≡ string_bytes text.old ++ circle_text look at) }
-{
+fn push_circle(text: &mut String, look: Look, at: Point) -> Result<(), AllocError> {
     let class = look_word(look);
     let (x, y) = (at.x, at.y);
     write!(text, "<circle r='5' class='{class}' cx='{x}' cy='{y}'/>\n")
 }
 
-#[tactic(auto, unfolding(crate::specs::pictures::Svg::words_begin))]
-fn push_words_begin(text: &mut String, look: Look, at: Point) -> Result<(), AllocError>
-    ensures { OnOk result (string_bytes text.new ≡ string_bytes text.old ++ words_begin look at) }
-{
+fn push_words_begin(text: &mut String, look: Look, at: Point) -> Result<(), AllocError> {
     let class = look_word(look);
     let (x, y) = (at.x, at.y);
     write!(text, "<text class='{class}' x='{x}' y='{y}'>")
 }
 
-#[tactic(auto, unfolding(crate::specs::pictures::Svg::shape_text))]
-fn push_shape(text: &mut String, shape: &Shape) -> Result<(), AllocError>
-    ensures { OnOk result (string_bytes text.new ≡ string_bytes text.old ++ shape_text shape.now) }
-{
+fn push_shape(text: &mut String, shape: &Shape) -> Result<(), AllocError> {
     match shape {
         Shape::Line { from, to, look } => push_line(text, *look, *from, *to),
         Shape::Rectangle { at, size, look } => push_rectangle(text, *look, *at, *size),
@@ -124,9 +93,7 @@ fn push_shape(text: &mut String, shape: &Shape) -> Result<(), AllocError>
     }
 }
 
-fn push_shapes(text: &mut String, shapes: &[Shape]) -> Result<(), AllocError>
-    ensures { OnOk result (string_bytes text.new ≡ string_bytes text.old ++ flat_map shape_text shapes.now) }
-{
+fn push_shapes(text: &mut String, shapes: &[Shape]) -> Result<(), AllocError> {
     for shape in shapes {
         push_shape(text, shape)?;
     }
@@ -134,122 +101,85 @@ fn push_shapes(text: &mut String, shapes: &[Shape]) -> Result<(), AllocError>
 }
 
 // What a mark has after its title.
-#[tactic(auto, unfolding(crate::specs::pictures::Svg::body_text))]
-fn push_body(text: &mut String, shapes: &[Shape]) -> Result<(), AllocError>
-    ensures { OnOk result (string_bytes text.new ≡ string_bytes text.old ++ body_text shapes.now) }
-{
+fn push_body(text: &mut String, shapes: &[Shape]) -> Result<(), AllocError> {
     push_shapes(text, shapes)?;
     text.push_str("</g>\n")
 }
 
-fn badness(is_bad: bool) -> &'static str
-    ensures { result.now ≡ badness is_bad }
-{
+fn badness(is_bad: bool) -> &'static str {
     if is_bad { " bad" } else { "" }
 }
 
-#[tactic(auto, unfolding(crate::specs::pictures::Svg::caption_begin))]
 fn push_caption_begin(
     text: &mut String,
     place: usize,
     kind: &str,
     bad: &str,
-) -> Result<(), AllocError>
-    ensures { OnOk result (string_bytes text.new ≡ string_bytes text.old ++ caption_begin place kind.now bad.now) }
-{
+) -> Result<(), AllocError> {
     write!(text, "<g id='fact-{place}' class='{kind}{bad}'><title>")
 }
 
-#[tactic(auto, unfolding(crate::specs::pictures::Svg::caption_text))]
-fn push_caption(text: &mut String, caption: &Caption) -> Result<(), AllocError>
-    ensures { OnOk result (string_bytes text.new ≡ string_bytes text.old ++ caption_text caption.now) }
-{
+fn push_caption(text: &mut String, caption: &Caption) -> Result<(), AllocError> {
     let (kind, bad) = (caption.kind.word(), badness(caption.is_bad));
     push_caption_begin(text, caption.place, kind, bad)?;
     push_escaped(text, caption.words.as_bytes())?;
     text.push_str("</title>\n")
 }
 
-#[tactic(auto, unfolding(crate::specs::pictures::Svg::mark_text))]
-fn push_mark(text: &mut String, mark: &Mark) -> Result<(), AllocError>
-    ensures { OnOk result (string_bytes text.new ≡ string_bytes text.old ++ mark_text mark.now) }
-{
+fn push_mark(text: &mut String, mark: &Mark) -> Result<(), AllocError> {
     push_caption(text, &mark.caption)?;
     push_body(text, mark.shapes.as_slice())
 }
 
-fn push_marks(text: &mut String, marks: &[Mark]) -> Result<(), AllocError>
-    ensures { OnOk result (string_bytes text.new ≡ string_bytes text.old ++ flat_map mark_text marks.now) }
-{
+fn push_marks(text: &mut String, marks: &[Mark]) -> Result<(), AllocError> {
     for mark in marks {
         push_mark(text, mark)?;
     }
     Ok(())
 }
 
-#[tactic(auto, unfolding(crate::specs::pictures::Svg::request_begin))]
-fn push_request_begin(text: &mut String, place: usize) -> Result<(), AllocError>
-    ensures { OnOk result (string_bytes text.new ≡ string_bytes text.old ++ request_begin place) }
-{
+fn push_request_begin(text: &mut String, place: usize) -> Result<(), AllocError> {
     write!(text, "<g id='request-{place}' class='request'><title>")
 }
 
-#[tactic(auto, unfolding(crate::specs::pictures::Svg::request_text))]
-fn push_request_mark(text: &mut String, mark: &RequestMark) -> Result<(), AllocError>
-    ensures { OnOk result (string_bytes text.new ≡ string_bytes text.old ++ request_text mark.now) }
-{
+fn push_request_mark(text: &mut String, mark: &RequestMark) -> Result<(), AllocError> {
     push_request_begin(text, mark.place)?;
     push_escaped(text, mark.words.as_bytes())?;
     text.push_str("</title>\n")?;
     push_body(text, mark.shapes.as_slice())
 }
 
-fn push_request_marks(text: &mut String, marks: &[RequestMark]) -> Result<(), AllocError>
-    ensures { OnOk result (string_bytes text.new ≡ string_bytes text.old ++ flat_map request_text marks.now) }
-{
+fn push_request_marks(text: &mut String, marks: &[RequestMark]) -> Result<(), AllocError> {
     for mark in marks {
         push_request_mark(text, mark)?;
     }
     Ok(())
 }
 
-#[tactic(auto, unfolding(crate::specs::pictures::Svg::remark_text))]
-fn push_remark(text: &mut String, remark: &Remark) -> Result<(), AllocError>
-    ensures { OnOk result (string_bytes text.new ≡ string_bytes text.old ++ remark_text remark.now) }
-{
+fn push_remark(text: &mut String, remark: &Remark) -> Result<(), AllocError> {
     push_words_begin(text, Look::Remark, remark.at)?;
     push_escaped(text, remark.words.as_slice())?;
     text.push_str("</text>\n")
 }
 
-fn push_remarks(text: &mut String, remarks: &[Remark]) -> Result<(), AllocError>
-    ensures { OnOk result (string_bytes text.new ≡ string_bytes text.old ++ flat_map remark_text remarks.now) }
-{
+fn push_remarks(text: &mut String, remarks: &[Remark]) -> Result<(), AllocError> {
     for remark in remarks {
         push_remark(text, remark)?;
     }
     Ok(())
 }
 
-#[tactic(auto, unfolding(crate::specs::pictures::Svg::note_begin))]
-fn push_note_begin(text: &mut String) -> Result<(), AllocError>
-    ensures { OnOk result (string_bytes text.new ≡ string_bytes text.old ++ note_begin) }
-{
+fn push_note_begin(text: &mut String) -> Result<(), AllocError> {
     text.push_str("<tspan x='8' dy='18'>")
 }
 
-#[tactic(auto, unfolding(crate::specs::pictures::Svg::note_text))]
-fn push_note(text: &mut String, line: &[u8]) -> Result<(), AllocError>
-    ensures { OnOk result (string_bytes text.new ≡ string_bytes text.old ++ note_text line.now) }
-{
+fn push_note(text: &mut String, line: &[u8]) -> Result<(), AllocError> {
     push_note_begin(text)?;
     push_escaped(text, line)?;
     text.push_str("</tspan>\n")
 }
 
-fn push_note_lines(text: &mut String, notes: &[u8]) -> Result<(), AllocError>
-    ensures { OnOk result (string_bytes text.new ≡ string_bytes text.old ++ flat_map note_text (lines_of notes.now)) }
-{
+fn push_note_lines(text: &mut String, notes: &[u8]) -> Result<(), AllocError> {
     let mut rest = notes;
     while !rest.is_empty() {
         let (line, behind) = first_line(rest);
@@ -259,20 +189,14 @@ fn push_note_lines(text: &mut String, notes: &[u8]) -> Result<(), AllocError>
     Ok(())
 }
 
-#[tactic(auto, unfolding(crate::specs::pictures::Svg::notes_text))]
-fn push_notes(text: &mut String, picture: &Picture) -> Result<(), AllocError>
-    ensures { OnOk result (string_bytes text.new ≡ string_bytes text.old ++ notes_text picture.now) }
-{
+fn push_notes(text: &mut String, picture: &Picture) -> Result<(), AllocError> {
     let notes_at = picture.notes_at;
     write!(text, "<text class='notes' x='8' y='{notes_at}'>\n")?;
     push_note_lines(text, picture.notes.as_bytes())?;
     text.push_str("</text>\n")
 }
 
-#[tactic(auto, unfolding(crate::specs::pictures::Svg::size_text))]
-fn push_size(text: &mut String, size: Size) -> Result<(), AllocError>
-    ensures { OnOk result (string_bytes text.new ≡ string_bytes text.old ++ size_text size) }
-{
+fn push_size(text: &mut String, size: Size) -> Result<(), AllocError> {
     let (width, height) = (size.width, size.height);
     write!(
         text,
@@ -281,10 +205,7 @@ fn push_size(text: &mut String, size: Size) -> Result<(), AllocError>
 }
 
 // How the classes look. Words have a white edge, by which they can be read where lines cross them.
-#[tactic(auto, unfolding(crate::specs::pictures::Svg::style_text))]
-fn push_style(text: &mut String) -> Result<(), AllocError>
-    ensures { OnOk result (string_bytes text.new ≡ string_bytes text.old ++ style_text) }
-{
+fn push_style(text: &mut String) -> Result<(), AllocError> {
     text.push_str(
         "<style>text {font: 12px sans-serif; paint-order: stroke; stroke: #fff; stroke-width: 3px}\n",
     )?;
@@ -314,19 +235,14 @@ fn push_style(text: &mut String) -> Result<(), AllocError>
 }
 
 // What a picture tells: its marks, and what is said of facts.
-#[tactic(auto, unfolding(crate::specs::pictures::Svg::told_text))]
-fn push_told(text: &mut String, picture: &Picture) -> Result<(), AllocError>
-    ensures { OnOk result (string_bytes text.new ≡ string_bytes text.old ++ told_text picture.now) }
-{
+fn push_told(text: &mut String, picture: &Picture) -> Result<(), AllocError> {
     push_marks(text, picture.marks.as_slice())?;
     push_request_marks(text, picture.requests.as_slice())?;
     push_remarks(text, picture.remarks.as_slice())
 }
 
 /// Adds a picture as an SVG document (profile): a group for each mark, with its request or its fact as title.
-pub fn push_picture(text: &mut String, picture: &Picture) -> Result<(), AllocError>
-    ensures { OnOk result (string_bytes text.new ≡ string_bytes text.old ++ picture_text picture.now) }
-{
+pub fn push_picture(text: &mut String, picture: &Picture) -> Result<(), AllocError> {
     push_size(text, picture.size)?;
     push_style(text)?;
     push_shapes(text, picture.lanes.as_slice())?;

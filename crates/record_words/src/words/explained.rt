@@ -4,7 +4,8 @@ ghost use Rattle.std.specs.String.{string_bytes};
 ghost use Rattle.lease_facts.specs.Facts.{fact_of};
 ghost use Rattle.lease_model.specs.records.Verdict as verdicts;
 ghost use Rattle.lease_facts.specs.Verdicts.{verdict_of};
-ghost use Rattle.record_words.specs.words.Explained.{unjoined_line, strayed_line, count_line, extent_lines, bad_place, lines_behind};
+ghost use Rattle.record_words.specs.words.Explained.{unjoined_line, strayed_line, count_line, extent_lines, bad_place};
+ghost use Rattle.record_words.specs.words.Explained.{lines_behind};
 ghost use Rattle.record_words.specs.words.Explained.{bad_lines, IsExplained};
 
 use crate::words::placed::Placed;

@@ -1,6 +1,7 @@
 ghost use Rattle.std.specs.Prelude.{◌≡◌, ◌++◌, OnOk, ◌≤◌, length, take};
 ghost use Rattle.std.specs.String.{string_bytes};
-ghost use Rattle.record_words.specs.words.FactWords.{shown_bytes, shown_patch, changed_words, wrote_words, started_words, read_words};
+ghost use Rattle.record_words.specs.words.FactWords.{shown_bytes, shown_patch, changed_words, wrote_words, started_words};
+ghost use Rattle.record_words.specs.words.FactWords.{read_words};
 ghost use Rattle.record_words.specs.words.FactWords.{way_words, deed_words, fact_deed, fact_words};
 ghost use Rattle.lease_facts.specs.Facts.{client_of};
 ghost use Rattle.lease_facts.specs.declared.fact.Fact.TheVariants as fact;

@@ -1,7 +1,8 @@
 ghost use Rattle.std.specs.Prelude.{◌≡◌, ◌++◌, OnOk, codes};
 ghost use Rattle.std.specs.String.{string_bytes};
 ghost use Rattle.std.specs.Option.{option_copied};
-ghost use Rattle.record_words.specs.words.ReasonWords.{words_of, place_line, place_line_if, other_line, unanswered_line, waiting_lines};
+ghost use Rattle.record_words.specs.words.ReasonWords.{words_of, place_line, place_line_if, other_line, unanswered_line};
+ghost use Rattle.record_words.specs.words.ReasonWords.{waiting_lines};
 ghost use Rattle.record_words.specs.words.ReasonWords.{expected_lines, reason_lines};
 
 use crate::words::fact_words::{push_bytes, push_fact_words, push_words};

@@ -2,7 +2,6 @@ use Rattle.lease_laws.proofs.Words.{◌∙◌, List, ℕ, ap, ap₂, length, map
 use Rattle.lease_facts.specs.Facts.{fact_of}
 use Rattle.lease_facts.specs.declared.fact.Fact.{Fact}
 use Rattle.lease_model.specs.records.Verdict as model
-use Rattle.lease_reasons.specs.Extent.{IsExtent}
 use Rattle.lease_reasons.specs.Reasons.{Explains}
 use Rattle.record_words.specs.pictures.Captions.{captions}
 use Rattle.record_words.specs.pictures.Remarks.{said_of}
@@ -12,20 +11,14 @@ pub returns-in-Ok-clause-drawn : goal.returns-in-Ok-clause-drawn
 returns-in-Ok-clause-drawn c = record {
   verdict = c.in_ok-verdict.verdict;
   reason = c.in_ok-reason.reason;
-  extent = c.in_ok-extent.extent;
-  picture = c.in-Ok.picture;
   verdict_is = c.in_ok-verdict.ensures.computed
       ∙ ap (λ (facts : List Fact). model.verdict (map fact_of facts)) c.as_slice-facts.ensures.value;
   explains = subst (λ (facts : List Fact). Explains (map fact_of facts) c.in_ok-verdict.verdict c.in_ok-reason.reason)
       c.as_slice-facts.ensures.value c.in_ok-reason.ensures;
-  judged = subst (λ (facts : List Fact). IsExtent facts c.in_ok-verdict.verdict c.in_ok-extent.extent)
-      c.as_slice-facts.ensures.value c.in_ok-extent.ensures;
   marks = c.in-Ok.ensures.marks
       ∙ ap₂ (λ (bad : List ℕ) (facts : List Fact). captions bad 1 facts) (c.as_slice.ensures.value ∙ c.in_ok-bad.ensures)
       c.as_slice-facts.ensures.value;
   requests = c.in-Ok.ensures.requests;
   remarks = c.in-Ok.ensures.remarks
       ∙ ap (λ (facts : List Fact). said_of (length facts) c.args.said.now) c.as_slice-facts.ensures.value;
-  notes = c.in-Ok.ensures.notes ∙ c.in_ok-notes.ensures;
-  text_is = c.in_ok-text_of-in-Ok.ensures;
 }

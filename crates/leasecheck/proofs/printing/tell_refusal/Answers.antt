@@ -1,7 +1,6 @@
 use Rattle.lease_laws.proofs.Words.{◌++◌, subst}
 use Rattle.std.proofs.lemmas.Result.{err_from_is_err_and}
-use Rattle.leasecheck.specs.Refusals.{Puts, failure_line}
-use Rattle.leasecheck.specs.Remarks.{second_of}
+use Rattle.leasecheck.specs.Refusals.{Puts, failure_line, second_of}
 use Rattle.leasecheck.proofs.Puts.{begins_longer, puts_behind}
 use Rattle.leasecheck.proofs.printing.tell_refusal.Goals as goal
 

@@ -8,7 +8,7 @@ returns-in-Err-clause-ended g c = λ _. (
   [],
   unopened c.args.asked.now c.in-Some.path.now (g.O.Write.contents c.args.out.now) (g.F.Write.contents c.args.faults.now)
       (g.F.Write.contents c.tell_refusal.new.faults) c.bare-refusal.result c.of_task.result (sym c.in-Some.ensures)
-      (subst FailsReading (sym c.bare-refusal.ensures.failure) c.of_reading.ensures.fails) c.bare-refusal.ensures.silent
-      c.of_task.ensures.failure c.of_task.ensures.said
+      (subst FailsReading (sym c.bare-refusal.ensures.failure) c.of_reading.ensures.fails)
+      c.of_task.ensures
       (begins_of _ _ _ c.tell_refusal.result c.tell_refusal.ensures.told),
 )

@@ -10,4 +10,4 @@ returns-in-Ok c = λ lines has. read_line c.args.self.now _ c.args.line.now line
 
 pub returns-in-Err-Refused : goal.returns-in-Err-Refused
 returns-in-Err-Refused c = λ lines has told is. refuse_line c.args.self.now c.args.line.now lines told has
-    (inr (c.in-Err-Refused.ensures has.facts has.judged c.in-Err-Refused.field-0-is, is.0, is.1))
+    (inr (c.in-Err-Refused.ensures has.facts has.judged c.in-Err-Refused.field-0-is, is))
