@@ -1,5 +1,5 @@
 /* Reads or writes create contexts many times by the calls of smblease.h, as `lease_bench contexts` does:
-   contexts read|write|write_others COUNT. */
+   NAME contexts read|write|write_others COUNT. */
 #include <smblease.h>
 #include <stdio.h>
 #include <stdlib.h>
@@ -49,7 +49,7 @@ static uint64_t write_many(uint32_t count, struct smblease_create_ask (*ask_at)(
 }
 
 int main(int argc, char **argv) {
-    if (argc != 3) return 2;
+    if (argc != 4) return 2;
     uint32_t count = (uint32_t)strtoul(argv[3], NULL, 10);
     uint64_t sum = strcmp(argv[2], "read") == 0    ? read_many(count)
                    : strcmp(argv[2], "write") == 0 ? write_many(count, same_ask)

@@ -1,4 +1,4 @@
-//! Calls of the crates, for the scripts of `bench` and `tests/growth` to time from outside. The first word says of what:
+//! Calls of the crates, for the scripts of `bench` to time from outside. The first word says of what:
 //!
 //!     lease_bench contexts TASK COUNT                   create contexts, read or written
 //!     lease_bench captures CLIENTS FILES OPENS [HOW]    a capture, walked

@@ -1,4 +1,4 @@
-//! What clients ask of a lease manager, for `bench/manager` and `tests/growth`.
+//! What clients ask of a lease manager, for `bench/manager`.
 
 mod asks;
 mod families;
