@@ -7,6 +7,8 @@
 #   make check-long             runs those of these tests that take longer
 #   make lint                   has mypy and pylint look at all Python
 #   make man                    writes the man pages anew, from --help, docs/C.md and the headers; needs pandoc
+#   make rust                   writes rust/ anew from the crates; needs rustfmt
+#   make check-rust             looks whether rust/ is that, and runs its tests, those of clippy, and all of make check over what cargo builds of it
 #   make prove                  proves and builds both, whatever is in dist/; needs the Rattle kit
 #   make dist                   does that, and puts them into dist/
 #   make clean                  removes what was built here; what is proved stays
@@ -86,6 +88,18 @@ lint:
 man:
 	tools/manual man
 
+rust:
+	tools/plain_rust
+
+# (the pages' own programs, which `make check` looks at, stay those of dist/)
+check-rust:
+	tools/plain_rust --check
+	tools/cargo clippy --quiet --workspace --all-targets -- -D warnings
+	tools/cargo --workspace-of smblease_c clippy --quiet -- -D warnings
+	tools/cargo test --quiet --workspace
+	RUSTDOCFLAGS='-D warnings' tools/cargo doc --quiet --no-deps --workspace
+	SMBLEASE_BUILD=plain $(MAKE) check TESTS="$(TESTS)"
+
 prove:
 	tools/prove
 
@@ -100,4 +114,4 @@ clean:
 
 FORCE:
 
-.PHONY: all install uninstall check check-long lint man prove dist clean FORCE
+.PHONY: all install uninstall check check-long check-rust lint man prove dist rust clean FORCE

@@ -19,4 +19,6 @@ def package(name: str) -> pytest.MarkDecorator:
     return pytest.mark.skipif(importlib.util.find_spec(name) is None, reason=f"there is no package {name}; {INSTALLS}")
 
 
+# What compares whole texts of help.
+OWN_HELP = pytest.mark.skipif(os.environ.get("SMBLEASE_BUILD") == "plain", reason="help is laid out by another version of clap")
 ROOT = pytest.mark.skipif(os.geteuid() != 0, reason="this isn't root")

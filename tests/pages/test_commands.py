@@ -24,8 +24,8 @@ OWN = "make check"
 # What is run in the folder as it is run at the top of the repository.
 LINKS = (
     "CHANGELOG.md", "COPYING.md", "Makefile", "SECURITY.md", "completion", "crates", "crates.txt", "dist", "docs", "drive",
-    "examples", "include", "kit.txt", "leasecheck", "man", "out", "pyproject.toml", "python", "serve", "setup.py", "tests",
-    "tools")
+    "examples", "include", "kit.txt", "leasecheck", "man", "out", "pyproject.toml", "python", "rust", "serve", "setup.py",
+    "tests", "tools")
 PAGES = ("README.md", "docs/SESSIONS.md", "docs/PROFILE.md")
 # Commands that have these words need these programs.
 NEEDS = {"pkg-config": "pkg-config", "out/c/": "pkg-config", "./lend": "pkg-config", "drive/capture": "tshark",

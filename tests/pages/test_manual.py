@@ -29,6 +29,7 @@ def rendered(page: str) -> str:
     return done.stdout.decode("utf-8")
 
 
+@needs.OWN_HELP
 @needs.program("pandoc")
 @pytest.mark.parametrize("page", PAGES)
 def test_the_pages_are_made_anew(tmp_path: Path, page: str) -> None:
@@ -39,6 +40,7 @@ def test_the_pages_are_made_anew(tmp_path: Path, page: str) -> None:
     assert made == kept, "`make man` writes them anew"
 
 
+@needs.OWN_HELP
 @needs.program("man")
 def test_the_page_of_the_program_has_all_that_help_says(program: str) -> None:
     def help_of(*command: str) -> str:

@@ -62,6 +62,7 @@ def folder_of_files(tmp_path: Path) -> Path:
     return tmp_path
 
 
+@needs.OWN_HELP
 def test_each_command_is_known(program: str) -> None:
     assert offered("") == set(COMMAND.findall(part_of(help_of(program), "Commands"))) != set()
 

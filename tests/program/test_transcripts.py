@@ -15,6 +15,7 @@ from typing import Iterator
 
 import pytest
 
+from tests import needs
 from tests.paths import TESTS, files_of
 from tests.program.ran import run
 
@@ -63,7 +64,8 @@ def commands() -> Iterator[object]:
                 command = Command(shlex.split(lines[0][1:]))
                 for line in lines[1:]:
                     command.read(line)
-                yield pytest.param(command, id=f"{path.name}, block {number}, {lines[0][:60]}")
+                marks = [needs.OWN_HELP] if {"-h", "--help"} & set(command.words) else []
+                yield pytest.param(command, id=f"{path.name}, block {number}, {lines[0][:60]}", marks=marks)
 
 
 def is_fault(had: str, wanted: str) -> bool:

@@ -1,0 +1,154 @@
+// Made by tools/plain_rust from crates/capture_texts/src/finding.rt. Changes belong there.
+
+use std::prelude::Vec;
+
+use crate::proved::capture_judge::Level;
+use crate::proved::capture_texts::line::Moment;
+use crate::proved::capture_walk::NotJudged;
+use smblease::proved::lease_state::Bytes;
+
+/// Where a file is.
+#[derive(Debug)]
+pub struct FilePlace {
+    /// The address of the server.
+    pub server: Bytes,
+    /// The share's path, as it stands in the TREE_CONNECT request (MS-SMB2 2.2.9): UTF-16.
+    pub path: Bytes,
+    /// The name below the share, as it stands in the CREATE request (MS-SMB2 2.2.13): UTF-16.
+    pub name: Bytes,
+}
+
+/// A client of a capture.
+#[derive(Debug)]
+pub struct ClientName {
+    /// The number of its first NEGOTIATE request among what is seen in the capture.
+    pub number: u64,
+    /// The address from which it sent that; no byte where it isn't known.
+    pub address: Bytes,
+}
+
+/// What is decided of a file.
+#[derive(Debug)]
+pub enum Judged {
+    /// No client that had a lease on it is judged.
+    NoClient,
+    /// What its clients cached may have gone together at all times.
+    Safe,
+    /// Up to this moment two clients cached what doesn't go together, whatever happened between the packets.
+    Unsafe(Option<Moment>),
+    /// What the capture shows can't have happened.
+    Contradictory,
+    /// There are too many ways in which it can have happened.
+    TooMany,
+}
+
+/// What a client caches of a file after a change of one of its leases.
+#[derive(Debug)]
+pub struct Belief {
+    /// The number of the client, as its `ClientName` has it.
+    pub client: u64,
+    /// What it caches, whichever of its leases lets it.
+    pub level: Level,
+    /// Where the change is among the lines: a number that grows with time.
+    pub position: u64,
+    /// The moment of the line; none where it is before all lines.
+    pub moment: Option<Moment>,
+}
+
+/// What is found of a file on which leases are granted.
+#[derive(Debug)]
+pub struct FileFinding {
+    /// The number of the CREATE response with which its life begins, among what is seen in the capture.
+    pub file: u64,
+    pub place: Option<FilePlace>,
+    pub judged: Judged,
+    /// The clients that are judged, if only up to some moment: one for each lease.
+    pub clients: Vec<ClientName>,
+    /// What they cache, change by change, in an order that fits the capture: one by which the file is safe, where it is, and
+    /// where it is unsafe one by which it is up to then. Nothing where it isn't judged.
+    pub beliefs: Vec<Belief>,
+}
+
+/// A client that isn't judged from some moment on.
+#[derive(Debug)]
+pub struct ClientFinding {
+    pub client: ClientName,
+    /// From where on something of it may be missing; none where nothing of it is sure.
+    pub since: Option<Moment>,
+    /// Why, by the first of the messages that show that it isn't judged from there.
+    pub reason: NotJudged,
+}
+
+/// An epoch of a lease that doesn't follow on the one before it (MS-SMB2 3.2.5.19.2), so that a client may pass it over.
+#[derive(Debug)]
+pub struct EpochFinding {
+    pub client: ClientName,
+    /// Where the server sent it.
+    pub moment: Option<Moment>,
+    /// The epoch before.
+    pub before: u16,
+    pub epoch: u16,
+}
+
+/// What there is in a capture.
+#[derive(Clone, Copy, Debug, PartialEq, Eq)]
+pub struct Counts {
+    /// The connections of which a frame came.
+    pub connections: usize,
+    /// The frames.
+    pub frames: usize,
+    /// Those of them that can't be read: they are encrypted, compressed or bad.
+    pub unread: usize,
+}
+
+/// What is judged of a capture.
+#[derive(Clone, Copy, Debug, PartialEq, Eq)]
+pub enum CaptureVerdict {
+    /// A file is safe, and none is unsafe.
+    Safe,
+    /// A file is unsafe.
+    Unsafe,
+    /// Of no file anything is decided.
+    NothingJudged,
+}
+
+/// What is found in a capture.
+#[derive(Debug)]
+pub struct Report {
+    /// The files on which leases are granted, in the order in which the capture shows them.
+    pub files: Vec<FileFinding>,
+    /// The clients that aren't judged, or only up to some moment, in the order in which the capture shows that.
+    pub clients: Vec<ClientFinding>,
+    /// The epochs that don't follow on, in the order of the capture.
+    pub epochs: Vec<EpochFinding>,
+    pub counts: Counts,
+}
+
+fn is_unsafe(finding: &FileFinding) -> bool {
+    matches!(finding.judged, Judged::Unsafe(_))
+}
+
+fn is_safe(finding: &FileFinding) -> bool {
+    matches!(finding.judged, Judged::Safe)
+}
+
+fn has_unsafe(files: &[FileFinding]) -> bool {
+    files.iter().any(is_unsafe)
+}
+
+fn has_safe(files: &[FileFinding]) -> bool {
+    files.iter().any(is_safe)
+}
+
+impl Report {
+    /// The verdict on the capture: `Unsafe` where a file is unsafe, else `Safe` where one is safe, else `NothingJudged`.
+    pub fn verdict(&self) -> CaptureVerdict {
+        if has_unsafe(&self.files) {
+            CaptureVerdict::Unsafe
+        } else if has_safe(&self.files) {
+            CaptureVerdict::Safe
+        } else {
+            CaptureVerdict::NothingJudged
+        }
+    }
+}

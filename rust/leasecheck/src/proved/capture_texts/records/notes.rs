@@ -1,0 +1,53 @@
+// Made by tools/plain_rust from crates/capture_texts/src/records/notes.rt. Changes belong there.
+
+use std::prelude::{String, Vec};
+
+use crate::proved::capture_texts::finding::{ClientFinding, EpochFinding, FileFinding, Report};
+use crate::proved::capture_texts::records::record::{RecordLine, push_remark};
+use smblease::proved::lease_state::Memory;
+use std::alloc::Global;
+use std::fmt::Write as _;
+
+fn push_files(alloc: Global, lines: &mut Vec<RecordLine>, files: &[FileFinding]) -> Result<(), Memory> {
+    for file in files {
+        let mut remark = String::new(alloc);
+        write!(&mut remark, "{file}")?;
+        push_remark(lines, remark)?;
+    }
+    Ok(())
+}
+
+fn push_clients(alloc: Global, lines: &mut Vec<RecordLine>, clients: &[ClientFinding]) -> Result<(), Memory> {
+    for client in clients {
+        let mut remark = String::new(alloc);
+        write!(&mut remark, "{client}")?;
+        push_remark(lines, remark)?;
+    }
+    Ok(())
+}
+
+fn push_epochs(alloc: Global, lines: &mut Vec<RecordLine>, epochs: &[EpochFinding]) -> Result<(), Memory> {
+    for epoch in epochs {
+        let mut remark = String::new(alloc);
+        write!(&mut remark, "{epoch}")?;
+        push_remark(lines, remark)?;
+    }
+    Ok(())
+}
+
+/// Remarks on what is found in a capture: of each file, of each client that isn't judged, of each epoch that doesn't follow on,
+/// and how much there was.
+///
+/// # Errors
+///
+/// `Memory` where there is none left.
+pub fn notes_of(alloc: Global, report: &Report) -> Result<Vec<RecordLine>, Memory> {
+    let mut notes = Vec::new(alloc);
+    push_files(alloc, &mut notes, report.files.as_slice())?;
+    push_clients(alloc, &mut notes, report.clients.as_slice())?;
+    push_epochs(alloc, &mut notes, report.epochs.as_slice())?;
+    let mut counts = String::new(alloc);
+    write!(&mut counts, "{}", report.counts)?;
+    push_remark(&mut notes, counts)?;
+    Ok(notes)
+}

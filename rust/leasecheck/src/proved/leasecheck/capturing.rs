@@ -1,0 +1,119 @@
+// Made by tools/plain_rust from crates/leasecheck/src/capturing.rt. Changes belong there.
+
+use std::prelude::String;
+
+use crate::proved::capture_texts::{Capture, CaptureVerdict, RecordLine, Report, Side, notes_of, read_capture, record_of};
+use crate::proved::lease_texts::{TextFault, push_fact};
+use crate::proved::leasecheck::failure::Failure;
+use crate::proved::leasecheck::refusal::Refusal;
+use std::alloc::{AllocError, Global};
+use std::fmt::Write as _;
+
+// The capture that a text is.
+fn capture_of(alloc: Global, side: Side, text: &[u8]) -> Result<Capture, Refusal> {
+    match read_capture(alloc, side, text) {
+        Ok(capture) => Ok(capture),
+        Err(TextFault::Line(number)) => Err(Refusal::of_capture(alloc, number)),
+        Err(TextFault::Memory) => Err(Refusal::bare(Failure::Memory)),
+    }
+}
+
+fn push_verdict(text: &mut String, verdict: CaptureVerdict) -> Result<(), AllocError> {
+    match verdict {
+        CaptureVerdict::Safe => text.push_str("safe\n"),
+        CaptureVerdict::Unsafe => text.push_str("unsafe\n"),
+        CaptureVerdict::NothingJudged => text.push_str("nothing judged\n"),
+    }
+}
+
+fn push_files(text: &mut String, report: &Report) -> Result<(), AllocError> {
+    for file in &report.files {
+        writeln!(text, "{file}")?;
+    }
+    Ok(())
+}
+
+fn push_clients(text: &mut String, report: &Report) -> Result<(), AllocError> {
+    for client in &report.clients {
+        writeln!(text, "{client}")?;
+    }
+    Ok(())
+}
+
+fn push_epochs(text: &mut String, report: &Report) -> Result<(), AllocError> {
+    for epoch in &report.epochs {
+        writeln!(text, "{epoch}")?;
+    }
+    Ok(())
+}
+
+// What is found: a line for each file, one for each client that isn't judged, one for each epoch that doesn't follow on, and what
+// there is in the capture.
+fn findings_of(alloc: Global, report: &Report) -> Result<String, AllocError> {
+    let mut text = String::new(alloc);
+    push_files(&mut text, report)?;
+    push_clients(&mut text, report)?;
+    push_epochs(&mut text, report)?;
+    let counts = report.counts;
+    writeln!(&mut text, "{counts}")?;
+    Ok(text)
+}
+
+/// What `leasecheck capture` prints for a capture that was made at this side of its connections: the verdict, and what is found.
+///
+/// # Errors
+///
+/// `Line` with the number of the first line that is refused, and what is said of that, and `Memory` where there is none left.
+pub fn capture_text(alloc: Global, side: Side, text: &[u8]) -> Result<(String, CaptureVerdict), Refusal> {
+    let report = capture_of(alloc, side, text)?.report(alloc)?;
+    let verdict = report.verdict();
+    let mut told = String::new(alloc);
+    push_verdict(&mut told, verdict)?;
+    let findings = findings_of(alloc, &report)?;
+    told.push_str(findings.as_str())?;
+    Ok((told, verdict))
+}
+
+fn push_lines(text: &mut String, lines: &[RecordLine]) -> Result<(), AllocError> {
+    for line in lines {
+        match line {
+            RecordLine::Fact(fact) => push_fact(text, fact)?,
+            RecordLine::Remark(remark) => push_remark(text, remark.as_str())?,
+        }
+    }
+    Ok(())
+}
+
+fn push_remark(text: &mut String, remark: &str) -> Result<(), AllocError> {
+    text.push_str("# ")?;
+    text.push_str(remark)?;
+    text.push_str("\n")
+}
+
+/// The record that `leasecheck capture --record` prints for a capture that was made at this side of its connections: what the
+/// clients cached, with remarks; then as remarks the verdict, and what is found.
+///
+/// # Errors
+///
+/// `Line` with the number of the first line that is refused, and what is said of that, and `Memory` where there is none left.
+pub fn capture_record(alloc: Global, side: Side, text: &[u8]) -> Result<(String, CaptureVerdict), Refusal> {
+    let report = capture_of(alloc, side, text)?.report(alloc)?;
+    let verdict = report.verdict();
+    let lines = record_of(alloc, &report)?;
+    let notes = notes_of(alloc, &report)?;
+    let mut told = String::new(alloc);
+    push_lines(&mut told, &lines)?;
+    told.push_str("# ")?;
+    push_verdict(&mut told, verdict)?;
+    push_lines(&mut told, &notes)?;
+    Ok((told, verdict))
+}
+
+/// The exit status of the verdict on a capture.
+pub fn status_of(verdict: CaptureVerdict) -> u8 {
+    match verdict {
+        CaptureVerdict::Safe => 0,
+        CaptureVerdict::Unsafe => 3,
+        CaptureVerdict::NothingJudged => 4,
+    }
+}

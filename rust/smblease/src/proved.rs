@@ -1,0 +1,40 @@
+//! The proved crates as modules, without their contracts.
+//!
+//! Made by tools/plain_rust.
+#![allow(dead_code, unused_imports, unused_variables, reason = "contracts and proofs speak of it")]
+#![allow(missing_docs, reason = "fields are told where their struct is")]
+#![allow(
+    clippy::assertions_on_constants,
+    clippy::collapsible_if,
+    clippy::collapsible_match,
+    clippy::explicit_counter_loop,
+    clippy::len_zero,
+    clippy::manual_contains,
+    clippy::manual_find,
+    clippy::manual_is_multiple_of,
+    clippy::manual_map,
+    clippy::manual_ok_err,
+    clippy::manual_range_contains,
+    clippy::manual_unwrap_or,
+    clippy::manual_unwrap_or_default,
+    clippy::needless_lifetimes,
+    clippy::needless_range_loop,
+    clippy::needless_return_with_question_mark,
+    clippy::question_mark,
+    clippy::redundant_pattern_matching,
+    clippy::should_implement_trait,
+    clippy::single_match,
+    clippy::too_many_arguments,
+    clippy::type_complexity,
+    clippy::write_with_newline,
+    reason = "the form that the prover takes"
+)]
+
+pub mod break_timers;
+pub mod lease_client;
+pub mod lease_facts;
+pub mod lease_manager;
+pub mod lease_state;
+pub mod lease_wire;
+pub mod lease_world;
+pub mod share_server;

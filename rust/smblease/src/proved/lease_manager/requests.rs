@@ -1,0 +1,12 @@
+// Made by tools/plain_rust from crates/lease_manager/src/requests.rt. Changes belong there.
+
+//! How a request goes from its arrival to its answer.
+
+pub mod acknowledge;
+pub mod answer;
+pub mod arrival;
+pub mod attempt;
+pub mod finding;
+pub mod grant;
+pub mod passes;
+pub mod trial;

@@ -1,0 +1,203 @@
+// Made by tools/plain_rust from crates/lease_manager/src/tables/changes.rt. Changes belong there.
+
+use std::prelude::Vec;
+
+use crate::proved::lease_manager::tables::Tables;
+use crate::proved::lease_manager::tables::opens::Opens;
+use crate::proved::lease_manager::tables::queues::Queues;
+use crate::proved::lease_manager::tables::still::{forget_files, forget_for, forget_home};
+use crate::proved::lease_manager::tables::summaries::Summaries;
+use crate::proved::lease_manager::values::closing::Closing;
+use crate::proved::lease_manager::values::key::LeaseName;
+use crate::proved::lease_manager::values::lease::HeldLease;
+use crate::proved::lease_manager::values::number::{ClientNo, FileNo, Tag};
+use crate::proved::lease_manager::values::open::OpenEntry;
+use crate::proved::lease_manager::values::request::Held;
+use crate::proved::lease_state::{FileId, Memory};
+use std::alloc::Global;
+use std::collections::BTreeSet;
+
+impl Tables {
+    /// The lease of a key that an open has becomes this one.
+    ///
+    /// # Errors
+    ///
+    /// `Memory` where there is none left for the file's summary; no open is left then.
+    pub fn put_lease(&mut self, key: LeaseName, lease: HeldLease) -> Result<(), Memory> {
+        let alloc = self.alloc();
+        forget_home(&mut self.waiting, &self.summaries, key);
+        match self.summaries.put(key, lease) {
+            Ok(()) => Ok(()),
+            Err(memory) => {
+                self.waiting.clear();
+                forget_opens(&mut self.opens, &mut self.summaries, alloc);
+                Err(memory)
+            }
+        }
+    }
+
+    /// Closes opens; with its last open a lease is gone (MS-SMB2 3.3.5.10). The FileIds of those that were closed.
+    ///
+    /// # Errors
+    ///
+    /// `Memory` where there is none left for the list of FileIds.
+
+    pub fn close(&mut self, closing: Closing) -> Result<Vec<FileId>, Memory> {
+        let alloc = self.alloc();
+        let ids = self.opens.closed(alloc, &closing, &self.summaries)?;
+        if ids.is_empty() {
+            return Ok(ids);
+        }
+        forget_files(&mut self.waiting, &self.opens, &ids);
+        close_all(&mut self.opens, &mut self.summaries, &ids);
+        Ok(ids)
+    }
+
+    /// The request waits on the file, after those that wait there.
+    ///
+    /// # Errors
+    ///
+    /// `Memory` where there is none left for the file's queue.
+    pub fn hold(&mut self, file: FileNo, one: Held) -> Result<(), Memory> {
+        let alloc = self.alloc();
+        self.queues.push(alloc, file, one)?;
+        Ok(())
+    }
+
+    /// The request at this place of the file's queue no longer waits.
+    pub fn release(&mut self, file: FileNo, place: usize) {
+        self.waiting.forget(file);
+        self.queues.remove(file, place);
+    }
+
+    /// The requests of the client under the tag no longer wait on the file.
+    pub fn withdraw(&mut self, file: FileNo, client: ClientNo, tag: Tag) {
+        self.waiting.forget(file);
+        self.queues.withdraw(file, client, tag);
+    }
+
+    /// The client's connection and its requests that wait are forgotten.
+    ///
+    /// # Errors
+    ///
+    /// `Memory` where there is none left for the list of files; nothing has changed then.
+    pub fn forget(&mut self, client: ClientNo) -> Result<(), Memory> {
+        let alloc = self.alloc();
+        let files = self.queues.files(alloc)?;
+        self.waiting.clear();
+        forget_connection(&mut self.present, client);
+        forget_queues(&mut self.queues, &files, client);
+        Ok(())
+    }
+
+    /// The timer of the key ran out.
+    ///
+    /// # Errors
+    ///
+    /// `Memory` where there is none left for the list of such keys.
+    pub fn expire(&mut self, key: LeaseName) -> Result<(), Memory> {
+        self.expired.push(key)?;
+        Ok(())
+    }
+
+    /// The FileId given last; 0 before the first.
+    pub fn last_id(&self) -> u64 {
+        self.last_id
+    }
+
+    /// One more open, whose client is there, which has the next FileId, and whose key has no open on
+    /// another file. The lease of its key becomes this one.
+    ///
+    /// # Errors
+    ///
+    /// `Memory` where there is none left; no open is left then.
+    pub fn open(&mut self, one: OpenEntry, lease: HeldLease) -> Result<(), Memory> {
+        let alloc = self.alloc();
+        forget_for(&mut self.waiting, &self.queues, &one);
+        self.last_id = one.file_id.0;
+        match add(&mut self.opens, &mut self.summaries, alloc, one, lease) {
+            Ok(()) => Ok(()),
+            Err(memory) => {
+                self.waiting.clear();
+                forget_opens(&mut self.opens, &mut self.summaries, alloc);
+                Err(memory)
+            }
+        }
+    }
+
+    /// The client's opens are no longer connected.
+    ///
+    /// # Errors
+    ///
+    /// `Memory` where there is none left for the lists of FileIds; no open is left then, or nothing
+    /// has changed.
+    pub fn disconnect(&mut self, client: ClientNo) -> Result<(), Memory> {
+        let alloc = self.alloc();
+        let ids = self.opens.of_client(alloc, client)?;
+        self.waiting.clear();
+        match disconnect_all(&mut self.opens, alloc, &ids) {
+            Ok(()) => Ok(()),
+            Err(memory) => {
+                forget_opens(&mut self.opens, &mut self.summaries, alloc);
+                Err(memory)
+            }
+        }
+    }
+
+    /// The open of this FileId is connected again.
+    pub fn connect_again(&mut self, fid: FileId) {
+        self.waiting.clear();
+        self.opens.connect_again(fid);
+    }
+}
+
+// No open is left: so a call ends that finds no memory, and after which its manager forgets all.
+// docs/DECISIONS.md: "No memory within a call of the server".
+fn forget_opens(opens: &mut Opens, summaries: &mut Summaries, alloc: Global) {
+    *opens = Opens::new(alloc);
+    *summaries = Summaries::new(alloc);
+}
+
+// The opens of these FileIds are no longer connected.
+fn disconnect_all(opens: &mut Opens, alloc: Global, ids: &[FileId]) -> Result<(), Memory> {
+    for id in ids {
+        opens.disconnect(alloc, *id)?;
+    }
+    Ok(())
+}
+
+// Closes the opens of these FileIds.
+fn close_all(opens: &mut Opens, summaries: &mut Summaries, ids: &[FileId]) {
+    for id in ids {
+        close_one(opens, summaries, *id);
+    }
+}
+
+// Closes the open of this FileId, if there is one.
+fn close_one(opens: &mut Opens, summaries: &mut Summaries, id: FileId) {
+    match opens.take(id) {
+        Some(one) => summaries.lose(&one),
+        None => {}
+    }
+}
+
+// Adds an open, with the lease of its key.
+fn add(opens: &mut Opens, summaries: &mut Summaries, alloc: Global, one: OpenEntry, lease: HeldLease) -> Result<(), Memory> {
+    // So no count of them reaches its end.
+    let count = opens.len();
+    summaries.gain(alloc, &one, lease)?;
+    opens.push(one)?;
+    Ok(())
+}
+
+// The requests of the client no longer wait on these files.
+fn forget_queues(queues: &mut Queues, files: &[FileNo], client: ClientNo) {
+    for file in files {
+        queues.forget(*file, client);
+    }
+}
+
+// The client is no longer connected.
+fn forget_connection(present: &mut BTreeSet<ClientNo>, client: ClientNo) {
+    present.remove(&client);
+}

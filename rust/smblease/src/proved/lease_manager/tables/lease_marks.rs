@@ -1,0 +1,32 @@
+// Made by tools/plain_rust from crates/lease_manager/src/tables/lease_marks.rt. Changes belong there.
+
+use crate::proved::lease_manager::values::lease::HeldLease;
+
+/// What a file's summary marks of the lease of a key.
+#[derive(Clone, Copy, Debug, PartialEq, Eq)]
+pub struct LeaseMarks {
+    /// It holds `WRITE_CACHING`.
+    pub writes: bool,
+    /// It hinders no write under another key.
+    pub harmless: bool,
+}
+
+impl LeaseMarks {
+    /// What is marked of this lease.
+    pub fn of(lease: HeldLease) -> LeaseMarks {
+        LeaseMarks { writes: lease.state.caches_writes(), harmless: !hinders_writes(lease) }
+    }
+}
+
+// Whether a write under another key isn't ready before the lease is broken: it holds something, and is
+// not breaking to nothing yet.
+fn hinders_writes(lease: HeldLease) -> bool {
+    lease.state.holds_any() && !breaks_to_nothing(lease)
+}
+
+fn breaks_to_nothing(lease: HeldLease) -> bool {
+    match lease.broken_to {
+        Some(lowered) => !lowered.holds_any(),
+        None => false,
+    }
+}

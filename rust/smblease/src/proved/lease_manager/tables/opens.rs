@@ -1,0 +1,219 @@
+// Made by tools/plain_rust from crates/lease_manager/src/tables/opens.rt. Changes belong there.
+
+use std::prelude::Vec;
+
+use crate::proved::lease_manager::tables::left_opens::{LeftOpens, Owner};
+use crate::proved::lease_manager::tables::summaries::Summaries;
+use crate::proved::lease_manager::values::closing::Closing;
+use crate::proved::lease_manager::values::key::LeaseName;
+use crate::proved::lease_manager::values::number::{ClientNo, FileNo};
+use crate::proved::lease_manager::values::open::{ListedOpen, OpenEntry};
+use crate::proved::lease_state::{FileId, Memory};
+use std::alloc::Global;
+use std::collections::{BTreeMap, BTreeSet};
+
+/// The opens of a manager, by their FileIds.
+#[derive(Debug)]
+pub struct Opens {
+    by_id: BTreeMap<FileId, OpenEntry>,
+    /// Those of them that wait for their clients.
+    left: LeftOpens,
+}
+
+impl Opens {
+    /// No open. Allocates nothing.
+    pub fn new(alloc: Global) -> Opens {
+        Opens { by_id: BTreeMap::new(alloc), left: LeftOpens::new(alloc) }
+    }
+
+    /// How many there are. They stand in the order of their FileIds, and no two have one.
+    pub fn len(&self) -> usize {
+        self.by_id.len()
+    }
+
+    /// All of them, for a listing, in the order of their FileIds.
+    ///
+    /// # Errors
+    ///
+    /// `Memory` where there is none left for the list.
+    pub fn listed(&self, alloc: Global) -> Result<Vec<ListedOpen>, Memory> {
+        let mut opens = Vec::new(alloc);
+        for one in self.by_id.values() {
+            opens.push(one.listed())?;
+        }
+        Ok(opens)
+    }
+
+    /// One more open, whose client is there, and whose FileId is above those of all others.
+    ///
+    /// # Errors
+    ///
+    /// `Memory` where there is none left.
+    pub fn push(&mut self, one: OpenEntry) -> Result<(), Memory> {
+        self.by_id.insert(one.file_id, one)?;
+        Ok(())
+    }
+
+    /// The open of this FileId.
+    pub fn find(&self, fid: FileId) -> Option<&OpenEntry> {
+        self.by_id.get(&fid)
+    }
+
+    /// Takes the open of this FileId out, if there is one.
+    pub fn take(&mut self, fid: FileId) -> Option<OpenEntry> {
+        match self.by_id.remove(&fid) {
+            Some(one) => {
+                self.left.remove(one.owner(), fid);
+                Some(one)
+            }
+            None => None,
+        }
+    }
+
+    /// The FileIds of the opens that are closed, where these are the leases.
+    ///
+    /// # Errors
+    ///
+    /// `Memory` where there is none left for the list.
+    pub fn closed(&self, alloc: Global, closing: &Closing, leases: &Summaries) -> Result<Vec<FileId>, Memory> {
+        match closing {
+            Closing::Named(fid) => self.closed_at(alloc, *fid, closing, leases),
+            Closing::LeftBehind(fid) => self.closed_at(alloc, *fid, closing, leases),
+            Closing::LeftOf(key) => self.left_of(alloc, *key, leases),
+            Closing::Of(_) | Closing::LostBy(_) => self.closed_among(alloc, closing, leases),
+        }
+    }
+
+    // The FileIds of the opens of the key that wait for its client.
+    fn left_of(&self, alloc: Global, key: LeaseName, leases: &Summaries) -> Result<Vec<FileId>, Memory> {
+        // The invariant, which says what is in the sets, is known of what is looked at.
+        let _ = &self.left;
+        match leases.home(key) {
+            Some(file) => {
+                let ids = self.left_on(alloc, key, file)?;
+                Ok(ids)
+            }
+            None => Ok(Vec::new(alloc)),
+        }
+    }
+
+    // The same, of the opens that its client left on the file.
+    fn left_on(&self, alloc: Global, key: LeaseName, file: FileNo) -> Result<Vec<FileId>, Memory> {
+        let client = key.client;
+        match self.left.at(Owner { client, file }) {
+            Some(left) => {
+                let ids = self.with_key(alloc, key, left)?;
+                Ok(ids)
+            }
+            None => Ok(Vec::new(alloc)),
+        }
+    }
+
+    // Those of the FileIds whose opens have the key.
+    fn with_key(&self, alloc: Global, key: LeaseName, left: &BTreeSet<FileId>) -> Result<Vec<FileId>, Memory> {
+        let mut ids = Vec::new(alloc);
+        for fid in left {
+            if self.is_of_key(*fid, key) {
+                ids.push(*fid)?;
+            }
+        }
+        Ok(ids)
+    }
+
+    // Whether the open of this FileId has the key.
+    fn is_of_key(&self, fid: FileId, key: LeaseName) -> bool {
+        match self.find(fid) {
+            Some(one) => one.has_key(key),
+            None => false,
+        }
+    }
+
+    // The same, where only the open of this FileId can be closed.
+    fn closed_at(&self, alloc: Global, fid: FileId, closing: &Closing, leases: &Summaries) -> Result<Vec<FileId>, Memory> {
+        let mut ids = Vec::new(alloc);
+        match self.find(fid) {
+            Some(one) => {
+                if !closing.closes(leases, one) {
+                    return Ok(ids);
+                }
+                ids.push(fid)?;
+                Ok(ids)
+            }
+            None => Ok(ids),
+        }
+    }
+
+    // The same, by a look at all opens.
+    fn closed_among(&self, alloc: Global, closing: &Closing, leases: &Summaries) -> Result<Vec<FileId>, Memory> {
+        let mut ids = Vec::new(alloc);
+        for one in self.by_id.values() {
+            if closing.closes(leases, one) {
+                ids.push(one.file_id)?;
+            }
+        }
+        Ok(ids)
+    }
+
+    /// The first of the client's opens on the file that wait for it.
+    pub fn first_left_by(&self, client: ClientNo, file: FileNo) -> Option<FileId> {
+        match self.left.at(Owner { client, file }) {
+            Some(left) => match left.first() {
+                Some(fid) => Some(*fid),
+                None => None,
+            },
+            None => None,
+        }
+    }
+
+    /// The FileIds of the client's opens.
+    ///
+    /// # Errors
+    ///
+    /// `Memory` where there is none left for the list.
+    pub fn of_client(&self, alloc: Global, client: ClientNo) -> Result<Vec<FileId>, Memory> {
+        let mut ids = Vec::new(alloc);
+        for one in self.by_id.values() {
+            if one.client == client {
+                ids.push(one.file_id)?;
+            }
+        }
+        Ok(ids)
+    }
+
+    /// The open of this FileId is no longer connected.
+    ///
+    /// # Errors
+    ///
+    /// `Memory` where there is none left for the list of those that wait.
+    pub fn disconnect(&mut self, alloc: Global, fid: FileId) -> Result<(), Memory> {
+        match self.by_id.get(&fid) {
+            Some(one) => {
+                let owner = one.owner();
+                self.left.insert(alloc, owner, fid)?;
+                set_connected(&mut self.by_id, fid, false);
+                Ok(())
+            }
+            None => Ok(()),
+        }
+    }
+
+    /// The open of this FileId is connected again.
+    pub fn connect_again(&mut self, fid: FileId) {
+        match self.by_id.get(&fid) {
+            Some(one) => {
+                let owner = one.owner();
+                self.left.remove(owner, fid);
+                set_connected(&mut self.by_id, fid, true);
+            }
+            None => {}
+        }
+    }
+}
+
+// The open of this FileId is connected, or isn't.
+fn set_connected(by_id: &mut BTreeMap<FileId, OpenEntry>, fid: FileId, connected: bool) {
+    match by_id.get_mut(&fid) {
+        Some(one) => one.set_connected(connected),
+        None => {}
+    }
+}

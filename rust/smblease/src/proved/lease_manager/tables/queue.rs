@@ -1,0 +1,93 @@
+// Made by tools/plain_rust from crates/lease_manager/src/tables/queue.rt. Changes belong there.
+
+use std::prelude::Vec;
+
+use crate::proved::lease_manager::values::number::{ClientNo, Tag};
+use crate::proved::lease_manager::values::open::OpenEntry;
+use crate::proved::lease_manager::values::request::Held;
+use crate::proved::lease_state::Memory;
+use std::alloc::Global;
+
+/// What waits on a file, in order of arrival.
+// docs/DECISIONS.md: "The front of a queue".
+#[derive(Debug)]
+pub struct Queue {
+    /// At the front those that no longer wait.
+    items: Vec<Held>,
+    /// How many no longer wait, which is at most half of them.
+    gone: usize,
+}
+
+impl Queue {
+    /// Nothing waits. Allocates nothing.
+    pub fn new(alloc: Global) -> Queue {
+        Queue { items: Vec::new(alloc), gone: 0 }
+    }
+
+    /// What waits.
+    pub fn as_slice(&self) -> &[Held] {
+        &self.items[self.gone..]
+    }
+
+    /// The request waits after the others.
+    ///
+    /// # Errors
+    ///
+    /// `Memory` where there is none left for it; nothing has changed then.
+    pub fn push(&mut self, one: Held) -> Result<(), Memory> {
+        self.items.push(one)?;
+        Ok(())
+    }
+
+    /// The request at this place no longer waits.
+    pub fn remove(&mut self, place: usize) {
+        if place != 0 {
+            let _one = self.items.remove(self.gone + place);
+            return;
+        }
+        self.gone += 1;
+        if self.gone > self.items.len() - self.gone {
+            let_go(&mut self.items, self.gone);
+            self.gone = 0;
+        }
+    }
+
+    /// The requests of the client no longer wait.
+    pub fn forget(&mut self, client: ClientNo) {
+        let_go(&mut self.items, self.gone);
+        self.gone = 0;
+        forget_of(&mut self.items, client);
+    }
+
+    /// The requests of the client under the tag no longer wait.
+    pub fn withdraw(&mut self, client: ClientNo, tag: Tag) {
+        let_go(&mut self.items, self.gone);
+        self.gone = 0;
+        forget_under(&mut self.items, client, tag);
+    }
+
+    /// Whether a create waits under the key of the open.
+    pub fn asks_with(&self, one: &OpenEntry) -> bool {
+        one_asks_with(self.as_slice(), one)
+    }
+}
+
+// Whether a create is among these under the key of the open.
+fn one_asks_with(queue: &[Held], one: &OpenEntry) -> bool {
+    queue.iter().any(|held| held.asks_with(one))
+}
+
+// So many at the front are taken out.
+fn let_go(items: &mut Vec<Held>, gone: usize) {
+    drop(items.drain(..gone));
+}
+
+// The requests of the client no longer wait.
+fn forget_of(queue: &mut Vec<Held>, client: ClientNo) {
+    queue.retain(|one| one.client != client);
+}
+
+// The requests of the client under the tag no longer wait.
+fn forget_under(queue: &mut Vec<Held>, client: ClientNo, tag: Tag) {
+    queue.retain(|one| !(one.client == client && one.tag == tag));
+}

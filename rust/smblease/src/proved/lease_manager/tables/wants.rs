@@ -1,0 +1,39 @@
+// Made by tools/plain_rust from crates/lease_manager/src/tables/wants.rt. Changes belong there.
+
+use std::prelude::Vec;
+
+use crate::proved::lease_manager::tables::Tables;
+use crate::proved::lease_manager::values::key::LeaseName;
+use crate::proved::lease_manager::values::number::FileNo;
+use crate::proved::lease_manager::values::want::{Demand, Want, Wish};
+use crate::proved::lease_state::Memory;
+
+impl Tables {
+    /// What a request wishes of the leases of other keys on its file, in the order in which they are
+    /// broken.
+    ///
+    /// # Errors
+    ///
+    /// `Memory` where there is none left for the list.
+    pub fn wants(&self, wish: Wish, own: Option<LeaseName>, file: FileNo) -> Result<Vec<Want>, Memory> {
+        let keys = self.summaries.wanted_keys(self.alloc(), &Demand { wish, own, file })?;
+        let wants = self.wants_of(wish, &keys)?;
+        Ok(wants)
+    }
+
+    /// Whether the lease of another key on the file hinders a write under this key, or under none: it
+    /// holds something, and is not breaking to nothing yet.
+    pub fn is_hindered(&self, own: Option<LeaseName>, file: FileNo) -> bool {
+        self.summaries.is_hindered(own, file)
+    }
+
+    // The wants of these keys.
+    fn wants_of(&self, wish: Wish, keys: &[LeaseName]) -> Result<Vec<Want>, Memory> {
+        let mut wants = Vec::new(self.alloc());
+        for key in keys {
+            let lowered = wish.lowered(self.lease(*key).state);
+            wants.push(Want { key: *key, lowered })?;
+        }
+        Ok(wants)
+    }
+}

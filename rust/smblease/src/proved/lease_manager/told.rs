@@ -1,0 +1,105 @@
+// Made by tools/plain_rust from crates/lease_manager/src/told.rt. Changes belong there.
+
+use std::prelude::Vec;
+
+use crate::proved::lease_manager::outs::Outs;
+use crate::proved::lease_manager::values::decision::{BreakNotice, Decision};
+use crate::proved::lease_manager::values::number::{ClientNo, Tag};
+use crate::proved::lease_manager::values::out::Out;
+use crate::proved::lease_state::{FileId, Memory, Status};
+
+/// The decisions of a call so far, in order.
+#[derive(Debug)]
+pub struct Told {
+    items: Vec<Decision>,
+}
+
+impl Told {
+    /// Nothing yet, in the memory of a list, whatever was on it.
+    pub fn over(list: Vec<Decision>) -> Told {
+        let mut items = list;
+        items.clear();
+        Told { items }
+    }
+
+    /// The list. Allocates nothing.
+    pub fn into_vec(self) -> Vec<Decision> {
+        let Told { items } = self;
+        items
+    }
+
+    fn push(&mut self, decision: Decision) -> Result<(), Memory> {
+        self.items.push(decision)?;
+        Ok(())
+    }
+
+    /// The request waits.
+    pub fn waits(&mut self, client: ClientNo, tag: Tag) -> Result<(), Memory> {
+        self.push(Decision::Waits { client, tag })
+    }
+
+    /// The request is refused.
+    pub fn refused(&mut self, client: ClientNo, tag: Tag, status: Status) -> Result<(), Memory> {
+        self.push(Decision::Refused { client, tag, status })
+    }
+
+    /// An acknowledgment is refused.
+    pub fn not_acknowledged(&mut self, client: ClientNo, status: Status) -> Result<(), Memory> {
+        self.push(Decision::NotAcknowledged { client, status })
+    }
+
+    /// The request was taken back.
+    pub fn withdrawn(&mut self, client: ClientNo, tag: Tag) -> Result<(), Memory> {
+        self.push(Decision::Withdrawn { client, tag })
+    }
+
+    /// The open of this FileId is no more.
+    pub fn ended(&mut self, file_id: FileId) -> Result<(), Memory> {
+        self.push(Decision::Ended { file_id })
+    }
+
+    /// The opens of these FileIds are no more.
+    pub fn ended_all(&mut self, ids: &[FileId]) -> Result<(), Memory> {
+        for id in ids {
+            self.ended(*id)?;
+        }
+        Ok(())
+    }
+
+    /// The decisions of what was given out for the request under the tag.
+    pub fn tell(&mut self, tag: Tag, outs: &Outs) -> Result<(), Memory> {
+        for out in outs.items() {
+            self.tell_one(tag, *out)?;
+        }
+        Ok(())
+    }
+
+    // What is told of it, if anything is.
+    fn tell_one(&mut self, tag: Tag, out: Out) -> Result<(), Memory> {
+        match decided(tag, out) {
+            Some(decision) => {
+                self.push(decision)?;
+                Ok(())
+            }
+            None => Ok(()),
+        }
+    }
+}
+
+// What is told of an out for the request under the tag. That a file is opened or changed is told by the answer that goes
+// with it.
+fn decided(tag: Tag, out: Out) -> Option<Decision> {
+    match out {
+        Out::Opened { .. } | Out::Changed { .. } => None,
+        Out::Created { client, file_id, answer, .. } => Some(Decision::Opened { client, tag, file_id, answer }),
+        Out::Refused { client, status, .. } => Some(Decision::Refused { client, tag, status }),
+        Out::ReadDone { client, .. } | Out::WriteDone { client, .. } => Some(Decision::GoesOn { client, tag }),
+        Out::Closed { client, .. } => Some(Decision::Closed { client, tag }),
+        Out::Broken { key, current, lowered } => Some(Decision::Breaks {
+            client: key.client,
+            notice: BreakNotice { ack_required: current.needs_ack(), key: key.bytes, current, lowered },
+        }),
+        Out::Acknowledged { key, state } => Some(Decision::Acknowledged { client: key.client, key: key.bytes, state }),
+        Out::NotAcknowledged { client, status } => Some(Decision::NotAcknowledged { client, status }),
+    }
+}

@@ -1,0 +1,14 @@
+// Made by tools/plain_rust from crates/lease_manager/src/values.rt. Changes belong there.
+
+//! What a manager keeps, is asked and decides.
+
+pub mod closing;
+pub mod coming;
+pub mod decision;
+pub mod key;
+pub mod lease;
+pub mod number;
+pub mod open;
+pub mod out;
+pub mod request;
+pub mod want;

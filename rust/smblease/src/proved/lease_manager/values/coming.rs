@@ -1,0 +1,25 @@
+// Made by tools/plain_rust from crates/lease_manager/src/values/coming.rt. Changes belong there.
+
+use crate::proved::lease_manager::values::key::LeaseName;
+use crate::proved::lease_manager::values::number::{ClientNo, FileNo, Tag};
+use crate::proved::lease_manager::values::request::Ask;
+use crate::proved::lease_state::{FileId, LeaseState};
+
+/// What comes to a manager, and is decided about.
+#[derive(Clone, Copy, Debug)]
+pub enum Coming {
+    /// A client asks something of a file.
+    Asks { client: ClientNo, tag: Tag, ask: Ask },
+    /// A client acknowledges a break of its lease.
+    Acknowledges { key: LeaseName, state: LeaseState },
+    /// A client sends an acknowledgment that can't be read.
+    IsMalformed(ClientNo),
+    /// A client's connection is lost.
+    IsCut(ClientNo),
+    /// The timer of a lease break runs out.
+    Expires(LeaseName),
+    /// The timer of a durable open runs out.
+    Scavenges(FileId),
+    /// A request that waits is taken back.
+    Withdraws { file: FileNo, client: ClientNo, tag: Tag },
+}

@@ -1,0 +1,120 @@
+// Made by tools/plain_rust from crates/lease_world/src/judging.rt. Changes belong there.
+
+use crate::proved::lease_facts::{Fact, Verdict};
+use crate::proved::lease_state::Memory;
+use crate::proved::lease_world::judging::known::Known;
+use std::alloc::Global;
+
+mod cache;
+mod caches;
+mod client;
+mod clients;
+mod covers;
+mod file;
+mod files;
+mod holders;
+mod known;
+mod marks;
+mod numbers;
+mod snapshot;
+mod writes;
+
+/// Judges a record (profile), of any origin, in one pass: it is given fact after fact, and can give
+/// a verdict on the facts so far at any time. For each file it keeps the bytes with which it was
+/// started, its changes and how many good clients may cache something of it, for each client its
+/// beliefs, its writes, the numbers that were settled and the messages on their way, and for each
+/// client and file that the client read from its cache the file as it stood and the writes over it.
+// docs/DECISIONS.md: "How a judge's time and memory grow".
+#[derive(Debug)]
+pub struct Judge {
+    verdict: Verdict,
+    /// How many facts were taken.
+    count: u64,
+    known: Known,
+}
+
+impl Judge {
+    /// A judge that was given nothing. Allocates nothing.
+    pub fn new(alloc: Global) -> Judge {
+        Judge { verdict: Verdict::Safe, count: 0, known: Known::new(alloc) }
+    }
+
+    /// The judge after the next fact of the record.
+    ///
+    /// # Errors
+    ///
+    /// `Memory` where there is none left for what is kept, or no number of 64 bits for the fact's place.
+    // docs/DECISIONS.md: "Memory means a refused allocation".
+    pub fn take(self, fact: &Fact) -> Result<Judge, Memory> {
+        let mut judge = self;
+        judge.add(fact)?;
+        Ok(judge)
+    }
+
+    /// Takes the next fact of the record, in place.
+    ///
+    /// # Errors
+    ///
+    /// Those of `take`. The judge has forgotten all facts then, as a new one.
+    // docs/DECISIONS.md: "A judge takes a fact in two ways".
+    #[inline(always)]
+    pub fn add(&mut self, fact: &Fact) -> Result<(), Memory> {
+        match self.add_next(fact) {
+            Ok(()) => Ok(()),
+            Err(fault) => {
+                let alloc = self.known.alloc();
+                *self = Judge::new(alloc);
+                Err(fault)
+            }
+        }
+    }
+
+    #[inline(always)]
+    fn add_next(&mut self, fact: &Fact) -> Result<(), Memory> {
+        let Judge { verdict, count, known } = self;
+        if *verdict != Verdict::Safe {
+            return Ok(());
+        }
+        let place = count.checked_add(1).ok_or(Memory)?;
+        *verdict = known.add(place, fact)?;
+        *count = place;
+        Ok(())
+    }
+
+    /// The verdict on the record of the facts so far: `Safe` exactly where that record is safe, and else the first bad place,
+    /// and there `Malformed` or the lowest rule that is broken.
+    pub fn verdict(&self) -> Verdict {
+        self.verdict
+    }
+}
+
+#[cfg(test)]
+mod tests {
+    use std::prelude::HostRuntime;
+
+    use super::Judge;
+    use crate::proved::lease_facts::{Fact, Verdict};
+    use crate::proved::lease_state::{ClientNo, Memory};
+    use std::alloc::Global;
+    use std::test::Fail;
+
+    // A judge takes a fact after so many, of which it keeps nothing.
+    fn take_after(alloc: Global, count: u64) -> Result<(), Memory> {
+        let mut judge = Judge::new(alloc);
+        judge.count = count;
+        judge.add(&Fact::Joined(ClientNo(1)))
+    }
+
+    #[test]
+    fn facts_are_counted_with_64_bits() {
+        std::test::passes(|| -> Result<(), Fail> {
+            let rt = HostRuntime::host();
+            let alloc = rt.alloc();
+            take_after(alloc, u64::from(u16::MAX))?;
+            take_after(alloc, u64::from(u32::MAX))?;
+            take_after(alloc, u64::MAX - 1)?;
+            assert!(take_after(alloc, u64::MAX).is_err());
+            Ok(())
+        })
+    }
+}

@@ -1,0 +1,17 @@
+// Made by tools/plain_rust from crates/machines_c/src/manager.rt. Changes belong there.
+
+//! The manager of leases of `lease_manager`. A handle holds a manager together with the decisions of its last call,
+//! the timers of breaks, and what was listed since.
+
+pub mod calls;
+pub mod coming;
+pub mod decision;
+pub mod handle;
+pub mod leases;
+pub mod listing;
+pub mod managing;
+pub mod numbering;
+pub mod queries;
+pub mod requests;
+pub mod setting_up;
+pub mod values;

@@ -1,0 +1,5 @@
+//! Docs.
+#[derive(Clone, Copy)]
+#[repr(C)]
+struct One;
+struct Two;

@@ -1,0 +1,1 @@
+impl<T> From<Failed<T>> for Memory {}

@@ -1,0 +1,2 @@
+impl<T: Drop> From<Failed<T>> for Memory {
+}

@@ -1,0 +1,3 @@
+pub fn one(at: u8) -> u8 {
+    at
+}

@@ -1,0 +1,5 @@
+/// ```text
+/// ghost();
+/// ```
+/// See [it](crate::proved::one::two).
+fn one() {}

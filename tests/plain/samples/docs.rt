@@ -1,0 +1,5 @@
+/// ```
+/// ghost();
+/// ```
+/// See [it](crate::two).
+fn one() {}

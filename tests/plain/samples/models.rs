@@ -1,0 +1,2 @@
+use std::mem;
+fn two() {}

@@ -1,0 +1,3 @@
+fn one(count: usize) {
+    two(count);
+}
