@@ -1,5 +1,6 @@
 use crate::alloc::{AllocError, AllocFailed, Global};
 use crate::sorting;
+use core::alloc::Layout;
 use core::fmt;
 use core::ops::{Deref, DerefMut, RangeBounds};
 use rust_alloc::vec::{Drain, IntoIter, Vec as Inner};
@@ -17,9 +18,17 @@ impl<T> Vec<T> {
 
     /// No items, and room for so many.
     pub fn with_capacity(_alloc: Global, count: usize) -> Result<Vec<T>, AllocError> {
-        let mut made = Inner::new();
-        made.try_reserve_exact(count).map_err(|_| AllocError)?;
-        Ok(Vec(made))
+        let layout = Layout::array::<T>(count).map_err(|_| AllocError)?;
+        if layout.size() == 0 {
+            return Ok(Vec(Inner::new()));
+        }
+        // SAFETY: the layout has a size. (Reserving in an empty vector does the same in three times as many instructions.)
+        let at = unsafe { rust_alloc::alloc::alloc(layout) }.cast::<T>();
+        if at.is_null() {
+            return Err(AllocError);
+        }
+        // SAFETY: the memory is the global allocator's, for an array of so many items, of which none is there.
+        Ok(Vec(unsafe { Inner::from_raw_parts(at, 0, count) }))
     }
 
     /// The items of an array.
