@@ -8,7 +8,8 @@
 #   make lint                   has mypy and pylint look at all Python
 #   make man                    writes the man pages anew, from --help, docs/C.md and the headers; needs pandoc
 #   make rust                   writes rust/ anew from the crates; needs rustfmt
-#   make check-rust             looks whether rust/ is that, and runs its tests, those of clippy, and all of make check over what cargo builds of it
+#   make check-rust             looks whether rust/ is that, and runs its tests and clippy, and over what cargo builds of it the tests of make check that
+#                               ask the program and the library; SMBLEASE_BUILD=plain make check runs all of them over that
 #   make prove                  proves and builds both, whatever is in dist/; needs the Rattle kit
 #   make dist                   does that, and puts them into dist/
 #   make clean                  removes what was built here; what is proved stays
@@ -98,7 +99,7 @@ check-rust:
 	tools/cargo --workspace-of smblease_c clippy --quiet -- -D warnings
 	tools/cargo test --quiet --workspace
 	RUSTDOCFLAGS='-D warnings' tools/cargo doc --quiet --no-deps --workspace
-	SMBLEASE_BUILD=plain $(MAKE) check TESTS="$(TESTS)"
+	SMBLEASE_BUILD=plain $(MAKE) check TESTS="$(or $(TESTS),tests/program tests/c tests/python)"
 
 prove:
 	tools/prove

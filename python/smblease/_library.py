@@ -18,12 +18,15 @@ HERE = os.path.dirname(os.path.realpath(__file__))
 # What an installed package brings, and where the package stands in the repository.
 BROUGHT = os.path.join(HERE, "libsmblease.so")
 TOP = os.path.dirname(os.path.dirname(HERE))
-MADE = [os.path.join(TOP, folder, "libsmblease.so") for folder in ("out/proved", "dist/x86_64-linux")]
+PROVED = [os.path.join(TOP, folder, "libsmblease.so") for folder in ("out/proved", "dist/x86_64-linux")]
+PLAIN = os.path.join(TOP, "out/plain", "libsmblease.so")
 
 
 def _made() -> list[str]:
-    """The libraries of the repository, the newest first."""
-    return sorted((it for it in MADE if os.path.exists(it)), key=os.path.getmtime, reverse=True)
+    """The libraries of the repository: the proved ones, the newest first, and what cargo built, which can be asked for alone."""
+    wanted = [] if os.environ.get("SMBLEASE_BUILD") == "plain" else PROVED
+    found = sorted((it for it in wanted if os.path.exists(it)), key=os.path.getmtime, reverse=True)
+    return found + ([PLAIN] if os.path.exists(PLAIN) else [])
 
 
 def _places() -> Iterator[str]:

@@ -15,14 +15,15 @@ from smblease import _library
 from tests.paths import TOP
 
 BUILT = f"{TOP}/out/c/libsmblease.so"
-PROVED, DIST = "out/proved", "dist/x86_64-linux"
+PROVED, DIST, PLAIN = "out/proved", "dist/x86_64-linux", "out/plain"
+UNSET = ("SMBLEASE_LIBRARY", "SMBLEASE_BUILD", "LD_LIBRARY_PATH")
 REMEDY = (" To have it, run `make install` or `pip install --no-build-isolation .` at the top of the repository, or set"
           " SMBLEASE_LIBRARY to the path of its libsmblease.so")
 
 
 def loaded(packages: Path = TOP / "python", **variables: str) -> tuple[int, str]:
     """The status of a program that loads the package with these variables, and the last line that it prints."""
-    kept = {name: value for name, value in os.environ.items() if name not in ("SMBLEASE_LIBRARY", "LD_LIBRARY_PATH")}
+    kept = {name: value for name, value in os.environ.items() if name not in UNSET}
     program = "from smblease import _library; print(_library.library._name)"
     done = subprocess.run([sys.executable, "-c", program], stdout=subprocess.PIPE, stderr=subprocess.STDOUT, text=True,
                           check=False, env={**kept, "PYTHONPATH": str(packages), **variables})
@@ -83,6 +84,15 @@ def test_the_library_of_a_repository(tmp_path: Path, places: list[str]) -> None:
     """The newer one is taken of what was proved there and what it came with, wherever it stands; nothing is linked."""
     packages = repository(tmp_path / "a clone", *places)
     assert loaded(packages, PATH="/nowhere") == (0, str(packages.parent / places[-1] / "libsmblease.so"))
+
+
+def test_what_cargo_built(tmp_path: Path) -> None:
+    """It comes behind what was proved, however new it is, unless it is asked for."""
+    packages = repository(tmp_path, DIST, PLAIN)
+    assert loaded(packages) == (0, str(tmp_path / DIST / "libsmblease.so"))
+    assert loaded(packages, SMBLEASE_BUILD="plain") == (0, str(tmp_path / PLAIN / "libsmblease.so"))
+    shutil.rmtree(tmp_path / "dist")
+    assert loaded(packages) == (0, str(tmp_path / PLAIN / "libsmblease.so"))
 
 
 def test_a_library_that_does_not_run_here(tmp_path: Path) -> None:
