@@ -10,4 +10,5 @@ fn holds() {
 #[test]
 fn counts() {
     assert!([1; 2].len() == 2);
+    assert_eq!(one(), [1; 2]);
 }

@@ -7,4 +7,5 @@ fn holds(rt: HostRuntime) -> Result<(), Fail> {
 #[test]
 fn counts(rt: HostRuntime) {
     assert!(rt; [1; 2].len() == 2);
+    assert_eq!(one(), [1; 2]);
 }
