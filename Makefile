@@ -100,6 +100,7 @@ check-rust:
 	tools/cargo test --quiet --workspace
 	RUSTDOCFLAGS='-D warnings' tools/cargo doc --quiet --no-deps --workspace
 	SMBLEASE_BUILD=plain $(MAKE) check TESTS="$(or $(TESTS),tests/program tests/c tests/python)"
+	SMBLEASE_BUILD=plain $(MAKE) check-long TESTS=tests/refused_growths/test_program.py
 
 prove:
 	tools/prove

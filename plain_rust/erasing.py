@@ -81,11 +81,17 @@ def keep_attributes(module: Module, item: Item) -> None:
             attribute.tokens = rust(f"#[derive({', '.join(names)})]")
         if not goes and names != []:
             left.append(attribute)
-        elif left:
-            left[-1].behind += attribute.behind
-        else:
-            item.lead = [*item.lead, *attribute.behind]
+        elif any(token.kind is Kind.COMMENT for token in attribute.behind):
+            keep_comments(item, left, attribute.behind)
     item.attributes = left
+
+
+def keep_comments(item: Item, attributes: list[Attribute], comments: list[Token]) -> None:
+    """Puts comments that stood behind an attribute behind those that an item has."""
+    if attributes:
+        attributes[-1].behind += comments
+    else:
+        item.lead = [*item.lead, *comments]
 
 
 def keep_inner_attributes(module: Module, tokens: list[Token]) -> list[Token]:

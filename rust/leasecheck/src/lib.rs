@@ -6,5 +6,6 @@ compile_error!("what is proved of this code is proved for a usize of 64 bits");
 
 extern crate smblease_std as std;
 
+pub mod memory;
 pub mod ports;
 pub mod proved;

@@ -1,8 +1,12 @@
 //! The program `leasecheck`.
 #![cfg_attr(unix, no_main)]
 
+use leasecheck::memory::Memory;
 use leasecheck::proved::leasecheck::main as run;
 use smblease_std::prelude::HostRuntime;
+
+#[global_allocator]
+static MEMORY: Memory = Memory;
 
 /// Rust's own start would open a standard stream that is closed as `/dev/null`, and an input that is closed would pass for an empty one.
 ///

@@ -1,8 +1,9 @@
 //! `clap` in the form that the program calls: passed an allocator, with errors for want of memory, and with matches that are parts
-//! of the words. What it does is Cargo's `clap`, which itself ends the process where memory runs out.
+//! of the words. What it does is Cargo's `clap`, which can't say that there is no memory: the process ends there.
 extern crate clap as clap_itself;
 extern crate std;
 
+use crate::memory::finding_memory;
 use core::fmt;
 use core::marker::PhantomData;
 use smblease_std::alloc::{AllocError, Global};
@@ -39,11 +40,11 @@ pub struct Arg<'a> {
 impl<'a> Arg<'a> {
     /// An argument of this name.
     pub fn new(_alloc: Global, name: &'a str) -> Arg<'a> {
-        Arg { held: clap_itself::Arg::new(name.to_string()), of: PhantomData }
+        Arg { held: finding_memory(|| clap_itself::Arg::new(name.to_string())), of: PhantomData }
     }
 
     fn with(self, change: impl FnOnce(clap_itself::Arg) -> clap_itself::Arg) -> Arg<'a> {
-        Arg { held: change(self.held), of: PhantomData }
+        Arg { held: finding_memory(|| change(self.held)), of: PhantomData }
     }
 
     /// Whether it has to be given.
@@ -68,8 +69,9 @@ impl<'a> Arg<'a> {
 
     /// It is one of these words.
     pub fn value_parser(self, words: &'a [&'a str]) -> Arg<'a> {
-        let words = clap_itself::builder::PossibleValuesParser::new(words.iter().map(|word| word.to_string()));
-        self.with(|arg| arg.value_parser(words))
+        self.with(|arg| {
+            arg.value_parser(clap_itself::builder::PossibleValuesParser::new(words.iter().map(|word| word.to_string())))
+        })
     }
 }
 
@@ -83,11 +85,11 @@ pub struct Command<'a> {
 impl<'a> Command<'a> {
     /// A command of this name.
     pub fn new(_alloc: Global, name: &'a str) -> Command<'a> {
-        Command { held: clap_itself::Command::new(name.to_string()), of: PhantomData }
+        Command { held: finding_memory(|| clap_itself::Command::new(name.to_string())), of: PhantomData }
     }
 
     fn with(self, change: impl FnOnce(clap_itself::Command) -> clap_itself::Command) -> Command<'a> {
-        Command { held: change(self.held), of: PhantomData }
+        Command { held: finding_memory(|| change(self.held)), of: PhantomData }
     }
 
     /// What lists of commands say of it.
@@ -132,10 +134,10 @@ impl<'a> Command<'a> {
 
     /// What these words ask for, the program's name first.
     pub fn try_get_matches_from(self, words: &'a [&'a str]) -> Result<ArgMatches<'a>, Error> {
-        match self.held.try_get_matches_from(words.iter().copied()) {
+        finding_memory(|| match self.held.try_get_matches_from(words.iter().copied()) {
             Ok(found) => Ok(ArgMatches::of(found, words)),
             Err(error) => Err(Error::Of(error)),
-        }
+        })
     }
 }
 
@@ -170,7 +172,7 @@ impl fmt::Display for Error {
     fn fmt(&self, f: &mut fmt::Formatter<'_>) -> fmt::Result {
         match self {
             Error::Memory => f.write_str("out of memory"),
-            Error::Of(error) => error.fmt(f),
+            Error::Of(error) => finding_memory(|| error.fmt(f)),
         }
     }
 }
@@ -191,6 +193,10 @@ impl<'a> ArgMatches<'a> {
 
     /// The text of an argument; of a flag `true` or `false`.
     pub fn get_str(&self, name: &str) -> Option<&'a str> {
+        finding_memory(|| self.text_of(name))
+    }
+
+    fn text_of(&self, name: &str) -> Option<&'a str> {
         if let Ok(flag) = self.found.try_get_one::<bool>(name) {
             return flag.map(|is_given| if *is_given { "true" } else { "false" });
         }

@@ -14,7 +14,6 @@
 //!
 //! Each verdict is exact, by its contract. A charge, `Placing::Unsafe`, is said only where every placement of the changes within
 //! their bounds has a clash. What isn't decided for want of room is said to be too many, and never clean.
-
 mod bounds;
 mod charging;
 mod judging;

@@ -25,7 +25,6 @@
 //!
 //! docs/FORMATS.md has the lines. What the report says of each file is proved to be what the definitions of `capture_walk` and
 //! `capture_judge` say of the lines that were taken.
-
 mod capture;
 mod connections;
 mod finding;

@@ -22,7 +22,6 @@
 //!
 //! What isn't sure is left out, so that nobody is charged by it: from where something of a client may be missing it isn't
 //! judged, and `NotJudged` says why.
-
 mod chains;
 mod clients;
 mod compound;

@@ -21,7 +21,6 @@
 //! assert_eq!(read_close_request(&message), Ok(CloseRequest { file_id }));
 //! assert_eq!(read_close_request(&message[..87]), Err(MessageFault::Short));
 //! ```
-
 mod command;
 mod connecting;
 mod contexts;

@@ -4,7 +4,6 @@
 //!
 //! [`Machines`] are either clients or a server. They are given a line at a time and answer it; a line that is refused is
 //! answered `fault line N` and changes nothing, and its `Answer` has the reason. docs/FORMATS.md has every line.
-
 mod client_answers;
 mod client_lines;
 mod client_table;

@@ -1,7 +1,6 @@
 // Made by tools/plain_rust from crates/lease_reasons/src/lib.rt. Changes belong there.
 
 //! Why a record of SMB 2.1 leases is safe, unsafe or malformed: the facts that make it so, by their places.
-
 mod beliefs;
 mod clients;
 mod explaining;

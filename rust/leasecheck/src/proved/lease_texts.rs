@@ -6,7 +6,6 @@
 //! gives the fact that a line of a record is, and `push_fact` writes that line. A line is cut into `Fields`, which are read one
 //! after the other, as the row of its kind in a `Table` has them; `complaint_about` says what a line lacks to be one of a table.
 //! docs/FORMATS.md has every line.
-
 mod commands;
 mod complaints;
 mod fault;

@@ -6,7 +6,6 @@
 //! lays the facts of a record out as a sequence picture, with the requests of its run where these are known, and
 //! [`push_picture`] writes the picture as SVG, with a mark for each fact. Time runs down. Each client has a lane, and so has
 //! the server, in the middle.
-
 mod pictures;
 mod words;
 

@@ -2,7 +2,6 @@
 
 //! What a run is printed as is read as its record, and judged to be safe: public functions whose
 //! contracts carry these laws. They do nothing, or nothing but a run.
-
 mod judged;
 mod typing;
 

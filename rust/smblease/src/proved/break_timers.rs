@@ -20,7 +20,6 @@
 //!     manager.expire(key.client, key.bytes, &mut decisions)?;
 //! }
 //! ```
-
 mod timers;
 
 pub use timers::{BreakNo, BreakTimers};

@@ -32,7 +32,6 @@
 //!
 //! Contracts speak of the client of the rules in `lease_model`, and every client keeps the laws of clients, as
 //! the invariant of its type.
-
 mod client;
 mod entry;
 mod file;

@@ -5,7 +5,6 @@
 //! a record has. The kinds of events and facts come with their words, [`ClientFact`] and [`ClientEvent`] those that say no
 //! more than which client they are about. A [`Verdict`] says what a record is, and a [`Passage`] what becomes of a request.
 //! `lease_world` runs the events and judges records; `lease_texts` reads and writes both as lines.
-
 mod fact;
 mod passage;
 mod setup;

@@ -35,7 +35,6 @@
 //!     }
 //! }
 //! ```
-
 mod calls;
 mod ended;
 mod manager;

@@ -15,7 +15,6 @@
 //! assert!(wanted.needs_ack() && wanted.granted_form().is_none());
 //! assert!(LeaseState::READ_CACHING.is_within(LeaseState::from_wire(3)));
 //! ```
-
 mod access;
 mod bytes;
 mod content;

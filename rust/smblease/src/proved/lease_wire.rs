@@ -22,7 +22,6 @@
 //! write_create_ask(&ask, &mut contexts)?;
 //! assert_eq!(read_create(contexts.as_slice()), Ok(ask));
 //! ```
-
 mod acknowledgment;
 mod chain;
 mod create;

@@ -15,7 +15,6 @@
 //!
 //! Contracts speak of records, runs and verdicts of the rules in `lease_model`. The clause `safe`
 //! of [`run`] is that the record of every run is safe.
-
 mod copies;
 mod judging;
 mod obstacle;

@@ -29,7 +29,6 @@
 //! let others = server.allowed(ClientNo(2), None, FileNo(1), LeaseState::from_wire(7));
 //! assert_eq!(others, LeaseState::from_wire(3));
 //! ```
-
 mod asked;
 mod calls;
 mod files;

@@ -4,7 +4,6 @@
 //! declares each function and struct of this crate, and says what a caller has to keep to. No function of it
 //! allocates, keeps anything between calls, or has a condition beyond those of its types: each takes any bytes,
 //! and any number in any field. A fault is reported in the result, and nothing is written then.
-
 mod append;
 mod context;
 mod create;

@@ -4,7 +4,6 @@
 //! and `include/smblease_manager.h` declare each function and struct of this crate, and say what a caller has to keep
 //! to. A handle is a struct of one pointer, null where it holds nothing. No function has a condition beyond those of
 //! its types.
-
 mod client;
 mod handles;
 mod manager;

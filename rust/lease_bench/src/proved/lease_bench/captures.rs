@@ -27,7 +27,6 @@ struct Traffic {
 }
 
 // The messages so far.
-
 struct Capture {
     walk: Walk,
     count: u64,

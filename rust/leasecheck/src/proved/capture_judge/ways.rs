@@ -13,7 +13,6 @@ pub const WAY_LIMIT: usize = 1024;
 
 // How far each chain has come: 0 at its start, and one more than the index of its change that was placed last. The link counts
 // the links of the trail up to the one of the last step.
-
 pub(crate) struct Way {
     came: Vec<usize>,
     link: usize,

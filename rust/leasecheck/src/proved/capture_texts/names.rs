@@ -61,7 +61,6 @@ fn name_of(header: &Header) -> MessageName {
 }
 
 // The name of the message that bytes begin with, and how many it takes; `None` where its header can't be read.
-
 fn first_name(bytes: &[u8]) -> Option<(MessageName, usize)> {
     let header = read_header(bytes).ok()?;
     let first = first_message(bytes).ok()?;

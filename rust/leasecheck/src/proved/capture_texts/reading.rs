@@ -89,7 +89,6 @@ fn read_fields(alloc: Global, fields: &mut Fields<'_>) -> Result<Line, LineFault
 }
 
 // What a line says that isn't passed over.
-
 pub(crate) fn read_line(alloc: Global, text: &[u8]) -> Result<Line, LineFault> {
     let mut fields = Fields::of(text);
     let line = read_fields(alloc, &mut fields)?;

@@ -10,7 +10,6 @@ use std::alloc::Global;
 /// # Errors
 ///
 /// `Line` with the number of the first line that is refused, and `Memory` where there is none left.
-
 pub fn read_capture(alloc: Global, at: Side, text: &[u8]) -> Result<Capture, TextFault> {
     let mut capture = Capture::new(alloc, at);
     let mut rest = text;

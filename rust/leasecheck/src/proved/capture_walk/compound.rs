@@ -38,13 +38,11 @@ impl From<Memory> for FrameFault {
 }
 
 // Whether no message follows the first one.
-
 fn is_last(bytes: &[u8]) -> bool {
     LittleEndian::read_u32(&bytes[20..]) == 0
 }
 
 // The first message, with the bytes that it takes.
-
 fn read_first(bytes: &[u8]) -> Result<(Message<'_>, usize), FrameFault> {
     let first = first_message(bytes)?;
     let message = read_message(first)?;

@@ -73,7 +73,6 @@ impl Files {
     }
 
     /// The file that a CREATE opens at a place; its life begins with that message where it is new or wasn't known.
-
     pub(crate) fn open(&mut self, place: Place<'_>, is_new: bool, number: u64) -> Result<u64, Memory> {
         if !is_new && let Some(file) = self.find(place) {
             return Ok(file);

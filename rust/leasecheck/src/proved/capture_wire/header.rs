@@ -56,7 +56,6 @@ fn tree_or_async(bytes: &[u8]) -> TreeOrAsync {
 ///
 /// `Short` where there are fewer bytes than a header takes, `WrongProtocol` where ProtocolId is another (as in a message that is
 /// encrypted or compressed), and `WrongSize` where StructureSize is not 64.
-
 pub fn read_header(bytes: &[u8]) -> Result<Header, MessageFault> {
     if bytes.len() < HEADER_SIZE {
         return Err(MessageFault::Short);

@@ -148,7 +148,6 @@ fn is_granted(command: u16, header: &Header) -> bool {
 }
 
 // The notification of a lease break that a message of the server is, if it is one, and its NewEpoch.
-
 fn read_notification(header: &Header, message: &[u8]) -> Option<(Notification, u16)> {
     if header.command != OPLOCK_BREAK || header.message_id != UNASKED {
         return None;

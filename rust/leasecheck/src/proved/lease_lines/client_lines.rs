@@ -72,7 +72,6 @@ pub fn client_table() -> Table {
 }
 
 // What an application asks.
-
 fn read_asking(alloc: Global, word: &[u8], fields: &mut Fields) -> Result<ClientLine, LineFault> {
     let (client, command) = read_command(alloc, word, fields)?;
     Ok(ClientLine::Asks(client, Asked::App(command)))
@@ -97,7 +96,6 @@ fn read_named(alloc: Global, word: &[u8], fields: &mut Fields) -> Result<ClientL
 /// # Errors
 ///
 /// `Refused` where the line asks nothing of them, and `Memory` where there is none left for what it holds.
-
 pub fn read_client_line(alloc: Global, text: &[u8]) -> Result<ClientLine, LineFault> {
     let mut fields = Fields::of(text);
     let word = fields.next()?;

@@ -122,7 +122,6 @@ impl ClientTable {
     /// # Errors
     ///
     /// `Memory` where there is none left; the clients are lost then.
-
     pub fn answer(self, alloc: Global, number: u64, line: &[u8]) -> Result<(ClientTable, Answer), Memory> {
         if is_passed_over(line) {
             return Ok((self, Answer::nothing(alloc)));

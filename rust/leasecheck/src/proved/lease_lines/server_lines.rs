@@ -102,7 +102,6 @@ fn read_named(alloc: Global, word: &[u8], fields: &mut Fields) -> Result<ServerL
 /// # Errors
 ///
 /// `Refused` where the line asks nothing of it, and `Memory` where there is none left for what it holds.
-
 pub fn read_server_line(alloc: Global, text: &[u8]) -> Result<ServerLine, LineFault> {
     let mut fields = Fields::of(text);
     let word = fields.next()?;

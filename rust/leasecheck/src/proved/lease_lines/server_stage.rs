@@ -130,7 +130,6 @@ impl Stage {
     /// # Errors
     ///
     /// `Memory` where there is none left; the server is lost then.
-
     pub fn answer(self, alloc: Global, number: u64, line: &[u8]) -> Result<(Stage, Answer), Memory> {
         if is_passed_over(line) {
             return Ok((self, Answer::nothing(alloc)));

@@ -26,7 +26,6 @@ pub enum Mark {
 
 impl Mark {
     /// Whether a fact is of this kind.
-
     pub fn fits(self, fact: &Fact) -> bool {
         match (self, fact) {
             (Mark::Start(file), Fact::Start(other, _)) => *other == file,

@@ -33,7 +33,6 @@ pub(crate) fn is_command(word: &[u8]) -> bool {
 ///
 /// `Refused` where the word begins no such line or the fields don't say what such a line has; `Memory` where there is none left
 /// for the bytes of a write.
-
 pub fn read_command(alloc: Global, word: &[u8], fields: &mut Fields) -> Result<(ClientNo, Command), LineFault> {
     if is(word, b"open") {
         let client = fields.client()?;

@@ -14,7 +14,6 @@ use std::alloc::Global;
 
 /// The fields of a line that are left to be read, with one space between two of them. Fields may be empty, and a
 /// line of no bytes has one.
-
 pub struct Fields<'a> {
     // The line from the next field on; none where that was the last one.
     rest: Option<&'a [u8]>,
@@ -27,7 +26,6 @@ impl<'a> Fields<'a> {
     }
 
     /// Whether no field is left.
-
     pub fn is_done(&self) -> bool {
         match self.rest {
             None => true,
@@ -78,14 +76,12 @@ impl<'a> Fields<'a> {
 
     /// The number of a client, from 1 to 255.
     #[inline(always)]
-
     pub fn client(&mut self) -> Result<ClientNo, LineFault> {
         Ok(ClientNo(self.ordinal()?))
     }
 
     /// The number of a file, from 1 to 255.
     #[inline(always)]
-
     pub fn file(&mut self) -> Result<FileNo, LineFault> {
         Ok(FileNo(self.ordinal()?))
     }
@@ -123,7 +119,6 @@ impl<'a> Fields<'a> {
     }
 
     /// The letters of a state in the order R, W, H, or `none`. Mostly they end the line.
-
     pub fn state(&mut self) -> Result<LeaseState, LineFault> {
         if let Some(rest) = self.rest
             && let Some(state) = state_in(rest)

@@ -8,7 +8,6 @@ use smblease::proved::lease_facts::is;
 
 /// What follows the first field, where that is this word.
 #[inline(always)]
-
 pub(crate) fn after_word<'a>(line: &'a [u8], word: &[u8]) -> Option<Option<&'a [u8]>> {
     if line.len() < word.len() {
         return None;
@@ -44,7 +43,6 @@ fn any_ordinal(line: &[u8]) -> Option<(u8, Option<&[u8]>)> {
 
 /// The first field as the number of a client or of a file, and what follows it. Most are of one digit.
 #[inline(always)]
-
 pub(crate) fn first_ordinal(line: &[u8]) -> Option<(u8, Option<&[u8]>)> {
     match line {
         [digit] => one_digit(*digit, None),

@@ -67,7 +67,6 @@ fn read_event(alloc: Global, word: &[u8], fields: &mut Fields) -> Result<Part, L
 }
 
 // What happens, by the word of its line and the fields after it.
-
 fn read_happening(alloc: Global, word: &[u8], fields: &mut Fields) -> Result<Part, LineFault> {
     if is_command(word) {
         let (client, command) = read_command(alloc, word, fields)?;
@@ -78,7 +77,6 @@ fn read_happening(alloc: Global, word: &[u8], fields: &mut Fields) -> Result<Par
 }
 
 // What a line of a kind adds to a schedule, by its word and the fields after it.
-
 fn read_named(alloc: Global, word: &[u8], fields: &mut Fields) -> Result<Part, LineFault> {
     match word {
         _ if is(word, b"file") => Ok(Part::File(fields.content(alloc)?)),
@@ -92,7 +90,6 @@ fn read_named(alloc: Global, word: &[u8], fields: &mut Fields) -> Result<Part, L
 /// # Errors
 ///
 /// `Refused` where the line adds nothing, and `Memory` where there is none left for what it holds.
-
 pub fn read_part(alloc: Global, line: &[u8]) -> Result<Part, LineFault> {
     let mut fields = Fields::of(line);
     let word = fields.next()?;

@@ -1,7 +1,6 @@
 // Made by tools/plain_rust from crates/lease_texts/src/pieces.rt. Changes belong there.
 
 /// What stands before the first separator, and what follows it; all, and nothing, where there is none.
-
 pub fn split_first(separator: u8, bytes: &[u8]) -> (&[u8], Option<&[u8]>) {
     match place_of(separator, bytes) {
         Some(place) => (&bytes[..place], Some(&bytes[place + 1..])),

@@ -40,7 +40,6 @@ fn quoted_end(bytes: &[u8]) -> &'static str {
 
 /// Quotes bytes: those that aren't printable ASCII, quotation marks and backslashes are written as
 /// `\xHH`, and of more than 40 bytes the first 40 are quoted, with `...` after them.
-
 pub fn push_quoted(alloc: Global, text: &mut String, bytes: &[u8]) -> Result<(), AllocError> {
     text.push_str("\"")?;
     push_all_escaped(alloc, text, first_quoted(bytes))?;

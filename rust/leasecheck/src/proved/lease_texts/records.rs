@@ -38,7 +38,6 @@ pub fn fact_table() -> Table {
 
 // Facts of the kinds of which a record has fewer.
 #[inline(always)]
-
 fn read_rarer(alloc: Global, fields: &mut Fields) -> Result<Fact, LineFault> {
     if fields.takes(b"cachedread") {
         let (client, file) = (fields.client()?, fields.file()?);
@@ -60,7 +59,6 @@ fn read_rarer(alloc: Global, fields: &mut Fields) -> Result<Fact, LineFault> {
 
 // Facts of writes, and of the rarer kinds.
 #[inline(always)]
-
 fn read_write(alloc: Global, fields: &mut Fields) -> Result<Fact, LineFault> {
     if fields.takes(b"changed") {
         let (file, client) = (fields.file()?, fields.client()?);
@@ -81,7 +79,6 @@ fn read_write(alloc: Global, fields: &mut Fields) -> Result<Fact, LineFault> {
 
 // The fact that the fields of a line are, which may go on. The kinds of which a record has most are tried first.
 #[inline(always)]
-
 fn read_kind(alloc: Global, fields: &mut Fields) -> Result<Fact, LineFault> {
     if fields.takes(b"sent") {
         Ok(Fact::Sent(fields.client()?))
@@ -102,7 +99,6 @@ fn read_kind(alloc: Global, fields: &mut Fields) -> Result<Fact, LineFault> {
 ///
 /// `Refused` where the line is none, and `Memory` where there is none left for what it holds.
 #[inline(always)]
-
 pub fn read_fact(alloc: Global, line: &[u8]) -> Result<Fact, LineFault> {
     let mut fields = Fields::of(line);
     let fact = read_kind(alloc, &mut fields)?;

@@ -80,7 +80,6 @@ fn read_written(word: &[u8], fields: &mut Fields) -> Result<Arrival, LineFault> 
 }
 
 // The message of a kind, by its word and the fields after it.
-
 fn read_named(alloc: Global, word: &[u8], fields: &mut Fields) -> Result<Arrival, LineFault> {
     if is(word, b"created") {
         let (file, fid, contexts) = (fields.file()?, fields.file_id()?, fields.bytes(alloc)?);

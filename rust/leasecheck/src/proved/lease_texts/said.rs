@@ -108,7 +108,6 @@ fn push_plain_fields(text: &mut String, said: &[Said<'_>]) -> Result<(), AllocEr
 }
 
 /// Adds a word and fields of one word each, with a space before each of them.
-
 pub(crate) fn push_plain(text: &mut String, name: &str, said: &[Said<'_>]) -> Result<(), AllocError> {
     text.push_str(" ")?;
     text.push_str(name)?;
@@ -116,7 +115,6 @@ pub(crate) fn push_plain(text: &mut String, name: &str, said: &[Said<'_>]) -> Re
 }
 
 // A field with what stands before its words.
-
 fn push_field(text: &mut String, said: &Said<'_>) -> Result<(), AllocError> {
     match said {
         Said::Durable(durable) => text.push_str(if *durable { " durable" } else { "" }),
@@ -134,7 +132,6 @@ fn push_fields(text: &mut String, said: &[Said<'_>]) -> Result<(), AllocError> {
 }
 
 /// Adds a line: its first word, and what the fields after it hold.
-
 pub fn push_line(text: &mut String, name: &str, said: &[Said<'_>]) -> Result<(), AllocError> {
     text.push_str(name)?;
     push_fields(text, said)?;

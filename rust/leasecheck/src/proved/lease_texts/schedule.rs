@@ -26,7 +26,6 @@ impl Schedule {
     }
 
     // Files and clients stand before the first event.
-
     fn add(&mut self, part: Part) -> Result<(), LineFault> {
         match part {
             Part::Happens(event) => self.events.push(event)?,
@@ -51,7 +50,6 @@ impl Schedule {
 /// # Errors
 ///
 /// `Line` with the number of the first line that is refused, and `Memory` where there is none left.
-
 pub fn read_schedule(alloc: Global, text: &[u8]) -> Result<Schedule, TextFault> {
     let mut schedule = Schedule::new(alloc);
     let mut rest = text;

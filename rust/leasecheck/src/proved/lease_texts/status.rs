@@ -17,7 +17,6 @@ pub struct GivenStatus {
 }
 
 /// The name of a status.
-
 pub fn status_word(status: Status) -> &'static str {
     match status {
         Status::Unsuccessful => "STATUS_UNSUCCESSFUL",

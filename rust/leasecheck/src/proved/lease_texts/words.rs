@@ -14,7 +14,6 @@ use std::ports::uuid::Uuid;
 // ---- numbers
 
 // The number whose decimal digits these are.
-
 pub(crate) fn number_in(digits: &[u8]) -> Option<u64> {
     match digits {
         [] | [b'0', _, ..] => None,
@@ -63,7 +62,6 @@ fn push_digit(text: &mut String, digit: u8) -> Result<(), AllocError> {
 }
 
 // The digits of a number. A line has some short ones, and a formatter costs several times what their digits do.
-
 pub(crate) fn push_number(text: &mut String, number: u64) -> Result<(), AllocError> {
     if number < 10 {
         return push_digit(text, number as u8);
@@ -75,7 +73,6 @@ pub(crate) fn push_number(text: &mut String, number: u64) -> Result<(), AllocErr
 // ---- bytes
 
 // Bytes as digits, or a hyphen for none.
-
 pub(crate) fn bytes_in(alloc: Global, digits: &[u8]) -> Result<Bytes, LineFault> {
     match digits {
         [] => Err(LineFault::Refused),
@@ -135,7 +132,6 @@ pub(crate) fn access_word(access: Access) -> &'static str {
 
 /// The rules of a server that a word stands for: `by-client` or `by-key`, a comma, and `as-free` or `whole`. None where it is
 /// no such word.
-
 pub fn rules_in(word: &[u8]) -> Option<Rules> {
     let (order, rise) = match word {
         _ if is(word, b"by-client,as-free") => (Order::ByClient, Rise::AsFree),
@@ -176,7 +172,6 @@ pub(crate) fn share_word(share: Share) -> &'static str {
 }
 
 // The state of a number up to 7.
-
 fn state_of_wire(bits: u32) -> LeaseState {
     LeaseState::from_wire(bits)
 }

@@ -28,7 +28,6 @@ fn push_comment(alloc: Global, comments: &mut Vec<Bytes>, before: &[u8], line: &
 /// # Errors
 ///
 /// `Memory` where there is none left.
-
 pub(crate) fn comments_of(alloc: Global, text: &[u8]) -> Result<Vec<Bytes>, Memory> {
     let mut found = Vec::new(alloc);
     let mut before: &[u8] = &[];

@@ -23,7 +23,6 @@ pub enum FileFault {
 
 impl FileFault {
     /// Why an error of this kind came; `None` where it was for want of memory.
-
     pub fn of(kind: ErrorKind) -> Option<FileFault> {
         match kind {
             ErrorKind::OutOfMemory => None,

@@ -39,7 +39,6 @@ pub(crate) fn digits_in(alloc: Global, text: &[u8]) -> Result<Vec<u8>, AllocErro
 /// # Errors
 ///
 /// `Hex` where the text writes no bytes so, and `Memory` where there is none for them.
-
 pub fn argument_bytes(alloc: Global, argument: &str) -> Result<Vec<u8>, Failure> {
     let digits = digits_in(alloc, without_prefix(argument.as_bytes()))?;
     match std::ports::hex::decode(alloc, digits.as_slice()) {

@@ -35,7 +35,6 @@ fn note_line(alloc: Global, lines: &mut Vec<u64>, line: &[u8], number: u64) -> R
 /// # Errors
 ///
 /// `Memory` where there is none left.
-
 pub fn event_lines(alloc: Global, text: &[u8]) -> Result<Vec<u64>, Memory> {
     let mut lines = Vec::new(alloc);
     let mut rest = text;

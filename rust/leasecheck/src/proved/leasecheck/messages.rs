@@ -17,7 +17,6 @@ fn push_message<'a>(text: &mut String, begin: &str, client: ClientNo, messages: 
 }
 
 // The line of the message that a fact speaks of, the first of these; those after it are given.
-
 fn push_message_of<'a>(text: &mut String, fact: &Fact, messages: &'a [Reply]) -> Result<&'a [Reply], AllocError> {
     match fact {
         Fact::Sent(client) => push_message(text, "# sent", *client, messages),

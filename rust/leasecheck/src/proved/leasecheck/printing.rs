@@ -25,14 +25,12 @@ use std::io::{ErrorKind, Read, Write};
 const LINE: usize = 80;
 
 // What a task prints, and the exit status.
-
 struct Printed {
     text: String,
     status: u8,
 }
 
 // What a task has made before anything is written.
-
 enum Made {
     Text(Printed),
     /// Its text is made as it is written.

@@ -18,7 +18,6 @@ const BLOCK: usize = 65_536;
 
 /// The record of a run, which is safe, the messages that it speaks of, where they are wanted, the events that did nothing, where
 /// these are, with the numbers of the lines in which events stand, and the rules of the server.
-
 pub struct Record {
     pub facts: Vec<Fact>,
     pub messages: Vec<Reply>,
@@ -28,7 +27,6 @@ pub struct Record {
 }
 
 // What isn't written yet of a text that is told.
-
 struct Gathered {
     text: String,
 }

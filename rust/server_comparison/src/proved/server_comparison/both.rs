@@ -10,7 +10,6 @@ use std::alloc::Global;
 use std::prelude::{Vec, format};
 
 /// A server by records and summaries, and one by plain lists, after the same calls.
-
 pub struct Both {
     server: smblease::proved::share_server::Server,
     plain: plain::Server,

@@ -19,7 +19,6 @@ const SHARES: [Share; 8] = [
 ];
 
 /// Numbers from a seed, each from the one before, and calls by them.
-
 pub struct Numbers {
     state: u64,
 }

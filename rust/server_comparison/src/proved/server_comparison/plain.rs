@@ -17,7 +17,6 @@ use smblease::proved::share_server::Out;
 use std::alloc::Global;
 
 /// The files, and lists of opens, leases, requests that wait, connections and keys whose timer ran out.
-
 pub struct Server {
     rules: Rules,
     file_limit: usize,

@@ -24,7 +24,6 @@ enum Link {
 }
 
 /// A client with what is on its way from it and to it.
-
 struct Seat {
     guid: [u8; 16],
     client: Client,
@@ -34,7 +33,6 @@ struct Seat {
 }
 
 /// What a client machine is called for.
-
 enum Doing {
     App(Command),
     Take(Reply),
@@ -88,7 +86,6 @@ impl Seat {
 }
 
 /// Clients round both servers.
-
 struct Play {
     both: Both,
     seats: Vec<Seat>,

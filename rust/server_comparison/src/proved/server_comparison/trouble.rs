@@ -7,7 +7,6 @@ use std::fmt;
 use std::prelude::String;
 
 /// Why a comparison ended early.
-
 pub enum Trouble {
     /// The servers differ: which call it was, and what each of them gave out or answered.
     Differs(String),

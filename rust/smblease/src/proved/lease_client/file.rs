@@ -101,7 +101,6 @@ impl File {
 }
 
 // The bytes with the writes that are sent, and then with the others.
-
 fn seen_on(base: &SharedBytes, sent: &mut Writes, unsent: &mut Writes) -> Result<SharedBytes, Memory> {
     let under = sent.shown_on(base)?;
     unsent.shown_on(&under)

@@ -78,7 +78,6 @@ impl Machine {
     }
 
     /// Whether the file's open has this FileId and waits for a Read.
-
     pub fn is_read_under(&self, file: FileNo, file_id: FileId) -> bool {
         match self.entry(file) {
             Some(entry) => entry.reads_under(file_id),
@@ -87,7 +86,6 @@ impl Machine {
     }
 
     /// Whether the file has a sent write of this number that isn't answered.
-
     pub fn has_sent(&self, file: FileNo, number: u64) -> bool {
         match self.entry(file) {
             Some(entry) => entry.has_sent(number),
@@ -148,7 +146,6 @@ impl Machine {
 }
 
 // The entries of files that aren't open.
-
 fn closed_entries(alloc: Global, files: u8) -> Result<Vec<Entry>, Memory> {
     let mut entries = Vec::with_capacity(alloc, usize::from(files))?;
     for _ in 0..files {

@@ -32,7 +32,6 @@ fn write_request(file_id: FileId, write: &Pending) -> Result<Request, Memory> {
 /// # Errors
 ///
 /// `Memory` where there is none left for the requests.
-
 pub fn push_writes(requests: &mut Vec<Request>, file_id: FileId, writes: &Writes) -> Result<(), Memory> {
     let (first, rest) = writes.as_slices();
     push_each_write(requests, file_id, first)?;

@@ -15,7 +15,6 @@ pub mod shown;
 /// # Errors
 ///
 /// `Memory` where there is none left for the notes, and never where there are no writes.
-
 pub fn push_settled(notes: &mut Vec<Note>, outcome: Settlement, writes: &Writes) -> Result<(), Memory> {
     let (first, rest) = writes.as_slices();
     push_each_settled(notes, outcome, first)?;

@@ -124,7 +124,6 @@ impl ClientFact {
     }
 
     /// The kind that has this word.
-
     pub fn named(word: &[u8]) -> Option<ClientFact> {
         if is(word, b"sent") {
             Some(ClientFact::Sent)

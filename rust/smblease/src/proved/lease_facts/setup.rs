@@ -91,7 +91,6 @@ impl ClientEvent {
     }
 
     /// The kind that has this word.
-
     pub fn named(word: &[u8]) -> Option<ClientEvent> {
         if is(word, b"serve") {
             Some(ClientEvent::ServerTakes)

@@ -30,7 +30,6 @@ pub fn handle(tables: &mut Tables, told: &mut Told, coming: Coming) -> Result<()
 }
 
 /// A client connects.
-
 pub fn join(tables: &mut Tables, client: ClientNo) -> Result<(), Memory> {
     if !tables.is_present(client) {
         tables.join(client)?;
@@ -39,7 +38,6 @@ pub fn join(tables: &mut Tables, client: ClientNo) -> Result<(), Memory> {
 }
 
 /// A request of a client comes.
-
 pub fn receive(tables: &mut Tables, told: &mut Told, client: ClientNo, tag: Tag, ask: Ask) -> Result<(), Memory> {
     if tables.is_present(client) {
         arrive(tables, told, client, tag, ask)?;
@@ -63,7 +61,6 @@ fn arrive(tables: &mut Tables, told: &mut Told, client: ClientNo, tag: Tag, ask:
 }
 
 /// A client acknowledges a break of its lease.
-
 pub fn acknowledge(tables: &mut Tables, told: &mut Told, key: LeaseName, state: LeaseState) -> Result<(), Memory> {
     if tables.is_present(key.client) {
         judge_told(tables, told, key, state)?;
@@ -73,7 +70,6 @@ pub fn acknowledge(tables: &mut Tables, told: &mut Told, key: LeaseName, state: 
 }
 
 /// An acknowledgment comes that can't be read.
-
 pub fn acknowledge_malformed(tables: &mut Tables, told: &mut Told, client: ClientNo) -> Result<(), Memory> {
     if tables.is_present(client) {
         told.not_acknowledged(client, Status::InvalidParameter)?;
@@ -91,7 +87,6 @@ fn judge_told(tables: &mut Tables, told: &mut Told, key: LeaseName, state: Lease
 }
 
 /// A client's connection is lost.
-
 pub fn cut(tables: &mut Tables, told: &mut Told, client: ClientNo) -> Result<(), Memory> {
     if tables.is_present(client) {
         lose(tables, told, client)?;
@@ -111,7 +106,6 @@ fn lose(tables: &mut Tables, told: &mut Told, client: ClientNo) -> Result<(), Me
 }
 
 /// The timer of a lease break runs out.
-
 pub fn expire(tables: &mut Tables, told: &mut Told, key: LeaseName) -> Result<(), Memory> {
     if tables.lease(key).is_breaking() {
         end_lease(tables, told, key)?;
@@ -129,7 +123,6 @@ fn end_lease(tables: &mut Tables, told: &mut Told, key: LeaseName) -> Result<(),
 }
 
 /// The timer of a durable open runs out.
-
 pub fn scavenge(tables: &mut Tables, told: &mut Told, fid: FileId) -> Result<(), Memory> {
     if tables.has_left_behind(fid) {
         end_open(tables, told, fid)?;
@@ -146,7 +139,6 @@ fn end_open(tables: &mut Tables, told: &mut Told, fid: FileId) -> Result<(), Mem
 }
 
 /// A request that waits is taken back.
-
 pub fn withdraw(tables: &mut Tables, told: &mut Told, file: FileNo, client: ClientNo, tag: Tag) -> Result<(), Memory> {
     if tables.waits_under(file, client, tag) {
         take_back(tables, told, file, client, tag)?;

@@ -117,7 +117,6 @@ impl Tables {
     }
 
     /// What may be granted of a wanted state.
-
     pub fn allowed(&self, own: Option<LeaseName>, file: FileNo, want: LeaseState) -> LeaseState {
         if self.has_other_on(own, file) { want.granted_form().without_write() } else { want.granted_form() }
     }

@@ -42,7 +42,6 @@ pub(crate) struct Header {
 
 impl Header {
     /// The header that the bytes begin with.
-
     pub(crate) fn read(bytes: &[u8]) -> Header {
         Header {
             next: LittleEndian::read_u32(bytes) as usize,
@@ -71,7 +70,6 @@ impl Header {
     }
 
     /// The first test that the header fails, at a place with so many bytes left of the text.
-
     pub(crate) fn fault(&self, place: usize, left: usize) -> Option<WireFault> {
         if self.is_next_bad(left) {
             Some(WireFault::BadNext(place))
@@ -92,7 +90,6 @@ fn part(bytes: &[u8], offset: usize, count: usize) -> &[u8] {
 
 /// The context that the bytes begin with, at a place of the text, and its Next; or the first test
 /// that it fails.
-
 pub(crate) fn read_context<'a>(place: usize, bytes: &'a [u8]) -> Result<(Context<'a>, usize), WireFault> {
     if bytes.len() < 16 {
         return Err(WireFault::Short(place));

@@ -29,7 +29,6 @@ fn is_next_command_bad(count: usize, next: usize) -> bool {
 ///
 /// `Short` where there are fewer bytes than a header takes, `WrongSize` where its StructureSize is not 64, and `BadNext` where
 /// the next message would begin within the header or past the end of the bytes; each at 0.
-
 pub fn first_message(bytes: &[u8]) -> Result<&[u8], WireFault> {
     if bytes.len() < HEADER_SIZE {
         return Err(WireFault::Short(0));
@@ -60,7 +59,6 @@ fn create_size(direction: Direction) -> u16 {
 }
 
 // CreateContextsOffset and CreateContextsLength.
-
 fn area(direction: Direction, message: &[u8]) -> (u32, u32) {
     let end = fixed_end(direction);
     (LittleEndian::read_u32(&message[end - 8..]), LittleEndian::read_u32(&message[end - 4..]))
@@ -79,7 +77,6 @@ fn is_area_bad(count: usize, fixed: usize, offset: u32, many: u32) -> bool {
 /// `Short` at 64 where the message ends within the fixed part, `WrongSize` at 64 where
 /// StructureSize is that of another message, and `BadData` at their start where contexts are not
 /// after the fixed part and within the message.
-
 pub fn contexts_of_create(direction: Direction, message: &[u8]) -> Result<Contexts<'_>, WireFault> {
     if message.len() < fixed_end(direction) {
         return Err(WireFault::Short(HEADER_SIZE));
@@ -95,7 +92,6 @@ pub fn contexts_of_create(direction: Direction, message: &[u8]) -> Result<Contex
 }
 
 // The contexts of an area that is within the message, or that is empty.
-
 fn contexts_in(direction: Direction, message: &[u8], offset: u32, many: u32) -> Contexts<'_> {
     let (start, count) = (offset as usize, many as usize);
     if count == 0 { Contexts::from_place(start, &[]) } else { Contexts::from_place(start, &message[start..start + count]) }

@@ -77,7 +77,6 @@ pub fn run(alloc: Global, setup: &Setup, events: &[Event]) -> Result<Vec<Fact>, 
 /// # Errors
 ///
 /// Those of `run`, in the same cases.
-
 pub fn run_under(alloc: Global, rules: Rules, kept: Kept, setup: &Setup, events: &[Event]) -> Result<Told, RunFault> {
     if !is_allowed(setup) {
         return Err(RunFault::BadSetup);

@@ -144,7 +144,6 @@ pub fn believes(state: u32) -> Note {
 }
 
 // What a step is to be.
-
 pub struct Expected {
     answer: Answer,
     requests: Vec<Request>,

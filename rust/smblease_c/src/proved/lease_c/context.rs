@@ -25,7 +25,6 @@ fn place_behind(place: usize, offset: u32, is_there: bool) -> u64 {
 }
 
 // The fields of the context that the bytes from a place on begin with.
-
 fn context_from(place: usize, bytes: &[u8]) -> LeaseContext {
     let next = LittleEndian::read_u32(bytes);
     let name_offset = LittleEndian::read_u16(&bytes[4..]);

@@ -54,7 +54,6 @@ impl LeaseNotification {
     }
 
     // The fields that hold a message.
-
     fn holding(message: &Notification) -> LeaseNotification {
         LeaseNotification {
             key: message.key.0,
@@ -73,7 +72,6 @@ impl LeaseAcknowledgment {
     }
 
     // The fields that hold a message.
-
     fn holding(message: &Acknowledgment) -> LeaseAcknowledgment {
         LeaseAcknowledgment { key: message.key.0, state: message.state.to_wire(), reserved: [0; 12] }
     }
@@ -86,7 +84,6 @@ impl LeaseResponse {
     }
 
     // The fields that hold a message.
-
     fn holding(message: &BreakResponse) -> LeaseResponse {
         LeaseResponse { key: message.key.0, state: message.state.to_wire(), reserved: [0; 12] }
     }

@@ -10,7 +10,6 @@ use std::alloc::Global;
 pub const MOST: usize = 255;
 
 /// Whom a record is of: its clients, by their numbers in the capture, and its files, by the places of their findings.
-
 pub(crate) struct Cast {
     pub(crate) clients: Vec<u64>,
     pub(crate) findings: Vec<usize>,

@@ -19,7 +19,6 @@ pub enum Expected {
 }
 
 // The names of rows, with the last behind "or".
-
 fn push_listed(text: &mut String, rows: &[Row]) -> Result<(), AllocError> {
     match rows {
         [] => Ok(()),

@@ -28,7 +28,6 @@ pub struct Complaint<'a> {
 }
 
 // The fields after the word of a kind in a table.
-
 fn fields_behind(table: Table, word: &[u8]) -> Option<&'static [Field]> {
     for row in table.1 {
         if is(word, row.0.as_bytes()) {
@@ -97,7 +96,6 @@ fn at_end<'a>(number: u64, fields: &'static [Field]) -> Option<Complaint<'a>> {
 }
 
 // The first field, from the second on, at which the words after the first leave what is expected.
-
 fn leaves<'a>(alloc: Global, first: &'static [Field], words: &mut Fields<'a>) -> Result<Option<Complaint<'a>>, LineFault> {
     let mut expected = first;
     for field in 2..u64::MAX {

@@ -65,7 +65,6 @@ pub fn push_complaint(alloc: Global, text: &mut String, complaint: &Complaint<'_
 }
 
 // What stands before a complaint: the number of the line that it is about.
-
 fn push_line_number(text: &mut String, number: u64) -> Result<(), AllocError> {
     write!(text, "line {number}, ")
 }

@@ -17,7 +17,6 @@ use std::alloc::{AllocError, Global};
 // What `leasecheck show ask` and `show reply` print: the create contexts of a request or a response,
 // and what they ask for or grant. Where memory runs out the rest is still read, since a fault of the
 // bytes comes first.
-
 fn render_create(alloc: Global, direction: Direction, contexts: Contexts<'_>) -> Result<String, Failure> {
     let mut text = String::new(alloc);
     let mut values = ContextValues::nothing();

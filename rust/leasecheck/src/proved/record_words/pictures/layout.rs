@@ -120,7 +120,6 @@ fn mark(
 }
 
 // A mark for each fact.
-
 fn marks_of(alloc: Global, sheet: &Sheet<'_>, bad: &[usize], messages: &[Reply]) -> Result<Vec<Mark>, Memory> {
     let mut marks = Vec::new(alloc);
     let mut left = messages;
@@ -133,7 +132,6 @@ fn marks_of(alloc: Global, sheet: &Sheet<'_>, bad: &[usize], messages: &[Reply])
 }
 
 // The passages of requests that are drawn: none where there are too many requests.
-
 fn drawn_among(passages: &[Passage]) -> &[Passage] {
     if count_sent(passages) > MOST_REQUESTS { &[] } else { passages }
 }

@@ -175,7 +175,6 @@ pub fn request_marks(alloc: Global, lanes: &Lanes, rows: u16, passages: &[Passag
 }
 
 /// How many requests are sent.
-
 pub fn count_sent(passages: &[Passage]) -> usize {
     let mut count = 0;
     for passage in passages {

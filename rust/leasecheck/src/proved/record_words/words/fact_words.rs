@@ -19,7 +19,6 @@ fn first_shown(bytes: &[u8]) -> &[u8] {
 }
 
 /// Adds bytes as digits: at most 64 of them, and then how many there are.
-
 pub fn push_bytes(alloc: Global, text: &mut String, bytes: &[u8]) -> Result<(), AllocError> {
     let count = bytes.len();
     if count <= 64 {

@@ -16,7 +16,6 @@ pub struct Placed {
 
 impl Placed {
     // Adds the fact of the line of this number.
-
     fn add(&mut self, alloc: Global, line: &[u8], number: u64) -> Result<(), LineFault> {
         if is_passed_over(line) {
             return Ok(());
@@ -43,7 +42,6 @@ impl Placed {
 /// # Errors
 ///
 /// `Line` with the number of the first line that is refused, and `Memory` where there is none left.
-
 pub fn read_placed(alloc: Global, text: &[u8]) -> Result<Placed, TextFault> {
     let mut placed = Placed { facts: Vec::new(alloc), lines: Vec::new(alloc) };
     let mut rest = text;

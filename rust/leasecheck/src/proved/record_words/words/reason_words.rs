@@ -19,7 +19,6 @@ fn push_fact(alloc: Global, text: &mut String, fact: Option<&Fact>) -> Result<()
 }
 
 /// Adds the line of the fact at a place: its number, the fact, and what it is to the rule.
-
 pub fn push_place(alloc: Global, text: &mut String, placed: &Placed, place: usize, role: &str) -> Result<(), AllocError> {
     let number = placed.line(place);
     write!(text, "line {number}: ")?;

@@ -7,7 +7,6 @@ use smblease::proved::lease_state::{FileNo, LeaseState, Memory, Request, Status}
 use std::prelude::Vec;
 
 /// What a look at a request finds.
-
 pub enum Finding {
     Refused(Status),
     /// These keys, which hold some of this, are to lose it; perhaps none.

@@ -89,7 +89,6 @@ impl Opening {
 
 /// A request with its client and the file that it is about, and with the key that it stands under and the FileId that it
 /// names, if any, as they were when it came.
-
 pub struct Held {
     pub client: ClientNo,
     pub file: FileNo,

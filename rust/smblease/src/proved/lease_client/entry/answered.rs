@@ -63,7 +63,6 @@ impl Entry {
     /// # Errors
     ///
     /// `Memory` where there is none left for the base or the note.
-
     pub fn written(&mut self, number: u64, given: &mut Given) -> Result<(), Memory> {
         let write = self.sent.take_numbered(number);
         put_write(&mut self.phase, &write)?;
@@ -114,7 +113,6 @@ impl Live {
     }
 
     // The bytes become the base under R; the application sees its own unanswered writes in them.
-
     fn read_done(&mut self, sent: &mut Writes, bytes: Bytes, given: &mut Given) -> Result<(), Memory> {
         let base = SharedBytes::new(bytes)?;
         let seen = self.file.over(&base, sent)?;
@@ -154,7 +152,6 @@ impl Live {
     // The server has the open no more, and the unsent writes have failed. An entry that asked for more
     // waits for that create.
     // docs/DECISIONS.md: "FILE_CLOSED".
-
     fn closed_by_server(self, sent: Writes, notes: Vec<Note>, status: Status) -> Result<Turn, Memory> {
         let mut notes = notes;
         push_settled(&mut notes, Settlement::Failed, self.file.unsent())?;

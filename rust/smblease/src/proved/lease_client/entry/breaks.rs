@@ -17,7 +17,6 @@ impl Entry {
     /// # Errors
     ///
     /// `Memory` where there is none left for what is sent.
-
     pub fn broken(&mut self, notice: &Notification, given: &mut Given) -> Result<(), Memory> {
         let Phase::Live(live) = &mut self.phase else {
             given.begin(Answer::Quiet);
@@ -45,7 +44,6 @@ impl Live {
     /// # Errors
     ///
     /// `Memory` where there is none left for what is sent.
-
     pub fn give_up(&mut self, sent: &mut Writes, answer: Answer, given: &mut Given) -> Result<(), Memory> {
         given.begin(answer);
         self.send_unsent(sent, &mut given.requests)?;
@@ -55,7 +53,6 @@ impl Live {
 
     // The new belief is what the old one and the notification have in common. Unsent writes go before the acknowledgment where
     // writes or handles are given up.
-
     fn lowered(&mut self, sent: &mut Writes, notice: &Notification, new: LeaseState, given: &mut Given) -> Result<(), Memory> {
         given.begin(Answer::Quiet);
         if gives_up(self.belief, new) {

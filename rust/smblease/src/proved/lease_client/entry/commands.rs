@@ -41,7 +41,6 @@ impl Entry {
     /// # Errors
     ///
     /// `Memory` where there is none left for what is sent, and never where the Close is refused.
-
     pub fn close(&mut self, given: &mut Given) -> Result<(), Memory> {
         let Phase::Live(live) = &mut self.phase else {
             given.begin(Answer::Refused(self.refusal()));
@@ -130,7 +129,6 @@ impl Live {
     }
 
     // The last handle stays while something is unanswered, or the entry asks for more. Without it the entry is parked.
-
     fn close(&mut self, sent: &Writes, given: &mut Given) {
         if self.handles.count() > 1 {
             self.handles = self.handles.with_less();
@@ -148,7 +146,6 @@ impl Live {
     }
 
     // A Read is answered from the cache, or sent.
-
     fn read(&mut self, sent: &mut Writes, file: FileNo, given: &mut Given) -> Result<(), Memory> {
         if !self.access.reads() {
             given.begin(Answer::Refused(Refusal::Denied));
@@ -164,7 +161,6 @@ impl Live {
     }
 
     // docs/DECISIONS.md: "The order of refusals".
-
     fn send_read(&mut self, given: &mut Given) -> Result<(), Memory> {
         if self.handles.asking().is_some() {
             given.begin(Answer::Refused(Refusal::Busy));
@@ -181,7 +177,6 @@ impl Live {
     }
 
     // First the access, then the write's end, then the numbers that are left.
-
     fn write(
         &mut self,
         sent: &mut Writes,
@@ -207,7 +202,6 @@ impl Live {
     }
 
     // Under W a write is buffered, and else it is sent.
-
     fn take_write(
         &mut self,
         sent: &mut Writes,

@@ -93,7 +93,6 @@ impl Parted {
 
 impl Live {
     // A durable open goes offline. Under W it keeps its buffered writes, those sent and those unsent.
-
     fn noticed(self, sent: Writes) -> Result<Turn, Memory> {
         let alloc = sent.alloc();
         let Live { file_id, access, share, durable, belief, handles, file, .. } = self;

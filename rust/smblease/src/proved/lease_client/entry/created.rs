@@ -100,7 +100,6 @@ fn promoted_belief(key: LeaseKey, belief: LeaseState, lease: Granted) -> LeaseSt
 }
 
 // A new open has one handle and no base.
-
 fn opened(file_id: FileId, asked: Asked, sent: Writes, answer: &CreateAnswer, belief: LeaseState) -> Turn {
     let live = Live {
         file_id,
@@ -119,7 +118,6 @@ impl Parted {
     // The open is connected again, without a base. The kept writes are unsent again under W, and else
     // given up.
     // docs/DECISIONS.md: "A reconnect keeps its own FileId".
-
     fn connected(self, sent: Writes, belief: LeaseState) -> Result<Turn, Memory> {
         let alloc = sent.alloc();
         let mut unsent = self.writes;
@@ -164,7 +162,6 @@ impl Live {
 
     // The entry has its new open, and closes the old one. Without W its unsent writes have failed, and
     // without R the base is dropped.
-
     fn promoted(self, sent: Writes, asked: Asked, file_id: FileId, durable: bool, belief: LeaseState) -> Result<Turn, Memory> {
         let alloc = sent.alloc();
         let mut live = self;

@@ -13,7 +13,6 @@ impl Entry {
     /// # Errors
     ///
     /// `Memory` where there is none left for the request, and never where the Open is refused.
-
     pub fn open(&mut self, is_online: bool, file: FileNo, key: LeaseKey, terms: Terms, given: &mut Given) -> Result<(), Memory> {
         match &mut self.phase {
             Phase::Closed => self.open_first(is_online, file, key, terms, given),
@@ -107,7 +106,6 @@ impl Live {
     }
 
     // While an entry asks for more, every Open is refused.
-
     fn open(&mut self, file: FileNo, key: LeaseKey, terms: Terms, given: &mut Given) -> Result<(), Memory> {
         if self.handles.asking().is_some() {
             given.begin(Answer::Refused(Refusal::Busy));
@@ -121,7 +119,6 @@ impl Live {
     }
 
     // One handle more on the open's own terms.
-
     fn add_handle(&mut self, given: &mut Given) {
         if self.handles.count() == u32::MAX {
             given.begin(Answer::Refused(Refusal::UsedUp));
@@ -143,7 +140,6 @@ impl Live {
 
     // A second create under the entry's key; the entry goes on until it is answered.
     // docs/DECISIONS.md: "The order of refusals".
-
     fn ask_for_more(&mut self, file: FileNo, key: LeaseKey, terms: Terms, given: &mut Given) -> Result<(), Memory> {
         if self.handles.count() == u32::MAX {
             given.begin(Answer::Refused(Refusal::UsedUp));

@@ -13,7 +13,6 @@ impl Machine {
     /// # Errors
     ///
     /// `Memory` where there is none left, and never where the reply answers a Close or an acknowledgment.
-
     #[inline]
     pub fn take(&mut self, reply: Reply, given: &mut Given) -> Result<(), Memory> {
         match reply {
@@ -59,7 +58,6 @@ impl Machine {
     }
 
     // A Read of more bytes than a file may have is passed over.
-
     fn read_done(&mut self, file_id: FileId, bytes: Bytes, given: &mut Given) -> Result<(), Memory> {
         if bytes.len() > FILE_LIMIT {
             self.quiet(given);

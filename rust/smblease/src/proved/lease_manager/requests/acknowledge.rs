@@ -11,7 +11,6 @@ use crate::proved::lease_state::{LeaseState, Memory, Status};
 /// # Errors
 ///
 /// `Memory` where there is none left.
-
 pub fn acknowledge(tables: &mut Tables, outs: &mut Outs, key: LeaseName, state: LeaseState) -> Result<(), Memory> {
     if !tables.has_lease(key) {
         return outs.refuse_ack(key.client, Status::ObjectNameNotFound);
@@ -29,7 +28,6 @@ pub fn acknowledge(tables: &mut Tables, outs: &mut Outs, key: LeaseName, state: 
 }
 
 // The lease has the granted form of the acknowledged state, and isn't breaking.
-
 fn end_break(tables: &mut Tables, outs: &mut Outs, key: LeaseName, state: LeaseState) -> Result<(), Memory> {
     let lease = HeldLease { state: state.granted_form(), broken_to: None };
     tables.put_lease(key, lease)?;

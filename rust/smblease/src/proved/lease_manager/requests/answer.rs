@@ -14,7 +14,6 @@ use crate::proved::lease_state::{FileId, Memory};
 /// # Errors
 ///
 /// `Memory` where there is none left.
-
 pub fn conclude(tables: &mut Tables, outs: &mut Outs, client: ClientNo, ask: Ask, outcome: Outcome) -> Result<(), Memory> {
     match outcome {
         Outcome::Refused(status) => outs.refuse(client, ask, status),
@@ -24,7 +23,6 @@ pub fn conclude(tables: &mut Tables, outs: &mut Outs, client: ClientNo, ask: Ask
 }
 
 // Answers a request about the file, which is ready.
-
 fn answer(tables: &mut Tables, outs: &mut Outs, client: ClientNo, file: FileNo, ask: Ask) -> Result<(), Memory> {
     match ask {
         Ask::Create { file, access, share, ask } => create(tables, outs, Opening { client, file, access, share, ask }),
@@ -47,7 +45,6 @@ fn read(tables: &mut Tables, outs: &mut Outs, client: ClientNo, file: FileNo, fi
 }
 
 // A write goes on: it is told that its file changes, and its reply follows directly (3.3.5.13).
-
 fn write(tables: &mut Tables, outs: &mut Outs, client: ClientNo, file: FileNo, fid: FileId, fits: bool) -> Result<(), Memory> {
     outs.changed(file, client)?;
     outs.write_done(client, fid)?;

@@ -14,7 +14,6 @@ use crate::proved::lease_state::{FileId, LeaseKey, LeaseState, Memory, Status};
 /// # Errors
 ///
 /// `Memory` where there is none left.
-
 pub fn first_try(tables: &mut Tables, told: &mut Told, client: ClientNo, tag: Tag, ask: Ask) -> Result<(), Memory> {
     match file_asked(tables, client, ask) {
         Ok(file) => {
@@ -29,7 +28,6 @@ pub fn first_try(tables: &mut Tables, told: &mut Told, client: ClientNo, tag: Ta
 }
 
 // The file that the request is about, or the status that refuses it as it comes.
-
 fn file_asked(tables: &Tables, client: ClientNo, ask: Ask) -> Result<FileNo, Status> {
     match ask {
         Ask::Create { file, .. } => {

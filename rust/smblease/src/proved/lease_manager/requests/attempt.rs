@@ -74,7 +74,6 @@ pub fn must_wait(tables: &Tables, ask: Ask, wants: &[Want]) -> bool {
 }
 
 // Whether the lease keeps the request waiting.
-
 fn waits_for(ask: Ask, lease: HeldLease) -> bool {
     match ask {
         Ask::Write { .. } => breaks_to_something(lease),
@@ -83,7 +82,6 @@ fn waits_for(ask: Ask, lease: HeldLease) -> bool {
 }
 
 // Meets the wants one after another.
-
 fn meet_all(tables: &mut Tables, outs: &mut Outs, ended: &mut Ended, wants: &[Want]) -> Result<(), Memory> {
     for want in wants {
         meet(tables, outs, ended, want)?;

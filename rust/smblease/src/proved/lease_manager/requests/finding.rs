@@ -26,7 +26,6 @@ impl Tables {
     /// # Errors
     ///
     /// `Memory` where there is none left for the list of leases.
-
     pub fn finding(&self, client: ClientNo, ask: Ask) -> Result<Finding, Memory> {
         match ask {
             Ask::Create { file, access, share, ask } => self.create_finding(client, file, access, share, ask),
@@ -102,13 +101,11 @@ impl Tables {
     }
 
     // A reconnect fails in one way whatever is wrong (profile).
-
     fn reconnect_finding(&self, client: ClientNo, file: FileNo, own: Option<LeaseName>, fid: FileId) -> Finding {
         if self.has_awaiting(client, file, own, fid) { Finding::Ready(file) } else { Finding::Fails(Status::ObjectNameNotFound) }
     }
 
     // First the key's file, then conflicts, then cached writes (profile).
-
     fn open_finding(&self, own: Option<LeaseName>, file: FileNo, access: Access, share: Share) -> Result<Finding, Memory> {
         if self.is_leased_elsewhere(own, file) {
             return Ok(Finding::Fails(Status::InvalidParameter));

@@ -34,7 +34,6 @@ impl Opening {
 ///
 /// `Memory` where there is none left.
 // docs/DECISIONS.md: "A lease belongs to one file".
-
 pub fn grant(tables: &mut Tables, outs: &mut Outs, opening: Opening) -> Result<(), Memory> {
     if tables.last_id() == u64::MAX {
         return outs.refuse(opening.client, opening.ask(), Status::InsufficientResources);
@@ -45,7 +44,6 @@ pub fn grant(tables: &mut Tables, outs: &mut Outs, opening: Opening) -> Result<(
 
 // Grants a new open with this lease.
 // docs/DECISIONS.md: "A durable grant looks at the lease's state alone".
-
 fn grant_with(tables: &mut Tables, outs: &mut Outs, opening: Opening, lease: HeldLease) -> Result<(), Memory> {
     let Opening { client, file, access, share, ask } = opening;
     let durable = ask.durable && lease.state.caches_handles();
@@ -83,7 +81,6 @@ fn lease_after(tables: &Tables, client: ClientNo, file: FileNo, asked: Option<(L
 
 // One that is breaking stays; one within the granted form of the want, a new one too, becomes what is
 // offered where it may; any other stays (profile).
-
 fn lease_granted(tables: &Tables, key: LeaseName, file: FileNo, want: LeaseState) -> HeldLease {
     let lease = tables.lease(key);
     if lease.is_breaking() || !lease.state.is_within(want.granted_form()) {
@@ -104,7 +101,6 @@ fn may_rise(tables: &Tables, key: LeaseName, offer: LeaseState, want: LeaseState
 
 // What a key is offered: nothing where its timer ran out (profile).
 // docs/DECISIONS.md: "Expired keys count in a grant only".
-
 fn offered(tables: &Tables, key: LeaseName, file: FileNo, want: LeaseState) -> LeaseState {
     if tables.is_expired(key) { LeaseState::NONE } else { tables.allowed(Some(key), file, want) }
 }
@@ -115,7 +111,6 @@ fn offered(tables: &Tables, key: LeaseName, file: FileNo, want: LeaseState) -> L
 /// # Errors
 ///
 /// `Memory` where there is none left.
-
 pub fn reconnect(
     tables: &mut Tables,
     outs: &mut Outs,

@@ -41,7 +41,6 @@ impl Tables {
     /// # Errors
     ///
     /// `Memory` where there is none left for the list of FileIds.
-
     pub fn close(&mut self, closing: Closing) -> Result<Vec<FileId>, Memory> {
         let alloc = self.alloc();
         let ids = self.opens.closed(alloc, &closing, &self.summaries)?;

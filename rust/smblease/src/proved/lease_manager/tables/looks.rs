@@ -36,7 +36,6 @@ impl Tables {
     }
 
     /// Whether the key has a lease, and on another file.
-
     pub fn is_leased_elsewhere(&self, own: Option<LeaseName>, file: FileNo) -> bool {
         match own {
             Some(key) => self.summaries.is_elsewhere(key, file),

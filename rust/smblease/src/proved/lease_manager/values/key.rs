@@ -37,7 +37,6 @@ impl PartialOrd for LeaseName {
 
 impl LeaseName {
     /// Whether both name one lease.
-
     pub(crate) fn is(self, other: LeaseName) -> bool {
         self.client == other.client && self.bytes == other.bytes
     }

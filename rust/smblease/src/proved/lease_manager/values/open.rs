@@ -92,7 +92,6 @@ impl OpenEntry {
     }
 
     /// Whether a reconnect of this client under this key may name the open (MS-SMB2 3.3.5.9.7).
-
     pub fn awaits(&self, client: ClientNo, file: FileNo, own: Option<LeaseName>, fid: FileId) -> bool {
         match own {
             Some(key) => {

@@ -60,7 +60,6 @@ fn lease_meaning(direction: Direction, body: &[u8]) -> Meaning {
 }
 
 /// What the context means in a request or a response.
-
 pub(crate) fn meaning_of(direction: Direction, context: &Context) -> Meaning {
     match context.name {
         [b'R', b'q', b'L', b's'] => lease_meaning(direction, context.body),

@@ -48,7 +48,6 @@ impl ContextValues {
 
 // What the contexts of a text ask for or grant, or the first fault.
 #[inline(always)]
-
 fn gather(direction: Direction, bytes: &[u8]) -> Result<ContextValues, WireFault> {
     let mut values = ContextValues::nothing();
     for item in contexts(bytes) {

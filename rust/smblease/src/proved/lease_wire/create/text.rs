@@ -82,7 +82,6 @@ fn push_reconnect(text: &mut ArrayVec<u8, 136>, reconnect: Option<FileId>) {
 /// Puts the canonical text of what is asked for or granted into a text of no bytes: 136 bytes at
 /// most, where it has a lease, a durable open and a reconnect.
 #[inline(always)]
-
 pub(crate) fn push_text(text: &mut ArrayVec<u8, 136>, direction: Direction, values: &ContextValues) {
     let reconnects = values.reconnect.is_some();
     push_lease(text, values.durable || reconnects, &values.lease);

@@ -108,7 +108,6 @@ fn byte_or_zero(bytes: &[u8], position: usize) -> u8 {
 }
 
 // The positions up to this one have a place.
-
 fn reach(tops: &mut Vec<usize>, position: usize) -> Result<(), Memory> {
     while tops.len() <= position {
         tops.push(0)?;

@@ -189,7 +189,6 @@ impl Known {
 }
 
 // Whether the client sees these bytes in the file. What is kept of the file stays the same, but for where it was copied.
-
 fn sees(files: &mut Files, client: &mut ClientSeen, file: FileNo, taken: u64, bytes: &[u8]) -> Result<bool, Memory> {
     let stood = files.get_mut(file)?;
     client.sees(file, stood, taken, bytes)

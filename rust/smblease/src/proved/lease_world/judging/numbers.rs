@@ -25,7 +25,6 @@ impl Numbers {
     }
 
     /// Whether the number is one of them.
-
     pub fn contains(&self, number: u64) -> bool {
         match self.first.get(number as usize) {
             Some(true) => true,
@@ -38,7 +37,6 @@ impl Numbers {
     /// # Errors
     ///
     /// `Memory` where there is none left for it.
-
     pub fn insert(&mut self, number: u64) -> Result<(), Memory> {
         let place = number as usize;
         let count = self.first.len();

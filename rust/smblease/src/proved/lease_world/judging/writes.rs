@@ -42,7 +42,6 @@ impl WritesSeen {
     }
 
     /// The write of this number.
-
     pub fn get(&self, number: u64) -> Option<&WriteSeen> {
         if self.is_first(number) { self.first.get((number - 1) as usize) } else { self.rest.get(&number) }
     }
@@ -52,7 +51,6 @@ impl WritesSeen {
     /// # Errors
     ///
     /// `Memory` where there is none left for it.
-
     pub fn insert(&mut self, number: u64, write: WriteSeen) -> Result<(), Memory> {
         if self.is_first(number) {
             self.first[(number - 1) as usize] = write;
@@ -65,7 +63,6 @@ impl WritesSeen {
     }
 
     /// A file is changed by the write of this number.
-
     pub fn accept(&mut self, file: FileNo, number: u64, patch: &Patch) {
         if self.is_first(number) {
             let write = &mut self.first[(number - 1) as usize];
