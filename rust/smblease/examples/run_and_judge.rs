@@ -1,5 +1,5 @@
-//! A run of a server and two clients by a list of events, and the verdict on its record; then the verdict on a record of stale data.
-use smblease::client::{Command, FileNo, SharedBytes};
+//! A run of a server and two clients by a list of events, and the verdict on its record; then on the same record with stale data.
+use smblease::client::{ClientNo, Command, FileNo, SharedBytes};
 use smblease::world::{Event, Fact, Rule, Setup, Verdict, judge, run};
 use smblease::{Access, Bytes, Content, LeaseState, Patch, Share};
 use std::error::Error;
@@ -12,7 +12,7 @@ fn open() -> Command {
 }
 
 fn record() -> Result<Vec<Fact>, Box<dyn Error>> {
-    let (one, two) = (smblease::client::ClientNo(1), smblease::client::ClientNo(2));
+    let (one, two) = (ClientNo(1), ClientNo(2));
     let setup = Setup::new(vec![Content::try_from(b"abc".as_slice())?], vec![[1; 16], [2; 16]]);
     let patch = Patch { offset: 0, bytes: Bytes::from(b"X".to_vec()) };
     let mut events = vec![Event::Connect(one), Event::Connect(two)];
@@ -27,20 +27,20 @@ fn record() -> Result<Vec<Fact>, Box<dyn Error>> {
 }
 
 fn main() -> Result<(), Box<dyn Error>> {
-    let record = record()?;
+    let mut record = record()?;
+    assert!(record.iter().any(|fact| matches!(fact, Fact::Changed(..))));
     println!("{} facts: {:?}", record.len(), judge(&record)?);
+    assert_eq!(judge(&record)?, Verdict::Safe);
+    // The second client reads what the file never was.
+    let stale = SharedBytes::new(Bytes::from(b"Zbc".to_vec()))?;
+    record.push(Fact::CachedRead(ClientNo(2), FILE, stale));
+    let place = record.len() as u64;
+    println!("{} facts: {:?}", record.len(), judge(&record)?);
+    assert_eq!(judge(&record)?, Verdict::Unsafe { place, rule: Rule::FreshCachedReads });
     Ok(())
 }
 
 #[test]
 fn a_run_is_safe_and_stale_data_arent() -> Result<(), Box<dyn Error>> {
-    let mut record = record()?;
-    assert!(record.iter().any(|fact| matches!(fact, Fact::Changed(..))));
-    assert_eq!(judge(&record)?, Verdict::Safe);
-    // The second client, which saw its write done, reads what the file never was.
-    let stale = SharedBytes::new(Bytes::from(b"Zbc".to_vec()))?;
-    record.push(Fact::CachedRead(smblease::client::ClientNo(2), FILE, stale));
-    let place = record.len() as u64;
-    assert_eq!(judge(&record)?, Verdict::Unsafe { place, rule: Rule::FreshCachedReads });
-    Ok(())
+    main()
 }

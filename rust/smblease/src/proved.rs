@@ -15,6 +15,7 @@
     clippy::manual_map,
     clippy::manual_ok_err,
     clippy::manual_range_contains,
+    clippy::manual_range_patterns,
     clippy::manual_unwrap_or,
     clippy::manual_unwrap_or_default,
     clippy::needless_lifetimes,
