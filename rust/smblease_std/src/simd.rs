@@ -69,3 +69,22 @@ fn equal(one: &[u8; 32], other: &[u8; 32]) -> u32 {
 pub mod prelude {
     pub use super::u8x32;
 }
+
+#[cfg(test)]
+mod tests {
+    use super::u8x32;
+
+    // Each place by itself, and all and none of them.
+    #[test]
+    fn has_a_bit_for_each_place() {
+        let wanted = u8x32::splat(10);
+        for place in 0..32 {
+            let mut bytes = [9; 40];
+            bytes[place] = 10;
+            bytes[33] = 10;
+            assert_eq!(u8x32::from_slice(&bytes).simd_eq(wanted).to_bitmask(), 1 << place);
+        }
+        assert_eq!(wanted.simd_eq(wanted).to_bitmask(), 0xffff_ffff);
+        assert_eq!(u8x32::splat(9).simd_eq(wanted).to_bitmask(), 0);
+    }
+}
