@@ -156,17 +156,20 @@ pub trait Read {
     /// Adds all bytes up to the end, and says how many.
     fn read_to_end(&mut self, bytes: &mut Vec<u8>) -> Result<usize> {
         let before = bytes.len();
-        loop {
-            let held = bytes.len();
-            bytes.resize(held + PART, 0)?;
-            let came = self.read(&mut bytes[held..]);
-            bytes.truncate(held + came.unwrap_or(0));
-            match came {
-                Ok(0) => return Ok(held - before),
-                Ok(_) | Err(Error(ErrorKind::Interrupted)) => (),
-                Err(error) => return Err(error),
+        let mut end = before;
+        let came = loop {
+            if end == bytes.len() {
+                bytes.resize(end + PART, 0)?;
             }
-        }
+            match self.read(&mut bytes[end..]) {
+                Ok(0) => break Ok(end - before),
+                Ok(count) => end += count,
+                Err(Error(ErrorKind::Interrupted)) => (),
+                Err(error) => break Err(error),
+            }
+        };
+        bytes.truncate(end);
+        came
     }
 }
 
