@@ -3,9 +3,12 @@ from __future__ import annotations
 
 import importlib.util
 import os
+import platform
 import shutil
 
 import pytest
+
+from tests.paths import TOP
 
 INSTALLS = "tools/setup installs it"
 
@@ -19,6 +22,9 @@ def package(name: str) -> pytest.MarkDecorator:
     return pytest.mark.skipif(importlib.util.find_spec(name) is None, reason=f"there is no package {name}; {INSTALLS}")
 
 
+HAS_PROVED = any((TOP / it / "leasecheck").exists() for it in ("dist/x86_64-linux", "out/proved"))
+IS_BY_CARGO = os.environ.get("SMBLEASE_BUILD") == "plain" or not HAS_PROVED or platform.machine() != "x86_64"
 # What compares whole texts of help.
-OWN_HELP = pytest.mark.skipif(os.environ.get("SMBLEASE_BUILD") == "plain", reason="help is laid out by another version of clap")
+OWN_HELP = pytest.mark.skipif(IS_BY_CARGO, reason="help is laid out by another version of clap")
+DIST = pytest.mark.skipif(not (TOP / "dist").exists(), reason="there is no dist/")
 ROOT = pytest.mark.skipif(os.geteuid() != 0, reason="this isn't root")

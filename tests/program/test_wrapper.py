@@ -12,6 +12,7 @@ from tests import needs
 from tests.paths import TOP
 from tests.program.ran import Ended
 
+pytestmark = needs.DIST
 PARTS = ("leasecheck", "tools", "dist", "kit.txt", "crates.txt", "crates", "include", "rust")
 NOTHING = "neither cargo, which builds it from rust/ (rustup.rs has it), nor the command rt of the Rattle kit is on the path"
 STALE = "rust/ was made from other sources, and make rust makes it anew"
