@@ -10,6 +10,7 @@
 #   make rust                   writes rust/ anew from the crates; needs rustfmt
 #   make check-rust             looks whether rust/ is that, and runs its tests and clippy, and over what cargo builds of it the tests of make check that
 #                               ask the program and the library; SMBLEASE_BUILD=plain make check runs all of them over that
+#   make check-aarch64          proves and builds the library for C for aarch64 over what the gate proved, and runs tests in C over it under qemu
 #   make prove                  proves and builds both, whatever is in dist/; needs the Rattle kit
 #   make dist                   does that, and puts them into dist/
 #   make clean                  removes what was built here; what is proved stays
@@ -102,6 +103,10 @@ check-rust:
 	SMBLEASE_BUILD=plain $(MAKE) check TESTS="$(or $(TESTS),tests/program tests/c tests/python)"
 	SMBLEASE_BUILD=plain $(MAKE) check-long TESTS=tests/refused_growths/test_program.py
 
+check-aarch64: all
+	tools/prove --over-gate aarch64
+	SMBLEASE_PROCESSOR=aarch64 $(MAKE) check TESTS="tests/c/test_machines.py tests/c/test_file_server.py tests/c/test_damaged_texts.py"
+
 prove:
 	tools/prove
 
@@ -116,4 +121,4 @@ clean:
 
 FORCE:
 
-.PHONY: all install uninstall check check-long check-rust lint man prove dist rust clean FORCE
+.PHONY: all install uninstall check check-aarch64 check-long check-rust lint man prove dist rust clean FORCE

@@ -11,12 +11,16 @@ from pathlib import Path
 
 from tests.paths import TOP
 
-CC = os.environ.get("CC", "cc")
+# Where this is set, programs are compiled for another processor, over the library in out/ that was built for it, and emulated.
+PROCESSOR = os.environ.get("SMBLEASE_PROCESSOR", "")
+EMULATED = (f"qemu-{PROCESSOR}",) if PROCESSOR else ()
+CC = os.environ.get("CC", f"{PROCESSOR}-linux-gnu-gcc" if PROCESSOR else "cc")
 CXX = os.environ.get("CXX", "c++")
-LIBRARY = TOP / "out/c/libsmblease.a"
+LIBRARY = TOP / "out" / (PROCESSOR or "c") / "libsmblease.a"
 LEASECHECK = TOP / "out/c/leasecheck"
 STRICT = ("-Wall", "-Wextra", "-pedantic", "-Werror")
-CHECKED = ("-g", "-O1", "-fsanitize=address,undefined", "-fno-sanitize-recover=all")
+SANITIZED = ("-g", "-O1", "-fsanitize=address,undefined", "-fno-sanitize-recover=all")
+CHECKED = ("-O1", "-static") if PROCESSOR else SANITIZED
 # The linker sends the library's allocations to tests/c/refuse_calls.c.
 WRAPPED = ("-Wl,--wrap=malloc", "-Wl,--wrap=realloc", "-Wl,--wrap=free")
 
@@ -30,8 +34,13 @@ class Ended:
     errors: str = ""
 
 
+# The programs that were compiled here.
+_COMPILED: set[Path] = set()
+
+
 def run(*words: str | Path, variables: dict[str, str] | None = None) -> Ended:
-    done = subprocess.run([str(it) for it in words], stdin=subprocess.DEVNULL, capture_output=True, cwd=TOP,
+    emulated = EMULATED if words[0] in _COMPILED else ()
+    done = subprocess.run([str(it) for it in (*emulated, *words)], stdin=subprocess.DEVNULL, capture_output=True, cwd=TOP,
                           env={**os.environ, **(variables or {})}, check=False)
     return Ended(done.returncode, done.stdout.decode(errors="replace"), done.stderr.decode(errors="replace"))
 
@@ -59,6 +68,7 @@ def program(folder: Path, *sources: str, standard: str = "c99", flags: tuple[str
     out = folder / Path(sources[0]).stem
     done = run(CC, f"-std={standard}", *STRICT, *checks, "-Iinclude", "-o", out, *sources, LIBRARY, *flags)
     assert done == Ended(0, ""), done.errors
+    _COMPILED.add(out)
     return out
 
 
