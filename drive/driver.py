@@ -19,7 +19,7 @@ from drive.connections import Connection
 from drive.exchange import Exchange, LeaseCount
 from drive.faults import DriveFault, Undrivable
 from drive.peers import DrivenPeer
-from drive.place import Server
+from drive.place import Server, Timers
 from drive.records import Order, Record, applied, in_order
 from drive.wire_names import WireNames
 
@@ -76,15 +76,27 @@ class Driver(World[DrivenPeer]):
         peer = self.peers[client]
         if file not in peer.breaking:
             return False
-        # Where the timers run by the clock of the client's connection, all of its breaks run out.
-        for breaking in [file] if self._server.is_profiled else sorted(peer.breaking):
-            self.record.fact(f"expired {client} {breaking}")
-            peer.breaking.discard(breaking)
-        guid, key = peer.guid.bytes, peer.key_of(file).bytes
-        self._server.begin_break_timer(peer.process, self._names.of(guid), self._names.of(key))
-        self._settle()
+        waiting = self._running_out(client, file)
+        while waiting:
+            for other, breaking in waiting:
+                self.record.fact(f"expired {other} {breaking}")
+                self.peers[other].breaking.pop(breaking)
+            guid, key = peer.guid.bytes, peer.key_of(file).bytes
+            self._server.begin_break_timer(peer.process, self._names.of(guid), self._names.of(key))
+            self._settle()
+            # (where all are waited for, breaks that came meanwhile may have run out too)
+            waiting = self._running_out(client, file) if self._server.timers is Timers.ALL else []
         self._server.end_break_timer(peer.process)
         return True
+
+    def _running_out(self, client: int, file: int) -> list[tuple[int, int]]:
+        """The clients and files whose breaks run out with that of this client and file, in the order in which they began."""
+        if self._server.timers is Timers.ONE:
+            return [(client, file)]
+        if self._server.timers is Timers.OF_CONNECTION:
+            return [(client, breaking) for breaking in sorted(self.peers[client].breaking)]
+        places = {(other, breaking): place for other, peer in self.peers.items() for breaking, place in peer.breaking.items()}
+        return sorted(places, key=lambda it: places[it])
 
     def _scavenge(self, client: int, file: int) -> bool:
         peer = self.peers[client]

@@ -31,6 +31,7 @@ class Exchange:
         self._names = names
         self._arrived: list[tuple[int, Message]] = []
         self._sent = 0
+        self._breaks = 0
 
     def send(self, client: int, request: Request, name: str) -> None:
         """Sends a request and waits for its answer, or for word that it is pending."""
@@ -82,7 +83,8 @@ class Exchange:
     def _arrival(self, client: int, message: Message) -> Arrival:
         peer = self._peers[client]
         if message.number == NOTIFICATION_ID:
-            notice = _noted_break(client, peer, self._names.of_reply(Break(message.data)))
+            self._breaks += 1
+            notice = _noted_break(client, peer, self._names.of_reply(Break(message.data)), self._breaks)
             peer.replies.append(notice)
             return Arrival(client, client, notice)
         sent = peer.unanswered.pop(message.number, None)
@@ -131,8 +133,8 @@ class LeaseCount:
         return remarks
 
 
-def _noted_break(client: int, peer: DrivenPeer, came: Reply) -> Break:
-    """A notification, which its peer is told of."""
+def _noted_break(client: int, peer: DrivenPeer, came: Reply, place: int) -> Break:
+    """A notification, which its peer is told of; `place` is its place among all."""
     data = came.message if isinstance(came, Break) else b""
     try:
         notice = smblease.Notification.read(data)
@@ -140,7 +142,7 @@ def _noted_break(client: int, peer: DrivenPeer, came: Reply) -> Break:
         raise DriveFault(f"what came to client {client} unasked is no break of a lease") from None
     file = peer.file_of(notice.key)
     if notice.ack_required and file is not None:
-        peer.breaking.add(file)
+        peer.breaking[file] = place
     return Break(data[:smblease.messages.NOTIFICATION_SIZE])
 
 
@@ -158,5 +160,5 @@ def _effect(client: int, peer: DrivenPeer, request: Request, reply: Reply, file_
     if isinstance(request, smblease.AcknowledgeRequest) and isinstance(reply, AcknowledgeDone):
         acknowledged = peer.file_of(smblease.Acknowledgment.read(request.message).key)
         if acknowledged is not None:
-            peer.breaking.discard(acknowledged)
+            peer.breaking.pop(acknowledged, None)
     return None

@@ -29,8 +29,9 @@ class DrivenPeer(Peer):
     # its opens by the persistent halves of their FileIds
     file_ids: dict[int, FileId] = field(default_factory=dict)
     files: dict[int, int] = field(default_factory=dict)
-    # the files of which a break is to be acknowledged, and those of which an open may be kept without a connection
-    breaking: set[int] = field(default_factory=set)
+    # the files of which a break is to be acknowledged, with the places of these breaks among all that came
+    breaking: dict[int, int] = field(default_factory=dict)
+    # those of which an open may be kept without a connection
     kept: set[int] = field(default_factory=set)
     # the files of the opens that may be kept, by the persistent halves of their FileIds
     kept_opens: dict[int, int] = field(default_factory=dict)
@@ -63,7 +64,7 @@ class DrivenPeer(Peer):
         file = self.files.pop(file_id, None)
         self.file_ids.pop(file_id, None)
         if file is not None and file not in self.files.values():
-            self.breaking.discard(file)
+            self.breaking.pop(file, None)
 
     def is_cut(self) -> None:
         """The connection is lost; durable opens may be kept."""

@@ -3,6 +3,7 @@ from __future__ import annotations
 
 from abc import ABC, abstractmethod
 from dataclasses import dataclass
+from enum import Enum
 
 
 @dataclass(frozen=True)
@@ -14,6 +15,14 @@ class Place:
     password: str
 
 
+class Timers(Enum):
+    """Which timers of breaks run out where one is made to."""
+
+    ONE = "that of the lease alone"
+    OF_CONNECTION = "those of the client's connection"
+    ALL = "those of every client"
+
+
 class Server(ABC):
     """A server that is driven. What a kind of server has nothing to do for is left as it is here."""
 
@@ -21,6 +30,7 @@ class Server(ABC):
     stays = False
     # whether it is the one of docs/PROFILE.md, whose timers can be ended one by one
     is_profiled = False
+    timers = Timers.ONE
     place: Place
 
     def name_of(self, file: int) -> str:

@@ -13,7 +13,7 @@ import uuid
 from drive.clock import Clocks, library
 from drive.connections import password_hash
 from drive.faults import DriveFault, Undrivable
-from drive.place import Place, Server
+from drive.place import Place, Server, Timers
 
 SMBD = "/usr/sbin/smbd"
 SHARE = "share"
@@ -67,6 +67,7 @@ class NamedServer(Server):
     """A server that somebody named. Its timers are waited for, and its files have names of their own."""
 
     stays = True
+    timers = Timers.ALL
 
     def __init__(self, place: Place, break_time: float) -> None:
         self.place = place
@@ -91,6 +92,8 @@ class NamedServer(Server):
 
 class PrivateServer(Server):
     """An smbd of one's own on loopback, in a folder of its own, with clocks that can be put forward."""
+
+    timers = Timers.OF_CONNECTION
 
     def __init__(self, log: str | None = None, protocol: str = "SMB2_10") -> None:
         """`log` is a file that gets smbd's log, at level 10, when it is ended; `protocol` is the one dialect that it speaks, as

@@ -10,8 +10,6 @@
 from __future__ import annotations
 
 import re
-from collections.abc import Iterator
-from contextlib import contextmanager
 from pathlib import Path
 
 import pytest
@@ -26,6 +24,7 @@ from tests.paths import SCHEDULES, TESTS, TOP, name_of
 
 pytest.importorskip("impacket", reason=f"there is no package impacket; {needs.INSTALLS}")
 # pylint: disable=wrong-import-position
+from tests.drive.named import named_smbd  # noqa: E402
 from drive import servers  # noqa: E402
 from drive.explanations import likeness_of  # noqa: E402
 from drive.exploration import Explorer  # noqa: E402
@@ -157,21 +156,9 @@ def test_schedule_that_is_unsafe_by_what_is_allowed(program: str, tmp_path: Path
     tried(check)
 
 
-@contextmanager
-def named_server() -> Iterator[list[str]]:
-    """The words that name a server, which another process has started."""
-    server = PrivateServer()
-    try:
-        place = server.place
-        user = f"{place.user}%{place.password}"
-        yield ["--server", f"{place.host}:{place.port}", "--share", place.share, "--user", user]
-    finally:
-        server.close()
-
-
 def test_server_that_is_named() -> None:
     def check() -> None:
-        with named_server() as words:
+        with named_smbd() as words:
             had = ran("run", [*words, TESTS / "schedules" / "break_answered"])
         assert had == (0, (TESTS / "runs" / "break_answered").read_text(encoding="ascii"), "")
     tried(check)
@@ -194,7 +181,7 @@ def test_run_after_one_that_left_an_open(tmp_path: Path) -> None:
     first.write_text(LEAVES, encoding="ascii")
 
     def check() -> None:
-        with named_server() as words:
+        with named_smbd() as words:
             assert ran("run", [*words, first]).status == 0
             had = ran("run", [*words, TESTS / "schedules" / "break_answered"])
         assert had == (0, (TESTS / "runs" / "break_answered").read_text(encoding="ascii"), "")
