@@ -17,6 +17,7 @@ from smblease.values import Rules
 from drive.faults import DriveFault, Usage
 
 SAFE, NOT_DRIVEN, REFUSED, UNSAFE, NOTHING_JUDGED = range(5)
+NOTHING_TRIED = NOTHING_JUDGED
 
 
 def ended(parser: argparse.ArgumentParser, main: Callable[[argparse.Namespace], int], words: Sequence[str] | None) -> int:

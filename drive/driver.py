@@ -16,11 +16,12 @@ from smblease.values import LARGEST_FILE
 from smblease.world import World
 
 from drive.connections import Connection
-from drive.exchange import Exchange, LeaseCount
+from drive.exchange import Exchange
 from drive.faults import DriveFault, Undrivable
 from drive.peers import DrivenPeer
 from drive.place import Server, Timers
 from drive.records import Order, Record, applied, in_order
+from drive.tried import Tried
 from drive.wire_names import WireNames
 
 LOG = logging.getLogger("drive")
@@ -45,8 +46,8 @@ class Driver(World[DrivenPeer]):
         self.record.remark(f"on the wire ClientGuids and lease keys are those here, exclusive or {self._names.mask.hex()}")
 
     @property
-    def leases(self) -> LeaseCount:
-        return self._exchange.leases
+    def tried(self) -> Tried:
+        return replace(self._exchange.tried, cached_reads=self.record.count_of("cachedread"))
 
     def close(self) -> None:
         for peer in self.peers.values():

@@ -2,11 +2,10 @@
 from __future__ import annotations
 
 import time
-from dataclasses import dataclass
 
 import smblease
 from smblease.outs import Changed, Opened
-from smblease.replies import AcknowledgeDone, Break, Closed, Created, CreateFailed, Reply, WriteDone
+from smblease.replies import AcknowledgeDone, Break, Closed, Created, Reply, WriteDone
 from smblease.requests import CreateRequest, ReadRequest, Request, WriteRequest
 from smblease.values import Status
 
@@ -14,6 +13,7 @@ from drive.connections import NOTIFICATION_ID, PATIENCE, FileId, Message, reply_
 from drive.faults import DriveFault
 from drive.peers import DrivenPeer, Unanswered
 from drive.records import Arrival
+from drive.tried import Tried
 from drive.wire_names import WireNames
 
 QUIET_ROUNDS = 3
@@ -26,7 +26,7 @@ class Exchange:
     """The connections of a run's clients, one request at a time."""
 
     def __init__(self, peers: dict[int, DrivenPeer], names: WireNames) -> None:
-        self.leases = LeaseCount()
+        self.tried = Tried()
         self._peers = peers
         self._names = names
         self._arrived: list[tuple[int, Message]] = []
@@ -85,6 +85,7 @@ class Exchange:
         if message.number == NOTIFICATION_ID:
             self._breaks += 1
             notice = _noted_break(client, peer, self._names.of_reply(Break(message.data)), self._breaks)
+            self.tried = self.tried.after(None, notice)
             peer.replies.append(notice)
             return Arrival(client, client, notice)
         sent = peer.unanswered.pop(message.number, None)
@@ -92,45 +93,9 @@ class Exchange:
             raise DriveFault(f"an answer to no request came to client {client}")
         reply, file_id = reply_of(sent.request, message)
         reply = self._names.of_reply(reply)
-        self.leases = self.leases.after(sent.request, reply)
+        self.tried = self.tried.after(sent.request, reply)
         peer.replies.append(reply)
         return Arrival(client, sent.place, reply, _effect(client, peer, sent.request, reply, file_id))
-
-
-@dataclass(frozen=True)
-class LeaseCount:
-    """How many creates asked for a lease, were granted one, and were refused for its key."""
-
-    asked: int = 0
-    granted: int = 0
-    refused: int = 0
-
-    def after(self, request: Request, reply: Reply) -> LeaseCount:
-        if not isinstance(request, CreateRequest):
-            return self
-        try:
-            ask = smblease.CreateAsk.read(request.contexts)
-            is_granted = isinstance(reply, Created) and bool(smblease.CreateAnswer.read(reply.contexts).state)
-        except smblease.Fault:
-            return self
-        is_refused = bool(ask.key) and isinstance(reply, CreateFailed) and reply.status == Status.INVALID_PARAMETER
-        return LeaseCount(self.asked + bool(ask.key and ask.state), self.granted + is_granted, self.refused + is_refused)
-
-    @property
-    def word(self) -> str:
-        """A column of a table: creates were `refused` for a key, leases `granted`, there were `none`, or all was `unasked`."""
-        return "refused" if self.refused else "granted" if self.granted else "none" if self.asked else "unasked"
-
-    @property
-    def remarks(self) -> list[str]:
-        """What a verdict says little by."""
-        remarks = []
-        if self.asked and not self.granted:
-            remarks.append(f"no lease was granted: {self.asked} creates asked for one")
-        if self.refused:
-            creates = "1 create was" if self.refused == 1 else f"{self.refused} creates were"
-            remarks.append(f"{creates} refused for its lease key (STATUS_INVALID_PARAMETER)")
-        return remarks
 
 
 def _noted_break(client: int, peer: DrivenPeer, came: Reply, place: int) -> Break:

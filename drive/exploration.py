@@ -11,12 +11,13 @@ from smblease.program import judge
 from smblease.schedules import Event, Schedule
 
 from drive.explanations import NONE, Likeness, facts_of, likeness_of
-from drive.explored import Row
+from drive.explored import NOTHING, Row
 from drive.model import Departure
 from drive.random_schedules import Chooser, blind_schedule
 from drive.records import Order
 from drive.runner import Outcome, Runner
 from drive.shrinking import shrunk
+from drive.tried import Tried
 
 LOG = logging.getLogger("drive")
 # Of so many schedules one aims at a write during a break to reads.
@@ -43,7 +44,7 @@ class Explorer:
         try:
             schedule, outcome = self._guided(chooser) if guided else self._blind(chooser)
         except ToolFault as fault:
-            return Row(number, manner, 0, 0, "-", f"fault {fault}", "-")
+            return Row(number, manner, 0, 0, Tried(), f"fault {fault}", "-")
         likeness = likeness_of(self._runner.program, schedule, outcome.record.facts(), outcome.counts, self._runner.rules)
         left = None
         if likeness.is_open or not outcome.verdict.is_safe:
@@ -52,7 +53,7 @@ class Explorer:
         is_allowed = rule_of(outcome) is not None and self._is_allowed(schedule, likeness)
         if rule_of(outcome) and self._shrinks and not is_allowed:
             left = self._shrunk(number, schedule.with_events(tuple(outcome.applied)), rule_of(outcome))
-        return Row(number, manner, len(schedule.events), len(outcome.applied), outcome.leases.word, verdict_words(outcome),
+        return Row(number, manner, len(schedule.events), len(outcome.applied), outcome.tried, verdict_words(outcome),
                    likeness.word, left, is_allowed)
 
     def _is_allowed(self, schedule: Schedule, likeness: Likeness) -> bool:
@@ -99,7 +100,9 @@ def rule_of(outcome: Outcome) -> int | None:
 
 
 def verdict_words(outcome: Outcome) -> str:
-    """The verdict, or both where they differ in their rule."""
+    """The verdict, or both where they differ in their rule; `nothing tried` where no lease was granted."""
+    if outcome.tried_nothing:
+        return NOTHING
     text, other = (outcome.verdicts[order].text for order in (Order.BREAKS_FIRST, Order.BREAKS_LAST))
     alike = outcome.verdicts[Order.BREAKS_LAST].rule == outcome.rule
     return text if alike else f"unsure: {text}, {Order.BREAKS_LAST.value} {other}"

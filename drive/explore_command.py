@@ -10,17 +10,17 @@ from collections.abc import Sequence
 from dataclasses import dataclass
 
 from drive.arguments import runner_of, server_arguments
-from drive.commands import NOT_DRIVEN, SAFE, UNSAFE, ended, write
+from drive.commands import NOT_DRIVEN, NOTHING_TRIED, SAFE, UNSAFE, ended, write
 from drive.exploration import Explorer
-from drive.explored import Row, junit, rows_in
+from drive.explored import Row, junit, rows_in, tried_by
 from drive.faults import DriveFault, Usage
 from drive.model import Departure
 
 EPILOG = """FOLDER/table gets a line for each schedule: its number; `blind` (its events were chosen beforehand),
 `guided` (each by what the run had come to) or `aimed` (guided towards a write during a break to reads); its events,
-and how many of them did something; what became of leases: `granted`, `none` where creates asked for some and none was
-granted, `refused` where a create was refused for its lease key, `unasked`; the verdict; `same` where the record is
-the profile's, else the known departures that explain it, or `unexplained` (docs/REAL_SERVERS.md); and for an unsafe
+and how many of them did something; what it tried, by six numbers: creates that asked for a lease, that were granted
+one, and that were refused for their key, breaks, acknowledgments, and reads from a cache; the verdict, which is
+`nothing tried` where no lease was granted; `same` where the record is the profile's, else the known departures that explain it, or `unexplained` (docs/REAL_SERVERS.md); and for an unsafe
 one `shrunk N`, the events that are left, or `allowed`: it is safe on a model server without the departures of
 --allow, and doesn't count. A schedule that is unsafe or unexplained is kept next to the table by its number, with its
 record and what is left of it. It counts as unsafe, and is shrunk, where it breaks one rule in both orders of
@@ -31,7 +31,7 @@ With --shard 2/8 only the schedules 2, 10, 18 and so on are driven; the tables o
 the whole has, and each has a folder of its own. --junit FILE has a test for each schedule of the table.
 
 Exit status, by all of the table: 0 all records are safe, or unsafe by what is allowed; 1 a schedule couldn't be
-driven; 2 the command line is refused; 3 a record is unsafe."""
+driven; 2 the command line is refused; 3 a record is unsafe; 4 no schedule was granted a lease."""
 
 
 def parser() -> argparse.ArgumentParser:
@@ -111,11 +111,14 @@ def _explore(arguments: argparse.Namespace) -> int:
     every = [*before, *rows]
     if arguments.junit:
         write(arguments.junit, junit(every, arguments.seed))
+    print(tried_by(every))
     driven = f"{len(rows)} driven" + (f" after {len(before)}" if before else "")
     unsafe, faults = sum(it.is_unsafe for it in every), sum(it.is_fault for it in every)
     allowed_ones = f" {sum(it.is_allowed for it in every)} allowed," if arguments.allow else ""
-    print(f"{driven}, {unsafe} unsafe,{allowed_ones} {faults} not driven to the end; {folder}/table has them")
-    return UNSAFE if unsafe else NOT_DRIVEN if faults else SAFE
+    nothing = sum(it.tried_nothing for it in every)
+    tried_nothing = f" {nothing} tried nothing," if nothing else ""
+    print(f"{driven}, {unsafe} unsafe,{allowed_ones}{tried_nothing} {faults} not driven to the end; {folder}/table has them")
+    return UNSAFE if unsafe else NOT_DRIVEN if faults else NOTHING_TRIED if nothing == len(every) else SAFE
 
 
 def _all(explorer: Explorer, numbers: Sequence[int], path: str) -> list[Row]:

@@ -5,13 +5,16 @@ import os
 import re
 import xml.etree.ElementTree as xml
 from collections.abc import Sequence
-from dataclasses import dataclass
+from dataclasses import astuple, dataclass
 
 from smblease.faults import ToolFault
 
 from drive.faults import Usage
+from drive.tried import Tried
 
-LINE = re.compile(r"(\d+) (\w+) (\d+) (\d+) (\S+) (.*?) (\S+)(?: shrunk (\d+)| (allowed))?")
+LINE = re.compile(r"(\d+) (\w+) (\d+) (\d+) (\d+ \d+ \d+ \d+ \d+ \d+) (.*?) (\S+)(?: shrunk (\d+)| (allowed))?")
+NOTHING = "nothing tried"
+TRIED = {"granted": "leases", "breaks": "breaks", "acknowledged": "acknowledgments", "cached_reads": "cached reads"}
 
 
 @dataclass(frozen=True)
@@ -20,7 +23,7 @@ class Row:
     manner: str
     events: int
     applied: int
-    leases: str
+    tried: Tried
     verdict: str
     likeness: str
     left: int | None = None
@@ -31,19 +34,24 @@ class Row:
         found = LINE.fullmatch(line)
         if found is None:
             raise ToolFault(f"no line of a table: {line[:200]}")
-        number, manner, events, applied, leases, verdict, likeness, left, allowed = found.groups()
-        return cls(int(number), manner, int(events), int(applied), leases, verdict, likeness, int(left) if left else None,
-                   bool(allowed))
+        number, manner, events, applied, tried, verdict, likeness, left, allowed = found.groups()
+        return cls(int(number), manner, int(events), int(applied), Tried(*map(int, tried.split())), verdict, likeness,
+                   int(left) if left else None, bool(allowed))
 
     @property
     def text(self) -> str:
         tail = " allowed" if self.is_allowed else f" shrunk {self.left}" if self.left is not None else ""
-        head = f"{self.number} {self.manner} {self.events} {self.applied} {self.leases}"
+        tried = " ".join(map(str, astuple(self.tried)))
+        head = f"{self.number} {self.manner} {self.events} {self.applied} {tried}"
         return f"{head} {' '.join(self.verdict.split())} {self.likeness}{tail}\n"
 
     @property
     def is_unsafe(self) -> bool:
         return self.verdict.startswith("unsafe") and not self.is_allowed
+
+    @property
+    def tried_nothing(self) -> bool:
+        return self.verdict == NOTHING
 
     @property
     def is_fault(self) -> bool:
@@ -54,10 +62,18 @@ class Row:
         """What it is to a build server, nothing where it passed, and why."""
         if self.is_fault:
             return "error", self.verdict.partition(" ")[2]
+        if self.tried_nothing:
+            return "skipped", f"{NOTHING}: {self.tried.remarks[0]}"
         if self.is_allowed:
             return "skipped", f"{self.verdict}, {self.likeness}, which is allowed"
         left = f", {self.left} events are left" if self.left is not None else ""
         return ("failure", f"{self.verdict}, {self.likeness}{left}") if self.is_unsafe else ("", "")
+
+
+def tried_by(rows: Sequence[Row]) -> str:
+    """What all of them tried together, and how many had none of that."""
+    counts = {word: [getattr(row.tried, name) for row in rows] for name, word in TRIED.items()}
+    return "tried: " + ", ".join(f"{sum(its)} {word} ({its.count(0)} schedules had none)" for word, its in counts.items())
 
 
 def rows_in(path: str, resume: bool) -> list[Row]:

@@ -79,6 +79,10 @@ class Record:
             self._items.append(tuple(arrivals))
             self.count += sum(2 if arrival.effect else 1 for arrival in arrivals)
 
+    def count_of(self, word: str) -> int:
+        """How many facts that aren't messages begin with this word."""
+        return sum(isinstance(it, str) and it.startswith(f"{word} ") for it in self._items)
+
     def lines(self, order: Order = Order.BREAKS_FIRST) -> list[str]:
         lines: list[str] = []
         for item in self._items:

@@ -6,16 +6,17 @@ import sys
 from collections.abc import Sequence
 
 from drive.arguments import runner_of, server_arguments
-from drive.commands import NOT_DRIVEN, SAFE, UNSAFE, ended, schedule_in, write
+from drive.commands import NOT_DRIVEN, NOTHING_TRIED, SAFE, UNSAFE, ended, schedule_in, write
 from drive.records import Order
 from drive.runner import Outcome
 
 EPILOG = """The record is printed, and after it the verdict as a line `# safe` or `# unsafe PLACE RULE`, so that all of it is
-still a record. With --record it goes to a file, and the verdict alone is printed. Remarks of --messages begin with
-`# served`, a request that was sent to the server, `# sent` and `# took`, each with the client and the words of the message.
+still a record; where no lease was granted it is `# nothing tried`. With --record it goes to a file, and the verdict
+alone is printed. Remarks of --messages begin with `# served`, a request that was sent to the server, `# sent` and
+`# took`, each with the client and the words of the message.
 
 Exit status: 0 the record is safe; 1 the schedule couldn't be driven to its end; 2 the command line is refused; 3 the
-record is unsafe."""
+record is unsafe; 4 it is safe, and no lease was granted."""
 
 
 def parser() -> argparse.ArgumentParser:
@@ -30,7 +31,7 @@ def parser() -> argparse.ArgumentParser:
 
 
 def verdict_lines(outcome: Outcome) -> list[str]:
-    lines = [outcome.verdict.text]
+    lines = ["nothing tried" if outcome.tried_nothing else outcome.verdict.text]
     if outcome.orders_differ:
         lines.append(f"with {Order.BREAKS_LAST.value}: {outcome.verdicts[Order.BREAKS_LAST].text}")
     return lines
@@ -39,6 +40,8 @@ def verdict_lines(outcome: Outcome) -> list[str]:
 def status_of(outcome: Outcome) -> int:
     if outcome.rule is not None:
         return UNSAFE
+    if outcome.tried_nothing:
+        return NOTHING_TRIED
     return SAFE if outcome.verdict.is_safe else NOT_DRIVEN
 
 
@@ -50,7 +53,7 @@ def _drive(arguments: argparse.Namespace) -> int:
     record = outcome.text(arguments.messages)
     if arguments.record:
         write(arguments.record, record.encode())
-        sys.stdout.write("".join(f"{it}\n" for it in (*verdict_lines(outcome), *outcome.leases.remarks)))
+        sys.stdout.write("".join(f"{it}\n" for it in (*verdict_lines(outcome), *outcome.tried.remarks)))
     else:
         sys.stdout.write(record + "".join(f"# {it}\n" for it in verdict_lines(outcome)))
     return status_of(outcome)

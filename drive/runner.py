@@ -12,10 +12,10 @@ from smblease.schedules import Event, EventKind, Schedule
 from smblease.values import Rules
 
 from drive.driver import Driver, files_made, files_removed
-from drive.exchange import LeaseCount
 from drive.faults import Undrivable
 from drive.place import Server
 from drive.records import Order, Record
+from drive.tried import Tried
 
 LOG = logging.getLogger("drive")
 # What a test puts between the driver and the machines.
@@ -27,7 +27,7 @@ class Outcome:
     """What a run has come to."""
 
     record: Record
-    leases: LeaseCount = LeaseCount()
+    tried: Tried = Tried()
     verdicts: dict[Order, Verdict] = field(default_factory=dict)
     # the events that did something, and what was left out
     applied: list[Event] = field(default_factory=list)
@@ -44,10 +44,15 @@ class Outcome:
     def rule(self) -> int | None:
         return self.verdict.rule
 
+    @property
+    def tried_nothing(self) -> bool:
+        """Whether it is safe for want of leases."""
+        return self.tried.is_nothing and all(it.is_safe for it in self.verdicts.values())
+
     def text(self, with_messages: bool = False) -> str:
         """The record as it is kept: with remarks on what it says little by."""
         record = self.record.text_with_messages() if with_messages else self.record.text()
-        return record + "".join(f"# {it}\n" for it in self.leases.remarks)
+        return record + "".join(f"# {it}\n" for it in self.tried.remarks)
 
     @property
     def orders_differ(self) -> bool:
@@ -82,7 +87,7 @@ class Runner:
             outcome.skipped.append(f"{event.text}: {fault}")
             return False
         outcome.counts.append(driver.record.count)
-        outcome.leases = driver.leases
+        outcome.tried = driver.tried
         if applied:
             outcome.applied.append(event)
         LOG.debug("%s: %s", event.text, "done" if applied else "nothing")

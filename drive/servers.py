@@ -95,16 +95,16 @@ class PrivateServer(Server):
 
     timers = Timers.OF_CONNECTION
 
-    def __init__(self, log: str | None = None, protocol: str = "SMB2_10") -> None:
+    def __init__(self, log: str | None = None, protocol: str = "SMB2_10", more: str = "") -> None:
         """`log` is a file that gets smbd's log, at level 10, when it is ended; `protocol` is the one dialect that it speaks, as
-        smb.conf names it."""
+        smb.conf names it; `more` are other lines of that file, those of the share first."""
         if os.geteuid() != 0 or not os.path.exists(SMBD):
             raise DriveFault("a private smbd needs root and /usr/sbin/smbd (tools/setup installs it)")
         clock = library()
         self._log = log
         self._folder = tempfile.mkdtemp(prefix="leasecheck-drive-")
         self.place = Place("127.0.0.1", free_port(), SHARE, "root", PASSWORD)
-        self._write_folder(protocol)
+        self._write_folder(protocol, more)
         self._clocks = Clocks(f"{self._folder}/clocks")
         self._known: set[int] = set()
         self._process = self._start(dict(os.environ, LD_PRELOAD=clock, DRIVE_CLOCK=self._clocks.path))
@@ -181,12 +181,12 @@ class PrivateServer(Server):
         finally:
             shutil.rmtree(self._folder, ignore_errors=True)
 
-    def _write_folder(self, protocol: str) -> None:
+    def _write_folder(self, protocol: str, more: str) -> None:
         for name in FOLDERS:
             os.mkdir(f"{self._folder}/{name}", 0o755)
         with open(f"{self._folder}/smb.conf", "w", encoding="utf-8") as text:
             text.write(CONFIGURATION.format(folder=self._folder, port=self.place.port, protocol=protocol,
-                                            level=10 if self._log else 1))
+                                            level=10 if self._log else 1) + more)
         with open(f"{self._folder}/private/smbpasswd", "w", encoding="utf-8") as text:
             text.write(f"root:0:{32 * 'X'}:{password_hash(PASSWORD)}:[U          ]:LCT-00000001:\n")
 

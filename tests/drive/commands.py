@@ -4,16 +4,26 @@ from __future__ import annotations
 import subprocess
 from collections.abc import Callable, Sequence
 from pathlib import Path
-from typing import NamedTuple
+from typing import Any, NamedTuple, TypeVar
 
 from smblease.faults import ToolFault
 
 from tests import needs
 from tests.paths import TOP, built_program
 
+Test = TypeVar("Test", bound=Callable[..., Any])
 TRIES = 3
 # smbd and who drives it; impacket and the clock of a private smbd are part of that.
 PRIVATE_SMBD = [needs.ROOT, needs.program("smbd"), needs.program("cc"), needs.package("impacket")]
+
+
+def with_private_smbd(test: Test) -> Test:
+    """Marks a single test that needs one."""
+    for mark in PRIVATE_SMBD:
+        test = mark(test)
+    return test
+
+
 DEPARTURES = sorted(it.stem for it in (TOP / "drive" / "departures").iterdir())
 # What was found unsafe on an unmodified smbd, with the rule that is broken.
 FOUND = {"lease_outlives_its_open": 1, "write_beside_a_break_to_reads": 2, "opens_stay_when_a_break_times_out": 3,

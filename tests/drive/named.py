@@ -15,8 +15,9 @@ def words_of(place: Place) -> list[str]:
 
 
 @contextmanager
-def named_smbd() -> Iterator[list[str]]:
-    server = PrivateServer()
+def named_smbd(more: str = "") -> Iterator[list[str]]:
+    """A private smbd; `more` are lines of its configuration."""
+    server = PrivateServer(more=more)
     try:
         yield words_of(server.place)
     finally:

@@ -1,16 +1,18 @@
 """A server that is named, whose timers are its own: what is waited for, and what is said of its clients."""
 from __future__ import annotations
 
+import xml.etree.ElementTree as xml
 from pathlib import Path
 
 import pytest
 
 from tests import needs
-from tests.drive.commands import ran
+from tests.drive.commands import ran, with_private_smbd
+from tests.paths import TESTS
 
 pytest.importorskip("impacket", reason=f"there is no package impacket; {needs.INSTALLS}")
 # pylint: disable=wrong-import-position
-from tests.drive.named import named_proved  # noqa: E402
+from tests.drive.named import named_proved, named_smbd  # noqa: E402
 
 # Two clients have breaks to acknowledge when the timer of one is waited for; then the third caches writes.
 TWO_BREAKS = """file 616263
@@ -83,3 +85,21 @@ def test_breaks_that_come_while_one_is_waited_for(program: str, tmp_path: Path) 
     assert (had.status, had.faults) == (0, "")
     facts = had.out.splitlines()
     assert [it for it in facts if it.startswith("expired")] == ["expired 1 1", "expired 2 1"]
+
+
+WITHOUT_LEASES = "[global]\n  smb2 leases = no\n"
+
+
+@with_private_smbd
+def test_server_without_leases(tmp_path: Path) -> None:
+    """Nothing that it did could break a rule: that is said, and is no success."""
+    with named_smbd(WITHOUT_LEASES) as words:
+        had = ran("run", [*words, TESTS / "schedules" / "break_answered"])
+        explored = ran("explore", [*words, "--seed", "1", "--count", "3", "--break-time", "0", "--folder", tmp_path / "explored",
+                                   "--junit", tmp_path / "junit.xml"])
+    assert (had.status, had.out.splitlines()[-1]) == (4, "# nothing tried")
+    tried, all_of_them = explored.out.splitlines()
+    assert tried.startswith("tried: 0 leases (3 schedules had none), 0 breaks (3 schedules had none), 0 acknowledgments")
+    assert (explored.status, all_of_them.split(";")[0]) == (4, "3 driven, 0 unsafe, 3 tried nothing, 0 not driven to the end")
+    suite = xml.parse(tmp_path / "junit.xml").getroot()
+    assert (suite.attrib["tests"], suite.attrib["skipped"]) == ("3", "3")

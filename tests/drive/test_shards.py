@@ -10,17 +10,20 @@ pytest.importorskip("impacket", reason="there is no package impacket; tools/setu
 # pylint: disable=wrong-import-position
 from drive import explore_command  # noqa: E402
 from drive.exploration import Explorer  # noqa: E402
-from drive.explored import Row  # noqa: E402
+from drive.explored import NOTHING, Row  # noqa: E402
+from drive.tried import Tried  # noqa: E402
 
 COUNT = 12
 VERDICTS = {3: "unsafe 12 3", 4: "fault smbd doesn't start", 5: "unsure: unsafe 9 1, breaks after answers safe", 7: "unsafe 40 1",
-            8: "unsafe 8 3"}
+            8: "unsafe 8 3", 10: NOTHING}
+TRIED = Tried(asked=4, granted=3, breaks=2, acknowledged=1, cached_reads=5)
 
 
 def row_of(_: Explorer, number: int) -> Row:
     verdict = VERDICTS.get(number, "safe")
     left = 11 if number == 3 else None
-    return Row(number, "guided", 30 + number, 20, "granted", verdict, "-" if number == 4 else "opens_stay", left, number == 8)
+    tried = Tried(asked=4) if verdict == NOTHING else TRIED
+    return Row(number, "guided", 30 + number, 20, tried, verdict, "-" if number == 4 else "opens_stay", left, number == 8)
 
 
 @pytest.fixture(autouse=True)
@@ -44,15 +47,16 @@ def counts(root: xml.Element) -> dict[str, int]:
 def test_file_of_a_build_server() -> None:
     assert explore("--junit", "one.xml") == 3
     root = suite("one.xml")
-    assert (root.tag, counts(root)) == ("testsuite", {"tests": 12, "failures": 2, "errors": 1, "skipped": 1})
+    assert (root.tag, counts(root)) == ("testsuite", {"tests": 12, "failures": 2, "errors": 1, "skipped": 2})
     cases = {it.attrib["name"]: it for it in root.iter("testcase")}
     assert sorted(cases) == sorted(f"schedule {number}" for number in range(1, 13))
     assert {it.attrib["classname"] for it in cases.values()} == {"seed 5"}
-    kinds = {3: "failure", 4: "error", 8: "skipped"}
-    failure, error, skipped = (cases[f"schedule {number}"].find(kind) for number, kind in kinds.items())
+    kinds = {3: "failure", 4: "error", 8: "skipped", 10: "skipped"}
+    failure, error, skipped, untried = (cases[f"schedule {number}"].find(kind) for number, kind in kinds.items())
     assert failure is not None and failure.attrib["message"] == "unsafe 12 3, opens_stay, 11 events are left"
     assert error is not None and error.attrib["message"] == "smbd doesn't start"
     assert skipped is not None and skipped.attrib["message"] == "unsafe 8 3, opens_stay, which is allowed"
+    assert untried is not None and untried.attrib["message"].startswith("nothing tried: no lease was granted")
     assert [len(cases[f"schedule {number}"]) for number in (1, 5)] == [0, 0]
 
 
@@ -89,3 +93,12 @@ def test_shard_that_is_none(shard: str, capsys: pytest.CaptureFixture[str]) -> N
 def test_file_that_cant_be_written(capsys: pytest.CaptureFixture[str]) -> None:
     assert explore("--junit", "/none/one.xml") == 1
     assert capsys.readouterr().err.startswith("drive/explore: /none/one.xml: ")
+
+
+def test_nothing_was_tried(monkeypatch: pytest.MonkeyPatch, capsys: pytest.CaptureFixture[str]) -> None:
+    """No schedule was granted a lease: that is no success, whatever is said of the records."""
+    for number in range(1, COUNT + 1):
+        monkeypatch.setitem(VERDICTS, number, NOTHING)
+    assert explore("--junit", "one.xml") == 4
+    assert "0 unsafe, 12 tried nothing," in capsys.readouterr().out
+    assert counts(suite("one.xml")) == {"tests": 12, "failures": 0, "errors": 0, "skipped": 12}

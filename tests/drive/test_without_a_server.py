@@ -159,7 +159,7 @@ def test_kept_record(name: str, program: str) -> None:
 def test_table_that_was_cut_short(tmp_path: Path) -> None:
     """`--resume` goes on after its last whole line."""
     table = tmp_path / "table"
-    whole = "1 guided 3 2 granted safe same\n2 blind 4 2 none unsafe 12 3 opens_stay,given_back shrunk 11\n"
+    whole = "1 guided 3 2 1 1 0 2 1 4 safe same\n2 blind 4 2 3 0 0 0 0 0 unsafe 12 3 opens_stay,given_back shrunk 11\n"
     table.write_text(f"{whole}3 gui", encoding="ascii")
     rows = rows_in(str(table), True)
     assert [(it.number, it.verdict, it.left) for it in rows] == [(1, "safe", None), (2, "unsafe 12 3", 11)]
