@@ -24,6 +24,9 @@ def server_arguments(parser: argparse.ArgumentParser) -> None:
     parser.add_argument("--rules", default=str(Rules()), metavar="RULES",
                         help="the rules of the proved server, and of what its record is compared with: by-client or by-key, a "
                              "comma, and as-free or whole; or profile, which are those that it has without this word")
+    parser.add_argument("--expect", metavar="RULES",
+                        help="the server claims to keep these rules, so its record has to be that of `leasecheck replay` under "
+                             "them (the words are those of --rules)")
     parser.add_argument("--server", metavar="HOST:PORT", help="a server that is there, in place of a private one")
     parser.add_argument("--share", metavar="NAME", help="its share")
     parser.add_argument("--user", metavar="USER%PASSWORD", help="who asks it")
@@ -36,7 +39,8 @@ def server_arguments(parser: argparse.ArgumentParser) -> None:
 
 
 def runner_of(arguments: argparse.Namespace) -> Runner:
-    return Runner(arguments.leasecheck, _server_maker(arguments), arguments.skip, rules=rules_of(arguments.rules))
+    expect = None if arguments.expect is None else rules_of(arguments.expect, "--expect")
+    return Runner(arguments.leasecheck, _server_maker(arguments), arguments.skip, rules=rules_of(arguments.rules), expect=expect)
 
 
 def _server_maker(arguments: argparse.Namespace) -> Callable[[], Server]:

@@ -57,12 +57,12 @@ def _parsed(parser: argparse.ArgumentParser, words: Sequence[str] | None) -> arg
         sys.stdout.flush()
 
 
-def rules_of(text: str) -> Rules:
-    """The rules of a served share; `profile` is another word for those of docs/PROFILE.md."""
+def rules_of(text: str, word: str = "--rules") -> Rules:
+    """The rules that a word of the command line names; `profile` is another word for those of docs/PROFILE.md."""
     try:
         return Rules() if text == "profile" else Rules.of(text)
     except ValueError as fault:
-        raise Usage(f"--rules: {fault}") from None
+        raise Usage(f"{word}: {fault}") from None
 
 
 def schedule_in(path: str, program: str) -> Schedule:

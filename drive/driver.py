@@ -2,6 +2,7 @@
 from __future__ import annotations
 
 import logging
+import time
 import uuid
 from dataclasses import replace
 
@@ -11,7 +12,7 @@ from smblease.outs import Changed
 from smblease.processes import LineClients
 from smblease.replies import Created
 from smblease.requests import AcknowledgeRequest, CreateRequest, Request, WriteRequest
-from smblease.schedules import Schedule
+from smblease.schedules import Event, EventKind, Schedule
 from smblease.values import LARGEST_FILE
 from smblease.world import World
 
@@ -41,6 +42,8 @@ class Driver(World[DrivenPeer]):
         # the persistent halves of the FileIds that the server gave, in the order of opening
         self._opened: list[int] = []
         self._server = server
+        # the clients and files whose breaks ran out at the last `expire`
+        self._expired: tuple[tuple[int, int], ...] = ()
         self._names = WireNames()
         self._exchange = Exchange(peers, self._names)
         self.record.remark(f"on the wire ClientGuids and lease keys are those here, exclusive or {self._names.mask.hex()}")
@@ -48,6 +51,12 @@ class Driver(World[DrivenPeer]):
     @property
     def tried(self) -> Tried:
         return replace(self._exchange.tried, cached_reads=self.record.count_of("cachedread"))
+
+    def replayed(self, event: Event) -> tuple[Event, ...]:
+        """The events by which a replay has what came of the last event that did something."""
+        if event.kind is EventKind.EXPIRE and self._expired:
+            return tuple(Event(EventKind.EXPIRE, client, (str(file),)) for client, file in self._expired)
+        return (event,)
 
     def close(self) -> None:
         for peer in self.peers.values():
@@ -78,7 +87,9 @@ class Driver(World[DrivenPeer]):
         if file not in peer.breaking:
             return False
         waiting = self._running_out(client, file)
+        self._expired = ()
         while waiting:
+            self._expired += tuple(waiting)
             for other, breaking in waiting:
                 self.record.fact(f"expired {other} {breaking}")
                 self.peers[other].breaking.pop(breaking)
@@ -90,14 +101,22 @@ class Driver(World[DrivenPeer]):
         self._server.end_break_timer(peer.process)
         return True
 
+    def _check_breaks(self) -> None:
+        """Timers that may have run out by themselves make a record of nothing."""
+        patience, now = self._server.patience, time.monotonic()
+        for client, peer in self.peers.items():
+            for came in peer.breaking.values():
+                if patience is not None and now - came > patience:
+                    raise DriveFault(f"a break of client {client} waits for {now - came:.1f} s, in which its timer may run out")
+
     def _running_out(self, client: int, file: int) -> list[tuple[int, int]]:
         """The clients and files whose breaks run out with that of this client and file, in the order in which they began."""
         if self._server.timers is Timers.ONE:
             return [(client, file)]
         if self._server.timers is Timers.OF_CONNECTION:
             return [(client, breaking) for breaking in sorted(self.peers[client].breaking)]
-        places = {(other, breaking): place for other, peer in self.peers.items() for breaking, place in peer.breaking.items()}
-        return sorted(places, key=lambda it: places[it])
+        times = {(other, breaking): came for other, peer in self.peers.items() for breaking, came in peer.breaking.items()}
+        return sorted(times, key=lambda it: times[it])
 
     def _scavenge(self, client: int, file: int) -> bool:
         peer = self.peers[client]
@@ -133,6 +152,7 @@ class Driver(World[DrivenPeer]):
 
     def _settle(self) -> None:
         """Waits for all that comes of an event, and writes it down."""
+        self._check_breaks()
         arrivals = self._exchange.settled()
         self.record.step(arrivals)
         for arrival in in_order(arrivals, Order.BREAKS_FIRST):

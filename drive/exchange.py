@@ -31,7 +31,6 @@ class Exchange:
         self._names = names
         self._arrived: list[tuple[int, Message]] = []
         self._sent = 0
-        self._breaks = 0
 
     def send(self, client: int, request: Request, name: str) -> None:
         """Sends a request and waits for its answer, or for word that it is pending."""
@@ -83,8 +82,7 @@ class Exchange:
     def _arrival(self, client: int, message: Message) -> Arrival:
         peer = self._peers[client]
         if message.number == NOTIFICATION_ID:
-            self._breaks += 1
-            notice = _noted_break(client, peer, self._names.of_reply(Break(message.data)), self._breaks)
+            notice = _noted_break(client, peer, self._names.of_reply(Break(message.data)))
             self.tried = self.tried.after(None, notice)
             peer.replies.append(notice)
             return Arrival(client, client, notice)
@@ -98,8 +96,8 @@ class Exchange:
         return Arrival(client, sent.place, reply, _effect(client, peer, sent.request, reply, file_id))
 
 
-def _noted_break(client: int, peer: DrivenPeer, came: Reply, place: int) -> Break:
-    """A notification, which its peer is told of; `place` is its place among all."""
+def _noted_break(client: int, peer: DrivenPeer, came: Reply) -> Break:
+    """A notification, which its peer is told of."""
     data = came.message if isinstance(came, Break) else b""
     try:
         notice = smblease.Notification.read(data)
@@ -107,7 +105,7 @@ def _noted_break(client: int, peer: DrivenPeer, came: Reply, place: int) -> Brea
         raise DriveFault(f"what came to client {client} unasked is no break of a lease") from None
     file = peer.file_of(notice.key)
     if notice.ack_required and file is not None:
-        peer.breaking[file] = place
+        peer.breaking[file] = time.monotonic()
     return Break(data[:smblease.messages.NOTIFICATION_SIZE])
 
 

@@ -15,7 +15,7 @@ from smblease.values import Rules
 from smblease.world import Link, Peer, World
 
 from drive.model import Departure, Model
-from drive.records import Record
+from drive.records import Record, by_client
 
 NONE: frozenset[Departure] = frozenset()
 SOMETIMES = (Departure.LAST_FIRST, Departure.BY_ARRIVAL, Departure.KEPT_HOLDS, Departure.KEPT_ALONE)
@@ -157,13 +157,5 @@ def likeness_of(program: str, schedule: Schedule, facts: list[str], counts: Sequ
 def is_replayed(facts: list[str], profile: list[str], counts: Sequence[int]) -> bool:
     """Whether these are the profile's facts, where within a step those of each client are in order."""
     steps = zip([0, *counts], [*counts, len(facts)])
-    return len(facts) == len(profile) and all(_by_client(facts[start:end]) == _by_client(profile[start:end])
+    return len(facts) == len(profile) and all(by_client(facts[start:end]) == by_client(profile[start:end])
                                               for start, end in steps)
-
-
-def _by_client(facts: list[str]) -> dict[str, list[str]]:
-    found: dict[str, list[str]] = {}
-    for fact in facts:
-        words = fact.split(" ", 3)
-        found.setdefault(words[2 if words[0] in ("opened", "changed") else 1], []).append(fact)
-    return found

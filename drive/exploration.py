@@ -1,27 +1,23 @@
-"""Random schedules on a server, each of which is drawn, driven, compared with the profile, and shrunk where it is unsafe."""
+"""Random schedules on a server, each of which is drawn, driven, compared with the profile, and shrunk where it is charged."""
 from __future__ import annotations
 
 import logging
 import os
-import random
 from collections.abc import Callable
 
 from smblease.faults import ToolFault
 from smblease.program import judge
 from smblease.schedules import Event, Schedule
 
+from drive.drawing import Drawn, drawn
 from drive.explanations import NONE, Likeness, facts_of, likeness_of
-from drive.explored import NOTHING, Row
+from drive.explored import Row
 from drive.model import Departure
-from drive.random_schedules import Chooser, blind_schedule
-from drive.records import Order
 from drive.runner import Outcome, Runner
 from drive.shrinking import shrunk
 from drive.tried import Tried
 
 LOG = logging.getLogger("drive")
-# Of so many schedules one aims at a write during a break to reads.
-AIMS_EACH = 8
 
 
 class Explorer:
@@ -36,25 +32,27 @@ class Explorer:
         self._shrinks = shrinks
 
     def explore(self, number: int) -> Row:
-        """Drives the schedule of a number, which draws by itself, and keeps it where it is unsafe."""
-        aims = number % AIMS_EACH == 5
-        chooser = Chooser(random.Random(f"{self._seed}:{number}"), aims)
-        guided = number % 4 != 0
-        manner = "aimed" if aims else "guided" if guided else "blind"
+        """Drives the schedule of a number, which draws by itself, and keeps it where it is charged."""
+        chosen = drawn(self._seed, number)
         try:
-            schedule, outcome = self._guided(chooser) if guided else self._blind(chooser)
+            schedule, outcome = self._driven(chosen)
         except ToolFault as fault:
-            return Row(number, manner, 0, 0, Tried(), f"fault {fault}", "-")
-        likeness = likeness_of(self._runner.program, schedule, outcome.record.facts(), outcome.counts, self._runner.rules)
-        left = None
+            return Row(number, chosen.manner, 0, 0, Tried(), f"fault {fault}", "-")
+        likeness = self._likeness(schedule, outcome)
         if likeness.is_open or not outcome.verdict.is_safe:
-            self._write(f"{number}.schedule", schedule.text)
-            self._write(f"{number}.record", outcome.text())
-        is_allowed = rule_of(outcome) is not None and self._is_allowed(schedule, likeness)
-        if rule_of(outcome) and self._shrinks and not is_allowed:
-            left = self._shrunk(number, schedule.with_events(tuple(outcome.applied)), rule_of(outcome))
-        return Row(number, manner, len(schedule.events), len(outcome.applied), outcome.tried, verdict_words(outcome),
+            self._keep(f"{number}", schedule, outcome)
+        is_allowed = outcome.rule is not None and self._is_allowed(schedule, likeness)
+        left = None
+        if outcome.is_charged and self._shrinks and not is_allowed:
+            left = self._shrunk(number, schedule.with_events(tuple(outcome.applied)), outcome)
+        return Row(number, chosen.manner, len(schedule.events), len(outcome.applied), outcome.tried, outcome.words,
                    likeness.word, left, is_allowed)
+
+    def _likeness(self, schedule: Schedule, outcome: Outcome) -> Likeness:
+        """Where rules are expected nothing explains what departs from them."""
+        if self._runner.expect is not None:
+            return Likeness(None if outcome.difference else NONE)
+        return likeness_of(self._runner.program, schedule, outcome.record.facts(), outcome.counts, self._runner.rules)
 
     def _is_allowed(self, schedule: Schedule, likeness: Likeness) -> bool:
         """Whether the model server is safe with the departures of an unsafe record but for the allowed ones."""
@@ -64,55 +62,44 @@ class Explorer:
         facts = facts_of(self._runner.program, schedule, others)
         return judge(self._runner.program, "".join(f"{it}\n" for it in facts)).is_safe
 
-    def _blind(self, chooser: Chooser) -> tuple[Schedule, Outcome]:
-        schedule = blind_schedule(chooser)
-        return schedule, self._runner.run(schedule)
-
-    def _guided(self, chooser: Chooser) -> tuple[Schedule, Outcome]:
-        setup = chooser.setup()
+    def _driven(self, chosen: Drawn) -> tuple[Schedule, Outcome]:
         events: list[Event] = []
-        with self._runner.driving(setup) as driver:
+        with self._runner.driving(chosen.setup) as driver:
             outcome = Outcome(driver.record)
-            for _ in range(chooser.length):
-                events.append(chooser.guided(driver))
-                self._runner.happens(driver, events[-1], outcome)
-        return setup.with_events(tuple(events)), self._runner.judged(outcome)
+            for event in chosen.events(driver):
+                events.append(event)
+                self._runner.happens(driver, event, outcome)
+        schedule = chosen.setup.with_events(tuple(events))
+        return schedule, self._runner.judged(schedule, outcome)
 
-    def _shrunk(self, number: int, schedule: Schedule, rule: int | None) -> int:
-        """Writes down what is left of an unsafe schedule, and its record; answers how many events those are."""
-        least = shrunk(schedule, stays_unsafe(self._runner, rule))
-        self._write(f"{number}.shrunk", least.text)
+    def _shrunk(self, number: int, schedule: Schedule, charged: Outcome) -> int:
+        """Writes down what is left of a charged schedule, and its record; answers how many events those are."""
+        least = shrunk(schedule, stays_charged(self._runner, charged))
         try:
-            self._write(f"{number}.shrunk.record", self._runner.run(least).text())
+            self._keep(f"{number}.shrunk", least, self._runner.run(least))
         except ToolFault as fault:
             LOG.warning("%d has no record of what is left: %s", number, fault)
         return len(least.events)
+
+    def _keep(self, name: str, schedule: Schedule, outcome: Outcome) -> None:
+        self._write(f"{name}.schedule", schedule.text)
+        self._write(f"{name}.record", outcome.text())
+        if outcome.difference:
+            self._write(f"{name}.difference", f"{outcome.difference.text}\n")
 
     def _write(self, name: str, text: str) -> None:
         with open(os.path.join(self._folder, name), "w", encoding="utf-8") as stream:
             stream.write(text)
 
 
-def rule_of(outcome: Outcome) -> int | None:
-    """The rule that is broken in both orders of messages."""
-    rules = {it.rule for it in outcome.verdicts.values()}
-    return rules.pop() if len(rules) == 1 else None
+def stays_charged(runner: Runner, charged: Outcome) -> Callable[[Schedule], bool]:
+    """Whether a schedule is charged likewise twice in a row: it breaks the same rule, or isn't as expected; a server may be racy."""
+    def is_likewise(outcome: Outcome) -> bool:
+        return outcome.rule == charged.rule if charged.rule is not None else outcome.difference is not None
 
-
-def verdict_words(outcome: Outcome) -> str:
-    """The verdict, or both where they differ in their rule; `nothing tried` where no lease was granted."""
-    if outcome.tried_nothing:
-        return NOTHING
-    text, other = (outcome.verdicts[order].text for order in (Order.BREAKS_FIRST, Order.BREAKS_LAST))
-    alike = outcome.verdicts[Order.BREAKS_LAST].rule == outcome.rule
-    return text if alike else f"unsure: {text}, {Order.BREAKS_LAST.value} {other}"
-
-
-def stays_unsafe(runner: Runner, rule: int | None) -> Callable[[Schedule], bool]:
-    """Whether a schedule breaks this rule twice in a row; a server may be racy."""
     def stays(schedule: Schedule) -> bool:
         try:
-            return all(rule_of(runner.run(schedule)) == rule for _ in range(2))
+            return all(is_likewise(runner.run(schedule)) for _ in range(2))
         except ToolFault:
             return False
     return stays

@@ -17,13 +17,15 @@ from drive.faults import DriveFault, Usage
 from drive.model import Departure
 
 EPILOG = """FOLDER/table gets a line for each schedule: its number; `blind` (its events were chosen beforehand),
-`guided` (each by what the run had come to) or `aimed` (guided towards a write during a break to reads); its events,
+`guided` (each by what the run had come to), `aimed` (guided towards a write during a break to reads) or the name of
+what its scene aims at; its events,
 and how many of them did something; what it tried, by six numbers: creates that asked for a lease, that were granted
 one, and that were refused for their key, breaks, acknowledgments, and reads from a cache; the verdict, which is
 `nothing tried` where no lease was granted; `same` where the record is the profile's, else the known departures that explain it, or `unexplained` (docs/REAL_SERVERS.md); and for an unsafe
 one `shrunk N`, the events that are left, or `allowed`: it is safe on a model server without the departures of
---allow, and doesn't count. A schedule that is unsafe or unexplained is kept next to the table by its number, with its
-record and what is left of it. It counts as unsafe, and is shrunk, where it breaks one rule in both orders of
+--allow, and doesn't count. With --expect the verdict is `unexpected PLACE` where a record isn't that of a server of
+these rules. A schedule that is unsafe, unexpected or unexplained is kept next to the table by its number, with its
+record, what isn't expected, and what is left of it. It counts as unsafe, and is shrunk, where it breaks one rule in both orders of
 messages; where the rules differ the table says `unsure` and both verdicts. One seed gives one table, as far as the
 server does the same again.
 
@@ -31,7 +33,7 @@ With --shard 2/8 only the schedules 2, 10, 18 and so on are driven; the tables o
 the whole has, and each has a folder of its own. --junit FILE has a test for each schedule of the table.
 
 Exit status, by all of the table: 0 all records are safe, or unsafe by what is allowed; 1 a schedule couldn't be
-driven; 2 the command line is refused; 3 a record is unsafe; 4 no schedule was granted a lease."""
+driven; 2 the command line is refused; 3 a record is unsafe, or not as expected; 4 no schedule was granted a lease."""
 
 
 def parser() -> argparse.ArgumentParser:
@@ -84,8 +86,8 @@ class Progress:
     def show(self, rows: Sequence[Row]) -> None:
         if self._shows:
             each = (time.monotonic() - self._start) / len(rows)
-            unsafe, faults = sum(it.is_unsafe for it in rows), sum(it.is_fault for it in rows)
-            sys.stderr.write(f"\r{len(rows)} of {self._count}, {unsafe} unsafe, {faults} not driven, {each:.1f} s each\x1b[K")
+            charged, faults = sum(it.is_charged for it in rows), sum(it.is_fault for it in rows)
+            sys.stderr.write(f"\r{len(rows)} of {self._count}, {charged} charged, {faults} not driven, {each:.1f} s each\x1b[K")
             sys.stderr.flush()
 
     def end(self) -> None:
@@ -113,12 +115,15 @@ def _explore(arguments: argparse.Namespace) -> int:
         write(arguments.junit, junit(every, arguments.seed))
     print(tried_by(every))
     driven = f"{len(rows)} driven" + (f" after {len(before)}" if before else "")
-    unsafe, faults = sum(it.is_unsafe for it in every), sum(it.is_fault for it in every)
+    charged, faults = sum(it.is_charged for it in every), sum(it.is_fault for it in every)
     allowed_ones = f" {sum(it.is_allowed for it in every)} allowed," if arguments.allow else ""
     nothing = sum(it.tried_nothing for it in every)
     tried_nothing = f" {nothing} tried nothing," if nothing else ""
-    print(f"{driven}, {unsafe} unsafe,{allowed_ones}{tried_nothing} {faults} not driven to the end; {folder}/table has them")
-    return UNSAFE if unsafe else NOT_DRIVEN if faults else NOTHING_TRIED if nothing == len(every) else SAFE
+    unsafe = f"{sum(it.is_unsafe for it in every)} unsafe,"
+    unexpected = f" {sum(it.is_unexpected for it in every)} unexpected," if arguments.expect else ""
+    print(f"{driven}, {unsafe}{unexpected}{allowed_ones}{tried_nothing} {faults} not driven to the end; "
+          f"{folder}/table has them")
+    return UNSAFE if charged else NOT_DRIVEN if faults else NOTHING_TRIED if nothing == len(every) else SAFE
 
 
 def _all(explorer: Explorer, numbers: Sequence[int], path: str) -> list[Row]:

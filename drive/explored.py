@@ -10,10 +10,10 @@ from dataclasses import astuple, dataclass
 from smblease.faults import ToolFault
 
 from drive.faults import Usage
+from drive.runner import NOTHING, UNEXPECTED
 from drive.tried import Tried
 
 LINE = re.compile(r"(\d+) (\w+) (\d+) (\d+) (\d+ \d+ \d+ \d+ \d+ \d+) (.*?) (\S+)(?: shrunk (\d+)| (allowed))?")
-NOTHING = "nothing tried"
 TRIED = {"granted": "leases", "breaks": "breaks", "acknowledged": "acknowledgments", "cached_reads": "cached reads"}
 
 
@@ -50,24 +50,32 @@ class Row:
         return self.verdict.startswith("unsafe") and not self.is_allowed
 
     @property
+    def is_unexpected(self) -> bool:
+        return self.verdict.startswith(f"{UNEXPECTED} ")
+
+    @property
+    def is_charged(self) -> bool:
+        return self.is_unsafe or self.is_unexpected
+
+    @property
     def tried_nothing(self) -> bool:
         return self.verdict == NOTHING
 
     @property
     def is_fault(self) -> bool:
         """Whether the schedule wasn't driven to its end."""
-        return self.verdict.startswith("fault ")
+        return self.verdict.startswith(("fault ", "malformed "))
 
     def result(self) -> tuple[str, str]:
         """What it is to a build server, nothing where it passed, and why."""
         if self.is_fault:
-            return "error", self.verdict.partition(" ")[2]
+            return "error", self.verdict.removeprefix("fault ")
         if self.tried_nothing:
             return "skipped", f"{NOTHING}: {self.tried.remarks[0]}"
         if self.is_allowed:
             return "skipped", f"{self.verdict}, {self.likeness}, which is allowed"
         left = f", {self.left} events are left" if self.left is not None else ""
-        return ("failure", f"{self.verdict}, {self.likeness}{left}") if self.is_unsafe else ("", "")
+        return ("failure", f"{self.verdict}, {self.likeness}{left}") if self.is_charged else ("", "")
 
 
 def tried_by(rows: Sequence[Row]) -> str:

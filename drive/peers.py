@@ -29,8 +29,8 @@ class DrivenPeer(Peer):
     # its opens by the persistent halves of their FileIds
     file_ids: dict[int, FileId] = field(default_factory=dict)
     files: dict[int, int] = field(default_factory=dict)
-    # the files of which a break is to be acknowledged, with the places of these breaks among all that came
-    breaking: dict[int, int] = field(default_factory=dict)
+    # the files of which a break is to be acknowledged, and when it came
+    breaking: dict[int, float] = field(default_factory=dict)
     # those of which an open may be kept without a connection
     kept: set[int] = field(default_factory=set)
     # the files of the opens that may be kept, by the persistent halves of their FileIds

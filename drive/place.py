@@ -31,6 +31,8 @@ class Server(ABC):
     # whether it is the one of docs/PROFILE.md, whose timers can be ended one by one
     is_profiled = False
     timers = Timers.ONE
+    # how many seconds a break may wait before its timer may run out by itself, where that is known
+    patience: float | None = None
     place: Place
 
     def name_of(self, file: int) -> str:

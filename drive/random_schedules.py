@@ -10,6 +10,7 @@ from functools import partial
 from smblease.schedules import Event, EventKind, Schedule
 from smblease.world import Link
 
+from drive.aims import CLIENTS, FILES
 from drive.driver import Driver
 from drive.peers import DrivenPeer
 
@@ -82,8 +83,7 @@ class Chooser:
         self.length = 80 if aims else chance.randint(30, 80)
 
     def setup(self) -> Schedule:
-        guids = tuple(uuid.UUID(bytes=bytes([16 * number + number]) * 16) for number in range(1, self.clients + 1))
-        return Schedule(self.files * (FILE,), guids, ())
+        return setup_of(self.clients, self.files)
 
     def blind(self) -> Event:
         """An event of any client, whether it applies or not."""
@@ -151,6 +151,16 @@ class Chooser:
         """Each write has a byte of its own, so that a file shows whose write it has."""
         self._written = self._written % 200 + 1
         return (*self._file(), str(self._chance.randint(0, 3)), f"{self._written:02x}")
+
+
+def aimed_setup() -> Schedule:
+    """What the schedules that aim begin with."""
+    return setup_of(CLIENTS, FILES)
+
+
+def setup_of(clients: int, files: int) -> Schedule:
+    guids = tuple(uuid.UUID(bytes=bytes([16 * number + number]) * 16) for number in range(1, clients + 1))
+    return Schedule(files * (FILE,), guids, ())
 
 
 def blind_schedule(chooser: Chooser) -> Schedule:

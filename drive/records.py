@@ -101,3 +101,13 @@ class Record:
 
     def text_with_messages(self) -> str:
         return "".join(f"{it}\n" for it in self.lines())
+
+
+def by_client(facts: Sequence[str]) -> dict[str, list[str]]:
+    """The facts of each client, in their order. Timers are ended by whoever drives, in an order of their own."""
+    found: dict[str, list[str]] = {}
+    for fact in facts:
+        words = fact.split(" ", 3)
+        whose = words[0] if words[0] == "expired" else words[2 if words[0] in ("opened", "changed") else 1]
+        found.setdefault(whose, []).append(fact)
+    return found

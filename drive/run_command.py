@@ -7,16 +7,17 @@ from collections.abc import Sequence
 
 from drive.arguments import runner_of, server_arguments
 from drive.commands import NOT_DRIVEN, NOTHING_TRIED, SAFE, UNSAFE, ended, schedule_in, write
-from drive.records import Order
 from drive.runner import Outcome
 
-EPILOG = """The record is printed, and after it the verdict as a line `# safe` or `# unsafe PLACE RULE`, so that all of it is
-still a record; where no lease was granted it is `# nothing tried`. With --record it goes to a file, and the verdict
-alone is printed. Remarks of --messages begin with `# served`, a request that was sent to the server, `# sent` and
-`# took`, each with the client and the words of the message.
+EPILOG = """The record is printed, and the verdict as its last line, so that all of it is still a record: `# safe`;
+`# unsafe PLACE RULE`; `# unsure: ..` where it depends on the order of messages within a step, which isn't seen, and so doesn't count;
+`# nothing tried` where no lease was granted. With --expect `# unexpected PLACE` comes after a line that says where the
+record first isn't what a server of these rules gives. With --record it goes to a file, and the rest is printed. Remarks
+of --messages begin with `# served`, a request that was sent to the server, `# sent` and `# took`, each with the client
+and the words of the message.
 
 Exit status: 0 the record is safe; 1 the schedule couldn't be driven to its end; 2 the command line is refused; 3 the
-record is unsafe; 4 it is safe, and no lease was granted."""
+record is unsafe, or not as expected; 4 it is safe, and no lease was granted."""
 
 
 def parser() -> argparse.ArgumentParser:
@@ -30,19 +31,12 @@ def parser() -> argparse.ArgumentParser:
     return made
 
 
-def verdict_lines(outcome: Outcome) -> list[str]:
-    lines = ["nothing tried" if outcome.tried_nothing else outcome.verdict.text]
-    if outcome.orders_differ:
-        lines.append(f"with {Order.BREAKS_LAST.value}: {outcome.verdicts[Order.BREAKS_LAST].text}")
-    return lines
-
-
 def status_of(outcome: Outcome) -> int:
-    if outcome.rule is not None:
+    if outcome.is_charged:
         return UNSAFE
-    if outcome.tried_nothing:
-        return NOTHING_TRIED
-    return SAFE if outcome.verdict.is_safe else NOT_DRIVEN
+    if outcome.is_sure and not outcome.verdict.is_safe:
+        return NOT_DRIVEN
+    return NOTHING_TRIED if outcome.tried_nothing else SAFE
 
 
 def _drive(arguments: argparse.Namespace) -> int:
@@ -50,12 +44,12 @@ def _drive(arguments: argparse.Namespace) -> int:
     outcome = runner.run(schedule_in(arguments.schedule, arguments.leasecheck))
     for line in outcome.skipped:
         print(f"left out: {line}", file=sys.stderr)
-    record = outcome.text(arguments.messages)
+    record, difference = outcome.text(arguments.messages), [outcome.difference.text] if outcome.difference else []
     if arguments.record:
         write(arguments.record, record.encode())
-        sys.stdout.write("".join(f"{it}\n" for it in (*verdict_lines(outcome), *outcome.tried.remarks)))
+        sys.stdout.write("".join(f"{it}\n" for it in (*outcome.tried.remarks, *difference, outcome.words)))
     else:
-        sys.stdout.write(record + "".join(f"# {it}\n" for it in verdict_lines(outcome)))
+        sys.stdout.write(record + "".join(f"# {it}\n" for it in (*difference, outcome.words)))
     return status_of(outcome)
 
 

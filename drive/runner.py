@@ -12,12 +12,14 @@ from smblease.schedules import Event, EventKind, Schedule
 from smblease.values import Rules
 
 from drive.driver import Driver, files_made, files_removed
+from drive.expectation import Difference, Step, first_difference
 from drive.faults import Undrivable
 from drive.place import Server
 from drive.records import Order, Record
 from drive.tried import Tried
 
 LOG = logging.getLogger("drive")
+NOTHING, UNEXPECTED = "nothing tried", "unexpected"
 # What a test puts between the driver and the machines.
 Filter = Callable[[Speaker], Speaker]
 
@@ -32,8 +34,14 @@ class Outcome:
     # the events that did something, and what was left out
     applied: list[Event] = field(default_factory=list)
     skipped: list[str] = field(default_factory=list)
-    # how many facts there were after each event
-    counts: list[int] = field(default_factory=list)
+    steps: list[Step] = field(default_factory=list)
+    # where the record isn't that of the rules which the server claims to keep
+    difference: Difference | None = None
+
+    @property
+    def counts(self) -> list[int]:
+        """How many facts there were after each event."""
+        return [it.count for it in self.steps]
 
     @property
     def verdict(self) -> Verdict:
@@ -42,7 +50,28 @@ class Outcome:
 
     @property
     def rule(self) -> int | None:
-        return self.verdict.rule
+        """The rule that is broken in both orders of messages."""
+        rules = {it.rule for it in self.verdicts.values()}
+        return rules.pop() if len(rules) == 1 else None
+
+    @property
+    def is_charged(self) -> bool:
+        """Whether the server broke a rule, or did what the rules that it claims don't have it do."""
+        return self.rule is not None or self.difference is not None
+
+    @property
+    def is_sure(self) -> bool:
+        """Whether the verdict doesn't depend on the order within a step."""
+        return len({it.rule for it in self.verdicts.values()}) == 1
+
+    @property
+    def words(self) -> str:
+        """The verdict: what is charged, else both where they depend on the order, else that nothing was tried, or the verdict."""
+        if self.rule is None and self.difference:
+            return f"{UNEXPECTED} {self.difference.place}"
+        if not self.is_sure:
+            return f"unsure: {self.verdict.text}, {Order.BREAKS_LAST.value} {self.verdicts[Order.BREAKS_LAST].text}"
+        return NOTHING if self.tried_nothing else self.verdict.text
 
     @property
     def tried_nothing(self) -> bool:
@@ -54,28 +83,25 @@ class Outcome:
         record = self.record.text_with_messages() if with_messages else self.record.text()
         return record + "".join(f"# {it}\n" for it in self.tried.remarks)
 
-    @property
-    def orders_differ(self) -> bool:
-        """Whether the verdict depends on the order within a step."""
-        return len({it.text for it in self.verdicts.values()}) > 1
-
 
 @dataclass(frozen=True)
 class Runner:
-    """How schedules are run. `server` makes the server of a run, which is ended with it."""
+    """How schedules are run. `server` makes the server of a run, which is ended with it; `expect` are the rules that it claims
+    to keep."""
 
     program: str
     server: Callable[[], Server]
     skip: bool = False
     filtered: Filter | None = None
     rules: Rules = Rules()
+    expect: Rules | None = None
 
     def run(self, schedule: Schedule) -> Outcome:
         with self.driving(schedule) as driver:
             outcome = Outcome(driver.record)
             for event in schedule.events:
                 self.happens(driver, event, outcome)
-        return self.judged(outcome)
+        return self.judged(schedule, outcome)
 
     def happens(self, driver: Driver, event: Event, outcome: Outcome) -> bool:
         """Has an event happen; whether it did anything."""
@@ -86,14 +112,17 @@ class Runner:
                 raise Undrivable(f"{event.text}: {fault}") from None
             outcome.skipped.append(f"{event.text}: {fault}")
             return False
-        outcome.counts.append(driver.record.count)
+        outcome.steps.append(Step(event, driver.replayed(event) if applied else (event,), driver.record.count))
         outcome.tried = driver.tried
         if applied:
             outcome.applied.append(event)
         LOG.debug("%s: %s", event.text, "done" if applied else "nothing")
         return applied
 
-    def judged(self, outcome: Outcome) -> Outcome:
+    def judged(self, schedule: Schedule, outcome: Outcome) -> Outcome:
+        """What became of a run of this schedule."""
+        if self.expect is not None:
+            outcome.difference = first_difference(schedule, outcome.steps, outcome.record.facts(), self.expect)
         texts = {order: outcome.record.text(order) for order in Order}
         verdicts = {text: judge(self.program, text) for text in set(texts.values())}
         outcome.verdicts = {order: verdicts[text] for order, text in texts.items()}

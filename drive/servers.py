@@ -72,6 +72,8 @@ class NamedServer(Server):
     def __init__(self, place: Place, break_time: float) -> None:
         self.place = place
         self._break_time = break_time
+        # (a timer that is waited for may be shorter than the wait)
+        self.patience = 0.75 * break_time or None
         self._prefix = f"leasecheck-{uuid.uuid4()}"
 
     def name_of(self, file: int) -> str:

@@ -227,5 +227,5 @@ def test_schedule_that_is_drawn_and_shrunk(program: str, tmp_path: Path) -> None
     def check() -> None:
         row = Explorer(Runner(program, PrivateServer), SEED, str(tmp_path), True).explore(NUMBER)
         assert row.verdict.endswith(f" {RULE}") and (row.left or MOST + 1) <= MOST, row
-        expect(Runner(program, PrivateServer).run(schedule_of(tmp_path / f"{NUMBER}.shrunk")), RULE)
+        expect(Runner(program, PrivateServer).run(schedule_of(tmp_path / f"{NUMBER}.shrunk.schedule")), RULE)
     tried(check)

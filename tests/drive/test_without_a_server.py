@@ -9,7 +9,7 @@ from pathlib import Path
 import pytest
 
 from smblease.outs import Changed, Opened
-from smblease.program import judge, replay
+from smblease.program import Verdict, judge, replay
 from smblease.replies import Break, Closed, Created
 from smblease.schedules import Event, EventKind, Schedule
 from smblease.values import Status
@@ -18,18 +18,20 @@ pytest.importorskip("impacket", reason="there is no package impacket; tools/setu
 # pylint: disable=wrong-import-position
 from impacket.smb3 import SessionError  # noqa: E402
 
-from drive import connections  # noqa: E402
+from drive import connections, run_command  # noqa: E402
 from drive.connections import FileId  # noqa: E402
 from drive.explanations import facts_of  # noqa: E402
-from drive.explored import rows_in  # noqa: E402
+from drive.explored import Row, rows_in  # noqa: E402
 from drive.faults import DriveFault  # noqa: E402
 from drive.peers import DrivenPeer  # noqa: E402
 from drive.place import Place  # noqa: E402
 from drive.random_schedules import Chooser, blind_schedule  # noqa: E402
 from drive.records import Arrival, Order, Record, applied  # noqa: E402
+from drive.runner import Outcome, Runner  # noqa: E402
 from drive.shrinking import shrunk  # noqa: E402
+from drive.tried import Tried  # noqa: E402
 from tests.drive.commands import FOUND  # noqa: E402
-from tests.paths import SCHEDULES, TOP, name_of  # noqa: E402
+from tests.paths import SCHEDULES, TESTS, TOP, name_of  # noqa: E402
 
 NOTICE = Break(bytes(44))
 
@@ -177,3 +179,31 @@ def test_kept_opens(loses_kept: bool, kept: set[int], kept_opens: dict[int, int]
     peer.is_cut()
     peer.is_opened(1, FileId(6, 6))
     assert (peer.kept, peer.kept_opens) == (kept, kept_opens)
+
+
+def outcome_of(first: str, last: str) -> Outcome:
+    """What a run came to whose record has these verdicts, with breaks first and last."""
+    outcome = Outcome(Record(), Tried(asked=1, granted=1))
+    outcome.verdicts = {Order.BREAKS_FIRST: Verdict(first), Order.BREAKS_LAST: Verdict(last)}
+    return outcome
+
+
+VERDICTS = {("safe", "safe"): ("safe", 0), ("unsafe 9 1", "unsafe 8 1"): ("unsafe 9 1", 3),
+            ("unsafe 9 1", "safe"): ("unsure: unsafe 9 1, breaks after answers safe", 0),
+            ("safe", "unsafe 9 2"): ("unsure: safe, breaks after answers unsafe 9 2", 0),
+            ("unsafe 9 1", "unsafe 9 3"): ("unsure: unsafe 9 1, breaks after answers unsafe 9 3", 0),
+            ("malformed 4", "malformed 4"): ("malformed 4", 1)}
+
+
+@pytest.mark.parametrize("orders", VERDICTS, ids=" and ".join)
+def test_one_verdict(orders: tuple[str, str], monkeypatch: pytest.MonkeyPatch, capsys: pytest.CaptureFixture[str],
+                     program: str) -> None:
+    """`run` prints one verdict, as its last line. What depends on the order within a step doesn't count for `explore` either."""
+    outcome = outcome_of(*orders)
+    monkeypatch.setattr(Runner, "run", lambda *_: outcome)
+    schedule = str(TESTS / "schedules" / "nothing_happens")
+    status = run_command.main(["--served", "--leasecheck", program, schedule])
+    words, expected = VERDICTS[orders]
+    assert (status, capsys.readouterr().out.splitlines()) == (expected, [f"# {words}"])
+    row = Row(1, "guided", 2, 1, outcome.tried, outcome.words, "same")
+    assert (row.is_charged, row.is_fault) == (expected == 3, expected == 1)
