@@ -40,7 +40,8 @@ def server_arguments(parser: argparse.ArgumentParser) -> None:
 
 def runner_of(arguments: argparse.Namespace) -> Runner:
     expect = None if arguments.expect is None else rules_of(arguments.expect, "--expect")
-    return Runner(arguments.leasecheck, _server_maker(arguments), arguments.skip, rules=rules_of(arguments.rules), expect=expect)
+    return Runner(arguments.leasecheck, _server_maker(arguments), arguments.skip, rules=rules_of(arguments.rules), expect=expect,
+                  stays=bool(arguments.server))
 
 
 def _server_maker(arguments: argparse.Namespace) -> Callable[[], Server]:

@@ -28,20 +28,32 @@ CREDIT_BYTES = 65536
 PATIENCE = 25.0
 SESSION_TRIES = 20
 BETWEEN_TRIES = 0.1
+DIALECT = "the server has to speak dialect 2.1, which alone is driven (smbd: `server min protocol = SMB2_10` or lower)"
 ACCESS = {Access.READ: 0x120089, Access.WRITE: 0x120116, Access.READ_WRITE: 0x12019F}
 SHARE_ALL = 7
 
 
 @contextmanager
-def told(what: str) -> Iterator[None]:
-    """What fails in here is a DriveFault that says what that was, with one line of why."""
+def told(what: str, need: str = "", need_of_network: str = "") -> Iterator[None]:
+    """What fails in here is a DriveFault that says what that was, with one line of why, and of what is needed: of the network, where
+    that is what fails."""
     try:
         yield
     except DriveFault:
         raise
     except Exception as fault:  # impacket raises bare ones too
-        why = (str(fault).splitlines() or [type(fault).__name__])[0][:120]
-        raise DriveFault(f"{what}: {why}") from None
+        wanted = need_of_network or need if isinstance(fault, OSError) else need
+        raise DriveFault(f"{what}: {_why(fault)}" + (f"; {wanted}" if wanted else "")) from fault
+
+
+def _why(fault: Exception) -> str:
+    """One line; impacket has the fault of a socket within another one."""
+    if isinstance(fault, SessionError):
+        return str(fault.getErrorString()[0])
+    if isinstance(fault, OSError) and isinstance(fault.strerror, OSError):
+        return _why(fault.strerror)
+    text = str((isinstance(fault, OSError) and fault.strerror) or fault)
+    return (text.splitlines() or [type(fault).__name__])[0][:120]
 
 
 @dataclass(frozen=True)
@@ -81,10 +93,7 @@ class Connection:
     """A connection with its session and tree. What it can't do is a DriveFault."""
 
     def __init__(self, place: Place, guid: bytes) -> None:
-        with told(f"no connection to {place.host}:{place.port}"):
-            self._smb, self._tree = _connected(place, guid)
-        if self._smb.getDialect() != smb2.SMB2_DIALECT_21:
-            raise DriveFault("the server doesn't speak dialect 2.1")
+        self._smb, self._tree = _connected(place, guid)
 
     def send(self, request: Request, name: str, file_id: FileId) -> int:
         """Sends a request, whose file has this name, or whose FileId is this one; answers its number."""
@@ -115,7 +124,7 @@ class Connection:
             return Message(packet["MessageID"], packet["Status"], bytes(packet["Data"]))
 
     def make_file(self, name: str, data: bytes) -> None:
-        with told(f"file {name} can't be made"):
+        with told(f"file {name} can't be made", "the user needs a share in which files may be made, written and removed"):
             access, options = ACCESS[Access.READ_WRITE], smb2.FILE_NON_DIRECTORY_FILE
             file = self._smb.create(self._tree, name, access, 0, options, smb2.FILE_CREATE, 0)
             for offset in range(0, len(data), CREDIT_BYTES):
@@ -146,16 +155,41 @@ def _connected(place: Place, guid: bytes) -> tuple[Protocol, int]:
     """A connection with a session, and a tree. What the server has no memory for is tried again: smbd says so until its daemon of
     notifications has started."""
     for left in range(SESSION_TRIES - 1, -1, -1):
-        smb = Protocol(place, guid)
+        smb = _negotiated(place, guid)
         try:
-            smb.login(place.user, place.password)
-            return smb, int(smb.connectTree(place.share))
-        except SessionError as fault:
-            if fault.get_error_code() != Status.NO_MEMORY or not left:
+            return smb, _tree(smb, place)
+        except DriveFault as fault:
+            if not left or not _is_want_of_memory(fault.__cause__):
                 raise
             smb.close_session()
             time.sleep(BETWEEN_TRIES)
     raise DriveFault("no session was tried")
+
+
+def _nowhere(place: Place) -> str:
+    return f"no connection to {place.host}:{place.port}"
+
+
+def _negotiated(place: Place, guid: bytes) -> Protocol:
+    """A connection that speaks dialect 2.1."""
+    with told(_nowhere(place), DIALECT, "an SMB server has to be there that takes connections"):
+        smb = Protocol(place, guid)
+    if smb.getDialect() != smb2.SMB2_DIALECT_21:
+        raise DriveFault(f"{_nowhere(place)}: {DIALECT}")
+    return smb
+
+
+def _tree(smb: Protocol, place: Place) -> int:
+    """The share, after the user was let in."""
+    with told(_nowhere(place), f"the server has to let user {place.user} in with this password"):
+        smb.login(place.user, place.password)
+    with told(_nowhere(place), f"share {place.share} has to be there for user {place.user}, without encryption, which dialect 2.1 "
+                               "doesn't have (smbd: `smb encrypt`; Windows: EncryptData)"):
+        return int(smb.connectTree(place.share))
+
+
+def _is_want_of_memory(fault: BaseException | None) -> bool:
+    return isinstance(fault, SessionError) and fault.get_error_code() == Status.NO_MEMORY
 
 
 def _filled(structure: Any, **values: object) -> Any:

@@ -31,15 +31,16 @@ def own_seed(seed: int, number: int) -> str:
     return f"{seed}:{number}"
 
 
-def drawn(seed: int, number: int) -> Drawn:
+def drawn(seed: int, number: int, scavenges: bool = True) -> Drawn:
+    """`scavenges`: the server's timers of durable opens can be ended, so that this is drawn too."""
     chance, place = random.Random(own_seed(seed, number)), number % EACH
     if place in SCENES:
         aim = list(Aim)[(number // EACH * len(SCENES) + SCENES.index(place)) % len(Aim)]
         return Drawn(aim.value, aimed_setup(), partial(aimed_events, chance=chance, aim=aim))
     if place in BLIND:
-        schedule = blind_schedule(Chooser(chance))
+        schedule = blind_schedule(Chooser(chance, scavenges=scavenges))
         return Drawn("blind", schedule.with_events(()), lambda driver: iter(schedule.events))
-    chooser = Chooser(chance, place == AIMED)
+    chooser = Chooser(chance, place == AIMED, scavenges)
     return Drawn("aimed" if place == AIMED else "guided", chooser.setup(), partial(_guided, chooser))
 
 

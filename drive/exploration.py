@@ -33,7 +33,7 @@ class Explorer:
 
     def explore(self, number: int) -> Row:
         """Drives the schedule of a number, which draws by itself, and keeps it where it is charged."""
-        chosen = drawn(self._seed, number)
+        chosen = drawn(self._seed, number, not self._runner.stays)
         try:
             schedule, outcome = self._driven(chosen)
         except ToolFault as fault:
@@ -93,7 +93,8 @@ class Explorer:
 
 
 def stays_charged(runner: Runner, charged: Outcome) -> Callable[[Schedule], bool]:
-    """Whether a schedule is charged likewise twice in a row: it breaks the same rule, or isn't as expected; a server may be racy."""
+    """Whether a schedule is charged likewise twice in a row (a server may be racy): it breaks the same rule, or isn't as
+    expected."""
     def is_likewise(outcome: Outcome) -> bool:
         return outcome.rule == charged.rule if charged.rule is not None else outcome.difference is not None
 

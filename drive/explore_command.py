@@ -101,6 +101,7 @@ def _explore(arguments: argparse.Namespace) -> int:
     shard = Shard.read(arguments.shard) if arguments.shard is not None else Shard()
     runner = runner_of(arguments)
     folder = arguments.folder or f"explored-{arguments.seed}{shard.name}"
+    runner.check()
     try:
         os.makedirs(folder, exist_ok=True)
         before = rows_in(f"{folder}/table", arguments.resume)

@@ -73,8 +73,10 @@ def aimed_temper(chance: random.Random) -> Temper:
 class Chooser:
     """Chooses the setup of a schedule, and its events one by one."""
 
-    def __init__(self, chance: random.Random, aims: bool = False) -> None:
+    def __init__(self, chance: random.Random, aims: bool = False, scavenges: bool = True) -> None:
+        """`scavenges`: the server's timers of durable opens can be ended."""
         self._chance = chance
+        self._scavenges = scavenges
         self._temper = aimed_temper(chance) if aims else drawn_temper(chance)
         self._ends = not aims
         self._written = 0
@@ -92,6 +94,7 @@ class Chooser:
         weights[EventKind.NOTICE] *= self._ends
         for kind in (EventKind.EXPIRE, EventKind.SCAVENGE):
             weights[kind] *= self._temper.timers
+        weights[EventKind.SCAVENGE] *= self._scavenges
         kind = self._chance.choices(list(weights), list(weights.values()))[0]
         return self._event(kind, self._chance.randint(1, self.clients))
 
@@ -111,7 +114,7 @@ class Chooser:
         """What a client may do, with its weight. A server has most to decide where a client that is alone with a file loses
         its connection, and where another one opens what it left."""
         likes = self._temper
-        scavenge = 0.3 * likes.timers if peer.kept else 0.0
+        scavenge = 0.3 * likes.timers if peer.kept and self._scavenges else 0.0
         if peer.link is Link.DOWN:
             return {EventKind.CONNECT: 4, EventKind.SCAVENGE: scavenge}
         if peer.link is Link.CUT:

@@ -87,7 +87,8 @@ class Outcome:
 @dataclass(frozen=True)
 class Runner:
     """How schedules are run. `server` makes the server of a run, which is ended with it; `expect` are the rules that it claims
-    to keep."""
+    to keep. `stays` is said of a server that was there before: it may be that it can't be driven at all, and its timers of durable
+    opens can't be ended."""
 
     program: str
     server: Callable[[], Server]
@@ -95,6 +96,13 @@ class Runner:
     filtered: Filter | None = None
     rules: Rules = Rules()
     expect: Rules | None = None
+    stays: bool = False
+
+    def check(self) -> None:
+        """What makes every run on a server that was there before futile is a fault, which says what is needed."""
+        if self.stays:
+            with self.driving(Schedule((b"abc",), (), ())):
+                pass
 
     def run(self, schedule: Schedule) -> Outcome:
         with self.driving(schedule) as driver:

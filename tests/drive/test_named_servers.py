@@ -1,10 +1,13 @@
 """A server that is named, whose timers are its own: what is waited for, and what is said of its clients."""
 from __future__ import annotations
 
+import random
 import xml.etree.ElementTree as xml
 from pathlib import Path
 
 import pytest
+
+from smblease.schedules import EventKind
 
 from tests import needs
 from tests.drive.commands import ran, with_private_smbd
@@ -12,7 +15,11 @@ from tests.paths import TESTS
 
 pytest.importorskip("impacket", reason=f"there is no package impacket; {needs.INSTALLS}")
 # pylint: disable=wrong-import-position
-from tests.drive.named import named_proved, named_smbd  # noqa: E402
+from drive.drawing import drawn  # noqa: E402
+from drive.random_schedules import Chooser, setup_of  # noqa: E402
+from drive.runner import Runner  # noqa: E402
+from drive.servers import NamedServer  # noqa: E402
+from tests.drive.named import named_proved, named_smbd, place_of  # noqa: E402
 
 # Two clients have breaks to acknowledge when the timer of one is waited for; then the third caches writes.
 TWO_BREAKS = """file 616263
@@ -103,3 +110,48 @@ def test_server_without_leases(tmp_path: Path) -> None:
     assert (explored.status, all_of_them.split(";")[0]) == (4, "3 driven, 0 unsafe, 3 tried nothing, 0 not driven to the end")
     suite = xml.parse(tmp_path / "junit.xml").getroot()
     assert (suite.attrib["tests"], suite.attrib["skipped"]) == ("3", "3")
+
+
+def refusal(words: list[str], folder: Path) -> str:
+    """What `explore` says of a server that no schedule can be driven on: one line, and no table is begun."""
+    had = ran("explore", [*words, "--seed", "1", "--count", "5", "--folder", folder / "explored"])
+    assert (had.status, had.out, had.faults.count("\n")) == (1, "", 1), had
+    assert not (folder / "explored").exists()
+    return had.faults
+
+
+FUTILE = {
+    "a share that can't be written": ("  read only = yes\n", "share in which files may be made"),
+    "encryption": ("  smb encrypt = required\n", "without encryption"),
+    "a dialect": ("[global]\n  server min protocol = SMB3_00\n  server max protocol = SMB3_11\n", "has to speak dialect 2.1"),
+}
+
+
+@with_private_smbd
+@pytest.mark.parametrize("why", FUTILE)
+def test_server_that_cant_be_driven(why: str, tmp_path: Path) -> None:
+    more, need = FUTILE[why]
+    with named_smbd(more) as words:
+        assert need in refusal(words, tmp_path)
+
+
+@with_private_smbd
+@pytest.mark.parametrize(("changed", "need"), [({"--user": "root%wrong"}, "let user root in"), ({"--share": "none"}, "share none has"),
+                                               ({"--server": "127.0.0.1:1"}, "Connection refused; an SMB server has to be there")])
+def test_words_that_dont_fit_the_server(changed: dict[str, str], need: str, tmp_path: Path) -> None:
+    with named_smbd() as words:
+        named = {**dict(zip(words[::2], words[1::2])), **changed}
+        assert need in refusal([it for pair in named.items() for it in pair], tmp_path)
+
+
+def test_no_scavenge_is_drawn(program: str) -> None:
+    """On a named server it can't be driven, and would end every schedule that has one."""
+    with named_proved(program) as words:
+        place = place_of(words)
+        runner = Runner(program, lambda: NamedServer(place, 40.0), stays=True)
+        blind = [number for number in range(1, 41) if drawn(3, number).manner == "blind"]
+        with runner.driving(setup_of(2, 1)) as driver:
+            events = [event for number in blind for event in drawn(3, number, False).events(driver)]
+    assert events and all(it.kind is not EventKind.SCAVENGE for it in events)
+    chooser = Chooser(random.Random(3), scavenges=True)
+    assert any(chooser.blind().kind is EventKind.SCAVENGE for _ in range(10000))
