@@ -189,9 +189,8 @@ def late_acknowledgment(stage: Stage) -> Events:
     yield from stage.opens(stage.other, "rw", "rw", stage.one_of("none", "RH", "RWH"))
     yield stage.event(EventKind.EXPIRE, stage.holder, str(stage.file))
     yield from stage.comes(stage.other)
-    if stage.likely(0.8):
-        yield from stage.changes(stage.other)
-        yield from stage.comes(stage.other)
+    yield from stage.changes(stage.other)
+    yield from stage.comes(stage.other)
     yield from stage.watches(stage.holder)
     yield from stage.opens(stage.holder, "rw", "rw", stage.one_of("RWH", "RH"))
     yield from stage.caches(stage.holder)
@@ -204,11 +203,10 @@ def lost_connection(stage: Stage) -> Events:
     if stage.likely(0.6):
         yield from stage.writes(stage.holder)
     yield stage.event(EventKind.CUT, stage.holder)
-    if stage.likely(0.8):
-        yield from stage.opens(stage.other, "rw", "rw", stage.one_of("none", "RH", "RWH"))
-        yield from stage.caches(stage.other)
-        yield from stage.changes(stage.other)
-        yield from stage.comes(stage.other)
+    yield from stage.opens(stage.other, "rw", "rw", stage.one_of("none", "RH", "RWH"))
+    yield from stage.caches(stage.other)
+    yield from stage.changes(stage.other)
+    yield from stage.comes(stage.other)
     yield from stage.connects()
     yield from stage.watches(stage.holder)
     yield from stage.opens(stage.holder, "rw", "rw", "RWH", stage.likely(0.3))

@@ -12,10 +12,12 @@ from drive.faults import Usage
 from drive.place import Place, Server
 from drive.runner import Runner
 from drive.servers import NamedServer, PrivateServer
+from drive.slots import Slots
 from serve.server_process import DrivenServer
 
-# Seconds that a server's own timer of a break is waited for.
+# Seconds that a server's own timer of a break is waited for, and how many runs may wait for each one that goes on.
 BREAK_TIME = 40.0
+EXPIRING = 8
 
 
 def server_arguments(parser: argparse.ArgumentParser) -> None:
@@ -38,13 +40,31 @@ def server_arguments(parser: argparse.ArgumentParser) -> None:
     parser.add_argument("--verbose", action="store_true", help="say on standard error what each event did")
 
 
-def runner_of(arguments: argparse.Namespace) -> Runner:
+def runner_of(arguments: argparse.Namespace, slots: Slots | None = None) -> Runner:
+    """How the schedules are run that a command line asks for; `slots` has the one that a run lends while it waits for a timer."""
     expect = None if arguments.expect is None else rules_of(arguments.expect, "--expect")
-    return Runner(arguments.leasecheck, _server_maker(arguments), arguments.skip, rules=rules_of(arguments.rules), expect=expect,
+    return Runner(arguments.leasecheck, _server_maker(arguments, slots), arguments.skip, rules=rules_of(arguments.rules), expect=expect,
                   stays=bool(arguments.server))
 
 
-def _server_maker(arguments: argparse.Namespace) -> Callable[[], Server]:
+def server_text(arguments: argparse.Namespace) -> str:
+    """Which server it is, as the head of a table has it."""
+    if arguments.server:
+        return f"--server {arguments.server} --share {arguments.share}"
+    return "--smbd" if arguments.smbd else f"--served --rules {rules_of(arguments.rules)}"
+
+
+def options_text(arguments: argparse.Namespace) -> str:
+    """The options that change what a schedule comes to, or what its row says."""
+    expect = None if arguments.expect is None else str(rules_of(arguments.expect, "--expect"))
+    named = {"--expect": expect, "--break-time": arguments.break_time, "--shard": arguments.shard,
+             "--allow": " ".join(sorted(arguments.allow)) or None}
+    alone = {"--skip": arguments.skip, "--no-shrink": arguments.no_shrink}
+    return " ".join([f"{word} {value}" for word, value in named.items() if value is not None]
+                    + [word for word, is_there in alone.items() if is_there])
+
+
+def _server_maker(arguments: argparse.Namespace, slots: Slots | None) -> Callable[[], Server]:
     if [arguments.smbd, arguments.served, bool(arguments.server)].count(True) != 1:
         raise Usage("one of --smbd, --served and --server is needed, and one alone")
     if not arguments.server and any(it is not None for it in (arguments.share, arguments.user, arguments.break_time)):
@@ -61,7 +81,7 @@ def _server_maker(arguments: argparse.Namespace) -> Callable[[], Server]:
     break_time = BREAK_TIME if arguments.break_time is None else arguments.break_time
     if not 0 <= break_time < 1e9:
         raise Usage("--break-time is a number of seconds")
-    return lambda: NamedServer(place, break_time)
+    return lambda: NamedServer(place, break_time, slots)
 
 
 def _place(server: str, share: str | None, user: str | None) -> Place:

@@ -6,8 +6,9 @@ from __future__ import annotations
 import select
 import time
 from collections.abc import Iterator
-from contextlib import contextmanager
+from contextlib import contextmanager, suppress
 from dataclasses import dataclass
+from socket import SHUT_WR
 from typing import Any
 
 from impacket import ntlm, smb3structs as smb2
@@ -26,6 +27,8 @@ OPLOCK_LEVEL_LEASE = 0xFF
 CREDIT_BYTES = 65536
 # A server may stand still for some seconds (smbd does while it retries a lock).
 PATIENCE = 25.0
+# How long a server may take to close a connection that its client has closed.
+ENDING = 0.5
 SESSION_TRIES = 20
 BETWEEN_TRIES = 0.1
 DIALECT = "the server has to speak dialect 2.1, which alone is driven (smbd: `server min protocol = SMB2_10` or lower)"
@@ -49,7 +52,8 @@ def told(what: str, need: str = "", need_of_network: str = "") -> Iterator[None]
 def _why(fault: Exception) -> str:
     """One line; impacket has the fault of a socket within another one."""
     if isinstance(fault, SessionError):
-        return str(fault.getErrorString()[0])
+        code = int(fault.get_error_code())
+        return f"STATUS_{Status(code).name}" if code in set(Status) else f"status {code:08x}"
     if isinstance(fault, OSError) and isinstance(fault.strerror, OSError):
         return _why(fault.strerror)
     text = str((isinstance(fault, OSError) and fault.strerror) or fault)
@@ -137,6 +141,16 @@ class Connection:
         with told(f"file {name} can't be removed"):
             file = self._smb.create(self._tree, name, smb2.DELETE, SHARE_ALL, options, smb2.FILE_OPEN, 0)
             self._smb.close(self._tree, file)
+
+    def end(self) -> None:
+        """Closes it, and waits until the server has closed it too, or doesn't for a while."""
+        stream = self._smb._NetBIOSSession.get_socket()
+        stream.settimeout(ENDING)
+        with suppress(OSError):
+            stream.shutdown(SHUT_WR)
+            while stream.recv(CREDIT_BYTES):
+                pass
+        self.close()
 
     def close(self) -> None:
         self._smb._NetBIOSSession.close()

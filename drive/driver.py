@@ -77,7 +77,7 @@ class Driver(World[DrivenPeer]):
     def _dropped(self, client: int) -> None:
         peer = self.peers[client]
         if peer.connection:
-            peer.connection.close()
+            peer.connection.end()
         self._server.wait_for_end(peer.process)
         peer.is_cut()
         self._settle()
@@ -162,7 +162,7 @@ class Driver(World[DrivenPeer]):
             elif arrival.effect and isinstance(arrival.reply, Created):
                 self._opened.append(arrival.reply.file_id)
         for file, content in self._contents.items():
-            on_disk = self._server.content(file)
+            on_disk = self._server.content(self._server.name_of(file))
             if on_disk is not None and on_disk != content:
                 raise DriveFault(f"file {file} on the server's disk isn't what the record says")
 
@@ -172,7 +172,7 @@ def files_made(schedule: Schedule, server: Server) -> None:
     connection = Connection(server.place, uuid.uuid4().bytes)
     for file, data in enumerate(schedule.files, 1):
         connection.make_file(server.name_of(file), data)
-    connection.close()
+    connection.end()
     server.is_prepared()
 
 

@@ -2,17 +2,15 @@
 from __future__ import annotations
 
 from collections.abc import Sequence
-from contextlib import closing
 from dataclasses import dataclass
 from itertools import combinations
 
 from smblease.client import lease_key
-from smblease.processes import LineClients, client_process
 from smblease.program import replay
 from smblease.requests import Request
 from smblease.schedules import Schedule
 from smblease.values import Rules
-from smblease.world import Link, Peer, World
+from smblease.world import ClientObjects, Link, Peer, World
 
 from drive.model import Departure, Model
 from drive.records import Record, by_client
@@ -23,9 +21,10 @@ RARE = (Departure.KEPT_HOLDS_ALL, Departure.BACK_NOT_KEPT, Departure.UNKEPT_GIVE
 
 
 class ModelWorld(World[Peer]):
-    def __init__(self, schedule: Schedule, clients: LineClients, departures: frozenset[Departure]) -> None:
+    def __init__(self, schedule: Schedule, departures: frozenset[Departure]) -> None:
         self.record = Record()
-        super().__init__(schedule, {number: Peer(guid) for number, guid in enumerate(schedule.clients, 1)}, clients, self.record)
+        peers = {number: Peer(guid) for number, guid in enumerate(schedule.clients, 1)}
+        super().__init__(schedule, peers, ClientObjects(schedule), self.record)
         self._model = Model(dict(enumerate(schedule.files, 1)), departures)
         self._places = 0
 
@@ -67,13 +66,12 @@ class ModelWorld(World[Peer]):
         self.record.step(arrivals)
 
 
-def facts_of(program: str, schedule: Schedule, departures: frozenset[Departure] = NONE) -> list[str]:
+def facts_of(schedule: Schedule, departures: frozenset[Departure] = NONE) -> list[str]:
     """The facts of a schedule on the model server, in the order of a driven record."""
-    with closing(LineClients(client_process(program, schedule))) as clients:
-        world = ModelWorld(schedule, clients, departures)
-        for event in schedule.events:
-            world.happens(event)
-        return world.record.facts()
+    world = ModelWorld(schedule, departures)
+    for event in schedule.events:
+        world.happens(event)
+    return world.record.facts()
 
 
 def alike(one: list[str], other: list[str]) -> int:
@@ -81,48 +79,48 @@ def alike(one: list[str], other: list[str]) -> int:
     return next((place for place, (a, b) in enumerate(zip(one, other)) if a != b), min(len(one), len(other)))
 
 
-def explained(program: str, schedule: Schedule, facts: list[str]) -> frozenset[Departure] | None:
+def explained(schedule: Schedule, facts: list[str]) -> frozenset[Departure] | None:
     """The departures that give these facts, of which none can be left out; none where no set was found. The rare ones are looked
     at where the others don't do."""
     usual = [it for it in Departure if it not in RARE]
     for known in (usual, list(Departure)):
-        found = _found(program, schedule, facts, known)
+        found = _found(schedule, facts, known)
         if found is not None:
             return found
     return None
 
 
-def _found(program: str, schedule: Schedule, facts: list[str], known: Sequence[Departure]) -> frozenset[Departure] | None:
+def _found(schedule: Schedule, facts: list[str], known: Sequence[Departure]) -> frozenset[Departure] | None:
     """They are looked for one by one: the next is one that has the most facts from the first on come out as they should."""
     chosen: frozenset[Departure] = NONE
     reached = -1
     while True:
-        if facts_of(program, schedule, chosen) == facts:
-            return _needed(program, schedule, facts, chosen)
-        tried = {it: facts_of(program, schedule, chosen | {it}) for it in known if it not in chosen}
+        if facts_of(schedule, chosen) == facts:
+            return _needed(schedule, facts, chosen)
+        tried = {it: facts_of(schedule, chosen | {it}) for it in known if it not in chosen}
         if not tried:
             return None
         best = max(tried, key=lambda it: (tried[it] == facts, alike(tried[it], facts)))
         now = alike(tried[best], facts)
         if tried[best] != facts and now <= reached:
-            return _from_all(program, schedule, facts, known)
+            return _from_all(schedule, facts, known)
         chosen, reached = chosen | {best}, now
 
 
-def _from_all(program: str, schedule: Schedule, facts: list[str], known: Sequence[Departure]) -> frozenset[Departure] | None:
+def _from_all(schedule: Schedule, facts: list[str], known: Sequence[Departure]) -> frozenset[Departure] | None:
     """Begins with all departures, but for some of those that smbd doesn't always show."""
     sometimes = [it for it in (*SOMETIMES, *RARE) if it in known]
     for count in range(len(sometimes) + 1):
         for left_out in combinations(sometimes, count):
             chosen = frozenset(known) - frozenset(left_out)
-            if facts_of(program, schedule, chosen) == facts:
-                return _needed(program, schedule, facts, chosen)
+            if facts_of(schedule, chosen) == facts:
+                return _needed(schedule, facts, chosen)
     return None
 
 
-def _needed(program: str, schedule: Schedule, facts: list[str], chosen: frozenset[Departure]) -> frozenset[Departure]:
+def _needed(schedule: Schedule, facts: list[str], chosen: frozenset[Departure]) -> frozenset[Departure]:
     for one in sorted(chosen, key=lambda it: it.name):
-        if facts_of(program, schedule, chosen - {one}) == facts:
+        if facts_of(schedule, chosen - {one}) == facts:
             chosen = chosen - {one}
     return chosen
 
@@ -151,7 +149,7 @@ def likeness_of(program: str, schedule: Schedule, facts: list[str], counts: Sequ
     profile, so nothing explains what departs from other rules."""
     if is_replayed(facts, replay(program, schedule.text, rules=rules), counts):
         return Likeness(NONE)
-    return Likeness(explained(program, schedule, facts) if rules == Rules() else None)
+    return Likeness(explained(schedule, facts) if rules == Rules() else None)
 
 
 def is_replayed(facts: list[str], profile: list[str], counts: Sequence[int]) -> bool:

@@ -9,7 +9,7 @@ from smblease.faults import ToolFault
 from smblease.program import judge
 from smblease.schedules import Event, Schedule
 
-from drive.drawing import Drawn, drawn
+from drive.drawing import Drawn, drawn, own_seed
 from drive.explanations import NONE, Likeness, facts_of, likeness_of
 from drive.explored import Row
 from drive.model import Departure
@@ -31,13 +31,17 @@ class Explorer:
         self._folder = folder
         self._shrinks = shrinks
 
+    def close(self) -> None:
+        """Ends a server that is kept for its schedules."""
+        self._runner.close()
+
     def explore(self, number: int) -> Row:
         """Drives the schedule of a number, which draws by itself, and keeps it where it is charged."""
         chosen = drawn(self._seed, number, not self._runner.stays)
         try:
             schedule, outcome = self._driven(chosen)
         except ToolFault as fault:
-            return Row(number, chosen.manner, 0, 0, Tried(), f"fault {fault}", "-")
+            return Row(number, own_seed(self._seed, number), chosen.manner, 0, 0, Tried(), f"fault {fault}", "-")
         likeness = self._likeness(schedule, outcome)
         if likeness.is_open or not outcome.verdict.is_safe:
             self._keep(f"{number}", schedule, outcome)
@@ -45,8 +49,8 @@ class Explorer:
         left = None
         if outcome.is_charged and self._shrinks and not is_allowed:
             left = self._shrunk(number, schedule.with_events(tuple(outcome.applied)), outcome)
-        return Row(number, chosen.manner, len(schedule.events), len(outcome.applied), outcome.tried, outcome.words,
-                   likeness.word, left, is_allowed)
+        return Row(number, own_seed(self._seed, number), chosen.manner, len(schedule.events), len(outcome.applied), outcome.tried,
+                   outcome.words, likeness.word, left, is_allowed)
 
     def _likeness(self, schedule: Schedule, outcome: Outcome) -> Likeness:
         """Where rules are expected nothing explains what departs from them."""
@@ -59,7 +63,7 @@ class Explorer:
         others = (likeness.departures or NONE) - self._allowed
         if others == (likeness.departures or NONE):
             return False
-        facts = facts_of(self._runner.program, schedule, others)
+        facts = facts_of(schedule, others)
         return judge(self._runner.program, "".join(f"{it}\n" for it in facts)).is_safe
 
     def _driven(self, chosen: Drawn) -> tuple[Schedule, Outcome]:
@@ -74,7 +78,7 @@ class Explorer:
 
     def _shrunk(self, number: int, schedule: Schedule, charged: Outcome) -> int:
         """Writes down what is left of a charged schedule, and its record; answers how many events those are."""
-        least = shrunk(schedule, stays_charged(self._runner, charged))
+        least = shrunk(schedule, stays_charged(self._runner, charged), f"schedule {number}")
         try:
             self._keep(f"{number}.shrunk", least, self._runner.run(least))
         except ToolFault as fault:

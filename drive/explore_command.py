@@ -1,24 +1,30 @@
-"""drive/explore: random schedules on a real server; what is unsafe is kept and shrunk."""
+"""drive/explore: random schedules on a real server; what is charged is kept and shrunk."""
 from __future__ import annotations
 
 import argparse
+import logging
 import os
 import re
 import sys
 import time
 from collections.abc import Sequence
-from dataclasses import dataclass
+from contextlib import closing
+from dataclasses import dataclass, replace
 
-from drive.arguments import runner_of, server_arguments
+from drive.arguments import EXPIRING, options_text, runner_of, server_arguments, server_text
+from drive.build_server import junit
 from drive.commands import NOT_DRIVEN, NOTHING_TRIED, SAFE, UNSAFE, ended, write
 from drive.exploration import Explorer
-from drive.explored import Row, junit, rows_in, tried_by
+from drive.explored import Head, Row, Table, tried_by
 from drive.faults import DriveFault, Usage
+from drive.kept_servers import KeptServers
 from drive.model import Departure
+from drive.slots import Slots
+from drive.workers import rows_of
 
-EPILOG = """FOLDER/table gets a line for each schedule: its number; `blind` (its events were chosen beforehand),
-`guided` (each by what the run had come to), `aimed` (guided towards a write during a break to reads) or the name of
-what its scene aims at; its events,
+EPILOG = """FOLDER/table begins with how it was made, and --resume goes on with it only where that is the same. It gets a line for
+each schedule: its number; what --seed draws it by alone; `blind` (its events were chosen beforehand), `guided` (each by
+what the run had come to), `aimed` (guided towards a write during a break to reads) or what its scene aims at; its events,
 and how many of them did something; what it tried, by six numbers: creates that asked for a lease, that were granted
 one, and that were refused for their key, breaks, acknowledgments, and reads from a cache; the verdict, which is
 `nothing tried` where no lease was granted; `same` where the record is the profile's, else the known departures that explain it, or `unexplained` (docs/REAL_SERVERS.md); and for an unsafe
@@ -39,10 +45,11 @@ driven; 2 the command line is refused; 3 a record is unsafe, or not as expected;
 def parser() -> argparse.ArgumentParser:
     made = argparse.ArgumentParser(prog="drive/explore", description="Drives a server through random schedules.",
                                    epilog=EPILOG, formatter_class=argparse.RawDescriptionHelpFormatter)
-    made.add_argument("--seed", type=int, required=True, metavar="S", help="what the schedules are drawn from")
-    made.add_argument("--count", type=int, required=True, metavar="N", help="how many")
+    made.add_argument("--seed", required=True, metavar="S", help="what the schedules are drawn from; or S:N, one of them alone")
+    made.add_argument("--count", type=int, metavar="N", help="how many")
     made.add_argument("--folder", metavar="FOLDER", help="where the table and what is unsafe go (explored-S)")
     made.add_argument("--resume", action="store_true", help="go on with what the table doesn't have yet")
+    made.add_argument("--jobs", type=int, default=1, metavar="N", help="drive so many at a time (1)")
     made.add_argument("--allow", metavar="DEPARTURE", nargs="+", default=[], choices=[it.name.lower() for it in Departure],
                       help="what is unsafe by these known departures alone doesn't count (docs/REAL_SERVERS.md)")
     made.add_argument("--shard", metavar="I/N", help="of the schedules only each N-th, from the I-th on")
@@ -53,26 +60,39 @@ def parser() -> argparse.ArgumentParser:
 
 
 @dataclass(frozen=True)
-class Shard:
+class Plan:
+    """Which schedules are driven."""
+
+    seed: int
+    numbers: Sequence[int]
+    # what the folder is called that nobody names
+    name: str
+
+
+def plan_of(arguments: argparse.Namespace) -> Plan:
+    found = re.fullmatch(r"(-?\d+)(?::(\d+))?", arguments.seed, re.ASCII)
+    if found is None:
+        raise Usage("--seed is a number S, or S:N")
+    seed = int(found.group(1))
+    if found.group(2):
+        if arguments.count is not None or arguments.shard is not None:
+            raise Usage("--seed S:N is one schedule: --count and --shard are of many")
+        return Plan(seed, (int(found.group(2)),), f"explored-{seed}-{found.group(2)}")
+    if arguments.count is None or arguments.count < 1:
+        raise Usage("--count is at least 1")
+    return _shard(Plan(seed, range(1, arguments.count + 1), f"explored-{seed}"), arguments.shard)
+
+
+def _shard(plan: Plan, text: str | None) -> Plan:
     """Every so many-th schedule, from this one on."""
-
-    number: int = 1
-    count: int = 1
-
-    @classmethod
-    def read(cls, text: str) -> Shard:
-        found = re.fullmatch(r"(\d+)/(\d+)", text, re.ASCII)
-        number, count = map(int, found.groups()) if found else (0, 0)
-        if not 1 <= number <= count:
-            raise Usage("--shard is I/N, where I is from 1 to N")
-        return cls(number, count)
-
-    def numbers(self, last: int) -> range:
-        return range(self.number, last + 1, self.count)
-
-    @property
-    def name(self) -> str:
-        return f"-{self.number}-of-{self.count}" if self.count > 1 else ""
+    if text is None:
+        return plan
+    found = re.fullmatch(r"(\d+)/(\d+)", text, re.ASCII)
+    number, count = map(int, found.groups()) if found else (0, 0)
+    if not 1 <= number <= count:
+        raise Usage("--shard is I/N, where I is from 1 to N")
+    name = f"{plan.name}-{number}-of-{count}" if count > 1 else plan.name
+    return replace(plan, numbers=plan.numbers[number - 1::count], name=name)
 
 
 class Progress:
@@ -83,11 +103,11 @@ class Progress:
         self._start = time.monotonic()
         self._shows = sys.stderr.isatty()
 
-    def show(self, rows: Sequence[Row]) -> None:
+    def show(self, rows: Sequence[Row], driven: int) -> None:
         if self._shows:
-            each = (time.monotonic() - self._start) / len(rows)
+            rate = 60 * driven / (time.monotonic() - self._start)
             charged, faults = sum(it.is_charged for it in rows), sum(it.is_fault for it in rows)
-            sys.stderr.write(f"\r{len(rows)} of {self._count}, {charged} charged, {faults} not driven, {each:.1f} s each\x1b[K")
+            sys.stderr.write(f"\r{driven} of {self._count}, {charged} charged, {faults} not driven, {rate:.0f} a minute\x1b[K")
             sys.stderr.flush()
 
     def end(self) -> None:
@@ -95,49 +115,70 @@ class Progress:
             sys.stderr.write("\n")
 
 
+def summary(rows: Sequence[Row], driven: int, folder: str, arguments: argparse.Namespace) -> list[str]:
+    """What is printed of all rows, of which so many were driven now."""
+    counts = [(sum(it.is_unsafe for it in rows), "unsafe", True), (sum(it.is_unexpected for it in rows), "unexpected", arguments.expect),
+              (sum(it.is_allowed for it in rows), "allowed", arguments.allow), (sum(it.tried_nothing for it in rows), "tried nothing", False),
+              (sum(it.is_fault for it in rows), "not driven to the end", True)]
+    before = f" after {len(rows) - driven}" if len(rows) > driven else ""
+    said = ", ".join(f"{count} {what}" for count, what, always in counts if count or always)
+    return [tried_by(rows), f"{driven} driven{before}, {said}; {folder}/table has them"]
+
+
+def status_of(rows: Sequence[Row]) -> int:
+    if any(it.is_charged for it in rows):
+        return UNSAFE
+    if any(it.is_fault for it in rows):
+        return NOT_DRIVEN
+    return NOTHING_TRIED if all(it.tried_nothing for it in rows) else SAFE
+
+
+def explorer_of(arguments: argparse.Namespace, plan: Plan, folder: str) -> Explorer:
+    slots = Slots(arguments.jobs)
+    runner = replace(runner_of(arguments, slots), slots=slots)
+    if not arguments.server and not arguments.smbd_log:
+        runner = replace(runner, server=KeptServers(runner.server))
+    allowed = frozenset(Departure[it.upper()] for it in arguments.allow)
+    return Explorer(runner, plan.seed, folder, not arguments.no_shrink, allowed)
+
+
 def _explore(arguments: argparse.Namespace) -> int:
-    if arguments.count < 1:
-        raise Usage("--count is at least 1")
-    shard = Shard.read(arguments.shard) if arguments.shard is not None else Shard()
-    runner = runner_of(arguments)
-    folder = arguments.folder or f"explored-{arguments.seed}{shard.name}"
-    runner.check()
+    if arguments.jobs < 1:
+        raise Usage("--jobs is at least 1")
+    plan = plan_of(arguments)
+    folder = arguments.folder or plan.name
+    explorer = explorer_of(arguments, plan, folder)
+    runner_of(arguments).check()
+    logging.getLogger("drive.shrinking").setLevel(logging.INFO)
     try:
         os.makedirs(folder, exist_ok=True)
-        before = rows_in(f"{folder}/table", arguments.resume)
-        allowed = frozenset(Departure[it.upper()] for it in arguments.allow)
-        explorer = Explorer(runner, arguments.seed, folder, not arguments.no_shrink, allowed)
-        left = sorted(set(shard.numbers(arguments.count)) - {row.number for row in before})
-        rows = _all(explorer, left, f"{folder}/table")
+        with closing(Table(f"{folder}/table", head_of(arguments, plan), arguments.resume)) as table:
+            driven = _drive(explorer, sorted(set(plan.numbers) - {it.number for it in table.rows}), table, arguments)
     except OSError as fault:
         raise DriveFault(f"{folder}: {fault.strerror}") from None
-    every = [*before, *rows]
     if arguments.junit:
-        write(arguments.junit, junit(every, arguments.seed))
-    print(tried_by(every))
-    driven = f"{len(rows)} driven" + (f" after {len(before)}" if before else "")
-    charged, faults = sum(it.is_charged for it in every), sum(it.is_fault for it in every)
-    allowed_ones = f" {sum(it.is_allowed for it in every)} allowed," if arguments.allow else ""
-    nothing = sum(it.tried_nothing for it in every)
-    tried_nothing = f" {nothing} tried nothing," if nothing else ""
-    unsafe = f"{sum(it.is_unsafe for it in every)} unsafe,"
-    unexpected = f" {sum(it.is_unexpected for it in every)} unexpected," if arguments.expect else ""
-    print(f"{driven}, {unsafe}{unexpected}{allowed_ones}{tried_nothing} {faults} not driven to the end; "
-          f"{folder}/table has them")
-    return UNSAFE if charged else NOT_DRIVEN if faults else NOTHING_TRIED if nothing == len(every) else SAFE
+        write(arguments.junit, junit(table.rows, plan.seed))
+    print("\n".join(summary(table.rows, driven, folder, arguments)))
+    return status_of(table.rows)
 
 
-def _all(explorer: Explorer, numbers: Sequence[int], path: str) -> list[Row]:
+def head_of(arguments: argparse.Namespace, plan: Plan) -> Head:
+    return Head(plan.seed, server_text(arguments), options_text(arguments))
+
+
+def _drive(explorer: Explorer, numbers: Sequence[int], table: Table, arguments: argparse.Namespace) -> int:
+    """Drives these, and adds their rows; how many those are. Runs that wait for a timer aren't counted among --jobs."""
     progress = Progress(len(numbers))
-    rows: list[Row] = []
-    with open(path, "a", encoding="utf-8") as table:
-        for number in numbers:
-            rows.append(explorer.explore(number))
-            table.write(rows[-1].text)
-            table.flush()
-            progress.show(rows)
-    progress.end()
-    return rows
+    workers = arguments.jobs * (EXPIRING if arguments.server and arguments.jobs > 1 else 1)
+    driven = 0
+    try:
+        with closing(rows_of(explorer, numbers, workers)) as rows:
+            for driven, row in enumerate(rows, 1):
+                table.add(row)
+                progress.show(table.rows, driven)
+    finally:
+        progress.end()
+    return driven
 
 
 def main(words: Sequence[str] | None = None) -> int:

@@ -1,9 +1,8 @@
-"""What became of explored schedules: the rows of a table, and a file that a build server reads (JUnit's XML)."""
+"""What became of explored schedules: the rows of a table, and its head, which says how they were made."""
 from __future__ import annotations
 
 import os
 import re
-import xml.etree.ElementTree as xml
 from collections.abc import Sequence
 from dataclasses import astuple, dataclass
 
@@ -13,13 +12,29 @@ from drive.faults import Usage
 from drive.runner import NOTHING, UNEXPECTED
 from drive.tried import Tried
 
-LINE = re.compile(r"(\d+) (\w+) (\d+) (\d+) (\d+ \d+ \d+ \d+ \d+ \d+) (.*?) (\S+)(?: shrunk (\d+)| (allowed))?")
+LINE = re.compile(r"(\d+) (\S+) (\w+) (\d+) (\d+) (\d+ \d+ \d+ \d+ \d+ \d+) (.*?) (\S+)(?: shrunk (\d+)| (allowed))?")
+COLUMNS = "number seed manner events done asked granted refused breaks acknowledged cached verdict likeness"
 TRIED = {"granted": "leases", "breaks": "breaks", "acknowledged": "acknowledgments", "cached_reads": "cached reads"}
+
+
+@dataclass(frozen=True)
+class Head:
+    """How the rows of a table were made. Those of other seeds, servers or options don't go into it."""
+
+    seed: int
+    server: str
+    options: str
+
+    @property
+    def text(self) -> str:
+        return f"# seed {self.seed}; server {self.server}; options {self.options or 'none'}\n# {COLUMNS}\n"
 
 
 @dataclass(frozen=True)
 class Row:
     number: int
+    # what draws this schedule by itself
+    seed: str
     manner: str
     events: int
     applied: int
@@ -34,15 +49,15 @@ class Row:
         found = LINE.fullmatch(line)
         if found is None:
             raise ToolFault(f"no line of a table: {line[:200]}")
-        number, manner, events, applied, tried, verdict, likeness, left, allowed = found.groups()
-        return cls(int(number), manner, int(events), int(applied), Tried(*map(int, tried.split())), verdict, likeness,
+        number, seed, manner, events, applied, tried, verdict, likeness, left, allowed = found.groups()
+        return cls(int(number), seed, manner, int(events), int(applied), Tried(*map(int, tried.split())), verdict, likeness,
                    int(left) if left else None, bool(allowed))
 
     @property
     def text(self) -> str:
         tail = " allowed" if self.is_allowed else f" shrunk {self.left}" if self.left is not None else ""
         tried = " ".join(map(str, astuple(self.tried)))
-        head = f"{self.number} {self.manner} {self.events} {self.applied} {tried}"
+        head = f"{self.number} {self.seed} {self.manner} {self.events} {self.applied} {tried}"
         return f"{head} {' '.join(self.verdict.split())} {self.likeness}{tail}\n"
 
     @property
@@ -84,30 +99,43 @@ def tried_by(rows: Sequence[Row]) -> str:
     return "tried: " + ", ".join(f"{sum(its)} {word} ({its.count(0)} schedules had none)" for word, its in counts.items())
 
 
-def rows_in(path: str, resume: bool) -> list[Row]:
-    """The rows that the table has already. A line that was cut short is taken away."""
-    if not os.path.exists(path):
-        return []
-    if not resume:
-        raise Usage(f"{path} is there already: --resume goes on with it, --folder names another one")
-    with open(path, "r+", encoding="utf-8") as table:
-        text = table.read()
-        whole = text[:text.rfind("\n") + 1]
-        table.seek(0)
-        table.truncate()
-        table.write(whole)
-    return list(map(Row.read, whole.splitlines()))
+class Table:
+    """The file with the rows; each is there as soon as it is known."""
 
+    def __init__(self, path: str, head: Head, resumes: bool) -> None:
+        self.path = path
+        self._head = head
+        self.rows = self._rows_before(resumes) if os.path.exists(path) else []
+        self._file = open(path, "a", encoding="utf-8")
+        if not self._file.tell():
+            self._write(head.text)
 
-def junit(rows: Sequence[Row], seed: int) -> bytes:
-    """The rows as a test suite, in which each schedule is a test."""
-    results = [(row, *row.result()) for row in rows]
-    counts = {name: sum(kind == it for _, kind, _ in results)
-              for name, it in (("failures", "failure"), ("errors", "error"), ("skipped", "skipped"))}
-    suite = xml.Element("testsuite", {"name": "drive/explore", "tests": str(len(rows)), **{it: str(counts[it]) for it in counts}})
-    for row, kind, why in results:
-        case = xml.SubElement(suite, "testcase", {"classname": f"seed {seed}", "name": f"schedule {row.number}"})
-        if kind:
-            xml.SubElement(case, kind, {"message": why})
-    xml.indent(suite)
-    return bytes(xml.tostring(suite, encoding="utf-8", xml_declaration=True)) + b"\n"
+    def _rows_before(self, resumes: bool) -> list[Row]:
+        """The rows that are there already. A line that was cut short is taken away."""
+        if not resumes:
+            raise Usage(f"{self.path} is there already: --resume goes on with it, --folder names another one")
+        with open(self.path, "r+", encoding="utf-8") as table:
+            text = table.read()
+            whole = text[:text.rfind("\n") + 1]
+            if whole and not whole.startswith(self._head.text):
+                raise Usage(f"{self.path} was made otherwise ({whole.splitlines()[0][:200]}): --folder names another one")
+            table.seek(0)
+            table.truncate()
+            table.write(whole)
+        return [Row.read(it) for it in whole.splitlines() if not it.startswith("#")]
+
+    def add(self, row: Row) -> None:
+        self.rows.append(row)
+        self._write(row.text)
+
+    def _write(self, text: str) -> None:
+        self._file.write(text)
+        self._file.flush()
+
+    def close(self) -> None:
+        """Closes it, with its rows by their numbers."""
+        self._file.close()
+        self.rows.sort(key=lambda it: it.number)
+        with open(f"{self.path}.sorted", "w", encoding="utf-8") as table:
+            table.write(self._head.text + "".join(it.text for it in self.rows))
+        os.replace(f"{self.path}.sorted", self.path)

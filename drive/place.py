@@ -33,6 +33,8 @@ class Server(ABC):
     timers = Timers.ONE
     # how many seconds a break may wait before its timer may run out by itself, where that is known
     patience: float | None = None
+    # whether a run came to no end on it
+    has_failed = False
     place: Place
 
     def name_of(self, file: int) -> str:
@@ -47,7 +49,7 @@ class Server(ABC):
         return None
 
     def wait_for_end(self, process: int | None) -> None:
-        """Waits until what a closed connection leaves to do is done."""
+        """Waits until what a connection leaves to do that the server has closed is done."""
 
     @abstractmethod
     def begin_break_timer(self, process: int | None, guid: bytes, key: bytes) -> None:
@@ -60,8 +62,8 @@ class Server(ABC):
     def pass_durable_timer(self, file_ids: list[int]) -> None:
         """Has the timers of disconnected opens run out, or that of the first of these that is still there."""
 
-    def content(self, file: int) -> bytes | None:  # pylint: disable=unused-argument
-        """The file as it is on disk, where that can be looked at."""
+    def content(self, name: str) -> bytes | None:  # pylint: disable=unused-argument
+        """The file of this name as it is on disk, where that can be looked at."""
         return None
 
     def close(self) -> None:

@@ -3,7 +3,7 @@ from __future__ import annotations
 
 import logging
 from collections.abc import Callable, Iterator
-from contextlib import closing, contextmanager
+from contextlib import closing, contextmanager, nullcontext
 from dataclasses import dataclass, field
 
 from smblease.processes import LineClients, Speaker, client_process
@@ -14,8 +14,10 @@ from smblease.values import Rules
 from drive.driver import Driver, files_made, files_removed
 from drive.expectation import Difference, Step, first_difference
 from drive.faults import Undrivable
+from drive.kept_servers import KeptServers
 from drive.place import Server
 from drive.records import Order, Record
+from drive.slots import Slots
 from drive.tried import Tried
 
 LOG = logging.getLogger("drive")
@@ -97,6 +99,7 @@ class Runner:
     rules: Rules = Rules()
     expect: Rules | None = None
     stays: bool = False
+    slots: Slots | None = None
 
     def check(self) -> None:
         """What makes every run on a server that was there before futile is a fault, which says what is needed."""
@@ -139,8 +142,7 @@ class Runner:
     @contextmanager
     def driving(self, schedule: Schedule) -> Iterator[Driver]:
         """A driver of a fresh run, of which nothing is left afterwards."""
-        server = self.server()
-        try:
+        with self.slots.taken() if self.slots else nullcontext(), self._served() as server:
             files_made(schedule, server)
             try:
                 with closing(self._clients(schedule)) as clients, \
@@ -149,8 +151,23 @@ class Runner:
             finally:
                 if server.stays:
                     files_removed(schedule, server)
+
+    @contextmanager
+    def _served(self) -> Iterator[Server]:
+        """The server of a run, which is given word where that comes to no end."""
+        server = self.server()
+        try:
+            yield server
+        except BaseException:
+            server.has_failed = True
+            raise
         finally:
             server.close()
+
+    def close(self) -> None:
+        """Ends a server that is kept for many runs."""
+        if isinstance(self.server, KeptServers):
+            self.server.close()
 
     def _known_opens(self, schedule: Schedule) -> int:
         """How many opens there are where the schedule is replayed, by which its raw lines can name them."""

@@ -9,11 +9,13 @@ import subprocess
 import tempfile
 import time
 import uuid
+from contextlib import nullcontext
 
 from drive.clock import Clocks, library
 from drive.connections import password_hash
 from drive.faults import DriveFault, Undrivable
 from drive.place import Place, Server, Timers
+from drive.slots import Slots
 
 SMBD = "/usr/sbin/smbd"
 SHARE = "share"
@@ -69,8 +71,10 @@ class NamedServer(Server):
     stays = True
     timers = Timers.ALL
 
-    def __init__(self, place: Place, break_time: float) -> None:
+    def __init__(self, place: Place, break_time: float, slots: Slots | None = None) -> None:
+        """`slots` has the one that a run lends while it waits for a timer."""
         self.place = place
+        self._slots = slots
         self._break_time = break_time
         # (a timer that is waited for may be shorter than the wait)
         self.patience = 0.75 * break_time or None
@@ -79,14 +83,13 @@ class NamedServer(Server):
     def name_of(self, file: int) -> str:
         return f"{self._prefix}-{file}"
 
-    def is_prepared(self) -> None:
+    def wait_for_end(self, process: int | None) -> None:
+        # (it may let go of opens only then)
         time.sleep(SETTLED)
 
-    def wait_for_end(self, process: int | None) -> None:
-        time.sleep(0.5)
-
     def begin_break_timer(self, process: int | None, guid: bytes, key: bytes) -> None:
-        time.sleep(self._break_time)
+        with self._slots.lent() if self._slots else nullcontext():
+            time.sleep(self._break_time)
 
     def pass_durable_timer(self, file_ids: list[int]) -> None:
         raise Undrivable("the timer of a disconnected open is too long to be waited for")
@@ -124,7 +127,7 @@ class PrivateServer(Server):
             # (where a session was tried again, the process of the former connection is about to end)
             if len(new) == 1 or time.monotonic() > until:
                 break
-            time.sleep(0.01)
+            time.sleep(0.002)
         self._known = set(now)
         if len(new) != 1:
             raise DriveFault(f"{len(new)} processes of smbd came with one connection")
@@ -154,12 +157,12 @@ class PrivateServer(Server):
         for keeper in keepers:
             self._clocks.put_forward(keeper, 0)
 
-    def content(self, file: int) -> bytes | None:
+    def content(self, name: str) -> bytes | None:
         try:
             # A changed access time would make smbd refuse a durable reconnect.
-            opened = os.open(f"{self._folder}/{SHARE}/{self.name_of(file)}", os.O_RDONLY | os.O_NOATIME)
+            opened = os.open(f"{self._folder}/{SHARE}/{name}", os.O_RDONLY | os.O_NOATIME)
         except OSError as fault:
-            raise DriveFault(f"file {file} can't be looked at: {fault.strerror}") from None
+            raise DriveFault(f"file {name} can't be looked at: {fault.strerror}") from None
         with open(opened, "rb") as stream:
             return stream.read()
 

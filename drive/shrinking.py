@@ -1,20 +1,24 @@
 """Fewest lines: events, clients and files are left out as long as a schedule stays what it was."""
 from __future__ import annotations
 
+import logging
 from collections.abc import Callable
 
 from smblease.schedules import Event, EventKind, Schedule
 
+LOG = logging.getLogger("drive.shrinking")
 Stays = Callable[[Schedule], bool]
 NAMING_FILES = {EventKind.OPEN, EventKind.CLOSE, EventKind.READ, EventKind.FLUSH, EventKind.WRITE, EventKind.EXPIRE,
                 EventKind.SCAVENGE}
 
 
-def shrunk(schedule: Schedule, stays: Stays) -> Schedule:
-    """A schedule of which no single event can be left out any more, and no client or file that no event names."""
+def shrunk(schedule: Schedule, stays: Stays, name: str = "a schedule") -> Schedule:
+    """A schedule of which no single event can be left out any more, and no client or file that no event names. What is left is
+    logged after each pass, under this name."""
     events = schedule.events
     part = max(1, len(events) // 2)
     while True:
+        LOG.info("%s is shrunk: %d events are left, and runs of %d are left out next", name, len(events), part)
         left = _without_parts(schedule, events, part, stays)
         if part == 1 and len(left) == len(events):
             break

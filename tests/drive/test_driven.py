@@ -10,6 +10,7 @@
 from __future__ import annotations
 
 import re
+from contextlib import closing
 from pathlib import Path
 
 import pytest
@@ -28,6 +29,7 @@ from tests.drive.named import named_smbd  # noqa: E402
 from drive import servers  # noqa: E402
 from drive.explanations import likeness_of  # noqa: E402
 from drive.exploration import Explorer  # noqa: E402
+from drive.kept_servers import KeptServers  # noqa: E402
 from drive.model import Departure  # noqa: E402
 from drive.runner import Filter, Outcome, Runner  # noqa: E402
 from drive.servers import PrivateServer  # noqa: E402
@@ -220,6 +222,24 @@ def test_create_that_is_refused_for_its_key(runner: Runner) -> None:
     outcome = runner.run(Schedule.read(REFUSED_KEY))
     assert outcome.tried.refused == 1
     assert outcome.text().endswith("\n# 1 create was refused for its lease key (STATUS_INVALID_PARAMETER)\n")
+
+
+def test_one_smbd_for_many_schedules(program: str, tmp_path: Path) -> None:
+    """Its rows are those of servers that are each started for one."""
+    made: list[PrivateServer] = []
+
+    def make() -> PrivateServer:
+        made.append(PrivateServer())
+        return made[-1]
+
+    def check() -> None:
+        made.clear()
+        with closing(Explorer(Runner(program, KeptServers(make)), SEED, str(tmp_path), False)) as explorer:
+            rows = [explorer.explore(number) for number in range(1, 7)]
+        assert len(made) == 1
+        own = Explorer(Runner(program, PrivateServer), SEED, str(tmp_path), False)
+        assert rows == [own.explore(number) for number in range(1, 7)]
+    tried(check)
 
 
 @pytest.mark.long

@@ -1,7 +1,10 @@
 """drive/explore in shards, and the file that a build server reads. What each schedule comes to is given here by its number."""
 from __future__ import annotations
 
+import multiprocessing
+import os
 import xml.etree.ElementTree as xml
+from multiprocessing.synchronize import Barrier
 from pathlib import Path
 
 import pytest
@@ -11,6 +14,7 @@ pytest.importorskip("impacket", reason="there is no package impacket; tools/setu
 from drive import explore_command  # noqa: E402
 from drive.exploration import Explorer  # noqa: E402
 from drive.explored import NOTHING, Row  # noqa: E402
+from drive.slots import Slots  # noqa: E402
 from drive.tried import Tried  # noqa: E402
 
 COUNT = 12
@@ -23,7 +27,7 @@ def row_of(_: Explorer, number: int) -> Row:
     verdict = VERDICTS.get(number, "safe")
     left = 11 if number == 3 else None
     tried = Tried(asked=4) if verdict == NOTHING else TRIED
-    return Row(number, "guided", 30 + number, 20, tried, verdict, "-" if number == 4 else "opens_stay", left, number == 8)
+    return Row(number, f"5:{number}", "guided", 30 + number, 20, tried, verdict, "-" if number == 4 else "opens_stay", left, number == 8)
 
 
 @pytest.fixture(autouse=True)
@@ -34,6 +38,11 @@ def given(monkeypatch: pytest.MonkeyPatch, tmp_path: Path) -> None:
 
 def explore(*words: str) -> int:
     return explore_command.main(["--smbd", "--seed", "5", "--count", str(COUNT), *words])
+
+
+def rows_in(table: Path) -> list[str]:
+    """Its lines after the two of its head."""
+    return table.read_text(encoding="ascii").splitlines()[2:]
 
 
 def suite(path: str) -> xml.Element:
@@ -69,8 +78,7 @@ def test_shards_add_up_to_the_whole() -> None:
     assert sorted(names) == sorted(it.attrib["name"] for it in suite("whole.xml").iter("testcase"))
     assert {name: sum(counts(root)[name] for root in shards) for name in counts(shards[0])} == counts(suite("whole.xml"))
     tables = [Path(f"explored-5-{shard}-of-5/table") for shard in range(1, 6)]
-    lines = [line for it in tables for line in it.read_text(encoding="ascii").splitlines()]
-    assert sorted(lines) == sorted(Path("explored-5/table").read_text(encoding="ascii").splitlines())
+    assert sorted(line for it in tables for line in rows_in(it)) == sorted(rows_in(Path("explored-5/table")))
 
 
 def test_shard_that_is_resumed() -> None:
@@ -100,5 +108,72 @@ def test_nothing_was_tried(monkeypatch: pytest.MonkeyPatch, capsys: pytest.Captu
     for number in range(1, COUNT + 1):
         monkeypatch.setitem(VERDICTS, number, NOTHING)
     assert explore("--junit", "one.xml") == 4
-    assert "0 unsafe, 12 tried nothing," in capsys.readouterr().out
+    assert "12 driven, 0 unsafe, 1 allowed, 12 tried nothing, 0 not driven to the end;" in capsys.readouterr().out
     assert counts(suite("one.xml")) == {"tests": 12, "failures": 0, "errors": 0, "skipped": 12}
+
+
+OTHERWISE = (["--seed", "6"], ["--served"], ["--expect", "profile"], ["--skip"], ["--shard", "1/2"])
+
+
+@pytest.mark.parametrize("words", OTHERWISE, ids=" ".join)
+def test_table_that_was_made_otherwise(words: list[str], capsys: pytest.CaptureFixture[str]) -> None:
+    """Rows of another seed, server or option don't go into it, and it stays as it is."""
+    explore("--folder", "one")
+    before = Path("one/table").read_text(encoding="ascii")
+    server = [] if "--served" in words else ["--smbd"]
+    resumed = [*server, "--seed", "5", "--count", "20", "--folder", "one", "--resume", *words]
+    assert explore_command.main(resumed) == 2
+    assert capsys.readouterr().err.startswith("drive/explore: one/table was made otherwise (# seed 5; server --smbd; options none)")
+    assert Path("one/table").read_text(encoding="ascii") == before
+
+
+def test_schedule_by_its_own_seed() -> None:
+    """The table has what draws a schedule by itself."""
+    explore()
+    seventh = rows_in(Path("explored-5/table"))[6]
+    assert seventh.split(" ")[:2] == ["7", "5:7"]
+    assert explore_command.main(["--smbd", "--seed", "5:7"]) == 3
+    assert rows_in(Path("explored-5-7/table")) == [seventh]
+
+
+@pytest.mark.parametrize("words", [["--seed", "5:7", "--count", "2"], ["--seed", "x", "--count", "2"], ["--seed", "5"],
+                                   ["--seed", "5", "--count", "2", "--jobs", "0"]], ids=" ".join)
+def test_words_that_name_no_schedules(words: list[str], capsys: pytest.CaptureFixture[str]) -> None:
+    assert explore_command.main(["--smbd", *words]) == 2
+    assert capsys.readouterr().err.startswith("drive/explore: --")
+
+
+def test_several_at_a_time() -> None:
+    """The table is the one of a single process."""
+    assert explore("--folder", "one") == explore("--folder", "three", "--jobs", "3") == 3
+    assert Path("three/table").read_text(encoding="ascii") == Path("one/table").read_text(encoding="ascii")
+
+
+def test_process_that_ends(monkeypatch: pytest.MonkeyPatch, capsys: pytest.CaptureFixture[str]) -> None:
+    """What was driven stays in the table."""
+    def ends(explorer: Explorer, number: int) -> Row:
+        if number == 6:
+            os._exit(5)
+        return row_of(explorer, number)
+    monkeypatch.setattr(Explorer, "explore", ends)
+    assert explore("--jobs", "2") == 1
+    assert "ended before the" in capsys.readouterr().err
+    assert explore("--resume", "--jobs", "2") == 1
+    assert "6" not in [it.split(" ")[0] for it in rows_in(Path("explored-5/table"))]
+
+
+def _waits(slots: Slots, both: Barrier) -> None:
+    with slots.taken(), slots.lent():
+        both.wait(20)
+
+
+def test_runs_that_wait_for_timers_wait_beside_each_other() -> None:
+    """Two that have the only slot one after the other wait at the same time."""
+    context = multiprocessing.get_context("fork")
+    slots, both = Slots(1), context.Barrier(2)
+    processes = [context.Process(target=_waits, args=(slots, both)) for _ in range(2)]
+    for process in processes:
+        process.start()
+    for process in processes:
+        process.join()
+    assert [it.exitcode for it in processes] == [0, 0]

@@ -4,6 +4,7 @@ from __future__ import annotations
 
 import random
 import uuid
+from contextlib import closing
 from pathlib import Path
 
 import pytest
@@ -21,7 +22,7 @@ from impacket.smb3 import SessionError  # noqa: E402
 from drive import connections, run_command  # noqa: E402
 from drive.connections import FileId  # noqa: E402
 from drive.explanations import facts_of  # noqa: E402
-from drive.explored import Row, rows_in  # noqa: E402
+from drive.explored import Head, Row, Table  # noqa: E402
 from drive.faults import DriveFault  # noqa: E402
 from drive.peers import DrivenPeer  # noqa: E402
 from drive.place import Place  # noqa: E402
@@ -149,7 +150,7 @@ def test_schedule_that_aims_at_a_write_during_a_break() -> None:
 def test_model_server(path: Path, program: str) -> None:
     """Without departures it has the facts of `leasecheck replay`, in whichever order within a step."""
     text = path.read_text(encoding="ascii", errors="replace")
-    assert sorted(facts_of(program, Schedule.read(text))) == sorted(replay(program, text))
+    assert sorted(facts_of(Schedule.read(text))) == sorted(replay(program, text))
 
 
 @pytest.mark.parametrize("name", FOUND)
@@ -161,11 +162,13 @@ def test_kept_record(name: str, program: str) -> None:
 def test_table_that_was_cut_short(tmp_path: Path) -> None:
     """`--resume` goes on after its last whole line."""
     table = tmp_path / "table"
-    whole = "1 guided 3 2 1 1 0 2 1 4 safe same\n2 blind 4 2 3 0 0 0 0 0 unsafe 12 3 opens_stay,given_back shrunk 11\n"
-    table.write_text(f"{whole}3 gui", encoding="ascii")
-    rows = rows_in(str(table), True)
-    assert [(it.number, it.verdict, it.left) for it in rows] == [(1, "safe", None), (2, "unsafe 12 3", 11)]
-    assert table.read_text(encoding="ascii") == whole == "".join(it.text for it in rows)
+    head = Head(7, "--smbd", "")
+    whole = "1 7:1 guided 3 2 1 1 0 2 1 4 safe same\n2 7:2 blind 4 2 3 0 0 0 0 0 unsafe 12 3 opens_stay,given_back shrunk 11\n"
+    table.write_text(f"{head.text}{whole}3 7:3 gui", encoding="ascii")
+    with closing(Table(str(table), head, True)) as found:
+        rows = list(found.rows)
+    assert [(it.number, it.seed, it.verdict, it.left) for it in rows] == [(1, "7:1", "safe", None), (2, "7:2", "unsafe 12 3", 11)]
+    assert table.read_text(encoding="ascii") == head.text + whole == head.text + "".join(it.text for it in rows)
 
 
 KEPT = {"smbd": (True, set(), {}), "profile": (False, {1}, {5: 1})}
@@ -205,5 +208,5 @@ def test_one_verdict(orders: tuple[str, str], monkeypatch: pytest.MonkeyPatch, c
     status = run_command.main(["--served", "--leasecheck", program, schedule])
     words, expected = VERDICTS[orders]
     assert (status, capsys.readouterr().out.splitlines()) == (expected, [f"# {words}"])
-    row = Row(1, "guided", 2, 1, outcome.tried, outcome.words, "same")
+    row = Row(1, "7:1", "guided", 2, 1, outcome.tried, outcome.words, "same")
     assert (row.is_charged, row.is_fault) == (expected == 3, expected == 1)
