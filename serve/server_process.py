@@ -46,7 +46,12 @@ class ServerProcess:
         self.verdict: str | None = None
         self.complaints = ""
         self.status: int | None = None
-        self.place = Place("127.0.0.1", self._port(), SHARE, user, password)
+        try:
+            self.place = Place("127.0.0.1", self._port(), SHARE, user, password)
+        except BaseException:
+            # nobody has it yet who could end it
+            self.close()
+            raise
 
     @property
     def process(self) -> int:

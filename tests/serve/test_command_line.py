@@ -169,3 +169,17 @@ def test_a_folder_is_served(start: Start, connect: Connect, tmp_path: Path, word
     assert one.status(write(file_id)) == Status.SUCCESS
     assert one.ask(read(file_id)).data[80:] == b"givbytes"
     assert (tmp_path / "below/file").read_bytes() == content
+
+
+def test_server_whose_start_is_interrupted(program: str, monkeypatch: pytest.MonkeyPatch) -> None:
+    """Nobody has it by then who could end it, so it is ended at once."""
+    started: list[int] = []
+
+    def interrupted(server: ServerProcess) -> int:
+        started.append(server.process)
+        raise KeyboardInterrupt
+    monkeypatch.setattr(ServerProcess, "_port", interrupted)
+    with pytest.raises(KeyboardInterrupt):
+        ServerProcess(program)
+    with pytest.raises(ProcessLookupError):
+        os.kill(started[0], 0)
