@@ -18,6 +18,8 @@ from drive.faults import DriveFault, Usage
 
 SAFE, NOT_DRIVEN, REFUSED, UNSAFE, NOTHING_JUDGED = range(5)
 NOTHING_TRIED = NOTHING_JUDGED
+# As a shell has it of a command that SIGINT ended.
+INTERRUPTED = 130
 
 
 def ended(parser: argparse.ArgumentParser, main: Callable[[argparse.Namespace], int], words: Sequence[str] | None) -> int:
@@ -46,7 +48,8 @@ def ended(parser: argparse.ArgumentParser, main: Callable[[argparse.Namespace], 
         print(f"{parser.prog}: output: {fault.strerror}", file=sys.stderr)
         return NOT_DRIVEN
     except KeyboardInterrupt:
-        return NOT_DRIVEN
+        print(f"{parser.prog}: interrupted", file=sys.stderr)
+        return INTERRUPTED
 
 
 def _parsed(parser: argparse.ArgumentParser, words: Sequence[str] | None) -> argparse.Namespace:

@@ -15,6 +15,7 @@ from smblease.world import ClientObjects, Link, Peer, World
 from drive.model import Departure, Model
 from drive.records import Record, by_client
 
+UNEXPLAINED = "unexplained"
 NONE: frozenset[Departure] = frozenset()
 SOMETIMES = (Departure.LAST_FIRST, Departure.BY_ARRIVAL, Departure.KEPT_HOLDS, Departure.KEPT_ALONE)
 RARE = (Departure.KEPT_HOLDS_ALL, Departure.BACK_NOT_KEPT, Departure.UNKEPT_GIVES_BACK)
@@ -139,7 +140,7 @@ class Likeness:
     def word(self) -> str:
         """`same`, `unexplained`, or the names of the departures."""
         if self.departures is None:
-            return "unexplained"
+            return UNEXPLAINED
         return ",".join(sorted(it.name.lower() for it in self.departures)) or "same"
 
 

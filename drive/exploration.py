@@ -23,13 +23,19 @@ LOG = logging.getLogger("drive")
 class Explorer:
     """Draws schedules by a seed and their numbers, and drives them."""
 
-    def __init__(self, runner: Runner, seed: int, folder: str, shrinks: bool, allowed: frozenset[Departure] = NONE) -> None:
-        """What is unsafe by departures of `allowed` doesn't count, and isn't shrunk."""
+    def __init__(self, runner: Runner, seed: int, folder: str, shrinks: bool, allowed: frozenset[Departure] = NONE,
+                 keeps_all: bool = False) -> None:
+        """What is unsafe by departures of `allowed` doesn't count, and isn't shrunk. `keeps_all`: safe ones are kept too."""
         self._allowed = allowed
         self._runner = runner
         self._seed = seed
         self._folder = folder
         self._shrinks = shrinks
+        self._keeps_all = keeps_all
+
+    def check(self) -> None:
+        """What makes every schedule futile is a fault."""
+        self._runner.check()
 
     def close(self) -> None:
         """Ends a server that is kept for its schedules."""
@@ -43,7 +49,7 @@ class Explorer:
         except ToolFault as fault:
             return Row(number, own_seed(self._seed, number), chosen.manner, 0, 0, Tried(), f"fault {fault}", "-")
         likeness = self._likeness(schedule, outcome)
-        if likeness.is_open or not outcome.verdict.is_safe:
+        if self._keeps_all or likeness.is_open or not outcome.verdict.is_safe:
             self._keep(f"{number}", schedule, outcome)
         is_allowed = outcome.rule is not None and self._is_allowed(schedule, likeness)
         left = None
@@ -87,7 +93,7 @@ class Explorer:
 
     def _keep(self, name: str, schedule: Schedule, outcome: Outcome) -> None:
         self._write(f"{name}.schedule", schedule.text)
-        self._write(f"{name}.record", outcome.text())
+        self._write(f"{name}.record", outcome.text(with_messages=True))
         if outcome.difference:
             self._write(f"{name}.difference", f"{outcome.difference.text}\n")
 

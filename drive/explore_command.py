@@ -10,18 +10,25 @@ import time
 from collections.abc import Sequence
 from contextlib import closing
 from dataclasses import dataclass, replace
+from pathlib import Path
 
 from drive.arguments import EXPIRING, options_text, runner_of, server_arguments, server_text
 from drive.build_server import junit
-from drive.commands import NOT_DRIVEN, NOTHING_TRIED, SAFE, UNSAFE, ended, write
+from drive.commands import INTERRUPTED, NOT_DRIVEN, NOTHING_TRIED, SAFE, UNSAFE, ended, write
+from drive.explanations import UNEXPLAINED
 from drive.exploration import Explorer
 from drive.explored import Head, Row, Table, tried_by
 from drive.faults import DriveFault, Usage
 from drive.kept_servers import KeptServers
 from drive.model import Departure
+from drive.pictures import version_of
+from drive.report import Report
+from drive.servers import FITTED, SMBD
 from drive.slots import Slots
 from drive.workers import rows_of
 
+# From so many unexplained records on, and so large a share of them, the server is another one than the departures are of.
+FEW, SHARE = 3, 0.2
 EPILOG = """FOLDER/table begins with how it was made, and --resume goes on with it only where that is the same. It gets a line for
 each schedule: its number; what --seed draws it by alone; `blind` (its events were chosen beforehand), `guided` (each by
 what the run had come to), `aimed` (guided towards a write during a break to reads) or what its scene aims at; its events,
@@ -39,7 +46,8 @@ With --shard 2/8 only the schedules 2, 10, 18 and so on are driven; the tables o
 the whole has, and each has a folder of its own. --junit FILE has a test for each schedule of the table.
 
 Exit status, by all of the table: 0 all records are safe, or unsafe by what is allowed; 1 a schedule couldn't be
-driven; 2 the command line is refused; 3 a record is unsafe, or not as expected; 4 no schedule was granted a lease."""
+driven; 2 the command line is refused; 3 a record is unsafe, or not as expected; 4 no schedule was granted a lease;
+130 it was interrupted, and the table has what was driven until then."""
 
 
 def parser() -> argparse.ArgumentParser:
@@ -54,6 +62,10 @@ def parser() -> argparse.ArgumentParser:
                       help="what is unsafe by these known departures alone doesn't count (docs/REAL_SERVERS.md)")
     made.add_argument("--shard", metavar="I/N", help="of the schedules only each N-th, from the I-th on")
     made.add_argument("--junit", metavar="FILE", help="write there what became of them, for a build server")
+    made.add_argument("--report", metavar="FILE", help="write a page there (HTML), with pictures of what is charged")
+    made.add_argument("--json", metavar="FILE", help="write the same there for programs")
+    made.add_argument("--keep", choices=["charged", "all"], default="charged",
+                      help="which schedules are kept with their records: those that are charged or not explained, or all")
     made.add_argument("--no-shrink", action="store_true", help="keep what is unsafe as it is")
     server_arguments(made)
     return made
@@ -122,7 +134,19 @@ def summary(rows: Sequence[Row], driven: int, folder: str, arguments: argparse.N
               (sum(it.is_fault for it in rows), "not driven to the end", True)]
     before = f" after {len(rows) - driven}" if len(rows) > driven else ""
     said = ", ".join(f"{count} {what}" for count, what, always in counts if count or always)
-    return [tried_by(rows), f"{driven} driven{before}, {said}; {folder}/table has them"]
+    return [tried_by(rows), *another_server(rows, arguments), f"{driven} driven{before}, {said}; {folder}/table has them"]
+
+
+def another_server(rows: Sequence[Row], arguments: argparse.Namespace) -> list[str]:
+    """Word that the known departures, by which records are explained, are those of another server or set-up than this one."""
+    if arguments.expect is not None or arguments.served:
+        return []
+    driven = [it for it in rows if not it.is_fault]
+    unexplained = sum(it.likeness == UNEXPLAINED for it in driven)
+    if unexplained < FEW or unexplained < SHARE * len(driven):
+        return []
+    return [f"{unexplained} of {len(driven)} records are unexplained: the known departures are those of {FITTED}, and this is another "
+            "server, or one that is set up otherwise"]
 
 
 def status_of(rows: Sequence[Row]) -> int:
@@ -139,7 +163,7 @@ def explorer_of(arguments: argparse.Namespace, plan: Plan, folder: str) -> Explo
     if not arguments.server and not arguments.smbd_log:
         runner = replace(runner, server=KeptServers(runner.server))
     allowed = frozenset(Departure[it.upper()] for it in arguments.allow)
-    return Explorer(runner, plan.seed, folder, not arguments.no_shrink, allowed)
+    return Explorer(runner, plan.seed, folder, not arguments.no_shrink, allowed, arguments.keep == "all")
 
 
 def _explore(arguments: argparse.Namespace) -> int:
@@ -148,37 +172,54 @@ def _explore(arguments: argparse.Namespace) -> int:
     plan = plan_of(arguments)
     folder = arguments.folder or plan.name
     explorer = explorer_of(arguments, plan, folder)
-    runner_of(arguments).check()
+    explorer.check()
     logging.getLogger("drive.shrinking").setLevel(logging.INFO)
     try:
         os.makedirs(folder, exist_ok=True)
         with closing(Table(f"{folder}/table", head_of(arguments, plan), arguments.resume)) as table:
-            driven = _drive(explorer, sorted(set(plan.numbers) - {it.number for it in table.rows}), table, arguments)
+            driven, is_whole = _drive(explorer, table, plan, arguments)
     except OSError as fault:
         raise DriveFault(f"{folder}: {fault.strerror}") from None
-    if arguments.junit:
-        write(arguments.junit, junit(table.rows, plan.seed))
+    _write_reports(arguments, Report(table.head, versions_of(arguments), table.rows, Path(folder), arguments.leasecheck))
     print("\n".join(summary(table.rows, driven, folder, arguments)))
-    return status_of(table.rows)
+    if not is_whole:
+        print(f"interrupted; the same words with --resume go on after these {len(table.rows)} of {len(plan.numbers)}")
+    return status_of(table.rows) if is_whole else INTERRUPTED
+
+
+def _write_reports(arguments: argparse.Namespace, report: Report) -> None:
+    forms = ((arguments.junit, lambda: junit(report.rows, report.head.seed)), (arguments.report, report.html),
+             (arguments.json, report.json))
+    for path, form in forms:
+        if path:
+            write(path, form())
+
+
+def versions_of(arguments: argparse.Namespace) -> dict[str, str]:
+    """Of the program, and of a server whose program is here."""
+    program = version_of(arguments.leasecheck)
+    return {"Program": program, "Server": version_of(SMBD)} if arguments.smbd else {"Program": program}
 
 
 def head_of(arguments: argparse.Namespace, plan: Plan) -> Head:
     return Head(plan.seed, server_text(arguments), options_text(arguments))
 
 
-def _drive(explorer: Explorer, numbers: Sequence[int], table: Table, arguments: argparse.Namespace) -> int:
-    """Drives these, and adds their rows; how many those are. Runs that wait for a timer aren't counted among --jobs."""
-    progress = Progress(len(numbers))
+def _drive(explorer: Explorer, table: Table, plan: Plan, arguments: argparse.Namespace) -> tuple[int, bool]:
+    """Drives what the table doesn't have, and adds the rows; how many those are, and whether nobody interrupted it. Runs that wait
+    for a timer aren't counted among --jobs."""
+    numbers = sorted(set(plan.numbers) - {it.number for it in table.rows})
+    progress, driven, is_whole = Progress(len(numbers)), 0, True
     workers = arguments.jobs * (EXPIRING if arguments.server and arguments.jobs > 1 else 1)
-    driven = 0
     try:
         with closing(rows_of(explorer, numbers, workers)) as rows:
             for driven, row in enumerate(rows, 1):
                 table.add(row)
                 progress.show(table.rows, driven)
-    finally:
-        progress.end()
-    return driven
+    except KeyboardInterrupt:
+        is_whole = False
+    progress.end()
+    return driven, is_whole
 
 
 def main(words: Sequence[str] | None = None) -> int:

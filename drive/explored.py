@@ -104,7 +104,7 @@ class Table:
 
     def __init__(self, path: str, head: Head, resumes: bool) -> None:
         self.path = path
-        self._head = head
+        self.head = head
         self.rows = self._rows_before(resumes) if os.path.exists(path) else []
         self._file = open(path, "a", encoding="utf-8")
         if not self._file.tell():
@@ -117,7 +117,7 @@ class Table:
         with open(self.path, "r+", encoding="utf-8") as table:
             text = table.read()
             whole = text[:text.rfind("\n") + 1]
-            if whole and not whole.startswith(self._head.text):
+            if whole and not whole.startswith(self.head.text):
                 raise Usage(f"{self.path} was made otherwise ({whole.splitlines()[0][:200]}): --folder names another one")
             table.seek(0)
             table.truncate()
@@ -137,5 +137,5 @@ class Table:
         self._file.close()
         self.rows.sort(key=lambda it: it.number)
         with open(f"{self.path}.sorted", "w", encoding="utf-8") as table:
-            table.write(self._head.text + "".join(it.text for it in self.rows))
+            table.write(self.head.text + "".join(it.text for it in self.rows))
         os.replace(f"{self.path}.sorted", self.path)

@@ -21,6 +21,8 @@ SMBD = "/usr/sbin/smbd"
 SHARE = "share"
 PASSWORD = "private"
 FOLDERS = ("private", "lock", "state", "cache", "pid", "ncalrpc", "binddns", SHARE)
+# What the known departures (model.py) were fitted to.
+FITTED = "smbd 4.17.12 with the configuration of drive/servers.py"
 CONFIGURATION = """[global]
   server role = standalone server
   workgroup = PRIVATE

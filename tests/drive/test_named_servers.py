@@ -155,3 +155,13 @@ def test_no_scavenge_is_drawn(program: str) -> None:
     assert events and all(it.kind is not EventKind.SCAVENGE for it in events)
     chooser = Chooser(random.Random(3), scavenges=True)
     assert any(chooser.blind().kind is EventKind.SCAVENGE for _ in range(10000))
+
+
+@with_private_smbd
+@pytest.mark.parametrize(("more", "is_another"), [("", False), ("  level2 oplocks = no\n", True)])
+def test_server_that_is_set_up_otherwise(more: str, is_another: bool, tmp_path: Path) -> None:
+    """The departures that explain records were fitted to one configuration, and say nothing of another one."""
+    with named_smbd(more) as words:
+        had = ran("explore", [*words, "--seed", "4", "--count", "16", "--folder", tmp_path / "explored", "--break-time", "0.1",
+                              "--no-shrink", "--jobs", "2"], seconds=300)
+    assert ("the known departures are those of smbd 4.17.12" in had.out) == is_another, had

@@ -158,8 +158,8 @@ def test_process_that_ends(monkeypatch: pytest.MonkeyPatch, capsys: pytest.Captu
     monkeypatch.setattr(Explorer, "explore", ends)
     assert explore("--jobs", "2") == 1
     assert "ended before the" in capsys.readouterr().err
-    assert explore("--resume", "--jobs", "2") == 1
-    assert "6" not in [it.split(" ")[0] for it in rows_in(Path("explored-5/table"))]
+    found = [int(it.split(" ")[0]) for it in rows_in(Path("explored-5/table"))]
+    assert 6 not in found and set(range(1, 5)) <= set(found)
 
 
 def _waits(slots: Slots, both: Barrier) -> None:
