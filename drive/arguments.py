@@ -9,6 +9,7 @@ from smblease.values import Rules
 
 from drive.commands import rules_of
 from drive.faults import Usage
+from drive.login import login_of
 from drive.place import Place, Server
 from drive.runner import Runner
 from drive.servers import NamedServer, PrivateServer
@@ -31,7 +32,12 @@ def server_arguments(parser: argparse.ArgumentParser) -> None:
                              "them (the words are those of --rules)")
     parser.add_argument("--server", metavar="HOST:PORT", help="a server that is there, in place of a private one")
     parser.add_argument("--share", metavar="NAME", help="its share")
-    parser.add_argument("--user", metavar="USER%PASSWORD", help="who asks it")
+    parser.add_argument("--user", metavar="USER%PASSWORD",
+                        help="who asks it; a domain stands before it, as in OFFICE/games. A password that isn't there is taken from "
+                             "the variable PASSWD, or asked for at a terminal")
+    parser.add_argument("-A", "--authentication-file", metavar="FILE",
+                        help="the same in lines `username = ..`, `password = ..` and `domain = ..`, as smbclient has it")
+    parser.add_argument("--kerberos", action="store_true", help="a ticket says who asks, of the cache that KRB5CCNAME names")
     parser.add_argument("--break-time", metavar="SECONDS", type=float,
                         help="how long `expire` waits for a break timer of a server that was named (40)")
     parser.add_argument("--smbd-log", metavar="FILE", help="keep the log of the private smbd there, at level 10")
@@ -67,8 +73,9 @@ def options_text(arguments: argparse.Namespace) -> str:
 def _server_maker(arguments: argparse.Namespace, slots: Slots | None) -> Callable[[], Server]:
     if [arguments.smbd, arguments.served, bool(arguments.server)].count(True) != 1:
         raise Usage("one of --smbd, --served and --server is needed, and one alone")
-    if not arguments.server and any(it is not None for it in (arguments.share, arguments.user, arguments.break_time)):
-        raise Usage("--share, --user and --break-time are of a server that --server names")
+    of_a_named_one = (arguments.share, arguments.user, arguments.break_time, arguments.authentication_file)
+    if not arguments.server and (arguments.kerberos or any(it is not None for it in of_a_named_one)):
+        raise Usage("--share, --user, --authentication-file, --kerberos and --break-time are of a server that --server names")
     if not arguments.served and rules_of(arguments.rules) != Rules():
         raise Usage("--rules are of the proved server, which --served starts")
     if arguments.smbd:
@@ -77,18 +84,18 @@ def _server_maker(arguments: argparse.Namespace, slots: Slots | None) -> Callabl
         raise Usage("--smbd-log is of a private smbd")
     if arguments.served:
         return lambda: DrivenServer(arguments.leasecheck, rules=rules_of(arguments.rules))
-    place = _place(arguments.server, arguments.share, arguments.user)
+    place = _place(arguments)
     break_time = BREAK_TIME if arguments.break_time is None else arguments.break_time
     if not 0 <= break_time < 1e9:
         raise Usage("--break-time is a number of seconds")
     return lambda: NamedServer(place, break_time, slots)
 
 
-def _place(server: str, share: str | None, user: str | None) -> Place:
-    host, colon, port = server.rpartition(":")
+def _place(arguments: argparse.Namespace) -> Place:
+    host, colon, port = arguments.server.rpartition(":")
     if not colon or not host or not port.isdigit() or not 0 < int(port) < 65536:
         raise Usage("--server is HOST:PORT")
-    name, percent, password = (user or "").partition("%")
-    if not share or not percent:
-        raise Usage("--server needs --share NAME and --user USER%PASSWORD")
-    return Place(host.strip("[]"), int(port), share, name, password)
+    if not arguments.share:
+        raise Usage("--server needs --share NAME")
+    login = login_of(arguments.user, arguments.authentication_file, arguments.kerberos)
+    return Place(host.strip("[]"), int(port), arguments.share, login.user, login.password, login.domain, login.by_ticket)

@@ -35,7 +35,8 @@ def _facts(arguments: argparse.Namespace, schedule: Schedule) -> tuple[list[str]
     if not arguments.record:
         outcome = runner_of(arguments).run(schedule)
         return outcome.record.facts(), outcome.counts
-    of_a_run = (arguments.server, arguments.share, arguments.user, arguments.break_time, arguments.smbd_log)
+    of_a_run = (arguments.server, arguments.share, arguments.user, arguments.authentication_file, arguments.break_time,
+                arguments.smbd_log)
     if arguments.smbd or arguments.served or any(it is not None for it in of_a_run):
         raise Usage("--record is of a run that was driven already")
     try:

@@ -12,6 +12,7 @@ from socket import SHUT_WR
 from typing import Any
 
 from impacket import ntlm, smb3structs as smb2
+from impacket.krb5.ccache import CCache
 from impacket.smb3 import SMB3, SessionError
 
 import smblease
@@ -195,11 +196,24 @@ def _negotiated(place: Place, guid: bytes) -> Protocol:
 
 def _tree(smb: Protocol, place: Place) -> int:
     """The share, after the user was let in."""
-    with told(_nowhere(place), f"the server has to let user {place.user} in with this password"):
-        smb.login(place.user, place.password)
+    if place.by_ticket:
+        _log_in_by_ticket(smb, place)
+    else:
+        with told(_nowhere(place), f"the server has to let user {place.user} in with this password"):
+            smb.login(place.user, place.password, place.domain)
     with told(_nowhere(place), f"share {place.share} has to be there for user {place.user}, without encryption, which dialect 2.1 "
                                "doesn't have (smbd: `smb encrypt`; Windows: EncryptData)"):
         return int(smb.connectTree(place.share))
+
+
+def _log_in_by_ticket(smb: Protocol, place: Place) -> None:
+    """By a ticket of the cache that KRB5CCNAME names."""
+    need = "a ticket for the server is needed, in the cache that KRB5CCNAME names (kinit), and the server's name in --server"
+    with told(_nowhere(place), need):
+        domain, user, granting, ticket = CCache.parseFile(place.domain, place.user, f"cifs/{place.host}")
+        if granting is None and ticket is None:
+            raise DriveFault(f"{_nowhere(place)}: {need}")
+        smb.kerberosLogin(user, "", domain, TGT=granting, TGS=ticket)
 
 
 def _is_want_of_memory(fault: BaseException | None) -> bool:

@@ -13,6 +13,9 @@ class Place:
     share: str
     user: str
     password: str
+    domain: str = ""
+    # whether a ticket of Kerberos says who asks, and no password
+    by_ticket: bool = False
 
 
 class Timers(Enum):
