@@ -19,7 +19,7 @@ Key = tuple[int, uuid.UUID]
 
 
 class Departure(Enum):
-    """What smbd was seen to do otherwise; the texts are those of docs/REAL_SERVERS.md."""
+    """What smbd was seen to do otherwise; the texts are those of docs/FOUND_ON_SMBD.md."""
 
     OPENS_STAY = "a break that times out takes the lease away and leaves its opens"
     CREATES_WAIT = "a create waits for any other lease of the file that is breaking"

@@ -1,1 +1,1 @@
-"""Files over the proved manager of leases: a server of SMB 2.1 (docs/REAL_SERVERS.md)."""
+"""Files over the proved manager of leases: a server of SMB 2.1 (docs/SERVE.md)."""

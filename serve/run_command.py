@@ -33,7 +33,7 @@ if TYPE_CHECKING:
 LOG = logging.getLogger("serve")
 RULES = "by-key,whole"
 EPILOG = """It prints `port N`, and serves until it is ended by SIGINT or SIGTERM. With --record it then prints the verdict of the
-record. docs/REAL_SERVERS.md says what is the proved manager's and what the shell's, and which rules a record can break.
+record. docs/SERVE.md says what is the proved manager's and what the shell's, and which rules a record can break.
 
 Exit status: 0 it was ended, and the record, if any, is safe; 1 it couldn't begin or go on; 2 the command line is
 refused; 3 the record is unsafe."""

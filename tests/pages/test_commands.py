@@ -33,6 +33,7 @@ NEEDS = {"pkg-config": "pkg-config", "out/c/": "pkg-config", "./lend": "pkg-conf
 # And these need these packages of /usr/bin/python3.
 PACKAGES = {"environment": ("ensurepip", "setuptools", "wheel")}
 MOST_LINES = 150
+MOST_LINES_OF_A_USE = 200
 MARK = "-- the end of what the command printed:"
 
 
@@ -136,6 +137,12 @@ def test_no_command_takes_the_kit(session: Session) -> None:
 
 def test_readme_is_short() -> None:
     assert page("README.md").count("\n") <= MOST_LINES
+
+
+@pytest.mark.parametrize("name", ["REAL_SERVERS", "FOUND_ON_SMBD", "CAPTURES", "SERVE", "SERVE_TRIED"])
+def test_pages_on_servers_are_short(name: str) -> None:
+    """Each is about one use."""
+    assert page(f"docs/{name}.md").count("\n") <= MOST_LINES_OF_A_USE
 
 
 def test_sessions_show_the_example() -> None:

@@ -84,7 +84,7 @@ def test_entries_of_a_folder(shared: ServerProcess, connect: Connect) -> None:
 
 
 def test_the_page_has_these_classes() -> None:
-    page = Path(TOP / "docs/REAL_SERVERS.md").read_text(encoding="utf-8")
+    page = Path(TOP / "docs/SERVE.md").read_text(encoding="utf-8")
     rows = re.findall(r"^\| (a file|the file system|an entry of a folder) \| ([\d, ]+) \|", page, re.M)
     assert [(what, [int(it) for it in numbers.split(", ")]) for what, numbers in rows] == [
         ("a file", list(OF_FILE)), ("the file system", list(OF_FILESYSTEM)), ("an entry of a folder", list(OF_DIRECTORY))]
