@@ -2,6 +2,7 @@
 from __future__ import annotations
 
 import argparse
+import os
 from collections.abc import Callable
 
 from smblease.program import find_program
@@ -33,8 +34,8 @@ def server_arguments(parser: argparse.ArgumentParser) -> None:
     parser.add_argument("--server", metavar="HOST:PORT", help="a server that is there, in place of a private one")
     parser.add_argument("--share", metavar="NAME", help="its share")
     parser.add_argument("--user", metavar="USER%PASSWORD",
-                        help="who asks it; a domain stands before it, as in OFFICE/games. A password that isn't there is taken from "
-                             "the variable PASSWD, or asked for at a terminal")
+                        help="who asks it; a domain stands before it, as in OFFICE/games. A password that isn't there is taken "
+                             "from the variable PASSWD, or asked for at a terminal")
     parser.add_argument("-A", "--authentication-file", metavar="FILE",
                         help="the same in lines `username = ..`, `password = ..` and `domain = ..`, as smbclient has it")
     parser.add_argument("--kerberos", action="store_true", help="a ticket says who asks, of the cache that KRB5CCNAME names")
@@ -49,8 +50,8 @@ def server_arguments(parser: argparse.ArgumentParser) -> None:
 def runner_of(arguments: argparse.Namespace, slots: Slots | None = None) -> Runner:
     """How the schedules are run that a command line asks for; `slots` has the one that a run lends while it waits for a timer."""
     expect = None if arguments.expect is None else rules_of(arguments.expect, "--expect")
-    return Runner(arguments.leasecheck, _server_maker(arguments, slots), arguments.skip, rules=rules_of(arguments.rules), expect=expect,
-                  stays=bool(arguments.server))
+    return Runner(arguments.leasecheck, _server_maker(arguments, slots), arguments.skip, rules=rules_of(arguments.rules),
+                  expect=expect, stays=bool(arguments.server))
 
 
 def server_text(arguments: argparse.Namespace) -> str:
@@ -97,5 +98,5 @@ def _place(arguments: argparse.Namespace) -> Place:
         raise Usage("--server is HOST:PORT")
     if not arguments.share:
         raise Usage("--server needs --share NAME")
-    login = login_of(arguments.user, arguments.authentication_file, arguments.kerberos)
+    login = login_of(arguments.user, arguments.authentication_file, arguments.kerberos, os.environ)
     return Place(host.strip("[]"), int(port), arguments.share, login.user, login.password, login.domain, login.by_ticket)

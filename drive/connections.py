@@ -39,8 +39,8 @@ SHARE_ALL = 7
 
 @contextmanager
 def told(what: str, need: str = "", need_of_network: str = "") -> Iterator[None]:
-    """What fails in here is a DriveFault that says what that was, with one line of why, and of what is needed: of the network, where
-    that is what fails."""
+    """What fails in here is a DriveFault that says what that was, with one line of why, and of what is needed: of the network,
+    where that is what fails."""
     try:
         yield
     except DriveFault:
@@ -201,8 +201,8 @@ def _tree(smb: Protocol, place: Place) -> int:
     else:
         with told(_nowhere(place), f"the server has to let user {place.user} in with this password"):
             smb.login(place.user, place.password, place.domain)
-    with told(_nowhere(place), f"share {place.share} has to be there for user {place.user}, without encryption, which dialect 2.1 "
-                               "doesn't have (smbd: `smb encrypt`; Windows: EncryptData)"):
+    with told(_nowhere(place), f"share {place.share} has to be there for user {place.user}, without encryption, which dialect "
+                               "2.1 doesn't have (smbd: `smb encrypt`; Windows: EncryptData)"):
         return int(smb.connectTree(place.share))
 
 

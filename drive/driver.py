@@ -18,6 +18,7 @@ from smblease.world import World
 
 from drive.connections import Connection
 from drive.exchange import Exchange
+from drive.expectation import Step
 from drive.faults import DriveFault, Undrivable
 from drive.peers import DrivenPeer
 from drive.place import Server, Timers
@@ -42,8 +43,8 @@ class Driver(World[DrivenPeer]):
         # the persistent halves of the FileIds that the server gave, in the order of opening
         self._opened: list[int] = []
         self._server = server
-        # the clients and files whose breaks ran out at the last `expire`
-        self._expired: tuple[tuple[int, int], ...] = ()
+        # the clients and files whose breaks ran out in each wait of the last `expire`
+        self._waits: tuple[tuple[tuple[int, int], ...], ...] = ()
         self._names = WireNames()
         self._exchange = Exchange(peers, self._names)
         self.record.remark(f"on the wire ClientGuids and lease keys are those here, exclusive or {self._names.mask.hex()}")
@@ -52,11 +53,10 @@ class Driver(World[DrivenPeer]):
     def tried(self) -> Tried:
         return replace(self._exchange.tried, cached_reads=self.record.count_of("cachedread"))
 
-    def replayed(self, event: Event) -> tuple[Event, ...]:
-        """The events by which a replay has what came of the last event that did something."""
-        if event.kind is EventKind.EXPIRE and self._expired:
-            return tuple(Event(EventKind.EXPIRE, client, (str(file),)) for client, file in self._expired)
-        return (event,)
+    def step(self, event: Event, has_applied: bool) -> Step:
+        """What became of the last event."""
+        is_wait = has_applied and event.kind is EventKind.EXPIRE
+        return Step(event, self.record.count, self._waits if is_wait else ())
 
     def close(self) -> None:
         for peer in self.peers.values():
@@ -87,9 +87,9 @@ class Driver(World[DrivenPeer]):
         if file not in peer.breaking:
             return False
         waiting = self._running_out(client, file)
-        self._expired = ()
+        self._waits = ()
         while waiting:
-            self._expired += tuple(waiting)
+            self._waits += (tuple(waiting),)
             for other, breaking in waiting:
                 self.record.fact(f"expired {other} {breaking}")
                 self.peers[other].breaking.pop(breaking)

@@ -3,22 +3,33 @@ from __future__ import annotations
 
 from collections.abc import Sequence
 from dataclasses import dataclass
+from typing import Tuple
 
 from smblease import Server
-from smblease.schedules import Event, Schedule
+from smblease.schedules import Event, EventKind, Schedule
 from smblease.values import Rules
 from smblease.world import ClientObjects, MachineWorld
 
 from drive.records import by_client
 
 
+Timer = Tuple[int, int]
+
+
 @dataclass(frozen=True)
 class Step:
-    """An event of a run, the events by which a replay has it, and how many facts there were after it."""
+    """An event of a run, and how many facts there were after it. Where timers were waited for, `waits` are the clients and files
+    whose breaks ran out, wait by wait."""
 
     event: Event
-    replayed: tuple[Event, ...]
     count: int
+    waits: tuple[tuple[Timer, ...], ...] = ()
+
+    @property
+    def replayed(self) -> tuple[Event, ...]:
+        """The events by which a replay has it."""
+        timers = [timer for wait in self.waits for timer in wait]
+        return tuple(Event(EventKind.EXPIRE, client, (str(file),)) for client, file in timers) or (self.event,)
 
 
 @dataclass(frozen=True)

@@ -10,7 +10,7 @@ from smblease.program import judge
 from smblease.schedules import Event, Schedule
 
 from drive.drawing import Drawn, drawn, own_seed
-from drive.explanations import NONE, Likeness, facts_of, likeness_of
+from drive.explanations import NONE, Likeness, Run, facts_of, likeness_of
 from drive.explored import Row
 from drive.model import Departure
 from drive.runner import Outcome, Runner
@@ -51,7 +51,7 @@ class Explorer:
         likeness = self._likeness(schedule, outcome)
         if self._keeps_all or likeness.is_open or not outcome.verdict.is_safe:
             self._keep(f"{number}", schedule, outcome)
-        is_allowed = outcome.rule is not None and self._is_allowed(schedule, likeness)
+        is_allowed = outcome.rule is not None and self._is_allowed(self._run(schedule, outcome), likeness)
         left = None
         if outcome.is_charged and self._shrinks and not is_allowed:
             left = self._shrunk(number, schedule.with_events(tuple(outcome.applied)), outcome)
@@ -62,14 +62,18 @@ class Explorer:
         """Where rules are expected nothing explains what departs from them."""
         if self._runner.expect is not None:
             return Likeness(None if outcome.difference else NONE)
-        return likeness_of(self._runner.program, schedule, outcome.record.facts(), outcome.counts, self._runner.rules)
+        return likeness_of(self._runner.program, self._run(schedule, outcome), outcome.record.facts(), outcome.counts,
+                           self._runner.rules)
 
-    def _is_allowed(self, schedule: Schedule, likeness: Likeness) -> bool:
+    def _run(self, schedule: Schedule, outcome: Outcome) -> Run:
+        return Run.waited(schedule, outcome.steps) if self._runner.stays else Run(schedule)
+
+    def _is_allowed(self, run: Run, likeness: Likeness) -> bool:
         """Whether the model server is safe with the departures of an unsafe record but for the allowed ones."""
         others = (likeness.departures or NONE) - self._allowed
         if others == (likeness.departures or NONE):
             return False
-        facts = facts_of(schedule, others)
+        facts = facts_of(run, others)
         return judge(self._runner.program, "".join(f"{it}\n" for it in facts)).is_safe
 
     def _driven(self, chosen: Drawn) -> tuple[Schedule, Outcome]:

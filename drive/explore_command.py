@@ -5,6 +5,7 @@ import argparse
 import logging
 import os
 import re
+import signal
 import sys
 import time
 from collections.abc import Sequence
@@ -24,6 +25,7 @@ from drive.model import Departure
 from drive.pictures import version_of
 from drive.report import Report
 from drive.servers import FITTED, SMBD
+from drive.signals import Noted
 from drive.slots import Slots
 from drive.workers import rows_of
 
@@ -31,14 +33,16 @@ from drive.workers import rows_of
 FEW, SHARE = 3, 0.2
 EPILOG = """FOLDER/table begins with how it was made, and --resume goes on with it only where that is the same. It gets a line for
 each schedule: its number; what --seed draws it by alone; `blind` (its events were chosen beforehand), `guided` (each by
-what the run had come to), `aimed` (guided towards a write during a break to reads) or what its scene aims at; its events,
-and how many of them did something; what it tried, by six numbers: creates that asked for a lease, that were granted
-one, and that were refused for their key, breaks, acknowledgments, and reads from a cache; the verdict, which is
-`nothing tried` where no lease was granted; `same` where the record is the profile's, else the known departures that explain it, or `unexplained` (docs/REAL_SERVERS.md); and for an unsafe
-one `shrunk N`, the events that are left, or `allowed`: it is safe on a model server without the departures of
---allow, and doesn't count. With --expect the verdict is `unexpected PLACE` where a record isn't that of a server of
-these rules. A schedule that is unsafe, unexpected or unexplained is kept next to the table by its number, with its
-record, what isn't expected, and what is left of it. It counts as unsafe, and is shrunk, where it breaks one rule in both orders of
+what the run had come to), `aimed` (guided towards a write during a break to reads) or what its scene aims at; its
+events, and how many of them did something; what it tried, by six numbers: creates that asked for a lease, that were
+granted one, and that were refused for their key, breaks, acknowledgments, and reads from a cache; the verdict, which is
+`nothing tried` where no lease was granted; `same` where the record is the profile's, else the known departures that
+explain it, or `unexplained` (docs/FOUND_ON_SMBD.md); and for an unsafe one `shrunk N`, the events that are left, or
+`allowed`: it is safe on a model server without the departures of --allow, and doesn't count. With --expect the verdict
+is `unexpected PLACE` where a record isn't that of a server of these rules.
+
+A schedule that is unsafe, unexpected or unexplained is kept next to the table by its number, with its record, what isn't
+expected, and what is left of it. It counts as unsafe, and is shrunk, where it breaks one rule in both orders of
 messages; where the rules differ the table says `unsure` and both verdicts. One seed gives one table, as far as the
 server does the same again.
 
@@ -59,7 +63,7 @@ def parser() -> argparse.ArgumentParser:
     made.add_argument("--resume", action="store_true", help="go on with what the table doesn't have yet")
     made.add_argument("--jobs", type=int, default=1, metavar="N", help="drive so many at a time (1)")
     made.add_argument("--allow", metavar="DEPARTURE", nargs="+", default=[], choices=[it.name.lower() for it in Departure],
-                      help="what is unsafe by these known departures alone doesn't count (docs/REAL_SERVERS.md)")
+                      help="what is unsafe by these known departures alone doesn't count (docs/FOUND_ON_SMBD.md)")
     made.add_argument("--shard", metavar="I/N", help="of the schedules only each N-th, from the I-th on")
     made.add_argument("--junit", metavar="FILE", help="write there what became of them, for a build server")
     made.add_argument("--report", metavar="FILE", help="write a page there (HTML), with pictures of what is charged")
@@ -129,11 +133,12 @@ class Progress:
 
 def summary(rows: Sequence[Row], driven: int, folder: str, arguments: argparse.Namespace) -> list[str]:
     """What is printed of all rows, of which so many were driven now."""
-    counts = [(sum(it.is_unsafe for it in rows), "unsafe", True), (sum(it.is_unexpected for it in rows), "unexpected", arguments.expect),
-              (sum(it.is_allowed for it in rows), "allowed", arguments.allow), (sum(it.tried_nothing for it in rows), "tried nothing", False),
-              (sum(it.is_fault for it in rows), "not driven to the end", True)]
+    counts = {"unsafe": sum(it.is_unsafe for it in rows), "unexpected": sum(it.is_unexpected for it in rows),
+              "allowed": sum(it.is_allowed for it in rows), "tried nothing": sum(it.tried_nothing for it in rows),
+              "not driven to the end": sum(it.is_fault for it in rows)}
+    always = {"unsafe", "not driven to the end"} | ({"unexpected"} if arguments.expect else set())
     before = f" after {len(rows) - driven}" if len(rows) > driven else ""
-    said = ", ".join(f"{count} {what}" for count, what, always in counts if count or always)
+    said = ", ".join(f"{count} {what}" for what, count in counts.items() if count or what in always)
     return [tried_by(rows), *another_server(rows, arguments), f"{driven} driven{before}, {said}; {folder}/table has them"]
 
 
@@ -141,12 +146,12 @@ def another_server(rows: Sequence[Row], arguments: argparse.Namespace) -> list[s
     """Word that the known departures, by which records are explained, are those of another server or set-up than this one."""
     if arguments.expect is not None or arguments.served:
         return []
-    driven = [it for it in rows if not it.is_fault]
+    driven = [it for it in rows if not it.is_fault and not it.tried_nothing]
     unexplained = sum(it.likeness == UNEXPLAINED for it in driven)
     if unexplained < FEW or unexplained < SHARE * len(driven):
         return []
-    return [f"{unexplained} of {len(driven)} records are unexplained: the known departures are those of {FITTED}, and this is another "
-            "server, or one that is set up otherwise"]
+    return [f"{unexplained} of {len(driven)} records are unexplained: the known departures are those of {FITTED}, and this is "
+            "another server, or one that is set up otherwise"]
 
 
 def status_of(rows: Sequence[Row]) -> int:
@@ -188,11 +193,12 @@ def _explore(arguments: argparse.Namespace) -> int:
 
 
 def _write_reports(arguments: argparse.Namespace, report: Report) -> None:
-    forms = ((arguments.junit, lambda: junit(report.rows, report.head.seed)), (arguments.report, report.html),
-             (arguments.json, report.json))
-    for path, form in forms:
-        if path:
-            write(path, form())
+    if arguments.junit:
+        write(arguments.junit, junit(report.rows, report.head.seed))
+    if arguments.report:
+        write(arguments.report, report.html())
+    if arguments.json:
+        write(arguments.json, report.json())
 
 
 def versions_of(arguments: argparse.Namespace) -> dict[str, str]:
@@ -206,15 +212,18 @@ def head_of(arguments: argparse.Namespace, plan: Plan) -> Head:
 
 
 def _drive(explorer: Explorer, table: Table, plan: Plan, arguments: argparse.Namespace) -> tuple[int, bool]:
-    """Drives what the table doesn't have, and adds the rows; how many those are, and whether nobody interrupted it. Runs that wait
-    for a timer aren't counted among --jobs."""
+    """Drives what the table doesn't have, and adds the rows; how many those are, and whether nobody interrupted it. Runs that
+    wait for a timer aren't counted among --jobs."""
     numbers = sorted(set(plan.numbers) - {it.number for it in table.rows})
     progress, driven, is_whole = Progress(len(numbers)), 0, True
     workers = arguments.jobs * (EXPIRING if arguments.server and arguments.jobs > 1 else 1)
     try:
-        with closing(rows_of(explorer, numbers, workers)) as rows:
-            for driven, row in enumerate(rows, 1):
+        with Noted(signal.SIGINT) as interruption, closing(rows_of(explorer, numbers, workers)) as rows:
+            for row in rows:
+                if interruption.came:
+                    raise KeyboardInterrupt
                 table.add(row)
+                driven += 1
                 progress.show(table.rows, driven)
     except KeyboardInterrupt:
         is_whole = False

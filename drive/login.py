@@ -2,7 +2,6 @@
 from __future__ import annotations
 
 import getpass
-import os
 import re
 import sys
 from collections.abc import Mapping
@@ -46,7 +45,7 @@ def asked_for(user: str) -> str | None:
     return getpass.getpass(f"Password of {user}: ") if sys.stdin is not None and sys.stdin.isatty() else None
 
 
-def login_of(user: str | None, file: str | None, by_ticket: bool, variables: Mapping[str, str] = os.environ,
+def login_of(user: str | None, file: str | None, by_ticket: bool, variables: Mapping[str, str],
              ask: Callable[[str], str | None] = asked_for) -> Login:
     """Who asks, by what the command line says; a password is looked for there, then in the file, in the environment, and last
     asked for."""
@@ -62,5 +61,5 @@ def login_of(user: str | None, file: str | None, by_ticket: bool, variables: Map
     for known in (password, fields.get("password"), variables.get(PASSWORD_VARIABLE), ask(name)):
         if known is not None:
             return replace(login, password=known)
-    raise Usage(f"the password of {name} is needed: in a file (--authentication-file), in the variable {PASSWORD_VARIABLE}, or at a "
-                "terminal")
+    raise Usage(f"the password of {name} is needed: in a file (--authentication-file), in the variable {PASSWORD_VARIABLE}, "
+                "or at a terminal")

@@ -89,8 +89,8 @@ class Outcome:
 @dataclass(frozen=True)
 class Runner:
     """How schedules are run. `server` makes the server of a run, which is ended with it; `expect` are the rules that it claims
-    to keep. `stays` is said of a server that was there before: it may be that it can't be driven at all, and its timers of durable
-    opens can't be ended."""
+    to keep. `stays` is said of a server that was there before: it may be that it can't be driven at all, and its timers of
+    durable opens can't be ended."""
 
     program: str
     server: Callable[[], Server]
@@ -123,7 +123,7 @@ class Runner:
                 raise Undrivable(f"{event.text}: {fault}") from None
             outcome.skipped.append(f"{event.text}: {fault}")
             return False
-        outcome.steps.append(Step(event, driver.replayed(event) if applied else (event,), driver.record.count))
+        outcome.steps.append(driver.step(event, applied))
         outcome.tried = driver.tried
         if applied:
             outcome.applied.append(event)

@@ -3,14 +3,15 @@ from __future__ import annotations
 
 import multiprocessing
 import signal
-from collections.abc import Iterator, Sequence
-from contextlib import closing
+from collections.abc import Generator, Sequence
+from contextlib import closing, suppress
 from multiprocessing.connection import Connection
 from typing import Any
 
 from drive.exploration import Explorer
 from drive.explored import Row
 from drive.faults import DriveFault
+from drive.signals import Noted
 
 # A run is far shorter but where it waits for a timer, and a row comes after it, and after what shrinks it.
 BETWEEN_LOOKS = 1.0
@@ -18,7 +19,7 @@ ENDED = "a process that drives schedules ended before the schedules did"
 CONTEXT = multiprocessing.get_context("fork")
 
 
-def rows_of(explorer: Explorer, numbers: Sequence[int], count: int) -> Iterator[Row]:
+def rows_of(explorer: Explorer, numbers: Sequence[int], count: int) -> Generator[Row, None, None]:
     """The row of each number, as it comes, by so many processes; by none but this one where that is 1."""
     if count == 1 or len(numbers) < 2:
         with closing(explorer):
@@ -61,8 +62,8 @@ class Workers:
 def _work(explorer: Explorer, numbers: Sequence[int], begun: Any, sending: Any, rows: Connection) -> None:
     """Drives the next schedule that nobody has begun, until there is none. An interruption is for the process that waits."""
     signal.signal(signal.SIGINT, signal.SIG_IGN)
-    with closing(explorer):
-        while True:
+    with suppress(KeyboardInterrupt), closing(explorer), Noted(signal.SIGTERM) as ended:
+        while not ended.came:
             with begun.get_lock():
                 place = begun.value
                 begun.value += 1
@@ -70,4 +71,5 @@ def _work(explorer: Explorer, numbers: Sequence[int], begun: Any, sending: Any, 
                 return
             row = explorer.explore(numbers[place])
             with sending:
-                rows.send(row)
+                if not ended.came:
+                    rows.send(row)

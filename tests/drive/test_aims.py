@@ -37,7 +37,7 @@ def kinds_of(facts: list[str]) -> Counter[str]:
     return Counter(it.split(" ")[0] for it in facts)
 
 
-@pytest.mark.parametrize("aim", Aim, ids=lambda it: it.value)
+@pytest.mark.parametrize("aim", Aim, ids=[it.value for it in Aim])
 @pytest.mark.parametrize("seed", SEEDS)
 def test_what_a_schedule_has(aim: Aim, seed: int, program: str) -> None:
     """A lease is held while another client changes the file or opens it; the proved server is safe."""
@@ -53,7 +53,7 @@ def test_schedules_differ() -> None:
     assert len({tuple(facts_of(Aim.CACHED_READ, seed, Server)) for seed in SEEDS}) == len(SEEDS)
 
 
-@pytest.mark.parametrize("aim", [Aim.CACHED_READ, Aim.SECOND_OPEN], ids=lambda it: it.value)
+@pytest.mark.parametrize("aim", [Aim.CACHED_READ, Aim.SECOND_OPEN], ids=["cached_read", "second_open"])
 def test_server_that_breaks_nothing(aim: Aim, program: str) -> None:
     """Most schedules that aim at a stale read find one, each by itself."""
     found = [judge(program, "".join(f"{it}\n" for it in facts_of(aim, seed, BreaksNothing))) for seed in SEEDS]

@@ -27,7 +27,7 @@ pytest.importorskip("impacket", reason=f"there is no package impacket; {needs.IN
 # pylint: disable=wrong-import-position
 from tests.drive.named import named_smbd  # noqa: E402
 from drive import servers  # noqa: E402
-from drive.explanations import likeness_of  # noqa: E402
+from drive.explanations import Run, likeness_of  # noqa: E402
 from drive.exploration import Explorer  # noqa: E402
 from drive.kept_servers import KeptServers  # noqa: E402
 from drive.model import Departure  # noqa: E402
@@ -94,7 +94,7 @@ def test_departure(name: str, runner: Runner) -> None:
 
     def check() -> None:
         facts = runner.run(schedule).record.facts()
-        assert likeness_of(runner.program, schedule, facts).word == ",".join(sorted([name, *BESIDE.get(name, [])]))
+        assert likeness_of(runner.program, Run(schedule), facts).word == ",".join(sorted([name, *BESIDE.get(name, [])]))
     tried(check)
 
 

@@ -3,6 +3,7 @@ from __future__ import annotations
 
 import os
 import pty
+import select
 import signal
 import subprocess
 import time
@@ -16,12 +17,12 @@ from tests.paths import TESTS, TOP, built_program
 
 pytest.importorskip("impacket", reason=f"there is no package impacket; {needs.INSTALLS}")
 # pylint: disable=wrong-import-position
+from tests.drive.named import named_proved, named_smbd  # noqa: E402
 from drive import connections  # noqa: E402
 from drive.connections import Connection  # noqa: E402
 from drive.faults import DriveFault, Usage  # noqa: E402
 from drive.login import Login, login_of  # noqa: E402
 from drive.place import Place  # noqa: E402
-from tests.drive.named import named_proved, named_smbd  # noqa: E402
 
 USERS = {
     "games%secret": Login("games", "secret"), "OFFICE\\games%secret": Login("games", "secret", "OFFICE"),
@@ -86,7 +87,7 @@ def test_login_by_a_ticket(ticket: object, monkeypatch: pytest.MonkeyPatch) -> N
         asked.append((domain, user, target))
         return "OFFICE", "games", None, ticket
     monkeypatch.setattr(connections, "Protocol", Ticketed)
-    monkeypatch.setattr(connections.CCache, "parseFile", parse)
+    monkeypatch.setattr("impacket.krb5.ccache.CCache.parseFile", parse)
     place = Place("files.office", 445, "share", "", "", "", True)
     if ticket is None:
         with pytest.raises(DriveFault, match="a ticket for the server is needed"):
@@ -114,23 +115,18 @@ def test_password_at_a_terminal(program: str) -> None:
     """It is asked for where it stands nowhere, and isn't shown."""
     with named_proved(program, "--user", "games%secret") as words:
         ours, theirs = pty.openpty()
-        command = [str(TOP / "drive" / "run"), "--leasecheck", built_program(), *words[:-1], "OFFICE\\games", str(SCHEDULE)]
-        with subprocess.Popen(command, stdin=theirs, stdout=subprocess.PIPE, stderr=subprocess.PIPE, text=True,
-                              start_new_session=True, preexec_fn=_takes_terminal) as process:
-            os.close(theirs)
-            shown = os.read(ours, 100).decode()
+        # (of a session without a terminal the first one that is opened is its own)
+        run = [str(TOP / "drive" / "run"), "--leasecheck", built_program(), *words[:-1], "OFFICE\\games", str(SCHEDULE)]
+        command = ["sh", "-c", f'exec "$0" "$@" <{os.ttyname(theirs)}', *run]
+        with subprocess.Popen(command, stdout=subprocess.PIPE, stderr=subprocess.PIPE, text=True,
+                              start_new_session=True) as process:
+            shown = os.read(ours, 100).decode() if select.select([ours], [], [], 30)[0] else ""
             os.write(ours, b"secret\n")
             out, faults = process.communicate(timeout=60)
         os.close(ours)
+        os.close(theirs)
     assert shown.startswith("Password of games: ")
     assert (process.returncode, out.splitlines()[-1:], faults) == (0, ["# safe"], "")
-
-
-def _takes_terminal() -> None:
-    """Standard input is the terminal of the new session."""
-    import fcntl  # pylint: disable=import-outside-toplevel
-    import termios  # pylint: disable=import-outside-toplevel
-    fcntl.ioctl(0, termios.TIOCSCTTY, 0)
 
 
 def is_gone(group: int, seconds: float) -> bool:

@@ -34,7 +34,7 @@ def first_charged(program: str, folder: Path, mistake: Mistake | None, expect: R
         return next((row for row in map(explorer.explore, numbers) if row.is_charged), None)
 
 
-@pytest.mark.parametrize("mistake", Mistake, ids=lambda it: it.name.lower())
+@pytest.mark.parametrize("mistake", Mistake, ids=[it.name.lower() for it in Mistake])
 def test_mistake_under_rules(mistake: Mistake, program: str, tmp_path: Path) -> None:
     row = first_charged(program, tmp_path, mistake, Rules(), range(1, FIRST + 1))
     assert row is not None
@@ -43,7 +43,7 @@ def test_mistake_under_rules(mistake: Mistake, program: str, tmp_path: Path) -> 
         assert text.startswith(f"fact {row.verdict.split()[1]}, at event ") and "; expected: " in text
 
 
-@pytest.mark.parametrize("mistake", UNSAFE, ids=lambda it: it.name.lower())
+@pytest.mark.parametrize("mistake", UNSAFE, ids=[it.name.lower() for it in UNSAFE])
 def test_mistake_that_breaks_a_promise(mistake: Mistake, program: str, tmp_path: Path) -> None:
     row = first_charged(program, tmp_path, mistake, None, range(1, FIRST + 1))
     assert row is not None and row.is_unsafe

@@ -15,11 +15,11 @@ from tests.paths import TESTS
 
 pytest.importorskip("impacket", reason=f"there is no package impacket; {needs.INSTALLS}")
 # pylint: disable=wrong-import-position
+from tests.drive.named import named_proved, named_smbd, place_of  # noqa: E402
 from drive.drawing import drawn  # noqa: E402
 from drive.random_schedules import Chooser, setup_of  # noqa: E402
 from drive.runner import Runner  # noqa: E402
 from drive.servers import NamedServer  # noqa: E402
-from tests.drive.named import named_proved, named_smbd, place_of  # noqa: E402
 
 # Two clients have breaks to acknowledge when the timer of one is waited for; then the third caches writes.
 TWO_BREAKS = """file 616263
@@ -94,6 +94,19 @@ def test_breaks_that_come_while_one_is_waited_for(program: str, tmp_path: Path) 
     assert [it for it in facts if it.startswith("expired")] == ["expired 1 1", "expired 2 1"]
 
 
+@pytest.mark.parametrize("text", [TWO_BREAKS, CHAIN], ids=["two breaks", "chain"])
+def test_comparison_where_timers_were_waited_for(text: str, tmp_path: Path, program: str) -> None:
+    """The profile's server is given the end of each timer that ran out, so that nothing is left to be explained; and so it is where
+    its rules are expected."""
+    schedule = tmp_path / "schedule"
+    schedule.write_text(text, encoding="ascii")
+    with named_proved(program, "--break-timer", BREAK_TIMER, "--rules", "profile") as words:
+        timed = [*words, "--break-time", "1"]
+        assert ran("compare", [*timed, schedule]) == (0, "same\n", "")
+        had = ran("run", [*timed, "--expect", "profile", schedule])
+    assert (had.status, had.out.splitlines()[-1]) == (0, "# safe")
+
+
 WITHOUT_LEASES = "[global]\n  smb2 leases = no\n"
 
 
@@ -136,11 +149,12 @@ def test_server_that_cant_be_driven(why: str, tmp_path: Path) -> None:
 
 
 @with_private_smbd
-@pytest.mark.parametrize(("changed", "need"), [({"--user": "root%wrong"}, "let user root in"), ({"--share": "none"}, "share none has"),
-                                               ({"--server": "127.0.0.1:1"}, "Connection refused; an SMB server has to be there")])
-def test_words_that_dont_fit_the_server(changed: dict[str, str], need: str, tmp_path: Path) -> None:
+@pytest.mark.parametrize(("word", "value", "need"), [
+    ("--user", "root%wrong", "let user root in"), ("--share", "none", "share none has"),
+    ("--server", "127.0.0.1:1", "Connection refused; an SMB server has to be there")])
+def test_words_that_dont_fit_the_server(word: str, value: str, need: str, tmp_path: Path) -> None:
     with named_smbd() as words:
-        named = {**dict(zip(words[::2], words[1::2])), **changed}
+        named = {**dict(zip(words[::2], words[1::2])), word: value}
         assert need in refusal([it for pair in named.items() for it in pair], tmp_path)
 
 

@@ -1,8 +1,9 @@
-"""drive/explore --report and --json: a page that needs no network, with a picture of what is charged, and the same for programs."""
+"""drive/explore --report and --json: a page that needs no network, with a picture of what is charged; the same for programs."""
 from __future__ import annotations
 
 import base64
 import json
+import re
 from html.parser import HTMLParser
 from pathlib import Path
 
@@ -45,8 +46,8 @@ def test_page_and_json(tmp_path: Path) -> None:
                 if name in ("src", "href") and not (value or "").startswith(("data:", "#"))]
     [picture] = [named["src"] for tag, named in found.tags if tag == "img"]
     drawn = base64.b64decode((picture or "").partition(",")[2]).decode()
-    # the messages are in the picture, by the words of the record's remarks
-    assert drawn.startswith("<svg") and "writedone" in drawn and "cachedread" in found.words
+    # the messages are in the picture, by the words of the record's remarks, and so is where the break is
+    assert drawn.startswith("<svg") and re.search(r"sent \d break ", drawn) and "cached read" in found.words
     schedule = (folder / "14.schedule").read_text(encoding="ascii")
     assert schedule in found.words and "unsafe" in found.words and words[1] in found.words
     [row] = json.loads(said.read_text(encoding="utf-8"))["schedules"]

@@ -3,6 +3,7 @@ from __future__ import annotations
 
 import multiprocessing
 import os
+import signal
 import xml.etree.ElementTree as xml
 from multiprocessing.synchronize import Barrier
 from pathlib import Path
@@ -13,7 +14,8 @@ pytest.importorskip("impacket", reason="there is no package impacket; tools/setu
 # pylint: disable=wrong-import-position
 from drive import explore_command  # noqa: E402
 from drive.exploration import Explorer  # noqa: E402
-from drive.explored import NOTHING, Row  # noqa: E402
+from drive.explored import Row  # noqa: E402
+from drive.runner import NOTHING  # noqa: E402
 from drive.slots import Slots  # noqa: E402
 from drive.tried import Tried  # noqa: E402
 
@@ -27,7 +29,8 @@ def row_of(_: Explorer, number: int) -> Row:
     verdict = VERDICTS.get(number, "safe")
     left = 11 if number == 3 else None
     tried = Tried(asked=4) if verdict == NOTHING else TRIED
-    return Row(number, f"5:{number}", "guided", 30 + number, 20, tried, verdict, "-" if number == 4 else "opens_stay", left, number == 8)
+    likeness = "-" if number == 4 else "opens_stay"
+    return Row(number, f"5:{number}", "guided", 30 + number, 20, tried, verdict, likeness, left, number == 8)
 
 
 @pytest.fixture(autouse=True)
@@ -123,7 +126,8 @@ def test_table_that_was_made_otherwise(words: list[str], capsys: pytest.CaptureF
     server = [] if "--served" in words else ["--smbd"]
     resumed = [*server, "--seed", "5", "--count", "20", "--folder", "one", "--resume", *words]
     assert explore_command.main(resumed) == 2
-    assert capsys.readouterr().err.startswith("drive/explore: one/table was made otherwise (# seed 5; server --smbd; options none)")
+    said = "drive/explore: one/table was made otherwise (# seed 5; server --smbd; options none)"
+    assert capsys.readouterr().err.startswith(said)
     assert Path("one/table").read_text(encoding="ascii") == before
 
 
@@ -153,7 +157,7 @@ def test_process_that_ends(monkeypatch: pytest.MonkeyPatch, capsys: pytest.Captu
     """What was driven stays in the table."""
     def ends(explorer: Explorer, number: int) -> Row:
         if number == 6:
-            os._exit(5)
+            os.kill(os.getpid(), signal.SIGKILL)
         return row_of(explorer, number)
     monkeypatch.setattr(Explorer, "explore", ends)
     assert explore("--jobs", "2") == 1

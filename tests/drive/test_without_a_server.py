@@ -21,7 +21,7 @@ from impacket.smb3 import SessionError  # noqa: E402
 
 from drive import connections, run_command  # noqa: E402
 from drive.connections import FileId  # noqa: E402
-from drive.explanations import facts_of  # noqa: E402
+from drive.explanations import Run, facts_of  # noqa: E402
 from drive.explored import Head, Row, Table  # noqa: E402
 from drive.faults import DriveFault  # noqa: E402
 from drive.peers import DrivenPeer  # noqa: E402
@@ -150,7 +150,7 @@ def test_schedule_that_aims_at_a_write_during_a_break() -> None:
 def test_model_server(path: Path, program: str) -> None:
     """Without departures it has the facts of `leasecheck replay`, in whichever order within a step."""
     text = path.read_text(encoding="ascii", errors="replace")
-    assert sorted(facts_of(Schedule.read(text))) == sorted(replay(program, text))
+    assert sorted(facts_of(Run(Schedule.read(text)))) == sorted(replay(program, text))
 
 
 @pytest.mark.parametrize("name", FOUND)
