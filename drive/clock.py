@@ -42,12 +42,20 @@ class Clocks:
 
     def put_forward(self, process: int, seconds: int) -> None:
         if process not in self._processes:
-            if len(self._processes) == PAIRS - 1:
-                raise DriveFault("there are too many processes for the clock library")
-            self._processes.append(process)
+            self._add(process)
         place = self._processes.index(process)
         struct.pack_into("<q", self._pairs, place * PAIR.size + 8, seconds)
         struct.pack_into("<q", self._pairs, place * PAIR.size, process)
+
+    def _add(self, process: int) -> None:
+        """In the place of one that has ended, where there is one."""
+        ended = next((it for it in self._processes if not os.path.exists(f"/proc/{it}")), None)
+        if ended is not None:
+            self._processes[self._processes.index(ended)] = process
+        elif len(self._processes) == PAIRS - 1:
+            raise DriveFault("there are too many processes for the clock library")
+        else:
+            self._processes.append(process)
 
     def close(self) -> None:
         self._pairs.close()

@@ -93,8 +93,9 @@ class Run:
 
     @classmethod
     def waited(cls, schedule: Schedule, steps: Sequence[Step]) -> Run:
-        """Of a server whose timers were waited for."""
-        return cls(schedule, {place: step.waits for place, step in enumerate(steps) if step.waits})
+        """Of a server whose timers were waited for: the events that were driven."""
+        driven = schedule.with_events(tuple(it.event for it in steps))
+        return cls(driven, {place: step.waits for place, step in enumerate(steps) if step.waits})
 
     @property
     def replayed(self) -> Schedule:

@@ -174,6 +174,8 @@ def explorer_of(arguments: argparse.Namespace, plan: Plan, folder: str) -> Explo
 def _explore(arguments: argparse.Namespace) -> int:
     if arguments.jobs < 1:
         raise Usage("--jobs is at least 1")
+    if arguments.jobs > 1 and arguments.smbd_log:
+        raise Usage("--smbd-log is of one smbd, and --jobs has several")
     plan = plan_of(arguments)
     folder = arguments.folder or plan.name
     explorer = explorer_of(arguments, plan, folder)

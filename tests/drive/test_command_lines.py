@@ -31,6 +31,7 @@ REFUSED = [
     (["run", "--smbd", __file__], 1, "drive/run: fault line 1"),
     (["run", REFUSALS, "--server", "127.0.0.1:1", "--share", "s", "--user", "u%p"], 1, "drive/run: no connection"),
     (["explore", "--smbd", "--seed", "1", "--count", "0"], 2, "drive/explore: --count"),
+    (["explore", "--smbd", "--seed", "1", "--count", "1", "--jobs", "2", "--smbd-log", MISSING], 2, "drive/explore: --smbd-log"),
     (["explore", "--smbd", "--seed", "1", "--count", "1", "--expect", "whole"], 2, "drive/explore: --expect: 'whole'"),
     (["explore", "--smbd", "--seed", "1", "--count", "1", "--allow", "none"], 2, "usage: "),
     (["compare", REFUSALS, "--record", MISSING, "--share", "s"], 2, "drive/compare: --record"),

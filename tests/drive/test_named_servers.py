@@ -96,7 +96,7 @@ def test_breaks_that_come_while_one_is_waited_for(program: str, tmp_path: Path) 
 
 @pytest.mark.parametrize("text", [TWO_BREAKS, CHAIN], ids=["two breaks", "chain"])
 def test_comparison_where_timers_were_waited_for(text: str, tmp_path: Path, program: str) -> None:
-    """The profile's server is given the end of each timer that ran out, so that nothing is left to be explained; and so it is where
+    """The profile's server is given the end of each timer that ran out, so that nothing is left to be explained; so it is where
     its rules are expected."""
     schedule = tmp_path / "schedule"
     schedule.write_text(text, encoding="ascii")

@@ -2,7 +2,9 @@
 records that are kept."""
 from __future__ import annotations
 
+import os
 import random
+import subprocess
 import uuid
 from contextlib import closing
 from pathlib import Path
@@ -20,6 +22,7 @@ pytest.importorskip("impacket", reason="there is no package impacket; tools/setu
 from impacket.smb3 import SessionError  # noqa: E402
 
 from drive import connections, run_command  # noqa: E402
+from drive.clock import PAIR, PAIRS, Clocks  # noqa: E402
 from drive.connections import FileId  # noqa: E402
 from drive.explanations import Run, facts_of  # noqa: E402
 from drive.explored import Head, Row, Table  # noqa: E402
@@ -210,3 +213,14 @@ def test_one_verdict(orders: tuple[str, str], monkeypatch: pytest.MonkeyPatch, c
     assert (status, capsys.readouterr().out.splitlines()) == (expected, [f"# {words}"])
     row = Row(1, "7:1", "guided", 2, 1, outcome.tried, outcome.words, "same")
     assert (row.is_charged, row.is_fault) == (expected == 3, expected == 1)
+
+
+def test_clocks_of_many_processes(tmp_path: Path) -> None:
+    """One smbd serves many schedules: the place of a process that has ended is another one's."""
+    with closing(Clocks(str(tmp_path / "clocks"))) as clocks:
+        for _ in range(2 * PAIRS):
+            with subprocess.Popen(["true"]) as process:
+                clocks.put_forward(process.pid, 36)
+        clocks.put_forward(os.getpid(), 36)
+    pairs = list(PAIR.iter_unpack((tmp_path / "clocks").read_bytes()))
+    assert pairs.count((os.getpid(), 36)) == 1 and pairs[-1] == (0, 0)
