@@ -96,8 +96,8 @@ class SmallServer(FileServer):
         if self._connections.get(client) is not connection:
             return
         del self._connections[client]
-        self._requests = {it: request for it, request in self._requests.items() if it[0] != client}
         if self._mistake is not Mistake.UNSEEN_CUTS:
+            self._requests = {it: request for it, request in self._requests.items() if it[0] != client}
             self.after(self.manager.cut(client))
 
     def asked(self, connection: SmallConnection, message: RequestMessage) -> None:

@@ -1,6 +1,6 @@
 """Mistakes that are easily made over a manager of leases, each made by a small server that is reached by its address
-(small_server.py): the first 50 schedules find each where the rules are expected that the manager keeps, and those that break
-a promise without that too."""
+(small_server.py): the first 50 schedules find each where the rules are expected that the manager keeps, and without that too,
+since each can break a promise."""
 from __future__ import annotations
 
 from pathlib import Path
@@ -22,7 +22,6 @@ from drive.servers import NamedServer  # noqa: E402
 
 FIRST, SEED = 50, 1
 BREAK_TIMER, BREAK_TIME = 6.0, 6.5
-UNSAFE = [Mistake.UNASKED_WRITES, Mistake.EARLY_DISK]
 
 
 def first_charged(program: str, folder: Path, mistake: Mistake | None, expect: Rules | None, numbers: range) -> Row | None:
@@ -43,7 +42,7 @@ def test_mistake_under_rules(mistake: Mistake, program: str, tmp_path: Path) -> 
         assert text.startswith(f"fact {row.verdict.split()[1]}, at event ") and "; expected: " in text
 
 
-@pytest.mark.parametrize("mistake", UNSAFE, ids=[it.name.lower() for it in UNSAFE])
+@pytest.mark.parametrize("mistake", Mistake, ids=[it.name.lower() for it in Mistake])
 def test_mistake_that_breaks_a_promise(mistake: Mistake, program: str, tmp_path: Path) -> None:
     row = first_charged(program, tmp_path, mistake, None, range(1, FIRST + 1))
     assert row is not None and row.is_unsafe
