@@ -19,7 +19,7 @@ from drive.records import Record, by_client
 UNEXPLAINED = "unexplained"
 NONE: frozenset[Departure] = frozenset()
 SOMETIMES = (Departure.LAST_FIRST, Departure.BY_ARRIVAL, Departure.KEPT_HOLDS, Departure.KEPT_ALONE)
-RARE = (Departure.KEPT_HOLDS_ALL, Departure.BACK_NOT_KEPT, Departure.UNKEPT_GIVES_BACK)
+RARE = (Departure.KEPT_HOLDS_ALL, Departure.BACK_NOT_KEPT, Departure.UNKEPT_GIVES_BACK, Departure.WRITER_BREAKS_NONE)
 
 
 class ModelWorld(World[Peer]):

@@ -39,6 +39,7 @@ class Departure(Enum):
     BREAKS_ALL = "a create that conflicts breaks the handle caching of all keys"
     KEPT_HOLDS_ALL = "such an open goes on holding any create that waits for its lease"
     BACK_NOT_KEPT = "an open under a lease that was given back isn't kept at a cut"
+    WRITER_BREAKS_NONE = "a write under a lease that caches writes breaks nothing"
     UNKEPT_GIVES_BACK = "the lease of an open that isn't kept for another client's open is given back to its key"
 
 
@@ -223,6 +224,8 @@ class Model:
             return True
         for _ in range(3):
             wanted = {key: NONE for key in self._other_keys(one.file, one.key) if self._leases[key].state}
+            if Departure.WRITER_BREAKS_NONE in self._departures and one.key and W in self._leases[one.key].state:
+                wanted = {}
             waits = self._broken(wanted, to_none=True)
             if any(self._leases[key].broken_to for key in waits) and Departure.WRITES_GO_ON not in self._departures:
                 return False

@@ -42,7 +42,8 @@ DEPARTING: dict[str, int | None] = {
 }
 BESIDE = {
     "breaking_kept": ["given_back"], "back_not_kept": ["given_back", "own_dropped"],
-    "unkept_gives_back": ["given_back", "kept_alone"], "kept_holds_all": ["breaking_kept", "creates_wait", "nothing_behind"],
+    "unkept_gives_back": ["given_back", "kept_alone"], "writer_breaks_none": ["given_back"],
+    "kept_holds_all": ["breaking_kept", "creates_wait", "nothing_behind"],
 }
 HERE = TESTS / "drive"
 BROKEN: list[tuple[Filter, Path, int]] = [
