@@ -4,6 +4,7 @@
 from __future__ import annotations
 
 import select
+import struct
 import time
 from collections.abc import Iterator
 from contextlib import contextmanager, suppress
@@ -20,9 +21,14 @@ from smblease.replies import AcknowledgeDone, Closed, Created, ReadDone, Reply, 
 from smblease.requests import CloseRequest, CreateRequest, ReadRequest, Request, WriteRequest
 from smblease.values import LARGEST_FILE, Access, Status
 
+from drive import headers
 from drive.faults import DriveFault
+from drive.headers import HEADER
 from drive.place import Place
 
+# The header of a request that isn't signed (2.2.1.2), and the body of an ECHO (2.2.28).
+REQUEST, PROTOCOL = struct.Struct("<4sHHLHHLLQLLQ16s"), b"\xfeSMB"
+ECHO, CREDITS = struct.pack("<HH", 4, 0), 127
 NOTIFICATION_ID = 0xFFFFFFFFFFFFFFFF
 OPLOCK_LEVEL_LEASE = 0xFF
 CREDIT_BYTES = 65536
@@ -117,7 +123,18 @@ class Connection:
         return self._send(smb2.SMB2_OPLOCK_BREAK, request.message)
 
     def echo(self) -> int:
-        return self._send(smb2.SMB2_ECHO, smb2.SMB2Echo())
+        """Asks whether the server is there; most of what goes over a connection is that, so it doesn't go through the structures
+        of impacket where nothing has to be signed."""
+        connection, session = self._smb._Connection, self._smb._Session
+        if session["SigningActivated"]:
+            return self._send(smb2.SMB2_ECHO, smb2.SMB2Echo())
+        number = int(connection["SequenceWindow"])
+        connection["SequenceWindow"] += 1
+        header = REQUEST.pack(PROTOCOL, HEADER, 1, 0, smb2.SMB2_ECHO, CREDITS, 0, 0, number, 0, self._tree,
+                              session["SessionID"], b"")
+        with told("a connection is lost"):
+            self._smb._NetBIOSSession.send_packet(header + ECHO)
+        return number
 
     def receive(self, until: float) -> Message | None:
         """The next message, or none where none comes until this time."""
@@ -125,8 +142,8 @@ class Connection:
             socket = self._smb._NetBIOSSession.get_socket()
             if not select.select([socket], [], [], max(0.0, until - time.monotonic()))[0]:
                 return None
-            packet = smb2.SMB2Packet(self._smb._NetBIOSSession.recv_packet(PATIENCE).get_trailer())
-            return Message(packet["MessageID"], packet["Status"], bytes(packet["Data"]))
+            header = headers.Message(self._smb._NetBIOSSession.recv_packet(PATIENCE).get_trailer())
+            return Message(header.identifier, header.status, header.data[HEADER:])
 
     def make_file(self, name: str, data: bytes) -> None:
         with told(f"file {name} can't be made", "the user needs a share in which files may be made, written and removed"):

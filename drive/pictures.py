@@ -20,7 +20,7 @@ def explanation_of(program: str, record: str) -> str:
 
 def version_of(program: str) -> str:
     """The program and its version, in one line."""
-    return _asked(program, ["--version"], "").decode(errors="replace").strip()
+    return " ".join(_asked(program, ["--version"], "").decode(errors="replace").split())
 
 
 def _asked(program: str, words: list[str], given: str) -> bytes:

@@ -42,7 +42,7 @@ class Report:
         page = xml.Element("html", lang="en")
         head, body = xml.SubElement(page, "head"), xml.SubElement(page, "body")
         xml.SubElement(head, "meta", charset="utf-8")
-        title = f"Leases of {self.head.server}"
+        title = f"Schedules on {self.head.server}"
         _add(head, "title", title)
         _add(head, "style", STYLE)
         _add(body, "h1", title)

@@ -179,3 +179,10 @@ def test_server_that_is_set_up_otherwise(more: str, is_another: bool, tmp_path: 
         had = ran("explore", [*words, "--seed", "4", "--count", "16", "--folder", tmp_path / "explored", "--break-time", "0.1",
                               "--no-shrink", "--jobs", "2"], seconds=300)
     assert ("the known departures are those of smbd 4.17.12" in had.out) == is_another, had
+
+
+@with_private_smbd
+def test_server_that_wants_signatures() -> None:
+    with named_smbd("[global]\n  server signing = mandatory\n") as words:
+        had = ran("run", [*words, TESTS / "schedules" / "break_answered"])
+    assert had == (0, (TESTS / "runs" / "break_answered").read_text(encoding="ascii"), "")
