@@ -60,7 +60,10 @@ class Driver(World[DrivenPeer]):
 
     def close(self) -> None:
         for peer in self.peers.values():
-            if peer.connection:
+            if peer.connection and self._server.stays:
+                # (its files are removed next, and it may let go of opens only once it has closed the connection too)
+                peer.connection.end()
+            elif peer.connection:
                 peer.connection.close()
 
     def _served(self, client: int, request: Request) -> None:

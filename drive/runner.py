@@ -102,10 +102,9 @@ class Runner:
     slots: Slots | None = None
 
     def check(self) -> None:
-        """What makes every run on a server that was there before futile is a fault, which says what is needed."""
-        if self.stays:
-            with self.driving(Schedule((b"abc",), (), ())):
-                pass
+        """What makes every run futile is a fault, which says what is needed. A server that is kept is ended again."""
+        with closing(self), self.driving(Schedule((b"abc",), (), ())):
+            pass
 
     def run(self, schedule: Schedule) -> Outcome:
         with self.driving(schedule) as driver:

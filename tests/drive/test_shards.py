@@ -36,6 +36,7 @@ def row_of(_: Explorer, number: int) -> Row:
 @pytest.fixture(autouse=True)
 def given(monkeypatch: pytest.MonkeyPatch, tmp_path: Path) -> None:
     monkeypatch.setattr(Explorer, "explore", row_of)
+    monkeypatch.setattr(Explorer, "check", lambda _: None)
     monkeypatch.chdir(tmp_path)
 
 

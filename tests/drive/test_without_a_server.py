@@ -21,7 +21,7 @@ pytest.importorskip("impacket", reason="there is no package impacket; tools/setu
 # pylint: disable=wrong-import-position
 from impacket.smb3 import SessionError  # noqa: E402
 
-from drive import connections, run_command  # noqa: E402
+from drive import connections, explore_command, run_command  # noqa: E402
 from drive.clock import PAIR, PAIRS, Clocks  # noqa: E402
 from drive.connections import FileId  # noqa: E402
 from drive.explanations import Run, facts_of  # noqa: E402
@@ -224,3 +224,12 @@ def test_clocks_of_many_processes(tmp_path: Path) -> None:
         clocks.put_forward(os.getpid(), 36)
     pairs = list(PAIR.iter_unpack((tmp_path / "clocks").read_bytes()))
     assert pairs.count((os.getpid(), 36)) == 1 and pairs[-1] == (0, 0)
+
+
+def test_what_keeps_every_schedule_from_being_driven(monkeypatch: pytest.MonkeyPatch, capsys: pytest.CaptureFixture[str],
+                                                     tmp_path: Path) -> None:
+    """It is said once, before a table is begun."""
+    monkeypatch.setattr(os, "geteuid", lambda: 1000)
+    assert explore_command.main(["--smbd", "--seed", "1", "--count", "3", "--folder", str(tmp_path / "explored")]) == 1
+    assert capsys.readouterr() == ("", "drive/explore: a private smbd needs root and /usr/sbin/smbd (tools/setup installs it)\n")
+    assert not (tmp_path / "explored").exists()
