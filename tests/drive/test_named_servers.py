@@ -186,3 +186,13 @@ def test_server_that_wants_signatures() -> None:
     with named_smbd("[global]\n  server signing = mandatory\n") as words:
         had = ran("run", [*words, TESTS / "schedules" / "break_answered"])
     assert had == (0, (TESTS / "runs" / "break_answered").read_text(encoding="ascii"), "")
+
+
+def test_proved_server_under_its_rules(program: str, tmp_path: Path) -> None:
+    """Schedules of which each other one aims, several at a time: each record is the one that is expected."""
+    with named_proved(program, "--break-timer", "8") as words:
+        had = ran("explore", [*words, "--seed", "2", "--count", "8", "--jobs", "2", "--break-time", "8.5", "--expect",
+                              "by-key,whole", "--folder", tmp_path / "explored"], seconds=200)
+    assert had.status == 0, had
+    assert had.out.splitlines()[-1].startswith("8 driven, 0 unsafe, 0 unexpected, ")
+    assert " 0 not driven to the end; " in had.out
