@@ -2,14 +2,14 @@
 from __future__ import annotations
 
 from bisect import bisect_right
-from collections.abc import Iterable, Iterator
+from collections.abc import Iterator
 from dataclasses import dataclass, field
 
-from drive.packets import PROTOCOL, Capture, Packet
+from drive.capture_connections import Overview, overview_of
+from drive.packets import Capture, Packet
 
-SMB2_FLAGS_SERVER_TO_REDIR = 1
-# the port of a server of which no message can be read
-DIRECT_TCP = 445
+# the bytes of a frame of which a part isn't there
+_NOT_THERE = "-"
 
 
 @dataclass
@@ -34,45 +34,31 @@ class _Connection:
     far: _Side = field(default_factory=_Side)
 
     def lines(self, packet: Packet) -> Iterator[str]:
-        place = f"{packet.number} {packet.time} {packet.stream}"
+        place = f"{packet.number} {packet.seconds} {packet.stream}"
         is_client = packet.sender == self.client
         sent, other = (self.near, self.far) if is_client else (self.far, self.near)
+        side = "from-client" if is_client else "from-server"
         if packet.is_gap:
             yield f"gap {place}"
         had = other.had(packet.acknowledged)
         for frame in packet.frames:
             sent.sends(packet.end)
-            side = "from-client" if is_client else "from-server"
-            yield f"frame {place} {self.client} {self.server} {side} {had} {frame.hex()}"
+            data = _NOT_THERE if frame.is_cut else frame.digits
+            yield f"frame {place} {self.client} {self.server} {side} {had} {data}"
+        # What was cut off comes after what is there.
+        if packet.is_cut:
+            yield f"gap {place}"
         if packet.ends:
             yield f"end {place}"
 
 
-def lines_of(capture: Capture) -> Iterator[str]:
+def lines_of(capture: Capture, overview: Overview | None = None) -> Iterator[str]:
     """The lines of those connections that have frames."""
-    connections = dict(_connections(capture.packets))
-    for packet in capture.packets:
+    known = overview or overview_of(capture.packets())
+    servers = known.servers()
+    connections = {stream: _Connection(one.client, servers[stream]) for stream, one in known.connections.items()}
+    for packet in capture.packets():
         if packet.stream in connections:
             yield from connections[packet.stream].lines(packet)
     if capture.fault:
         yield f"# {capture.fault}"
-
-
-def _connections(packets: Iterable[Packet]) -> Iterator[tuple[int, _Connection]]:
-    framed = [packet for packet in packets if packet.frames]
-    first = {packet.stream: packet for packet in reversed(framed)}
-    readable = {packet.stream: packet for packet in reversed(framed) if packet.frames[0][:4] == PROTOCOL}
-    for stream, packet in {**first, **readable}.items():
-        yield stream, _Connection(*_ends(packet))
-
-
-def _ends(packet: Packet) -> tuple[str, str]:
-    """The addresses of client and server."""
-    return (packet.receiver, packet.sender) if _is_from_server(packet) else (packet.sender, packet.receiver)
-
-
-def _is_from_server(packet: Packet) -> bool:
-    frame = packet.frames[0]
-    if frame[:4] == PROTOCOL:
-        return bool(int.from_bytes(frame[16:20], "little") & SMB2_FLAGS_SERVER_TO_REDIR)
-    return packet.sender.endswith(f":{DIRECT_TCP}")

@@ -10,15 +10,34 @@ local function message(tvb, pinfo, tree)
     if begins(tvb) then
         DissectorTable.try_heuristics("netbios", tvb(4):tvb(), pinfo, tree)
     end
-    return tvb:len()
 end
 
-local function length(tvb, _, offset)
-    return 4 + tvb(offset + 1, 3):uint()
+-- How many bytes of the next message are still to come, as far as is known.
+local function lacks(tvb, offset)
+    local rest = tvb:len() - offset
+    if rest < 4 then
+        return DESEGMENT_ONE_MORE_SEGMENT
+    end
+    return math.max(0, 4 + tvb(offset + 1, 3):uint() - rest)
 end
 
-function direct.dissector(tvb, _, tree)
-    dissect_tcp_pdus(tvb, tree, 4, length, message)
+-- (dissect_tcp_pdus of tshark 4.0 ends tshark by a signal where the first packet of a connection has a part of a message.)
+function direct.dissector(tvb, pinfo, tree)
+    if tvb:len() < tvb:reported_len() then
+        tree:add(direct, tvb(0))
+        return tvb:len()
+    end
+    local offset = 0
+    while offset < tvb:len() do
+        local missing = lacks(tvb, offset)
+        if missing > 0 then
+            pinfo.desegment_offset, pinfo.desegment_len = offset, missing
+            break
+        end
+        local size = 4 + tvb(offset + 1, 3):uint()
+        message(tvb(offset, size):tvb(), pinfo, tree)
+        offset = offset + size
+    end
     return tvb:len()
 end
 

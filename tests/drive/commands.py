@@ -1,8 +1,9 @@
 """Runs of the commands of drive/, with what has to be there for them."""
 from __future__ import annotations
 
+import os
 import subprocess
-from collections.abc import Callable, Sequence
+from collections.abc import Callable, Mapping, Sequence
 from pathlib import Path
 from typing import Any, NamedTuple, TypeVar
 
@@ -36,10 +37,12 @@ class Ran(NamedTuple):
     faults: str
 
 
-def ran(command: str, words: Sequence[object], seconds: float = 60) -> Ran:
-    """drive/COMMAND with these words, and the program that was built from these sources."""
-    given = [str(TOP / "drive" / command), "--leasecheck", built_program(), *map(str, words)]
-    had = subprocess.run(given, capture_output=True, text=True, timeout=seconds, check=False)
+def ran(command: str, words: Sequence[object], seconds: float = 60, given: Path | None = None,
+        environment: Mapping[str, str] | None = None) -> Ran:
+    """drive/COMMAND with these words, and the program that was built from these sources; a file may be its standard input."""
+    line = [str(TOP / "drive" / command), "--leasecheck", built_program(), *map(str, words)]
+    with open(given or os.devnull, "rb") as stream:
+        had = subprocess.run(line, stdin=stream, capture_output=True, text=True, timeout=seconds, check=False, env=environment)
     return Ran(had.returncode, had.stdout, had.stderr)
 
 

@@ -2,6 +2,7 @@
 from __future__ import annotations
 
 import struct
+from collections.abc import Sequence
 
 SERVER = 445
 PENDING = 0x103
@@ -102,6 +103,15 @@ def closed(identifier: int) -> bytes:
     return message(6, struct.pack("<H", 60) + bytes(58), identifier, answers=True)
 
 
+def query(identifier: int, open_id: bytes, related: bool = False) -> bytes:
+    """QUERY_INFO of FileStandardInformation (2.2.37)."""
+    return message(16, struct.pack("<HBBLHHLLL", 41, 1, 5, 24, 0, 0, 0, 0, 0) + open_id, identifier, related=related)
+
+
+def queried(identifier: int) -> bytes:
+    return message(16, struct.pack("<HHL", 9, 72, 24) + bytes(24), identifier, answers=True)
+
+
 def read(identifier: int, number: int, length: int = 65536) -> bytes:
     return message(8, struct.pack("<HBBLQ", 49, 0x50, 0, length, 0) + file_id(number) + bytes(17), identifier)
 
@@ -154,25 +164,39 @@ class Made:
         """A packet between two ports; that of the server, below those of clients, is at the address 127.0.0.`host`."""
         tcp = struct.pack(">HHLLBBHHH", *ports, sequence, acknowledged, 5 << 4, flags, 65535, 0, 0) + payload
         addresses = [bytes([127, 0, 0, host if port == min(ports) else 1]) for port in ports]
-        datagram = struct.pack(">BBHHHBBH", 0x45, 0, 20 + len(tcp), len(self._packets), 0, 64, 6, 0) + b"".join(addresses) + tcp
+        identifier = len(self._packets) & 0xFFFF
+        header = struct.pack(">BBHHHBBH", 0x45, 0, 20 + len(tcp), identifier, 0, 64, 6, 0)
+        datagram = header + b"".join(addresses) + tcp
         self._whole.append(len(datagram))
         self._packets.append(datagram[:kept] if kept else datagram)
         return len(self._packets)
 
-    def data(self, snaplen: int | None = None) -> bytes:
-        """The file; of each packet so many bytes are kept."""
-        text = struct.pack("<LHHlLLL", 0xA1B2C3D4, 2, 4, 0, 0, 262144, 101)
-        for number, (packet, whole) in enumerate(zip(self._packets, self._whole), 1):
-            seconds, hundredths = divmod(number, 100)
-            text += struct.pack("<LLLL", 1000 + seconds, hundredths * 10000, len(packet[:snaplen]), whole) + packet[:snaplen]
-        return text
+    def data(self, snaplen: int | None = None, order: Sequence[int] | None = None) -> bytes:
+        """The file; of each packet so many bytes are kept, and the packets stand in this order, or in that of their numbers."""
+        head = struct.pack("<LHHlLLL", 0xA1B2C3D4, 2, 4, 0, 0, 262144, 101)
+        return head + b"".join(self._record(number, snaplen) for number in order or self.numbers)
+
+    @property
+    def numbers(self) -> range:
+        return range(1, len(self._packets) + 1)
+
+    @property
+    def lengths(self) -> list[int]:
+        """How long the packets were."""
+        return self._whole
+
+    def _record(self, number: int, snaplen: int | None) -> bytes:
+        packet, whole = self._packets[number - 1][:snaplen], self._whole[number - 1]
+        seconds, hundredths = divmod(number, 100)
+        return struct.pack("<LLLL", 1000 + seconds, hundredths * 10000, len(packet), whole) + packet
 
 
 class Line:
     """A TCP connection of a client, by its port; both ends have sent what is in `sent`."""
 
-    def __init__(self, made: Made, port: int, begins: bool = True, host: int = 1, server: int = SERVER) -> None:
-        self._made, self._port, self._server, self._host = made, port, server, host
+    def __init__(self, made: Made, port: int, begins: bool = True, host: int = 1, server: int = SERVER,
+                 longest: int = LONGEST) -> None:
+        self._made, self._port, self._server, self._host, self._longest = made, port, server, host, longest
         self.sent = {True: 1, False: 1}
         if begins:
             made.packet((port, server), 0, 0, 2, host=host)
@@ -203,15 +227,15 @@ class Line:
         payload = b"".join(struct.pack(">L", len(one)) + one for one in messages)
         ports = (self._port, self._server) if by_client else (self._server, self._port)
         packet = 0
-        for start in range(0, len(payload), LONGEST):
-            part = payload[start:start + LONGEST]
+        for start in range(0, len(payload), self._longest):
+            part = payload[start:start + self._longest]
             packet = self._made.packet(ports, self.sent[by_client], had or self.sent[not by_client], PUSH, part, host=self._host)
             self.sent[by_client] += len(part)
         return packet
 
-    def begins(self, guid: int, dialect: int = 0x210) -> None:
+    def begins(self, guid: int, dialect: int = 0x210, server: int = 0) -> None:
         self.asks(negotiate(guid))
-        self.answers(negotiated(dialect))
+        self.answers(negotiated(dialect, server))
         self.asks(tree_connect())
         self.answers(tree_connected())
 

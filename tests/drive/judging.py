@@ -5,6 +5,8 @@ import subprocess
 from typing import NamedTuple
 
 SAFE, UNSAFE, NOTHING_JUDGED = 0, 3, 4
+# (of drive/capture alone)
+IN_PART = 5
 
 
 class Judged(NamedTuple):

@@ -8,7 +8,8 @@ from pathlib import Path
 import pytest
 
 from drive.capture_lines import lines_of
-from drive.packets import ANY_PORT, read_capture
+from drive.packets import read_capture
+from drive.tshark import ANY_PORT
 from tests import needs
 from tests.drive.commands import ran
 from tests.drive.hand_made import Made
@@ -147,9 +148,16 @@ def test_decrypted(name: str) -> None:
     assert {it[:8] for it in encrypted} == {"fe534d42", "fd534d42"}
     assert len(plain) == len(encrypted)
     assert all(one == other for one, other in zip(plain, encrypted) if other.startswith("fe"))
-    # OriginalMessageSize (2.2.41)
-    lengths = [int.from_bytes(bytes.fromhex(it)[36:40], "little") for it in encrypted if it.startswith("fd")]
-    assert [len(one) // 2 for one, other in zip(plain, encrypted) if other.startswith("fd")] == lengths
+    assert all(is_as_long(bytes.fromhex(one), bytes.fromhex(other)) for one, other in zip(plain, encrypted)
+               if other.startswith("fd"))
+
+
+def is_as_long(plain: bytes, encrypted: bytes) -> bool:
+    """A frame has OriginalMessageSize (2.2.41); of a READ response, or of a WRITE request, the data are left out."""
+    command, answers = int.from_bytes(plain[12:14], "little"), bool(plain[16] & 1)
+    carries_data, fixed = (command, answers) in {(8, True), (9, False)}, {8: 80, 9: 112}
+    size = int.from_bytes(encrypted[36:40], "little")
+    return len(plain) == (min(size, fixed[command]) if carries_data else size)
 
 
 def test_decrypted_compounds() -> None:

@@ -13,7 +13,7 @@ from tests import needs
 from tests.drive.commands import ran
 from tests.drive.hand_made import (H, Line, Made, R, W, create, created, lease, negotiate, negotiated, notification, read,
                                    read_done, tree_connect, tree_connected, tree_path, write, write_done)
-from tests.drive.judging import NOTHING_JUDGED, SAFE, UNSAFE
+from tests.drive.judging import IN_PART, NOTHING_JUDGED, SAFE, UNSAFE
 from tests.drive.scenarios import SCENARIOS
 from tests.paths import TOP
 
@@ -99,8 +99,10 @@ def test_clients_that_are_judged_in_part(tmp_path: Path) -> None:
     third.asks(read(5, 3))
     had = ran("capture", [file_of(made, tmp_path)])
     first, *others = had.out.splitlines()
-    assert (had.status, first) == (SAFE, "safe")
-    assert len([it for it in others if it.startswith("file ") and ": safe, " in it]) == 3
+    assert (had.status, first) == (IN_PART, "judged in part")
+    verdicts = [re.sub(r".*\\(\w+): (safe|not judged, since \S+ isn't), \S+", r"\1 \2", it) for it in others
+                if it.startswith("file ")]
+    assert verdicts == ["f1 safe", "f2 safe", "g not judged, since 127.0.0.1:50003 isn't"]
     lost = [it for it in others if it.startswith("client ")]
     assert len(lost) == 1 and "127.0.0.1:50003: not judged after packet " in lost[0], others
 
@@ -134,8 +136,9 @@ def test_contexts_that_cant_be_read(tmp_path: Path) -> None:
     line.opens(3, 11, 1, R | W | H)
     line.asks(create(5, "g", bytes([8]) + lease(2, R)[1:]))
     had = ran("capture", [file_of(made, tmp_path)])
-    assert (had.status, had.faults) == (SAFE, "")
-    assert had.out.splitlines()[-1].endswith(", 1 of them unreadable"), had.out
+    assert (had.status, had.faults) == (IN_PART, "")
+    assert had.out.splitlines()[-2].endswith(", 1 of them unreadable"), had.out
+    assert had.out.splitlines()[-1] == "left out: 1 frame that can't be read"
     assert len([it for it in had.out.splitlines() if it.startswith("client 127.0.0.1:50001: not judged after ")]) == 1, had.out
 
 
