@@ -51,6 +51,8 @@ def file_at(path: str) -> Iterator[str]:
 
 
 def _copy(path: str, copy: IO[bytes]) -> None:
+    if path == STANDARD_INPUT and sys.stdin is None:
+        raise DriveFault("standard input is closed")
     try:
         if path == STANDARD_INPUT:
             shutil.copyfileobj(sys.stdin.buffer, copy)

@@ -34,7 +34,7 @@ class _Connection:
     far: _Side = field(default_factory=_Side)
 
     def lines(self, packet: Packet) -> Iterator[str]:
-        place = f"{packet.number} {packet.seconds} {packet.stream}"
+        place = f"{packet.number} {packet.time} {packet.stream}"
         is_client = packet.sender == self.client
         sent, other = (self.near, self.far) if is_client else (self.far, self.near)
         side = "from-client" if is_client else "from-server"

@@ -14,7 +14,6 @@ COMPRESSED = bytes.fromhex("fc534d42")
 _FIN, _RESET = 1, 4
 # what stands behind the digits of a frame of which the capture lacks the end
 _CUT = "+"
-_BILLION = 10**9
 
 
 @dataclass(frozen=True)
@@ -44,8 +43,8 @@ class Packet:
     TCP is of no stream."""
 
     number: int
-    # in nanoseconds, since the first packet
-    time: int
+    # in seconds, since the first packet
+    time: str
     stream: int | None
     sender: str
     receiver: str
@@ -57,10 +56,6 @@ class Packet:
     # the capture has a part of it
     is_cut: bool
     frames: tuple[Frame, ...]
-
-    @property
-    def seconds(self) -> str:
-        return f"{self.time // _BILLION}.{self.time % _BILLION:09}"
 
 
 @dataclass(frozen=True)
@@ -88,10 +83,9 @@ def read_capture(path: str, ports: Sequence[int], keys: Sequence[SessionKey] = (
 
 
 def _packet(words: list[str], numbers: Sequence[int] | None) -> Packet:
-    place, seconds, nanoseconds, stream, sender, receiver, flags, acknowledged, end, gap, cut = words[:11]
-    return Packet(number=int(place) if numbers is None else numbers[int(place) - 1],
-                  time=int(seconds) * _BILLION + int(nanoseconds),
+    place, time, stream, sender, receiver, flags, acknowledged, end, gap, cut = words[:10]
+    return Packet(number=int(place) if numbers is None else numbers[int(place) - 1], time=time,
                   stream=None if stream == "-" else int(stream),
                   sender=sender, receiver=receiver, ends=bool(int(flags) & (_FIN | _RESET)),
                   acknowledged=int(acknowledged), end=int(end), is_gap=gap == "gap", is_cut=cut == "cut",
-                  frames=tuple(Frame.of(it) for it in words[11:]))
+                  frames=tuple(Frame.of(it) for it in words[10:]))

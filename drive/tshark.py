@@ -76,9 +76,9 @@ def _read(source: Source, progress: Progress, stops: bool) -> Rows:
     lines = tempfile.TemporaryFile("w+", encoding="utf-8")  # pylint: disable=consider-using-with
     with tempfile.TemporaryFile("w+", errors="replace") as faults, _started(_words(source), faults) as process:
         for line in process.stdout or ():
-            kind, _, rest = line.partition(" ")
+            kind, _, rest = line.rstrip("\n").partition(" ")
             if kind == "packet":
-                lines.write(rest)
+                lines.write(f"{rest}\n")
             elif kind == "at":
                 progress.says(f"{int(rest):,} packets read")
             elif kind == "unordered" and stops:

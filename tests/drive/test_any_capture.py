@@ -8,6 +8,7 @@ import re
 import shutil
 import stat
 import struct
+import subprocess
 import threading
 from collections.abc import Sequence
 from pathlib import Path
@@ -245,6 +246,16 @@ def test_standard_input(tmp_path: Path) -> None:
         one.write_bytes(data)
         named, piped = ran("capture", [one]), ran("capture", ["-"], given=one)
         assert piped == Ran(named.status, *(it.replace(str(one), "-") for it in (named.out, named.faults)))
+
+
+def test_closed_standard_input() -> None:
+    line = [str(TOP / "drive" / "capture"), "-"]
+    had = subprocess.run(["/bin/sh", "-c", 'exec "$0" "$@" <&-', *line], capture_output=True, text=True, check=False)
+    assert (had.returncode, had.stdout, had.stderr) == (1, "", "drive/capture: standard input is closed\n")
+
+
+def test_folder_for_a_capture(tmp_path: Path) -> None:
+    assert ran("capture", [tmp_path]) == Ran(1, "", f"drive/capture: {tmp_path}: Is a directory\n")
 
 
 def test_pipe_with_a_name(tmp_path: Path) -> None:
