@@ -261,11 +261,8 @@ def test_folder_for_a_capture(tmp_path: Path) -> None:
 def test_pipe_with_a_name(tmp_path: Path) -> None:
     pipe, path = tmp_path / "pipe", CAPTURES / "lease_outlives_its_open.pcapng"
     os.mkfifo(pipe)
-    feeder = threading.Thread(target=lambda: pipe.write_bytes(path.read_bytes()))
-    feeder.start()
-    had = ran("capture", [pipe])
-    feeder.join()
-    assert had == ran("capture", [path])
+    threading.Thread(target=lambda: pipe.write_bytes(path.read_bytes()), daemon=True).start()
+    assert ran("capture", [pipe]) == ran("capture", [path])
 
 
 def test_file_of_keys(tmp_path: Path) -> None:
