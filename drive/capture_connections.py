@@ -68,40 +68,45 @@ class Overview:
 
 def overview_of(packets: Iterable[Packet]) -> Overview:
     made = Overview()
-    missing: dict[int, Counter[LeftOut]] = {}
+    gaps: Counter[int] = Counter()
+    cuts: Counter[int] = Counter()
     for packet in packets:
         made.last_packet = packet.number
         if packet.stream is None:
             made.left_out[LeftOut.NOT_TCP] += len(packet.frames)
             continue
-        counted = missing.setdefault(packet.stream, Counter())
-        counted[LeftOut.GAP] += packet.is_gap
-        counted[LeftOut.CUT] += packet.is_cut
+        if packet.is_gap:
+            gaps[packet.stream] += 1
+        if packet.is_cut:
+            cuts[packet.stream] += 1
         _note_frames(made, packet)
-    for stream, one in made.connections.items():
-        made.left_out += missing[stream]
-        made.left_out[LeftOut.NOT_NEGOTIATED] += not one.has_client
+    # (Connections without frames aren't of SMB2.)
+    made.left_out[LeftOut.GAP] = sum(gaps[it] for it in made.connections)
+    made.left_out[LeftOut.CUT] = sum(cuts[it] for it in made.connections)
+    made.left_out[LeftOut.NOT_NEGOTIATED] = sum(not it.has_client for it in made.connections.values())
     return made
 
 
 def _note_frames(made: Overview, packet: Packet) -> None:
     for frame in packet.frames:
-        made.left_out.update(_reasons(frame))
-        made.cut_frames += packet.is_cut and frame.is_cut
-        _note_connection(made.connections, packet, frame)
+        is_readable = frame.begins(PROTOCOL)
+        if frame.is_cut:
+            made.cut_frames += packet.is_cut
+        elif not is_readable:
+            made.left_out.update(_reasons(frame))
+        _note_connection(made.connections, packet, frame, is_readable)
 
 
 def _reasons(frame: Frame) -> Iterator[LeftOut]:
-    if frame.begins(ENCRYPTED) and not frame.is_cut:
+    if frame.begins(ENCRYPTED):
         yield LeftOut.ENCRYPTED
-    elif frame.begins(COMPRESSED) and not frame.is_cut:
+    elif frame.begins(COMPRESSED):
         yield LeftOut.COMPRESSED
 
 
-def _note_connection(connections: dict[int, Connection], packet: Packet, frame: Frame) -> None:
+def _note_connection(connections: dict[int, Connection], packet: Packet, frame: Frame, is_readable: bool) -> None:
     assert packet.stream is not None
     one = connections.get(packet.stream)
-    is_readable = frame.begins(PROTOCOL)
     if not one or is_readable and not one.is_sure:
         one = connections[packet.stream] = _ends(packet, frame, is_readable)
     if is_readable and not frame.is_cut and frame.number_at(12, 2) == Command.NEGOTIATE.value:

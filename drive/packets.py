@@ -25,7 +25,8 @@ class Frame:
 
     @classmethod
     def of(cls, word: str) -> Frame:
-        return cls(word.rstrip(_CUT), word.endswith(_CUT))
+        is_cut = word.endswith(_CUT)
+        return cls(word[:-1] if is_cut else word, is_cut)
 
     def begins(self, protocol: bytes) -> bool:
         return self.digits.startswith(protocol.hex())
