@@ -232,6 +232,46 @@ def test_reasons_for_what_is_left_out(tmp_path: Path) -> None:
                     "left out: 1 connection without its NEGOTIATE request, so that it isn't known whose it is"]
 
 
+# ---- addresses, links and times
+
+
+def records_of(data: bytes) -> list[tuple[bytes, bytes]]:
+    """The packets of a file, each with its two words of time."""
+    found, place = [], 24
+    while place < len(data):
+        length = struct.unpack("<L", data[place + 8:place + 12])[0]
+        found.append((data[place:place + 8], data[place + 16:place + 16 + length]))
+        place += 16 + length
+    return found
+
+
+def file_with(magic: int, link: int, records: Sequence[tuple[bytes, bytes]]) -> bytes:
+    head = struct.pack("<LHHlLLL", magic, 2, 4, 0, 0, 262144, link)
+    return head + b"".join(time + struct.pack("<LL", len(packet), len(packet)) + packet for time, packet in records)
+
+
+def test_version_6_of_ip(tmp_path: Path) -> None:
+    made = Made()
+    SCENARIOS["two caches"](made)
+    host = bytes(15) + b"\x01"
+    records = [(time, struct.pack(">LHBB", 6 << 28, len(packet) - 20, 6, 64) + host + host + packet[20:])
+               for time, packet in records_of(made.data())]
+    had, expected = of_capture(tmp_path, file_with(0xA1B2C3D4, 101, records)), of_capture(tmp_path, made.data())
+    assert had == Ran(UNSAFE, re.sub(r"127\.0\.0\.1:", "[::1]:", expected.out), "")
+
+
+def test_nanoseconds_on_a_virtual_network(tmp_path: Path) -> None:
+    """Ethernet with a tag (802.1Q), and packets that are three nanoseconds apart."""
+    made = Made()
+    SCENARIOS["two caches"](made)
+    ethernet = bytes(12) + bytes.fromhex("810000050800")
+    records = [(struct.pack("<LL", 1700000000, 3 * number), ethernet + packet)
+               for number, (_, packet) in enumerate(records_of(made.data()))]
+    had, expected = of_capture(tmp_path, file_with(0xA1B23C4D, 1, records)), of_capture(tmp_path, made.data())
+    timed = re.sub(r"packet (\d+) at [0-9.]+", lambda it: f"packet {it[1]} at 0.{3 * (int(it[1]) - 1):09}", expected.out)
+    assert had == Ran(UNSAFE, timed, "")
+
+
 # ---- where a capture comes from
 
 
