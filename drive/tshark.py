@@ -61,7 +61,8 @@ def read_rows(source: Source, progress: Progress) -> Rows:
     with tempfile.TemporaryDirectory() as folder:
         copy = os.path.join(folder, "ordered.pcapng")
         fault = _said(["reordercap", source.path, copy]).fault
-        return replace(_read(replace(source, path=copy), progress, stops=False), numbers=numbers, fault=fault)
+        rows = _read(replace(source, path=copy), progress, stops=False)
+        return replace(rows, numbers=numbers, fault=fault or rows.fault)
 
 
 def _words(source: Source) -> list[str]:

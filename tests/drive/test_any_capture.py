@@ -320,16 +320,32 @@ def test_file_of_keys(tmp_path: Path) -> None:
     assert ran("capture", [path, "--keys", tmp_path / "none"]).status == 1
 
 
+def with_shim(folder: Path, text: str) -> dict[str, str]:
+    """An environment in which a script stands before tshark."""
+    shim = folder / "tshark"
+    shim.write_text(f"#!/bin/sh\n{text}\nexec {shutil.which('tshark')} \"$@\"\n", encoding="ascii")
+    shim.chmod(shim.stat().st_mode | stat.S_IXUSR)
+    return {**os.environ, "PATH": f"{folder}:{os.environ['PATH']}"}
+
+
 def test_file_is_read_once(tmp_path: Path) -> None:
     """tshark is started once for a file that is in order."""
-    real = shutil.which("tshark")
-    log, shim = tmp_path / "log", tmp_path / "tshark"
-    shim.write_text(f"#!/bin/sh\necho \"$@\" >> {log}\nexec {real} \"$@\"\n", encoding="ascii")
-    shim.chmod(shim.stat().st_mode | stat.S_IXUSR)
-    environment = {**os.environ, "PATH": f"{tmp_path}:{os.environ['PATH']}"}
+    log = tmp_path / "log"
+    environment = with_shim(tmp_path, f'echo "$@" >> {log}')
     had = ran("capture", [CAPTURES / "lease_outlives_its_open.pcapng"], environment=environment)
     assert had.status == UNSAFE
     assert len(log.read_text(encoding="utf-8").splitlines()) == 1
+
+
+def test_fault_of_the_second_reading(tmp_path: Path) -> None:
+    """What is put in order is read as any file is: a fault is told."""
+    made = Made()
+    SCENARIOS["two caches"](made)
+    path = tmp_path / "one.pcap"
+    path.write_bytes(made.data(order=[2, 1, *made.numbers[2:]]))
+    environment = with_shim(tmp_path, 'case "$*" in *ordered.pcapng*) echo "tshark: no more" >&2; exit 2;; esac')
+    had = ran("capture", [path], environment=environment)
+    assert had == Ran(1, "", f"drive/capture: {path}: no more\n")
 
 
 # ---- progress
