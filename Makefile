@@ -39,7 +39,8 @@ OUT := out/c
 DIST := dist/x86_64-linux
 HEADERS := $(notdir $(wildcard include/*.h))
 # What is installed of the pages and examples: what a user reads, and COPYING.md on the licence.
-PAGES := CHANGELOG.md COPYING.md SECURITY.md $(patsubst %,docs/%.md,BUILDING C FORMATS MODEL PROFILE PROOF PYTHON REAL_SERVERS RUST SESSIONS)
+PAGES := CHANGELOG.md COPYING.md SECURITY.md $(patsubst %,docs/%.md,BUILDING C CAPTURES FORMATS FOUND_ON_SMBD MODEL PROFILE PROOF PYTHON \
+         REAL_SERVERS RUST SERVE SERVE_TRIED SESSIONS)
 EXAMPLES := $(patsubst examples/%,%,$(wildcard examples/*.txt examples/c/*.c examples/c/file_server/*.txt examples/python/*.py))
 
 # What was made from these sources stands in one folder, which tools/current prints, and is copied only where it changed. Each file is made beside
