@@ -106,7 +106,7 @@ check-rust:
 
 check-aarch64: all
 	tools/prove --over-gate aarch64
-	SMBLEASE_PROCESSOR=aarch64 $(MAKE) check TESTS="tests/c/test_machines.py tests/c/test_file_server.py tests/c/test_damaged_texts.py"
+	SMBLEASE_PROCESSOR=aarch64 $(MAKE) check TESTS="tests/c/test_library.py tests/c/test_machines.py tests/c/test_file_server.py tests/c/test_damaged_texts.py"
 
 prove:
 	tools/prove

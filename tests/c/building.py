@@ -13,14 +13,14 @@ from tests.paths import TOP
 
 # Where this is set, programs are compiled for another processor, over the library in out/ that was built for it, and emulated.
 PROCESSOR = os.environ.get("SMBLEASE_PROCESSOR", "")
-EMULATED = (f"qemu-{PROCESSOR}",) if PROCESSOR else ()
+EMULATED = (f"qemu-{PROCESSOR}", "-L", f"/usr/{PROCESSOR}-linux-gnu") if PROCESSOR else ()
 CC = os.environ.get("CC", f"{PROCESSOR}-linux-gnu-gcc" if PROCESSOR else "cc")
 CXX = os.environ.get("CXX", "c++")
 LIBRARY = TOP / "out" / (PROCESSOR or "c") / "libsmblease.a"
 LEASECHECK = TOP / "out/c/leasecheck"
 STRICT = ("-Wall", "-Wextra", "-pedantic", "-Werror")
 SANITIZED = ("-g", "-O1", "-fsanitize=address,undefined", "-fno-sanitize-recover=all")
-CHECKED = ("-O1", "-static") if PROCESSOR else SANITIZED
+CHECKED = ("-O1",) if PROCESSOR else SANITIZED
 # The linker sends the library's allocations to tests/c/refuse_calls.c.
 WRAPPED = ("-Wl,--wrap=malloc", "-Wl,--wrap=realloc", "-Wl,--wrap=free")
 

@@ -7,7 +7,7 @@ from pathlib import Path
 import pytest
 
 from tests import needs
-from tests.c.building import Ended, run
+from tests.c.building import PROCESSOR, Ended, run
 from tests.paths import TESTS, TOP, files_of
 
 SCRIPTS = [pytest.param(it, id=it.stem) for it in files_of(TOP / "examples/c/file_server")]
@@ -36,6 +36,7 @@ def test_a_script(file_server: Path, tmp_path: Path, script: Path) -> None:
     assert holds(tmp_path, script)
 
 
+@pytest.mark.skipif(bool(PROCESSOR), reason="valgrind doesn't go with a program that is emulated")
 @needs.program("valgrind")
 @pytest.mark.parametrize("script", SCRIPTS)
 def test_a_script_under_valgrind(plain_file_server: Path, tmp_path: Path, script: Path) -> None:

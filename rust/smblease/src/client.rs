@@ -1,7 +1,8 @@
 //! A client's cache: what it answers an application, what it sends, and what it takes from a server.
 
+use crate::OutOfMemory;
 use crate::proved::lease_client as proved;
-use crate::proved::lease_state::{LeaseState, Memory, Reply, Request};
+use crate::proved::lease_state::{LeaseState, Reply, Request};
 use alloc::vec::Vec;
 use std::alloc::Global;
 
@@ -10,7 +11,7 @@ pub use crate::proved::lease_state::{ClientNo, FileNo};
 
 /// A client with the files that it has open and what it keeps of them.
 ///
-/// Where a call gives [`OutOfMemory`](crate::OutOfMemory) the client has forgotten all but its ClientGuid, as a new one without files.
+/// Where a call gives [`OutOfMemory`] the client has forgotten all but its ClientGuid, as a new one without files.
 #[derive(Debug)]
 pub struct Client {
     inner: proved::Client,
@@ -39,7 +40,7 @@ impl Client {
     /// # Errors
     ///
     /// Where there is no memory.
-    pub fn new(guid: [u8; 16], files: u8) -> Result<Client, Memory> {
+    pub fn new(guid: [u8; 16], files: u8) -> Result<Client, OutOfMemory> {
         Ok(Client { inner: proved::Client::new(Global, guid, files)? })
     }
 
@@ -53,7 +54,7 @@ impl Client {
     /// # Errors
     ///
     /// Where there is no memory, and never where the command is refused.
-    pub fn command(&mut self, command: Command) -> Result<Turn, Memory> {
+    pub fn command(&mut self, command: Command) -> Result<Turn, OutOfMemory> {
         let mut given = proved::Given::new(Global);
         self.inner.app_in_place(command, &mut given)?;
         Ok(Turn::from(given))
@@ -64,7 +65,7 @@ impl Client {
     /// # Errors
     ///
     /// Where there is no memory, and never where a Close or an acknowledgment is answered.
-    pub fn take(&mut self, reply: Reply) -> Result<Turn, Memory> {
+    pub fn take(&mut self, reply: Reply) -> Result<Turn, OutOfMemory> {
         let mut given = proved::Given::new(Global);
         self.inner.take_in_place(reply, &mut given)?;
         Ok(Turn::from(given))
@@ -75,7 +76,7 @@ impl Client {
     /// # Errors
     ///
     /// Where there is no memory.
-    pub fn notice(&mut self) -> Result<Turn, Memory> {
+    pub fn notice(&mut self) -> Result<Turn, OutOfMemory> {
         let mut given = proved::Given::new(Global);
         self.inner.notice_in_place(&mut given)?;
         Ok(Turn::from(given))
@@ -86,7 +87,7 @@ impl Client {
     /// # Errors
     ///
     /// Where there is no memory.
-    pub fn connect(&mut self) -> Result<Turn, Memory> {
+    pub fn connect(&mut self) -> Result<Turn, OutOfMemory> {
         let mut given = proved::Given::new(Global);
         self.inner.connect_in_place(&mut given)?;
         Ok(Turn::from(given))

@@ -1,4 +1,4 @@
-//! SMB 2.1 leases and durable opens (MS-SMB2) for file servers, client caches and those who test them.
+//! SMB 2.1 leases and durable opens (MS-SMB2), for authors of file servers and of client caches, and for testers.
 //!
 //! A lease lets a client keep a file's data: it answers reads from its cache and keeps writes there. The server takes the lease back
 //! by a break before another client may see or change the file. This crate has the parts:
@@ -41,12 +41,21 @@
 //! # What is proved
 //!
 //! All that decides or reads is made from sources with contracts that a machine checked, by a generator that takes the contracts
-//! off: the modules of [`proved`], whose docs say what each call gives. What stands round them here passes calls on. That the
-//! generator keeps the meaning, and that collections and Rust's compiler do as they should, is tested, not proved.
+//! off. The types here hide allocators, and pass calls on. That the generator keeps the meaning, and that collections and Rust's
+//! compiler do as they should, is tested, not proved. Where MS-SMB2 leaves a choice the docs say `profile` or `own`: what was chosen
+//! is in docs/PROFILE.md of the repository.
 //!
-//! # Memory
+//! # What isn't here
 //!
-//! Where memory runs out a call gives an error, and never ends the process.
+//! Leases of version 2 (SMB 3), leases of folders, byte-range locks, and the rest of SMB2: sessions, signing, names, attributes. A
+//! server with files that can be truncated, locked or overwritten asks the manager for a write there; one that renames or removes a
+//! file asks for an open that shares nothing.
+//!
+//! # Memory, threads, Rust
+//!
+//! Where memory runs out a call gives an error, and never ends the process. All types are `Send` and `Sync`: a server of several
+//! threads keeps a manager under one lock, and carries out its decisions under it, or in their order. Rust 1.95 is what the tests run
+//! with. There are no features; `alloc` is needed, and `std` isn't.
 #![no_std]
 #![forbid(unsafe_code)]
 #![warn(missing_docs)]
@@ -69,7 +78,11 @@ pub mod world;
 
 pub use manager::Manager;
 pub use proved::lease_state::{
-    Access, Bytes, Content, ContentFault, FILE_LIMIT, FileId, LeaseKey, LeaseState, Memory as OutOfMemory, Order, Patch, Reply,
-    Request, Rise, Rules, Share, Status,
+    Access, Bytes, Content, ContentFault, FILE_LIMIT, FileId, LeaseKey, LeaseState, Order, Patch, Reply, Request, Rise, Rules,
+    Share, Status,
 };
+pub use std::ports::bitflags::Flags;
 pub use timers::{BreakNo, BreakTimers};
+
+/// There was no memory, which is all that most calls can fail by.
+pub type OutOfMemory = proved::lease_state::Memory;

@@ -1,10 +1,25 @@
-//! The manager of leases, for a file server that keeps its files itself: it is to leases what a manager of locks is to locks.
+//! The lease manager of a file server that keeps its files itself.
 //!
-//! A server numbers clients and files as it likes, asks under tags, and carries out the decisions of each call one after another:
-//! a read or a write that goes on is done before what comes after it, and the messages of a client are sent in this order.
+//! A server numbers clients and files as it likes. It asks for each request of a client, under a tag of its own choice: tags are of a
+//! client, and one under which a request waits isn't used again. It carries out the decisions of each call one after another: a read
+//! or a write that goes on is done before what comes after it, and the messages of a client are sent in this order.
+//!
+//! # Breaks
+//!
+//! A create takes `WRITE_CACHING` from the leases of all other keys on its file. One that conflicts with opens takes `HANDLE_CACHING`
+//! from their leases in its place, since their clients may only have kept a handle. A write takes all. The server sends the notice of
+//! [`Decision::Breaks`], and where the client has to acknowledge it, starts a timer ([`BreakTimers`](crate::BreakTimers)). The request
+//! that needed the break waits. The client whose lease is breaking reads and writes on meanwhile: it has to send what it kept. Where its
+//! timer runs out, [`Manager::expire`] ends its opens.
+//!
+//! # A client that isn't there
+//!
+//! Nobody is answered who hasn't joined: what such a client asks gives no decision at all.
 
+use crate::OutOfMemory;
 use crate::proved::lease_manager as proved;
-use crate::proved::lease_state::{FileId, LeaseKey, LeaseState, Memory, Rules};
+use crate::proved::lease_state::{FileId, LeaseKey, LeaseState, Rules};
+use crate::wire;
 use std::alloc::Global;
 use std::prelude::Vec;
 
@@ -15,7 +30,7 @@ pub use crate::proved::lease_manager::{
 /// The opens, the leases and the requests that wait, of files that a server keeps itself.
 ///
 /// Each call that decides gives its decisions in the order in which they are to be carried out. Where one gives
-/// [`OutOfMemory`](crate::OutOfMemory) the manager has forgotten all but its rules and the number of its files, as a new one: the
+/// [`OutOfMemory`] the manager has forgotten all but its rules and the number of its files, as a new one: the
 /// server lets go of all that is open, and answers what waits.
 #[derive(Debug)]
 pub struct Manager {
@@ -35,7 +50,7 @@ impl Manager {
         Manager { inner: proved::Manager::with_files(Global, rules, last), decisions: Vec::new(Global) }
     }
 
-    /// The decisions of the last call that decided.
+    /// The decisions of the last call that gives any. [`join`](Manager::join) leaves them; after an error they have no worth.
     pub fn decisions(&self) -> &[Decision] {
         &self.decisions
     }
@@ -45,26 +60,37 @@ impl Manager {
     /// # Errors
     ///
     /// Where there is no memory; the manager has forgotten all then.
-    pub fn join(&mut self, client: ClientNo) -> Result<(), Memory> {
+    pub fn join(&mut self, client: ClientNo) -> Result<(), OutOfMemory> {
         self.inner.join(client)
     }
 
-    /// A client asks something of a file, under a tag under which nothing of it waits (MS-SMB2 3.3.5).
+    /// A client asks something of a file, under a tag under which nothing of it waits (MS-SMB2 3.3.5): where something does, two answers
+    /// come under that tag.
+    ///
+    /// It is refused at once with `FileClosed` where it names no open of the client's, and a write that doesn't fit with
+    /// `InvalidParameter`. It waits after an earlier request of the client on its file, as the rules say. Else what it needs of the
+    /// leases of other keys on its file is broken, and it is answered or refused, or waits for acknowledgments. After a close what
+    /// waits is tried again. Where the client isn't connected there is no decision, and nothing changes.
     ///
     /// # Errors
     ///
     /// Where there is no memory; the manager has forgotten all then.
-    pub fn ask(&mut self, client: ClientNo, tag: Tag, ask: Ask) -> Result<&[Decision], Memory> {
+    pub fn ask(&mut self, client: ClientNo, tag: Tag, ask: Ask) -> Result<&[Decision], OutOfMemory> {
         self.inner.ask(client, tag, ask, &mut self.decisions)?;
         Ok(&self.decisions)
     }
 
-    /// A client acknowledges a break of its lease of this key, with this state (MS-SMB2 3.3.5.22.2). What waits is tried again.
+    /// A client acknowledges a break of its lease of this key, with this state (MS-SMB2 3.3.5.22.2), which may be less than it was broken
+    /// to. Then what waits is tried again.
+    ///
+    /// It isn't acknowledged with `RequestNotAccepted` where the state is more than the lease was broken to, with `Unsuccessful` where no
+    /// break of it waits, and with `ObjectNameNotFound` where there is no such lease. Where the client isn't connected there is no
+    /// decision, and nothing changes.
     ///
     /// # Errors
     ///
     /// Where there is no memory; the manager has forgotten all then.
-    pub fn acknowledge(&mut self, client: ClientNo, key: LeaseKey, state: LeaseState) -> Result<&[Decision], Memory> {
+    pub fn acknowledge(&mut self, client: ClientNo, key: LeaseKey, state: LeaseState) -> Result<&[Decision], OutOfMemory> {
         self.inner.acknowledge(client, key, state, &mut self.decisions)?;
         Ok(&self.decisions)
     }
@@ -74,7 +100,7 @@ impl Manager {
     /// # Errors
     ///
     /// Where there is no memory; the manager has forgotten all then.
-    pub fn acknowledge_malformed(&mut self, client: ClientNo) -> Result<&[Decision], Memory> {
+    pub fn acknowledge_malformed(&mut self, client: ClientNo) -> Result<&[Decision], OutOfMemory> {
         self.inner.acknowledge_malformed(client, &mut self.decisions)?;
         Ok(&self.decisions)
     }
@@ -84,7 +110,7 @@ impl Manager {
     /// # Errors
     ///
     /// Where there is no memory; the manager has forgotten all then.
-    pub fn cut(&mut self, client: ClientNo) -> Result<&[Decision], Memory> {
+    pub fn cut(&mut self, client: ClientNo) -> Result<&[Decision], OutOfMemory> {
         self.inner.cut(client, &mut self.decisions)?;
         Ok(&self.decisions)
     }
@@ -94,7 +120,7 @@ impl Manager {
     /// # Errors
     ///
     /// Where there is no memory; the manager has forgotten all then.
-    pub fn expire(&mut self, client: ClientNo, key: LeaseKey) -> Result<&[Decision], Memory> {
+    pub fn expire(&mut self, client: ClientNo, key: LeaseKey) -> Result<&[Decision], OutOfMemory> {
         self.inner.expire(client, key, &mut self.decisions)?;
         Ok(&self.decisions)
     }
@@ -104,17 +130,18 @@ impl Manager {
     /// # Errors
     ///
     /// Where there is no memory; the manager has forgotten all then.
-    pub fn scavenge(&mut self, file_id: FileId) -> Result<&[Decision], Memory> {
+    pub fn scavenge(&mut self, file_id: FileId) -> Result<&[Decision], OutOfMemory> {
         self.inner.scavenge(file_id, &mut self.decisions)?;
         Ok(&self.decisions)
     }
 
-    /// A request that waits on the file is taken back, the client's under this tag (MS-SMB2 3.3.5.16).
+    /// A request that waits on the file is taken back, the client's under this tag (MS-SMB2 3.3.5.16). Where none does there is no
+    /// decision, and nothing changes.
     ///
     /// # Errors
     ///
     /// Where there is no memory; the manager has forgotten all then.
-    pub fn withdraw(&mut self, file: FileNo, client: ClientNo, tag: Tag) -> Result<&[Decision], Memory> {
+    pub fn withdraw(&mut self, file: FileNo, client: ClientNo, tag: Tag) -> Result<&[Decision], OutOfMemory> {
         self.inner.withdraw(file, client, tag, &mut self.decisions)?;
         Ok(&self.decisions)
     }
@@ -124,7 +151,7 @@ impl Manager {
     /// # Errors
     ///
     /// Where there is no memory for the list; nothing is forgotten.
-    pub fn opens(&self) -> Result<impl Iterator<Item = ListedOpen> + use<>, Memory> {
+    pub fn opens(&self) -> Result<impl Iterator<Item = ListedOpen> + use<>, OutOfMemory> {
         Ok(self.inner.opens()?.into_iter())
     }
 
@@ -181,5 +208,58 @@ impl Manager {
     /// What may be granted of a wanted state. With no key every open on the file has another one.
     pub fn allowed(&self, client: ClientNo, key: Option<LeaseKey>, file: FileNo, wanted: LeaseState) -> LeaseState {
         self.inner.allowed(client, key, file, wanted)
+    }
+}
+
+impl Decision {
+    /// The client that it is about. An open that ended by itself is named by its FileId alone.
+    pub fn client(&self) -> Option<ClientNo> {
+        match self {
+            Decision::Opened { client, .. }
+            | Decision::GoesOn { client, .. }
+            | Decision::Closed { client, .. }
+            | Decision::Refused { client, .. }
+            | Decision::Waits { client, .. }
+            | Decision::Withdrawn { client, .. }
+            | Decision::Breaks { client, .. }
+            | Decision::Acknowledged { client, .. }
+            | Decision::NotAcknowledged { client, .. } => Some(*client),
+            Decision::Ended { .. } => None,
+        }
+    }
+
+    /// The tag of the request that it is about.
+    pub fn tag(&self) -> Option<Tag> {
+        match self {
+            Decision::Opened { tag, .. }
+            | Decision::GoesOn { tag, .. }
+            | Decision::Closed { tag, .. }
+            | Decision::Refused { tag, .. }
+            | Decision::Waits { tag, .. }
+            | Decision::Withdrawn { tag, .. } => Some(*tag),
+            _ => None,
+        }
+    }
+}
+
+impl From<BreakNotice> for wire::Notification {
+    /// The message of a break.
+    fn from(notice: BreakNotice) -> wire::Notification {
+        let BreakNotice { ack_required, key, current, lowered } = notice;
+        wire::Notification { ack_required, key, current, new: lowered }
+    }
+}
+
+impl From<wire::CreateAsk> for CreateAsk {
+    /// What the create contexts of a request ask for.
+    fn from(ask: wire::CreateAsk) -> CreateAsk {
+        CreateAsk { lease: ask.lease, durable: ask.durable, reconnect: ask.reconnect }
+    }
+}
+
+impl From<CreateAnswer> for wire::CreateAnswer {
+    /// What the create contexts of an answer say.
+    fn from(answer: CreateAnswer) -> wire::CreateAnswer {
+        wire::CreateAnswer { lease: answer.lease, durable: answer.durable }
     }
 }

@@ -1,5 +1,6 @@
 //! A server that keeps its files too, in memory: for tests of clients, and to see what the rules say.
 
+use crate::OutOfMemory;
 use crate::proved::lease_state::{Content, FileId, LeaseKey, LeaseState, Memory, Request, Rules};
 use crate::proved::share_server as proved;
 use alloc::vec::Vec;
@@ -11,7 +12,7 @@ pub use crate::proved::share_server::Out;
 
 /// A file server of leases and durable opens: the files with their bytes, the opens, the leases and the requests that wait.
 ///
-/// Where a call gives [`OutOfMemory`](crate::OutOfMemory) the server is gone: each later call gives that too.
+/// Where a call gives [`OutOfMemory`] the server is gone: each later call gives that too.
 #[derive(Debug)]
 pub struct Server {
     inner: Option<proved::Server>,
@@ -24,14 +25,14 @@ impl Server {
     /// # Errors
     ///
     /// Where there is no memory.
-    pub fn new(rules: Rules, files: Vec<Content>) -> Result<Server, Memory> {
+    pub fn new(rules: Rules, files: Vec<Content>) -> Result<Server, OutOfMemory> {
         Ok(Server { inner: Some(proved::Server::with_rules(Global, rules, Fallible::from(files))?) })
     }
 
     fn after(
         &mut self,
-        call: impl FnOnce(proved::Server) -> Result<(proved::Server, Fallible<Out>), Memory>,
-    ) -> Result<Vec<Out>, Memory> {
+        call: impl FnOnce(proved::Server) -> Result<(proved::Server, Fallible<Out>), OutOfMemory>,
+    ) -> Result<Vec<Out>, OutOfMemory> {
         let (server, outs) = call(self.inner.take().ok_or(Memory)?)?;
         self.inner = Some(server);
         Ok(outs.into_inner())
@@ -42,7 +43,7 @@ impl Server {
     /// # Errors
     ///
     /// Where there is no memory.
-    pub fn join(&mut self, client: ClientNo) -> Result<Vec<Out>, Memory> {
+    pub fn join(&mut self, client: ClientNo) -> Result<Vec<Out>, OutOfMemory> {
         self.after(|server| server.join(client))
     }
 
@@ -51,7 +52,7 @@ impl Server {
     /// # Errors
     ///
     /// Where there is no memory.
-    pub fn receive(&mut self, client: ClientNo, request: Request) -> Result<Vec<Out>, Memory> {
+    pub fn receive(&mut self, client: ClientNo, request: Request) -> Result<Vec<Out>, OutOfMemory> {
         self.after(|server| server.receive(client, request))
     }
 
@@ -60,7 +61,7 @@ impl Server {
     /// # Errors
     ///
     /// Where there is no memory.
-    pub fn cut(&mut self, client: ClientNo) -> Result<Vec<Out>, Memory> {
+    pub fn cut(&mut self, client: ClientNo) -> Result<Vec<Out>, OutOfMemory> {
         self.after(|server| server.cut(client))
     }
 
@@ -69,7 +70,7 @@ impl Server {
     /// # Errors
     ///
     /// Where there is no memory.
-    pub fn expire(&mut self, client: ClientNo, key: LeaseKey) -> Result<Vec<Out>, Memory> {
+    pub fn expire(&mut self, client: ClientNo, key: LeaseKey) -> Result<Vec<Out>, OutOfMemory> {
         self.after(|server| server.expire(client, key))
     }
 
@@ -78,7 +79,7 @@ impl Server {
     /// # Errors
     ///
     /// Where there is no memory.
-    pub fn scavenge(&mut self, file_id: FileId) -> Result<Vec<Out>, Memory> {
+    pub fn scavenge(&mut self, file_id: FileId) -> Result<Vec<Out>, OutOfMemory> {
         self.after(|server| server.scavenge(file_id))
     }
 

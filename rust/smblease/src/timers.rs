@@ -1,7 +1,8 @@
+use crate::OutOfMemory;
 use crate::manager::{ClientNo, Decision};
 use crate::proved::break_timers as proved;
 use crate::proved::lease_manager::LeaseName;
-use crate::proved::lease_state::{LeaseKey, Memory};
+use crate::proved::lease_state::LeaseKey;
 use std::alloc::Global;
 
 pub use crate::proved::break_timers::BreakNo;
@@ -31,7 +32,7 @@ impl BreakTimers {
     /// # Errors
     ///
     /// Where a timer begins to run, and there is no memory for it, or all numbers have been given.
-    pub fn note(&mut self, decision: &Decision) -> Result<Option<BreakNo>, Memory> {
+    pub fn note(&mut self, decision: &Decision) -> Result<Option<BreakNo>, OutOfMemory> {
         self.inner.note(decision)
     }
 

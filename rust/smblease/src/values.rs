@@ -1,7 +1,10 @@
 //! What values have here in addition: Rust's own collections in and out, and rules by their names.
-use crate::proved::lease_state::{Bytes, Content, ContentFault, Memory, Order, Rise, Rules};
+use crate::OutOfMemory;
+use crate::proved::lease_state::{Bytes, Content, ContentFault, LeaseState, Order, Rise, Rules};
 use alloc::vec::Vec;
+use core::ops::BitOr;
 use std::alloc::Global;
+use std::ports::bitflags::Flags;
 use std::prelude::Vec as Fallible;
 
 impl From<Vec<u8>> for Bytes {
@@ -19,10 +22,10 @@ impl From<Bytes> for Vec<u8> {
 }
 
 impl TryFrom<&[u8]> for Bytes {
-    type Error = Memory;
+    type Error = OutOfMemory;
 
     /// A copy of these bytes.
-    fn try_from(bytes: &[u8]) -> Result<Bytes, Memory> {
+    fn try_from(bytes: &[u8]) -> Result<Bytes, OutOfMemory> {
         Ok(Bytes::new(Fallible::from_slice(Global, bytes)?))
     }
 }
@@ -66,5 +69,14 @@ impl Rules {
     /// and Samba were seen to do.
     pub const fn by_key_whole() -> Rules {
         Rules { order: Order::ByKey, rise: Rise::Whole }
+    }
+}
+
+impl BitOr for LeaseState {
+    type Output = LeaseState;
+
+    /// What either caches.
+    fn bitor(self, other: LeaseState) -> LeaseState {
+        LeaseState::from_bits_retain(self.bits() | other.bits())
     }
 }

@@ -16,7 +16,7 @@
 //! # Ok::<(), smblease::wire::WireFault>(())
 //! ```
 
-use crate::proved::lease_state::Memory;
+use crate::OutOfMemory;
 use crate::proved::lease_wire as proved;
 use alloc::vec::Vec;
 use std::alloc::Global;
@@ -33,7 +33,7 @@ pub use crate::proved::lease_wire::{
 /// # Errors
 ///
 /// Where there is no memory for them.
-pub fn create_ask(ask: &CreateAsk) -> Result<Vec<u8>, Memory> {
+pub fn create_ask(ask: &CreateAsk) -> Result<Vec<u8>, OutOfMemory> {
     let mut bytes = Fallible::new(Global);
     proved::write_create_ask(ask, &mut bytes)?;
     Ok(bytes.into_inner())
@@ -44,7 +44,7 @@ pub fn create_ask(ask: &CreateAsk) -> Result<Vec<u8>, Memory> {
 /// # Errors
 ///
 /// Where there is no memory for them.
-pub fn create_reply(answer: &CreateAnswer) -> Result<Vec<u8>, Memory> {
+pub fn create_reply(answer: &CreateAnswer) -> Result<Vec<u8>, OutOfMemory> {
     let mut bytes = Fallible::new(Global);
     proved::write_create_reply(answer, &mut bytes)?;
     Ok(bytes.into_inner())

@@ -1,7 +1,8 @@
 //! Runs of a server and clients by lists of events, and verdicts on records.
 
+use crate::OutOfMemory;
 use crate::proved::lease_facts as facts;
-use crate::proved::lease_state::{Content, Memory, Reply, Rules};
+use crate::proved::lease_state::{Content, Reply, Rules};
 use crate::proved::lease_world as proved;
 use alloc::vec::Vec;
 use std::alloc::Global;
@@ -71,7 +72,7 @@ pub fn run_under(rules: Rules, kept: Kept, setup: &Setup, events: &[Event]) -> R
 /// # Errors
 ///
 /// Where there is no memory for what the judge keeps.
-pub fn judge<'a>(facts: impl IntoIterator<Item = &'a Fact>) -> Result<Verdict, Memory> {
+pub fn judge<'a>(facts: impl IntoIterator<Item = &'a Fact>) -> Result<Verdict, OutOfMemory> {
     proved::judge_each(Global, facts.into_iter())
 }
 
@@ -98,7 +99,7 @@ impl Judge {
     /// # Errors
     ///
     /// Where there is no memory for what is kept of it.
-    pub fn add(&mut self, fact: &Fact) -> Result<(), Memory> {
+    pub fn add(&mut self, fact: &Fact) -> Result<(), OutOfMemory> {
         self.inner.add(fact)
     }
 
