@@ -1,7 +1,6 @@
 """Servers that are reached by their address, as those of other people are: each is a process that a test has started."""
 from __future__ import annotations
 
-import signal
 import subprocess
 import sys
 from collections.abc import Iterator
@@ -55,5 +54,6 @@ def named_small(*words: str) -> Iterator[list[str]]:
             port = int(process.stdout.readline().split()[1])
             yield words_of(Place("127.0.0.1", port, "share", "guest", "guest"))
         finally:
-            process.send_signal(signal.SIGINT)
+            # (an interruption is passed over by what a shell put into the background)
+            process.terminate()
             process.wait(timeout=30)
