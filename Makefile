@@ -3,7 +3,7 @@
 #   make                        has both at hand: from dist/ where that fits these sources and this machine, else proved and built here
 #   make install PREFIX=DIR     installs them, with headers, smblease.pc, man pages, completion for bash and pages of docs/ (DESTDIR is put before DIR)
 #   make uninstall              removes all that; give it the same PREFIX
-#   make check                  runs the tests that need no kit, in some five minutes; tools/setup installs what they need
+#   make check                  runs the tests that need no kit, in some six minutes; tools/setup installs what they need
 #   make check-long             runs those of these tests that take longer
 #   make lint                   has mypy and pylint look at all Python
 #   make man                    writes the man pages anew, from --help, docs/C.md and the headers; needs pandoc
