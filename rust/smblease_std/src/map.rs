@@ -17,23 +17,17 @@ type Children<K, V> = ArrayVec<Box<Node<K, V>>, { FULL + 1 }>;
 // Keys in order, the value of each, and the children between them; a leaf has none.
 struct Node<K, V> {
     keys: ArrayVec<K, FULL>,
+    children: Children<K, V>,
     values: ArrayVec<V, FULL>,
-    children: Option<Box<Children<K, V>>>,
 }
 
 impl<K, V> Node<K, V> {
-    fn leaf() -> Option<Box<Node<K, V>>> {
-        Box::new(Global, Node { keys: ArrayVec::new(), values: ArrayVec::new(), children: None }).ok()
-    }
-
-    fn branch() -> Option<Box<Node<K, V>>> {
-        let mut node = Node::leaf()?;
-        node.children = Some(Box::new(Global, ArrayVec::new()).ok()?);
-        Some(node)
+    fn empty() -> Option<Box<Node<K, V>>> {
+        Box::new(Global, Node { keys: ArrayVec::new(), children: ArrayVec::new(), values: ArrayVec::new() }).ok()
     }
 
     fn is_leaf(&self) -> bool {
-        self.children.is_none()
+        self.children.is_empty()
     }
 
     fn is_full(&self) -> bool {
@@ -41,11 +35,11 @@ impl<K, V> Node<K, V> {
     }
 
     fn child(&self, at: usize) -> Option<&Node<K, V>> {
-        self.children.as_ref()?.get(at).map(|child| &**child)
+        self.children.get(at).map(|child| &**child)
     }
 
     fn child_mut(&mut self, at: usize) -> Option<&mut Node<K, V>> {
-        self.children.as_mut()?.get_mut(at).map(|child| &mut **child)
+        self.children.get_mut(at).map(|child| &mut **child)
     }
 
     fn insert(&mut self, at: usize, key: K, value: V) {
@@ -68,22 +62,21 @@ impl<K, V> Node<K, V> {
 
     // The entries behind the middle, with their children, move to a node of their own.
     fn split_off(&mut self) -> Option<Box<Node<K, V>>> {
-        let mut right = if self.is_leaf() { Node::leaf()? } else { Node::branch()? };
+        let mut right = Node::empty()?;
         right.keys.extend(self.keys.drain(HALF + 1..));
         right.values.extend(self.values.drain(HALF + 1..));
-        if let (Some(own), Some(others)) = (&mut self.children, &mut right.children) {
-            others.extend(own.drain(HALF + 1..));
+        if !self.is_leaf() {
+            right.children.extend(self.children.drain(HALF + 1..));
         }
         Some(right)
     }
 
     // The full child at this place becomes two. Its middle entry comes here, where there is room for it.
     fn halve(&mut self, at: usize) -> Option<()> {
-        let children = self.children.as_mut()?;
-        let full = &mut children[at];
+        let full = &mut self.children[at];
         let right = full.split_off()?;
         let middle = (full.keys.pop()?, full.values.pop()?);
-        children.insert(at + 1, right);
+        self.children.insert(at + 1, right);
         self.insert(at, middle.0, middle.1);
         Some(())
     }
@@ -91,28 +84,25 @@ impl<K, V> Node<K, V> {
     // The entry at this place and the child behind it go to the child before it.
     fn join(&mut self, at: usize) {
         let (key, value) = self.remove(at);
-        let Some(children) = &mut self.children else { return };
-        let mut right = Box::into_inner(children.remove(at + 1));
-        let left = &mut children[at];
+        let mut right = self.children.remove(at + 1);
+        let left = &mut self.children[at];
         left.keys.push(key);
         left.values.push(value);
         left.keys.extend(right.keys.drain(..));
         left.values.extend(right.values.drain(..));
-        if let (Some(own), Some(others)) = (&mut left.children, &mut right.children) {
-            own.extend(others.drain(..));
-        }
+        left.children.extend(right.children.drain(..));
     }
 
     // The last entry of the child before this one comes here, and the one that parts them goes to the front of the child.
     fn borrow_before(&mut self, at: usize) -> Option<()> {
         let left = self.child_mut(at - 1)?;
         let entry = (left.keys.pop()?, left.values.pop()?);
-        let moved = left.children.as_mut().and_then(|children| children.pop());
+        let moved = left.children.pop();
         let (key, value) = self.replace(at - 1, entry);
         let weak = self.child_mut(at)?;
         weak.insert(0, key, value);
-        if let (Some(children), Some(moved)) = (&mut weak.children, moved) {
-            children.insert(0, moved);
+        if let Some(moved) = moved {
+            weak.children.insert(0, moved);
         }
         Some(())
     }
@@ -121,14 +111,12 @@ impl<K, V> Node<K, V> {
     fn borrow_behind(&mut self, at: usize) -> Option<()> {
         let right = self.child_mut(at + 1)?;
         let entry = right.remove(0);
-        let moved = right.children.as_mut().map(|children| children.remove(0));
+        let moved = right.children.pop_at(0);
         let (key, value) = self.replace(at, entry);
         let weak = self.child_mut(at)?;
         let end = weak.keys.len();
         weak.insert(end, key, value);
-        if let (Some(children), Some(moved)) = (&mut weak.children, moved) {
-            children.push(moved);
-        }
+        weak.children.extend(moved);
         Some(())
     }
 
@@ -312,7 +300,7 @@ impl<K: Ord, V> BTreeMap<K, V> {
     // The leaf where the key would be, and its place there; nodes on the way to it that are full are halved, so that there is room.
     fn room_for(&mut self, key: &K) -> Option<(&mut Node<K, V>, usize)> {
         if self.root.is_none() {
-            self.root = Some(Node::leaf()?);
+            self.root = Some(Node::empty()?);
         }
         if self.root.as_ref().is_some_and(|root| root.is_full()) {
             self.grow()?;
@@ -333,15 +321,13 @@ impl<K: Ord, V> BTreeMap<K, V> {
 
     // The root, which is full, gets two halves as children of a new one.
     fn grow(&mut self) -> Option<()> {
-        let mut root = Node::branch()?;
+        let mut root = Node::empty()?;
         let right = self.root.as_deref_mut()?.split_off()?;
         let mut left = self.root.take()?;
         let (key, value) = (left.keys.pop()?, left.values.pop()?);
         root.insert(0, key, value);
-        if let Some(children) = &mut root.children {
-            children.push(left);
-            children.push(right);
-        }
+        root.children.push(left);
+        root.children.push(right);
         self.root = Some(root);
         Some(())
     }
@@ -365,7 +351,7 @@ impl<K: Ord, V> BTreeMap<K, V> {
         let root = self.root.as_deref_mut()?;
         let taken = root.take(key);
         if root.keys.is_empty() {
-            let child = root.children.as_mut().and_then(|children| children.pop());
+            let child = root.children.pop();
             self.root = child;
         }
         let (_, value) = taken?;
@@ -379,11 +365,11 @@ impl<K: Ord, V> BTreeMap<K, V> {
         let mut best = None;
         loop {
             let at = key.map_or(0, |key| node.keys.partition_point(|one| one <= key));
-            let Node { keys, values, children } = node;
+            let Node { keys, children, values } = node;
             if let (Some(one), Some(value)) = (keys.get(at), values.get_mut(at)) {
                 best = Some((one, value));
             }
-            match children.as_mut().and_then(|children| children.get_mut(at)) {
+            match children.get_mut(at) {
                 Some(child) => node = child,
                 None => return best,
             }
@@ -498,10 +484,12 @@ impl<K: Ord, V> Node<K, V> {
         if !self.keys.is_sorted() || self.keys.len() != self.values.len() {
             return None;
         }
-        let Some(children) = &self.children else { return Some(0) };
-        let depths: rust_std::vec::Vec<_> = children.iter().map(|child| child.depth()).collect();
-        let halves = children.iter().all(|child| child.keys.len() >= HALF);
-        let is_whole = children.len() == self.keys.len() + 1 && halves && depths.windows(2).all(|two| two[0] == two[1]);
+        if self.is_leaf() {
+            return Some(0);
+        }
+        let depths: rust_std::vec::Vec<_> = self.children.iter().map(|child| child.depth()).collect();
+        let halves = self.children.iter().all(|child| child.keys.len() >= HALF);
+        let is_whole = self.children.len() == self.keys.len() + 1 && halves && depths.windows(2).all(|two| two[0] == two[1]);
         if is_whole { depths[0].map(|depth| depth + 1) } else { None }
     }
 }
