@@ -47,7 +47,7 @@ def laid_out(text: str) -> list[str]:
 
 
 @needs.program("rustfmt")
-@pytest.mark.parametrize("source", files_of(SAMPLES, "*.rt"), ids=name_of)
+@pytest.mark.parametrize("source", files_of(SAMPLES, "*.rattle"), ids=name_of)
 def test_made(source: Path, tmp_path: Path) -> None:
     """Of each sample in Rattle what stands beside it in Rust is made."""
     made = plain(tmp_path, source.read_text(encoding="utf-8"))
