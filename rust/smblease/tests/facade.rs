@@ -1,0 +1,143 @@
+//! What stands round the proved modules: conversions, accessors, and each call of the server, the client's cache and the manager.
+use smblease::client::{Answer, Client, Command};
+use smblease::manager::{Ask, ClientNo, CreateAsk, Decision, FileNo, Tag};
+use smblease::server::{Out, Server};
+use smblease::world::{Judge, Setup, Verdict};
+use smblease::{
+    Access, BreakTimers, Bytes, Content, FileId, LeaseKey, LeaseState, Manager, Order, OutOfMemory, Request, Rise, Rules, Share,
+    wire,
+};
+
+const KEY: LeaseKey = LeaseKey([7; 16]);
+const FILE: FileNo = FileNo(1);
+
+fn is_shared<T: Send + Sync>() {}
+
+#[test]
+fn all_may_go_to_other_threads() {
+    is_shared::<Manager>();
+    is_shared::<BreakTimers>();
+    is_shared::<Client>();
+    is_shared::<Server>();
+    is_shared::<Judge>();
+    is_shared::<Setup>();
+    is_shared::<smblease::client::SharedBytes>();
+}
+
+#[test]
+fn values_come_and_go_as_rusts_own() -> Result<(), Box<dyn std::error::Error>> {
+    assert_eq!(Vec::from(Bytes::from(b"abc".to_vec())), b"abc");
+    assert_eq!(Bytes::try_from(b"abc".as_slice())?.as_slice(), b"abc");
+    assert_eq!(Content::try_from(b"abc".to_vec())?.bytes(), b"abc");
+    assert!(Content::try_from(vec![0; smblease::FILE_LIMIT + 1]).is_err());
+    let all = LeaseState::READ_CACHING | LeaseState::WRITE_CACHING | LeaseState::HANDLE_CACHING;
+    assert_eq!(all, LeaseState::from_wire(7));
+    let rules = [Rules::by_client_as_free(), Rules::by_client_whole(), Rules::by_key_as_free(), Rules::by_key_whole()];
+    assert_eq!(rules[0], Rules::profile());
+    assert_eq!(rules.map(|rules| rules.order), [Order::ByClient, Order::ByClient, Order::ByKey, Order::ByKey]);
+    assert_eq!(rules.map(|rules| rules.rise), [Rise::AsFree, Rise::Whole, Rise::AsFree, Rise::Whole]);
+    Ok(())
+}
+
+fn open(lease: Option<(LeaseKey, LeaseState)>, durable: bool) -> Ask {
+    let ask = CreateAsk { lease, durable, reconnect: None };
+    Ask::Create { file: FILE, access: Access::ReadWrite, share: Share::ReadWrite, ask }
+}
+
+#[test]
+fn a_managers_calls() -> Result<(), OutOfMemory> {
+    let (one, two, all) = (ClientNo(1), ClientNo(2), LeaseState::from_wire(7));
+    let mut manager = Manager::with_files(Rules::by_key_whole(), FILE);
+    assert_eq!((manager.files(), manager.rules()), (FILE, Rules::by_key_whole()));
+    assert!(manager.ask(one, Tag(1), open(None, false))?.is_empty());
+    manager.join(one)?;
+    manager.join(two)?;
+    let opened = manager.ask(one, Tag(1), open(Some((KEY, all)), true))?[0];
+    assert_eq!((opened.client(), opened.tag()), (Some(one), Some(Tag(1))));
+    let Decision::Opened { file_id, answer, .. } = opened else { panic!("{opened:?}") };
+    assert_eq!(wire::CreateAnswer::from(answer), wire::CreateAnswer { lease: Some((KEY, all, false)), durable: true });
+    assert!(manager.has_open(file_id) && manager.is_connected(one) && manager.open_count() == 1);
+    assert_eq!(manager.opens()?.map(|one| one.file_id).collect::<Vec<_>>(), [file_id]);
+    assert_eq!(manager.allowed(two, None, FILE, all), LeaseState::from_wire(3));
+    // Another client's open breaks the lease, and is taken back; its timer then ends the first one's.
+    let decisions = manager.ask(two, Tag(9), open(None, false))?.to_vec();
+    let [Decision::Breaks { notice, .. }, Decision::Waits { .. }] = decisions[..] else { panic!("{decisions:?}") };
+    assert_eq!((decisions[0].client(), decisions[0].tag(), decisions[1].tag()), (Some(one), None, Some(Tag(9))));
+    let message = wire::Notification::from(notice);
+    assert_eq!((message.ack_required, message.key, message.current, message.new), (true, KEY, all, LeaseState::from_wire(3)));
+    assert!(manager.is_breaking(one, KEY) && manager.is_waiting(FILE, two, Tag(9)));
+    assert_eq!(manager.withdraw(FILE, two, Tag(9))?, [Decision::Withdrawn { client: two, tag: Tag(9) }]);
+    assert_eq!(manager.acknowledge_malformed(two)?[0].client(), Some(two));
+    assert_eq!(manager.expire(one, KEY)?, [Decision::Ended { file_id }]);
+    assert_eq!((manager.decisions()[0].client(), manager.decisions()[0].tag(), manager.open_count()), (None, None, 0));
+    Ok(())
+}
+
+#[test]
+fn a_manager_keeps_a_durable_open() -> Result<(), OutOfMemory> {
+    let (one, all) = (ClientNo(1), LeaseState::from_wire(7));
+    let mut manager = Manager::new(Rules::profile());
+    manager.join(one)?;
+    manager.ask(one, Tag(1), open(Some((KEY, all)), true))?;
+    assert!(manager.cut(one)?.is_empty());
+    assert_eq!((manager.kept(one, FILE), manager.has_left_behind(FileId(1))), (Some(FileId(1)), true));
+    assert_eq!(manager.scavenge(FileId(1))?, [Decision::Ended { file_id: FileId(1) }]);
+    Ok(())
+}
+
+#[test]
+fn a_break_has_one_timer() -> Result<(), OutOfMemory> {
+    let (one, two) = (ClientNo(1), ClientNo(2));
+    let (mut manager, mut timers) = (Manager::new(Rules::profile()), BreakTimers::default());
+    manager.join(one)?;
+    manager.join(two)?;
+    manager.ask(one, Tag(1), open(Some((KEY, LeaseState::from_wire(7))), false))?;
+    let number = timers.note(&manager.ask(two, Tag(1), open(None, false))?[0])?.expect("a timer");
+    assert_eq!((timers.run_out(number), timers.run_out(number)), (Some((one, KEY)), None));
+    Ok(())
+}
+
+// A client opens and reads a file of a server, whose messages come at once; then it loses its connection.
+#[test]
+fn a_client_and_a_server() -> Result<(), Box<dyn std::error::Error>> {
+    let (number, file) = (smblease::client::ClientNo(1), smblease::client::FileNo(1));
+    let mut server = Server::new(Rules::profile(), vec![Content::try_from(b"abc".as_slice())?])?;
+    let mut client = Client::new([1; 16], 1)?;
+    server.join(number)?;
+    client.connect()?;
+    let want = LeaseState::from_wire(7);
+    let opening = Command::Open { file, access: Access::ReadWrite, share: Share::ReadWrite, want, durable: false };
+    let mut answers = Vec::new();
+    for command in [opening, Command::Read { file }] {
+        let turn = client.command(command)?;
+        for request in turn.requests {
+            for out in server.receive(number, request)? {
+                if let Out::Sent(_, reply) = out {
+                    answers.push(client.take(reply)?.answer);
+                }
+            }
+        }
+    }
+    assert_eq!(answers, [Answer::Done, Answer::Bytes(Bytes::from(b"abc".to_vec()), false)]);
+    assert_eq!((client.belief(file), server.content(file)), (want, Some(b"abc".as_slice())));
+    assert!(server.is_connected(number) && !server.is_breaking(number, KEY) && server.kept(number, file).is_none());
+    assert_eq!(server.allowed(number, None, file, want), LeaseState::from_wire(3));
+    server.cut(number)?;
+    client.notice()?;
+    assert!(!server.is_connected(number) && client.belief(file).is_none() && !server.has_left_behind(FileId(1)));
+    assert!(server.expire(number, KEY)?.is_empty() && server.scavenge(FileId(1))?.is_empty());
+    assert!(server.receive(number, Request::Read { fid: FileId(1) })?.is_empty());
+    assert_eq!(Judge::default().verdict(), Verdict::Safe);
+    Ok(())
+}
+
+#[test]
+fn contexts_are_read_back() -> Result<(), Box<dyn std::error::Error>> {
+    let ask = wire::CreateAsk { lease: Some((KEY, LeaseState::from_wire(3))), durable: true, reconnect: None };
+    assert_eq!(wire::read_create(&wire::create_ask(&ask)?)?, ask);
+    let asked = CreateAsk::from(ask);
+    assert_eq!((asked.lease, asked.durable, asked.reconnect), (ask.lease, true, None));
+    let answer = wire::CreateAnswer { lease: Some((KEY, LeaseState::from_wire(3), true)), durable: true };
+    assert_eq!(wire::read_create_reply(&wire::create_reply(&answer)?)?, answer);
+    Ok(())
+}
