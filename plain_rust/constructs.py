@@ -105,11 +105,22 @@ OUTSIDE: Mapping[str, str] = {
 # Crates of the kit that nothing of plain Rust asks for.
 WITHOUT = frozenset(("core", "std_alloc", "thiserror"))
 
+# The methods that change nothing, end, and can't fail.
+READS = frozenset(("as_slice", "iter", "len"))
+
+# Imports of Rust's own, or of `smblease_std`, that code needs only where it says one of these words: a text has the methods of
+# `Write` itself.
+NEEDED_BY: Mapping[tuple[str, ...], tuple[str, ...]] = {
+    ("std", "alloc", "AllocError"): (),
+    ("std", "convert", "AsSlice"): (),
+    ("std", "fmt", "Write"): ("ArrayString",),
+    ("std", "process", "Abort"): (),
+}
+
 # The lints that are rustc's.
-RUSTC = frozenset(("dead_code", "missing_docs", "unused_imports", "unused_variables"))
+RUSTC = frozenset(("missing_docs",))
 # What rustc and clippy would say of the modules that are made, and why they don't.
 LINTS = table(
-    *kept("contracts and proofs speak of it", "dead_code", "unused_imports", "unused_variables"),
     *kept("fields are told where their struct is", "missing_docs"),
     *kept(
         "the form that the prover takes",

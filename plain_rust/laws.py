@@ -5,6 +5,7 @@ from __future__ import annotations
 from typing import Iterator, Mapping, Optional
 
 from plain_rust.items import Form, Item, every, without
+from plain_rust.reading import is_idle
 from plain_rust.sources import Crate, Module, Naming
 from plain_rust.tokens import Kind, Token, before, closing, sign, skip
 from plain_rust.uses import Leaf, Path, prune
@@ -14,9 +15,8 @@ def is_law(item: Item) -> bool:
     """Whether a function states something and does nothing."""
     if item.form is not Form.FUNCTION or "ensures" not in item.clauses or item.body is None:
         return False
-    is_idle = all(token.is_trivia for token in item.body)
     changes = any(token.is_word("mut") for token in item.head)
-    return is_idle and not changes and all(token.is_trivia for token in item.result())
+    return is_idle(item.body) and not changes and all(token.is_trivia for token in item.result())
 
 
 def path_at(tokens: list[Token], place: int) -> tuple[Path, int]:

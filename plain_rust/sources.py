@@ -12,6 +12,10 @@ from plain_rust.tokens import tokens_of
 from plain_rust.uses import Leaf, Path as Names, tree_of
 
 
+# No name leads through more imports.
+MOST_STEPS = 9
+
+
 @dataclass
 class Module:
     """A file of a crate: its place in the repository, its path in the crate and its items."""
@@ -28,8 +32,8 @@ class Module:
 
     @property
     def is_empty(self) -> bool:
-        """Whether nothing is left in it."""
-        return all(item.form is Form.REST for item in self.items)
+        """Whether nothing is left in it but imports of its own."""
+        return all(item.form is Form.REST or (item.form is Form.USE and not item.is_public) for item in self.items)
 
     @property
     def is_test(self) -> bool:
@@ -64,6 +68,13 @@ class Crate:
     def is_program(self) -> bool:
         """Whether it is a program."""
         return self.modules[()].file.endswith("/main.rt")
+
+    def shows(self, path: Names) -> bool:
+        """Whether others may name what is in the module of this path: each module that leads there is public."""
+        if not path:
+            return True
+        declared = [item for item in self.modules[path[:-1]].items if item.form is Form.MODULE and item.name == path[-1]]
+        return all(item.is_public for item in declared) and self.shows(path[:-1])
 
 
 def crate_line(line: str) -> Optional[Crate]:
@@ -126,6 +137,22 @@ class Naming:
         while rest and rest[0] == "super":
             above, rest = above[:-1], rest[1:]
         return (*above, *rest)
+
+    def is_item(self, module: Module, path: Names, forms: Sequence[Form]) -> bool:
+        """Whether a path in a module means an item of one of these forms, or a variant."""
+        whole = self.absolute(module, path)
+        for _ in range(MOST_STEPS):
+            there = self.module(whole[:-1])
+            if there is None:
+                enum = self.module(whole[:-2])
+                return enum is not None and any(item.form is Form.ENUM and item.name == whole[-2] for item in enum.items)
+            if any(item.form in forms and item.name == whole[-1] for item in there.items):
+                return True
+            found = next((leaf.path for leaf in there.imports() if leaf.name == whole[-1]), None)
+            if found is None:
+                return False
+            whole = self.absolute(there, found)
+        return False
 
     def function(self, module: Module, path: Names, seen: Sequence[tuple[Names, Names]] = ()) -> Optional[Names]:
         """The crate, the path and the name of the function that a path in a module means."""

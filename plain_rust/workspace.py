@@ -14,6 +14,7 @@ from plain_rust.faults_written import write_faults
 from plain_rust.laws import Laws
 from plain_rust.running import write_running
 from plain_rust.sources import Crate, read_crates
+from plain_rust.unread import Unread
 from plain_rust.writing import Place, allowed, place_of, written
 
 # What tells from which sources the modules were made.
@@ -79,6 +80,7 @@ def prepare(crates: Mapping[str, Crate]) -> None:
         for path, module in crate.modules.items():
             write_running(module, not path and crate.is_program)
             write_exports(module)
+    Unread(crates).drop()
 
 
 def root_of(package: Package, crate: str) -> Path:

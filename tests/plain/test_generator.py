@@ -76,17 +76,42 @@ pub fn changes(at: &mut u8)
     ensures { at.new ≡ at.old }
 {
 }
+
+fn looks(at: &Told)
+    ensures { at ≡ at }
+{
+    let _told = at.told;
+    match at {
+        Told(1) => law(at.told),
+        _ => {}
+    }
+}
+
+pub fn looks_at_all(told: &[Told])
+    ensures { told ≡ told }
+{
+    for at in told.iter() {
+        looks(at);
+    }
+}
+
+pub fn fails(told: &[u8])
+    ensures { told ≡ told }
+{
+    let _first = told[0];
+}
 """
 CALLER = """
 mod laws;
 mod other;
 
-pub use laws::{kept, law};
+pub use laws::{changes, fails, kept, law, looks_at_all};
 use other::same;
 
-fn one(at: u8) -> u8 {
+pub fn one(at: u8) -> u8 {
     // by the law
     law(at);
+    looks_at_all(&[]);
     laws::above(at);
     match at {
         0 => law(at),
@@ -96,7 +121,7 @@ fn one(at: u8) -> u8 {
 }
 """
 WITHOUT_LAWS = """
-mod laws; mod other; pub use laws::kept; use other::same; fn one(at: u8) -> u8 { match at { 0 => (), _ => same(at), } at }
+mod laws; mod other; pub use laws::{changes, fails, kept}; use other::same; pub fn one(at: u8) -> u8 { match at { 0 => (), _ => same(at), } at }
 """
 
 
@@ -105,7 +130,7 @@ def test_laws_go_with_what_calls_them(tmp_path: Path) -> None:
     crate = crate_of(tmp_path, CALLER, laws=LAWS, other="pub fn same(at: u8) {\n    print(at)\n}\n")["one"]
     place = Place("crate::proved::one", {})
     assert written(crate.modules[()], place).removeprefix(HEAD).split() == WITHOUT_LAWS.split()
-    assert [item.name for item in crate.modules[("laws",)].functions()] == ["kept", "changes"]
+    assert [item.name for item in crate.modules[("laws",)].functions()] == ["kept", "changes", "fails"]
 
 
 def test_modules_of_laws_go(tmp_path: Path) -> None:
@@ -152,7 +177,7 @@ def test_the_workspace_is_what_is_made() -> None:
 
 
 def test_a_crate_that_no_package_has(tmp_path: Path) -> None:
-    assert unplaced(crate_of(tmp_path, "fn one() {}\n")) == ["one"]
+    assert unplaced(crate_of(tmp_path, "pub fn one() {}\n")) == ["one"]
 
 
 def test_words() -> None:

@@ -1,7 +1,6 @@
 //! The proved crates as modules, without their contracts.
 //!
 //! Made by tools/plain_rust.
-#![allow(dead_code, unused_imports, unused_variables, reason = "contracts and proofs speak of it")]
 #![allow(missing_docs, reason = "fields are told where their struct is")]
 #![allow(
     clippy::assertions_on_constants,

@@ -2,4 +2,4 @@
 /// ghost();
 /// ```
 /// See [it](crate::proved::one::two).
-fn one() {}
+pub fn one() {}

@@ -1,2 +1,2 @@
 use std::mem;
-fn two() {}
+pub fn two() {}

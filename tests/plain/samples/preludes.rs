@@ -1,6 +1,6 @@
 //! Docs.
 use std::prelude::{Vec, vec};
-fn one(alloc: Global) -> Result<Vec<u8>, Memory> {
+pub fn one(alloc: Global) -> Result<Vec<u8>, Memory> {
     Ok(vec![in alloc; 7; 3]?)
 }
 mod two {

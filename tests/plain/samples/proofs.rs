@@ -1,3 +1,3 @@
-fn one(count: usize) {
+pub fn one(count: usize) {
     two(count);
 }

@@ -3,7 +3,5 @@
 //! What a run is printed as is read as its record, and judged to be safe: public functions whose
 //! contracts carry these laws. They do nothing, or nothing but a run.
 mod judged;
-mod typing;
 
-pub use judged::{judged_run, replays_are_judged_safe};
-pub use typing::facts_are_typed;
+pub use judged::judged_run;

@@ -5,7 +5,7 @@ use leasecheck::proved::lease_texts::{
     push_complaint, push_complaint_line, push_event, push_fact, push_line, push_quoted, push_setup, read_arrival, read_fact,
     read_part, read_schedule, reply_table, request_table, rules_in,
 };
-use leasecheck::proved::text_laws::{facts_are_typed, judged_run};
+use leasecheck::proved::text_laws::judged_run;
 use smblease::proved::lease_client::{Command, Settlement, SharedBytes};
 use smblease::proved::lease_state::{
     Access, Bytes, ClientNo, FileId, FileNo, LeaseState, Order, Patch, Reply, Request, Rise, Rules, Share, Status,
@@ -196,7 +196,6 @@ fn a_run_is_judged() {
         let schedule = read_schedule(alloc, text)?;
         let (setup, events) = (&schedule.setup, schedule.events.as_slice());
         let facts = judged_run(alloc, Rules::profile(), setup, events)?;
-        facts_are_typed(facts.as_slice());
         let mut expected = Vec::new(alloc);
         expected.push(Fact::Start(FileNo(1), bytes(alloc, b"abc")?))?;
         expected.push(Fact::Joined(ClientNo(1)))?;

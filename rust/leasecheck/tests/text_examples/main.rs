@@ -1,6 +1,5 @@
 // Made by tools/plain_rust from crates/text_examples/src/lib.rt. Changes belong there.
 
-#![allow(dead_code, unused_imports, unused_variables, reason = "contracts and proofs speak of it")]
 #![allow(missing_docs, reason = "fields are told where their struct is")]
 #![allow(
     clippy::assertions_on_constants,

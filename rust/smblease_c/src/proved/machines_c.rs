@@ -8,7 +8,6 @@ mod client;
 mod handles;
 mod manager;
 mod server;
-mod threads;
 mod values;
 
 pub use client::answer::ClientAnswer;

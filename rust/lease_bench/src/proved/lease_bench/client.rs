@@ -6,7 +6,7 @@ use std::prelude::{Vec, vec};
 use smblease::proved::lease_client::{Answer, Client, Command, lease_key};
 use smblease::proved::lease_state::{Access, Bytes, FileId, FileNo, LeaseState, Memory, Patch, Reply, Share};
 use smblease::proved::lease_wire::{CreateAnswer, write_create_reply};
-use std::alloc::{AllocError, Global};
+use std::alloc::Global;
 
 const GUID: [u8; 16] = [0x11; 16];
 

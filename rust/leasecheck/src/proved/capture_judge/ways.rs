@@ -152,7 +152,7 @@ impl Ways {
     }
 
     // Keeps where a step leads that no way has come to. It is false where there is no room.
-    fn keep(&mut self, chains: &[Chain], way: usize, step: Step, came: Vec<usize>) -> Result<bool, Memory> {
+    fn keep(&mut self, way: usize, step: Step, came: Vec<usize>) -> Result<bool, Memory> {
         if self.ways.len() >= WAY_LIMIT {
             return Ok(false);
         }
@@ -175,7 +175,7 @@ impl Ways {
         if !is_apart(chains, came.as_slice(), step.chain) || self.holds(came.as_slice()) {
             return Ok(true);
         }
-        self.keep(chains, way, step, came)
+        self.keep(way, step, came)
     }
 
     // Takes each step of a chain from a way. Changes that must happen aren't passed over.

@@ -7,7 +7,6 @@ use crate::proved::capture_wire::{Command, Header, read_header};
 use smblease::proved::lease_state::Memory;
 use smblease::proved::lease_wire::first_message;
 use std::alloc::{AllocError, Global};
-use std::convert::AsSlice;
 
 /// What a message is to others.
 #[derive(Clone, Copy, Debug, PartialEq, Eq)]

@@ -2,7 +2,6 @@
 
 use std::prelude::Vec;
 
-use crate::proved::capture_walk::note::Seen;
 use smblease::proved::lease_state::{Bytes, Memory};
 use std::alloc::Global;
 
@@ -83,7 +82,7 @@ impl Files {
     }
 
     /// Takes note of a message that is no CREATE response, and after which names may lead to other files or not.
-    pub(crate) fn note_change(&mut self, seen: &Seen<'_>, is_change: bool) {
+    pub(crate) fn note_change(&mut self, is_change: bool) {
         if is_change {
             self.named.clear();
         }

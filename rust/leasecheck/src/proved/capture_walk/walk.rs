@@ -59,7 +59,7 @@ impl Walk {
     fn name_files(&mut self, seen: &Seen<'_>) -> Result<Option<Open>, Memory> {
         let Some(given) = seen.note.create_given() else {
             let is_change = self.renames.is_change(seen);
-            self.files.note_change(seen, is_change);
+            self.files.note_change(is_change);
             return Ok(None);
         };
         open_given(&self.clients, &self.trees, &self.creates, &mut self.files, seen, given)

@@ -6,9 +6,7 @@ use std::prelude::String;
 use crate::proved::lease_texts::commands::{CLOSE, FLUSH, OPEN, READ, WRITE, is_command, read_command};
 use crate::proved::lease_texts::fault::LineFault;
 use crate::proved::lease_texts::fields::Fields;
-use crate::proved::lease_texts::kinds::Field::{
-    Access, Bytes, Client, Content, Durable, File, Guid, Offset, Request, Share, State,
-};
+use crate::proved::lease_texts::kinds::Field::{Client, Content, File, Guid, Request};
 use crate::proved::lease_texts::kinds::{Row, Table};
 use crate::proved::lease_texts::requests::read_request;
 use crate::proved::lease_texts::said::line;

@@ -7,7 +7,6 @@ use crate::proved::lease_texts::{TextFault, push_fact};
 use crate::proved::leasecheck::failure::Failure;
 use crate::proved::leasecheck::refusal::Refusal;
 use std::alloc::{AllocError, Global};
-use std::fmt::Write as _;
 
 // The capture that a text is.
 fn capture_of(alloc: Global, side: Side, text: &[u8]) -> Result<Capture, Refusal> {

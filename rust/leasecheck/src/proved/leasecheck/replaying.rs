@@ -8,7 +8,6 @@ use crate::proved::leasecheck::idle::event_lines;
 use crate::proved::leasecheck::recording::Record;
 use crate::proved::leasecheck::refusal::Refusal;
 use crate::proved::leasecheck::tasks::Telling;
-use crate::proved::text_laws::facts_are_typed;
 use smblease::proved::lease_state::Rules;
 use smblease::proved::lease_world::{Kept, RunFault, run_under};
 use std::alloc::Global;
@@ -25,10 +24,7 @@ pub(crate) fn not_run(fault: RunFault) -> Failure {
 fn ran(alloc: Global, telling: Telling, rules: Rules, schedule: &Schedule, lines: Vec<u64>) -> Result<Record, Refusal> {
     let kept = Kept { messages: telling.messages, idle: telling.idle, passages: false };
     match run_under(alloc, rules, kept, &schedule.setup, schedule.events.as_slice()) {
-        Ok(told) => {
-            facts_are_typed(told.facts.as_slice());
-            Ok(Record { facts: told.facts, messages: told.messages, lines, idle: told.idle, rules })
-        }
+        Ok(told) => Ok(Record { facts: told.facts, messages: told.messages, lines, idle: told.idle, rules }),
         Err(fault) => Err(Refusal::of_run(alloc, not_run(fault), schedule)),
     }
 }

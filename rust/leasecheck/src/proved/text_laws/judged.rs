@@ -2,16 +2,9 @@
 
 use std::prelude::Vec;
 
-use crate::proved::text_laws::typing::facts_are_typed;
 use smblease::proved::lease_state::Rules;
 use smblease::proved::lease_world::{Event, Fact, Kept, RunFault, Setup, run_under};
 use std::alloc::Global;
-
-/// What a replay prints of a run with a server of these rules, its record and that it is safe, is the text of a record, and the
-/// verdict on that is that it is safe. Reads the facts, and does nothing with them.
-pub fn replays_are_judged_safe(rules: Rules, setup: &Setup, events: &[Event], facts: &[Fact]) {
-    facts_are_typed(facts);
-}
 
 /// The record of a run with a server of these rules, as `run_under` gives it, and of which what a replay prints is judged to be
 /// safe.
@@ -22,6 +15,5 @@ pub fn replays_are_judged_safe(rules: Rules, setup: &Setup, events: &[Event], fa
 /// `Memory` where there is none left.
 pub fn judged_run(alloc: Global, rules: Rules, setup: &Setup, events: &[Event]) -> Result<Vec<Fact>, RunFault> {
     let told = run_under(alloc, rules, Kept::nothing(), setup, events)?;
-    replays_are_judged_safe(rules, setup, events, told.facts.as_slice());
     Ok(told.facts)
 }

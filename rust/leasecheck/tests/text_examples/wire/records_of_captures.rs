@@ -9,7 +9,6 @@ use leasecheck::proved::capture_texts::{
 use leasecheck::proved::capture_wire::Command;
 use leasecheck::proved::lease_texts::push_fact;
 use std::alloc::Global;
-use std::fmt::Write as _;
 use std::test::Fail;
 
 fn text_of(alloc: Global, lines: &[RecordLine]) -> Result<String, Fail> {

@@ -4,9 +4,8 @@ use std::prelude::Vec;
 
 use crate::proved::lease_manager::values::decision::CreateAnswer;
 use crate::proved::lease_manager::values::key::LeaseName;
-use crate::proved::lease_manager::values::number::{ClientNo, FileNo};
+use crate::proved::lease_manager::values::number::ClientNo;
 use crate::proved::lease_manager::values::out::Out;
-use crate::proved::lease_manager::values::request::Ask;
 use crate::proved::lease_state::{FileId, LeaseState, Memory, Status};
 use std::alloc::Global;
 
@@ -34,33 +33,33 @@ impl Outs {
     }
 
     /// The file was opened for the client.
-    pub fn opened(&mut self, file: FileNo, client: ClientNo) -> Result<(), Memory> {
-        self.push(Out::Opened { file, client })
+    pub fn opened(&mut self) -> Result<(), Memory> {
+        self.push(Out::Opened)
     }
 
     /// The file was changed by the client's write.
-    pub fn changed(&mut self, file: FileNo, client: ClientNo) -> Result<(), Memory> {
-        self.push(Out::Changed { file, client })
+    pub fn changed(&mut self) -> Result<(), Memory> {
+        self.push(Out::Changed)
     }
 
     /// The request is refused.
-    pub fn refuse(&mut self, client: ClientNo, ask: Ask, status: Status) -> Result<(), Memory> {
-        self.push(Out::Refused { client, ask, status })
+    pub fn refuse(&mut self, client: ClientNo, status: Status) -> Result<(), Memory> {
+        self.push(Out::Refused { client, status })
     }
 
     /// A read is done.
-    pub fn read_done(&mut self, client: ClientNo, file_id: FileId) -> Result<(), Memory> {
-        self.push(Out::ReadDone { client, file_id })
+    pub fn read_done(&mut self, client: ClientNo) -> Result<(), Memory> {
+        self.push(Out::ReadDone { client })
     }
 
     /// A write is done.
-    pub fn write_done(&mut self, client: ClientNo, file_id: FileId) -> Result<(), Memory> {
-        self.push(Out::WriteDone { client, file_id })
+    pub fn write_done(&mut self, client: ClientNo) -> Result<(), Memory> {
+        self.push(Out::WriteDone { client })
     }
 
     /// An open is closed.
-    pub fn closed(&mut self, client: ClientNo, file_id: FileId) -> Result<(), Memory> {
-        self.push(Out::Closed { client, file_id })
+    pub fn closed(&mut self, client: ClientNo) -> Result<(), Memory> {
+        self.push(Out::Closed { client })
     }
 
     /// An acknowledgment is refused.
@@ -79,7 +78,7 @@ impl Outs {
     }
 
     /// A create is done.
-    pub fn created(&mut self, client: ClientNo, file: FileNo, file_id: FileId, answer: CreateAnswer) -> Result<(), Memory> {
-        self.push(Out::Created { client, file, file_id, answer })
+    pub fn created(&mut self, client: ClientNo, file_id: FileId, answer: CreateAnswer) -> Result<(), Memory> {
+        self.push(Out::Created { client, file_id, answer })
     }
 }

@@ -90,7 +90,7 @@ impl Told {
 // with it.
 fn decided(tag: Tag, out: Out) -> Option<Decision> {
     match out {
-        Out::Opened { .. } | Out::Changed { .. } => None,
+        Out::Opened | Out::Changed => None,
         Out::Created { client, file_id, answer, .. } => Some(Decision::Opened { client, tag, file_id, answer }),
         Out::Refused { client, status, .. } => Some(Decision::Refused { client, tag, status }),
         Out::ReadDone { client, .. } | Out::WriteDone { client, .. } => Some(Decision::GoesOn { client, tag }),

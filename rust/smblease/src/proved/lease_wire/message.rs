@@ -88,11 +88,11 @@ pub fn contexts_of_create(direction: Direction, message: &[u8]) -> Result<Contex
     if is_area_bad(message.len(), fixed_end(direction), offset, many) {
         return Err(WireFault::BadData(offset as usize));
     }
-    Ok(contexts_in(direction, message, offset, many))
+    Ok(contexts_in(message, offset, many))
 }
 
 // The contexts of an area that is within the message, or that is empty.
-fn contexts_in(direction: Direction, message: &[u8], offset: u32, many: u32) -> Contexts<'_> {
+fn contexts_in(message: &[u8], offset: u32, many: u32) -> Contexts<'_> {
     let (start, count) = (offset as usize, many as usize);
     if count == 0 { Contexts::from_place(start, &[]) } else { Contexts::from_place(start, &message[start..start + count]) }
 }

@@ -93,7 +93,7 @@ mod tests {
     use std::prelude::HostRuntime;
 
     use super::Judge;
-    use crate::proved::lease_facts::{Fact, Verdict};
+    use crate::proved::lease_facts::Fact;
     use crate::proved::lease_state::{ClientNo, Memory};
     use std::alloc::Global;
     use std::test::Fail;

@@ -303,7 +303,6 @@ impl World {
         let popped = seat.pop_reply()?;
         match popped {
             Some(reply) => {
-                has_its_field(&reply);
                 self.keep(&reply)?;
                 self.tell(Fact::Took(client))?;
                 let seat = &mut self.seats[place_of(client)];
@@ -410,15 +409,4 @@ fn gone(event: &Event, facts: usize) -> Passage {
 // Where the seat of a client is.
 fn place_of(client: ClientNo) -> usize {
     usize::from(client.0) - 1
-}
-
-// The FileId of a reply fits its field, as each number of its type. Does nothing.
-fn has_its_field(reply: &Reply) {
-    if let Reply::Created { fid, .. } = reply {
-        has_eight_bytes(fid.0);
-    }
-}
-
-fn has_eight_bytes(number: u64) {
-    let _number = number;
 }

@@ -20,13 +20,13 @@ fn a_write_breaks_keys_in_order_and_goes_on() {
         let alloc = rt.alloc();
         let server = three_joined(alloc)?;
         let given = [Opened(1, 2), Created(2, 1, 1, Leased(KEY, RH))];
-        let server = after(&rt, alloc, server, 2, Open(1, Leased(KEY, RH)), &given)?;
+        let server = after(alloc, server, 2, Open(1, Leased(KEY, RH)), &given)?;
         let given = [Opened(1, 1), Created(1, 1, 2, Leased(LATER_KEY, RH))];
-        let server = after(&rt, alloc, server, 1, Open(1, Leased(LATER_KEY, RH)), &given)?;
+        let server = after(alloc, server, 1, Open(1, Leased(LATER_KEY, RH)), &given)?;
         let given = [Opened(1, 1), Created(1, 1, 3, Leased(KEY, RH))];
-        let server = after(&rt, alloc, server, 1, Open(1, Leased(KEY, RH)), &given)?;
+        let server = after(alloc, server, 1, Open(1, Leased(KEY, RH)), &given)?;
         let given = [Opened(1, 3), Created(3, 1, 4, Nothing)];
-        let server = after(&rt, alloc, server, 3, Open(1, Nothing), &given)?;
+        let server = after(alloc, server, 3, Open(1, Nothing), &given)?;
         let done = [
             Broken(1, KEY, RH, 0),
             Broken(1, LATER_KEY, RH, 0),
@@ -34,12 +34,12 @@ fn a_write_breaks_keys_in_order_and_goes_on() {
             Changed(1, 3, 1, 0, b"X"),
             WriteDone(3, 4, 1),
         ];
-        let server = after(&rt, alloc, server, 3, Write(4, 1, 0, b"X"), &done)?;
+        let server = after(alloc, server, 3, Write(4, 1, 0, b"X"), &done)?;
         assert_eq!(server.content(FileNo(1)).ok_or("file 1")?, b"Xbc".as_slice());
         let again = [Changed(1, 3, 2, 4, b"Y"), WriteDone(3, 4, 2)];
-        let server = after(&rt, alloc, server, 3, Write(4, 2, 4, b"Y"), &again)?;
+        let server = after(alloc, server, 3, Write(4, 2, 4, b"Y"), &again)?;
         let whole = [ReadDone(3, 4, b"Xbc\0Y")];
-        let _server = after(&rt, alloc, server, 3, Read(4), &whole)?;
+        let _server = after(alloc, server, 3, Read(4), &whole)?;
         Ok(())
     })
 }
@@ -53,13 +53,13 @@ fn reads_are_broken_at_once() {
         let server = three_joined(alloc)?;
         let given = [Opened(1, 1), Created(1, 1, 1, Leased(KEY, R))];
         let request = Create(1, Access::Read, Share::ReadWrite, Leased(KEY, R));
-        let server = after(&rt, alloc, server, 1, request, &given)?;
+        let server = after(alloc, server, 1, request, &given)?;
         let given = [Opened(1, 2), Created(2, 1, 2, Nothing)];
-        let server = after(&rt, alloc, server, 2, Open(1, Nothing), &given)?;
+        let server = after(alloc, server, 2, Open(1, Nothing), &given)?;
         let done = [Taken(1, KEY, R), Changed(1, 2, 1, 0, b"X"), WriteDone(2, 2, 1)];
-        let server = after(&rt, alloc, server, 2, Write(2, 1, 0, b"X"), &done)?;
+        let server = after(alloc, server, 2, Write(2, 1, 0, b"X"), &done)?;
         let nothing = [AckFailed(1, Status::Unsuccessful)];
-        let _server = after(&rt, alloc, server, 1, Ack(KEY, 0), &nothing)?;
+        let _server = after(alloc, server, 1, Ack(KEY, 0), &nothing)?;
         Ok(())
     })
 }
@@ -74,13 +74,13 @@ fn a_break_to_reads_holds_a_write() {
         let server = three_joined(alloc)?;
         let given = [Opened(1, 1), Created(1, 1, 1, Leased(KEY, RH))];
         let request = Create(1, Access::Read, Share::ReadWrite, Leased(KEY, RH));
-        let server = after(&rt, alloc, server, 1, request, &given)?;
+        let server = after(alloc, server, 1, request, &given)?;
         let given = [Opened(1, 3), Created(3, 1, 2, Nothing)];
-        let server = after(&rt, alloc, server, 3, Open(1, Nothing), &given)?;
+        let server = after(alloc, server, 3, Open(1, Nothing), &given)?;
         let request = Create(1, Access::Read, Share::Nothing, Nothing);
         let break_sent = [Broken(1, KEY, RH, R)];
-        let server = after(&rt, alloc, server, 2, request, &break_sent)?;
-        let server = after(&rt, alloc, server, 3, Write(2, 1, 0, b"X"), &[])?;
+        let server = after(alloc, server, 2, request, &break_sent)?;
+        let server = after(alloc, server, 3, Write(2, 1, 0, b"X"), &[])?;
         let done = [
             AckDone(1, KEY, R),
             CreateFailed(2, 1, Status::SharingViolation),
@@ -88,7 +88,7 @@ fn a_break_to_reads_holds_a_write() {
             Changed(1, 3, 1, 0, b"X"),
             WriteDone(3, 2, 1),
         ];
-        let _server = after(&rt, alloc, server, 1, Ack(KEY, R), &done)?;
+        let _server = after(alloc, server, 1, Ack(KEY, R), &done)?;
         Ok(())
     })
 }
@@ -103,14 +103,14 @@ fn passes_until_one_answers_nothing() {
         let alloc = rt.alloc();
         let server = three_joined(alloc)?;
         let given = [Opened(1, 2), Created(2, 1, 1, Leased(KEY, RH))];
-        let server = after(&rt, alloc, server, 2, Open(1, Leased(KEY, RH)), &given)?;
+        let server = after(alloc, server, 2, Open(1, Leased(KEY, RH)), &given)?;
         let given = [Opened(1, 3), Created(3, 1, 2, Leased(KEY, RH))];
-        let server = after(&rt, alloc, server, 3, Open(1, Leased(KEY, RH)), &given)?;
+        let server = after(alloc, server, 3, Open(1, Leased(KEY, RH)), &given)?;
         let breaks = [Broken(2, KEY, RH, R), Broken(3, KEY, RH, R)];
         let request = Create(1, Access::ReadWrite, Share::Nothing, Nothing);
-        let server = after(&rt, alloc, server, 1, request, &breaks)?;
-        let server = after(&rt, alloc, server, 2, Write(1, 1, 0, b"X"), &[])?;
-        let server = after(&rt, alloc, server, 2, Close(1), &[])?;
+        let server = after(alloc, server, 1, request, &breaks)?;
+        let server = after(alloc, server, 2, Write(1, 1, 0, b"X"), &[])?;
+        let server = after(alloc, server, 2, Close(1), &[])?;
         let done = [
             AckDone(3, KEY, R),
             Taken(3, KEY, R),
@@ -119,7 +119,7 @@ fn passes_until_one_answers_nothing() {
             Closed(2, 1),
             CreateFailed(1, 1, Status::SharingViolation),
         ];
-        let _server = after(&rt, alloc, server, 3, Ack(KEY, R), &done)?;
+        let _server = after(alloc, server, 3, Ack(KEY, R), &done)?;
         Ok(())
     })
 }
@@ -132,21 +132,21 @@ fn denied_requests_break_nothing() {
         let alloc = rt.alloc();
         let server = three_joined(alloc)?;
         let given = [Opened(1, 1), Created(1, 1, 1, Leased(KEY, RH))];
-        let server = after(&rt, alloc, server, 1, Open(1, Leased(KEY, RH)), &given)?;
+        let server = after(alloc, server, 1, Open(1, Leased(KEY, RH)), &given)?;
         let given = [Opened(1, 2), Created(2, 1, 2, Nothing)];
         let request = Create(1, Access::Read, Share::ReadWrite, Nothing);
-        let server = after(&rt, alloc, server, 2, request, &given)?;
+        let server = after(alloc, server, 2, request, &given)?;
         let denied = [WriteFailed(2, 2, 1, Status::AccessDenied)];
-        let server = after(&rt, alloc, server, 2, Write(2, 1, 0, b"X"), &denied)?;
+        let server = after(alloc, server, 2, Write(2, 1, 0, b"X"), &denied)?;
         let given = [Opened(1, 2), Created(2, 1, 3, Nothing)];
         let request = Create(1, Access::Write, Share::ReadWrite, Nothing);
-        let server = after(&rt, alloc, server, 2, request, &given)?;
+        let server = after(alloc, server, 2, request, &given)?;
         let denied = [ReadFailed(2, 3, Status::AccessDenied)];
-        let server = after(&rt, alloc, server, 2, Read(3), &denied)?;
+        let server = after(alloc, server, 2, Read(3), &denied)?;
         let too_long = [WriteFailed(2, 3, 2, Status::InvalidParameter)];
-        let server = after(&rt, alloc, server, 2, Write(3, 2, 1_048_576, b"X"), &too_long)?;
+        let server = after(alloc, server, 2, Write(3, 2, 1_048_576, b"X"), &too_long)?;
         let too_long = [WriteFailed(2, 3, 3, Status::InvalidParameter)];
-        let _server = after(&rt, alloc, server, 2, Write(3, 3, 1_048_577, b""), &too_long)?;
+        let _server = after(alloc, server, 2, Write(3, 3, 1_048_577, b""), &too_long)?;
         Ok(())
     })
 }
@@ -160,22 +160,22 @@ fn an_expired_key_is_granted_nothing_until_its_client_joins() {
         let alloc = rt.alloc();
         let server = three_joined(alloc)?;
         let given = [Opened(1, 1), Created(1, 1, 1, Leased(KEY, RWH))];
-        let server = after(&rt, alloc, server, 1, Open(1, Leased(KEY, RWH)), &given)?;
+        let server = after(alloc, server, 1, Open(1, Leased(KEY, RWH)), &given)?;
         let break_sent = [Broken(1, KEY, RWH, RH)];
-        let server = after(&rt, alloc, server, 2, Open(1, Nothing), &break_sent)?;
+        let server = after(alloc, server, 2, Open(1, Nothing), &break_sent)?;
         let (server, outs) = server.expire(ClientNo(1), LATER_KEY)?;
         assert!(outs.is_empty());
         let (server, outs) = server.expire(ClientNo(1), KEY)?;
         let given = [Opened(1, 2), Created(2, 1, 2, Nothing)];
-        expect_outs(&rt, alloc, outs.as_slice(), &given)?;
+        expect_outs(alloc, outs.as_slice(), &given)?;
         let (server, outs) = server.cut(ClientNo(2))?;
         assert!(outs.is_empty());
         let given = [Opened(1, 1), Created(1, 1, 3, Leased(KEY, 0))];
-        let server = after(&rt, alloc, server, 1, Open(1, Leased(KEY, RWH)), &given)?;
+        let server = after(alloc, server, 1, Open(1, Leased(KEY, RWH)), &given)?;
         let (server, _) = server.cut(ClientNo(1))?;
         let (server, _) = server.join(ClientNo(1))?;
         let given = [Opened(1, 1), Created(1, 1, 4, Leased(KEY, RWH))];
-        let _server = after(&rt, alloc, server, 1, Open(1, Leased(KEY, RWH)), &given)?;
+        let _server = after(alloc, server, 1, Open(1, Leased(KEY, RWH)), &given)?;
         Ok(())
     })
 }

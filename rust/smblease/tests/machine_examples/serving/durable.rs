@@ -8,7 +8,6 @@ use smblease::proved::lease_state::{Access, ClientNo, FileId, FileNo, Share, Sta
 use smblease::proved::share_server::Server;
 use std::alloc::Global;
 use std::prelude::HostRuntime;
-use std::process::Abort;
 use std::test::Fail;
 
 // An open is durable where that is asked and its lease holds H: not under R, but also under a lease that is
@@ -20,15 +19,15 @@ fn an_open_is_durable_where_its_lease_holds_handles() {
         let alloc = rt.alloc();
         let server = three_joined(alloc)?;
         let given = [Opened(1, 1), Created(1, 1, 1, Leased(KEY, R))];
-        let server = after(&rt, alloc, server, 1, Open(1, DurableAsk(KEY, R)), &given)?;
+        let server = after(alloc, server, 1, Open(1, DurableAsk(KEY, R)), &given)?;
         let given = [Opened(1, 1), Created(1, 1, 2, Leased(KEY, RH))];
-        let server = after(&rt, alloc, server, 1, Open(1, Leased(KEY, RH)), &given)?;
+        let server = after(alloc, server, 1, Open(1, Leased(KEY, RH)), &given)?;
         let given = [Opened(1, 2), Created(2, 1, 3, Nothing)];
-        let server = after(&rt, alloc, server, 2, Open(1, Nothing), &given)?;
+        let server = after(alloc, server, 2, Open(1, Nothing), &given)?;
         let done = [Broken(1, KEY, RH, 0), Changed(1, 2, 1, 0, b"X"), WriteDone(2, 3, 1)];
-        let server = after(&rt, alloc, server, 2, Write(3, 1, 0, b"X"), &done)?;
+        let server = after(alloc, server, 2, Write(3, 1, 0, b"X"), &done)?;
         let given = [Opened(1, 1), Created(1, 1, 4, DurableAnswer(KEY, RH, 2))];
-        let server = after(&rt, alloc, server, 1, Open(1, DurableAsk(KEY, RH)), &given)?;
+        let server = after(alloc, server, 1, Open(1, DurableAsk(KEY, RH)), &given)?;
         // The lease is breaking, so not even the durable open outlives the connection.
         let (server, outs) = server.cut(ClientNo(1))?;
         assert!(outs.is_empty());
@@ -38,12 +37,12 @@ fn an_open_is_durable_where_its_lease_holds_handles() {
 }
 
 // Client 1 has a durable open under RWH, which outlived its connection, and is connected again.
-fn kept_for_its_client(rt: &impl Abort, alloc: Global) -> Result<Server, Fail> {
+fn kept_for_its_client(alloc: Global) -> Result<Server, Fail> {
     let server = three_joined(alloc)?;
     let given = [Opened(1, 1), Created(1, 1, 1, DurableAnswer(KEY, RWH, 0))];
-    let server = after(rt, alloc, server, 1, Open(1, DurableAsk(KEY, RWH)), &given)?;
+    let server = after(alloc, server, 1, Open(1, DurableAsk(KEY, RWH)), &given)?;
     let connected = [CreateFailed(1, 1, Status::ObjectNameNotFound)];
-    let server = after(rt, alloc, server, 1, Open(1, Reconnect(KEY, 1)), &connected)?;
+    let server = after(alloc, server, 1, Open(1, Reconnect(KEY, 1)), &connected)?;
     let (server, outs) = server.cut(ClientNo(1))?;
     assert!(outs.is_empty());
     assert_eq!(server.kept(ClientNo(1), FileNo(1)), Some(FileId(1)));
@@ -63,10 +62,10 @@ fn reconnects_are_refused_where_anything_differs() {
     std::test::passes(|| -> Result<(), Fail> {
         let rt = HostRuntime::host();
         let alloc = rt.alloc();
-        let mut server = kept_for_its_client(&rt, alloc)?;
+        let mut server = kept_for_its_client(alloc)?;
         for (client, file, contexts) in REFUSED {
             let refused = [CreateFailed(client, file, Status::ObjectNameNotFound)];
-            server = after(&rt, alloc, server, client, Open(file, contexts), &refused)?;
+            server = after(alloc, server, client, Open(file, contexts), &refused)?;
         }
         Ok(())
     })
@@ -78,14 +77,14 @@ fn a_kept_open_is_connected_again_once() {
     std::test::passes(|| -> Result<(), Fail> {
         let rt = HostRuntime::host();
         let alloc = rt.alloc();
-        let server = kept_for_its_client(&rt, alloc)?;
+        let server = kept_for_its_client(alloc)?;
         let again = [Created(1, 1, 1, Leased(KEY, RWH))];
         let request = Create(1, Access::Read, Share::Nothing, Reconnect(KEY, 1));
-        let server = after(&rt, alloc, server, 1, request, &again)?;
+        let server = after(alloc, server, 1, request, &again)?;
         let whole = [ReadDone(1, 1, b"abc")];
-        let server = after(&rt, alloc, server, 1, Read(1), &whole)?;
+        let server = after(alloc, server, 1, Read(1), &whole)?;
         let once = [CreateFailed(1, 1, Status::ObjectNameNotFound)];
-        let _server = after(&rt, alloc, server, 1, Open(1, Reconnect(KEY, 1)), &once)?;
+        let _server = after(alloc, server, 1, Open(1, Reconnect(KEY, 1)), &once)?;
         Ok(())
     })
 }
@@ -99,17 +98,17 @@ fn a_scavenge_closes_a_disconnected_open() {
         let alloc = rt.alloc();
         let server = three_joined(alloc)?;
         let given = [Opened(1, 1), Created(1, 1, 1, DurableAnswer(KEY, RWH, 0))];
-        let server = after(&rt, alloc, server, 1, Open(1, DurableAsk(KEY, RWH)), &given)?;
+        let server = after(alloc, server, 1, Open(1, DurableAsk(KEY, RWH)), &given)?;
         let (server, outs) = server.scavenge(FileId(1))?;
         assert!(outs.is_empty());
         let whole = [ReadDone(1, 1, b"abc")];
-        let server = after(&rt, alloc, server, 1, Read(1), &whole)?;
+        let server = after(alloc, server, 1, Read(1), &whole)?;
         let (server, _) = server.cut(ClientNo(1))?;
         let (server, outs) = server.scavenge(FileId(1))?;
         assert!(outs.is_empty());
         let (server, _) = server.join(ClientNo(1))?;
         let gone = [CreateFailed(1, 1, Status::ObjectNameNotFound)];
-        let _server = after(&rt, alloc, server, 1, Open(1, Reconnect(KEY, 1)), &gone)?;
+        let _server = after(alloc, server, 1, Open(1, Reconnect(KEY, 1)), &gone)?;
         Ok(())
     })
 }
@@ -122,10 +121,10 @@ fn a_kept_open_is_closed_by_what_breaks_it() {
         let alloc = rt.alloc();
         let server = three_joined(alloc)?;
         let given = [Opened(1, 1), Created(1, 1, 1, DurableAnswer(KEY, RWH, 0))];
-        let server = after(&rt, alloc, server, 1, Open(1, DurableAsk(KEY, RWH)), &given)?;
+        let server = after(alloc, server, 1, Open(1, DurableAsk(KEY, RWH)), &given)?;
         let (server, _) = server.cut(ClientNo(1))?;
         let given = [Opened(1, 2), Created(2, 1, 2, Leased(KEY, RWH))];
-        let server = after(&rt, alloc, server, 2, Open(1, Leased(KEY, RWH)), &given)?;
+        let server = after(alloc, server, 2, Open(1, Leased(KEY, RWH)), &given)?;
         assert_eq!(server.kept(ClientNo(1), FileNo(1)), None);
         Ok(())
     })

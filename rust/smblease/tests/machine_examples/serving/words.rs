@@ -6,7 +6,6 @@ use smblease::proved::lease_state::{
 use smblease::proved::share_server::{Out, Server};
 use std::alloc::Global;
 use std::prelude::Vec;
-use std::process::Abort;
 use std::test::Fail;
 
 pub const KEY: LeaseKey = LeaseKey([0, 1, 2, 3, 4, 5, 6, 7, 8, 9, 10, 11, 12, 13, 14, 15]);
@@ -219,7 +218,7 @@ fn out(alloc: Global, told: Told) -> Result<Out, Fail> {
 }
 
 /// Sees that this was given out, and nothing else.
-pub fn expect_outs(rt: &impl Abort, alloc: Global, outs: &[Out], wanted: &[Told]) -> Result<(), Fail> {
+pub fn expect_outs(alloc: Global, outs: &[Out], wanted: &[Told]) -> Result<(), Fail> {
     assert_eq!(outs.len(), wanted.len());
     for (given, told) in outs.iter().zip(wanted) {
         let right = out(alloc, *told)?;
@@ -245,8 +244,8 @@ pub fn three_joined(alloc: Global) -> Result<Server, Fail> {
 }
 
 /// The server after the request, which is to give this out.
-pub fn after(rt: &impl Abort, alloc: Global, server: Server, client: u8, ask: Ask, wanted: &[Told]) -> Result<Server, Fail> {
+pub fn after(alloc: Global, server: Server, client: u8, ask: Ask, wanted: &[Told]) -> Result<Server, Fail> {
     let (server, outs) = server.receive(ClientNo(client), request(alloc, ask)?)?;
-    expect_outs(rt, alloc, outs.as_slice(), wanted)?;
+    expect_outs(alloc, outs.as_slice(), wanted)?;
     Ok(server)
 }

@@ -4,7 +4,6 @@ use std::prelude::Vec;
 
 use crate::proved::capture_judge::Level;
 use crate::proved::capture_texts::finding::{Belief, FileFinding};
-use crate::proved::capture_texts::records::cast::MOST;
 use smblease::proved::lease_state::{ClientNo, FileNo, Memory};
 use std::alloc::Global;
 

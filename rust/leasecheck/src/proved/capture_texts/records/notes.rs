@@ -6,7 +6,6 @@ use crate::proved::capture_texts::finding::{ClientFinding, EpochFinding, FileFin
 use crate::proved::capture_texts::records::record::{RecordLine, push_remark};
 use smblease::proved::lease_state::Memory;
 use std::alloc::Global;
-use std::fmt::Write as _;
 
 fn push_files(alloc: Global, lines: &mut Vec<RecordLine>, files: &[FileFinding]) -> Result<(), Memory> {
     for file in files {

@@ -5,12 +5,11 @@ use std::prelude::{String, Vec, format};
 use crate::proved::capture_judge::Level;
 use crate::proved::capture_texts::finding::{ClientName, FileFinding, Report};
 use crate::proved::capture_texts::line::Moment;
-use crate::proved::capture_texts::records::cast::{Cast, MOST, cast_of, count_wanted};
+use crate::proved::capture_texts::records::cast::{Cast, cast_of, count_wanted};
 use crate::proved::capture_texts::records::change::{Change, changes_of};
 use smblease::proved::lease_facts::Fact;
 use smblease::proved::lease_state::{Bytes, ClientNo, FileNo, LeaseState, Memory};
 use std::alloc::Global;
-use std::fmt::Write as _;
 
 /// A line of the record of a capture.
 #[derive(Debug)]

@@ -3,7 +3,6 @@
 use std::prelude::String;
 
 use crate::proved::lease_texts::{digits_of, outcome_word, state_letters};
-use smblease::proved::lease_client::Settlement;
 use smblease::proved::lease_facts::{Fact, FactKind};
 use smblease::proved::lease_state::Patch;
 use std::alloc::{AllocError, Global};

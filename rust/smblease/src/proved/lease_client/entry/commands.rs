@@ -211,20 +211,13 @@ impl Live {
         given: &mut Given,
     ) -> Result<(), Memory> {
         if self.belief.caches_writes() {
-            self.buffer_write(sent, file, number, patch, given)
+            self.buffer_write(file, number, patch, given)
         } else {
             self.send_write(sent, file, number, patch, given)
         }
     }
 
-    fn buffer_write(
-        &mut self,
-        sent: &mut Writes,
-        file: FileNo,
-        number: u64,
-        patch: Patch,
-        given: &mut Given,
-    ) -> Result<(), Memory> {
+    fn buffer_write(&mut self, file: FileNo, number: u64, patch: Patch, given: &mut Given) -> Result<(), Memory> {
         given.begin(Answer::Done);
         let copy = patch.try_copy()?;
         given.notes.push(Note::Wrote(file, number, copy, true))?;

@@ -5,7 +5,7 @@ use crate::proved::lease_manager::requests::attempt::Outcome;
 use crate::proved::lease_manager::requests::grant::{Opening, grant, reconnect};
 use crate::proved::lease_manager::tables::Tables;
 use crate::proved::lease_manager::values::closing::Closing;
-use crate::proved::lease_manager::values::number::{ClientNo, FileNo};
+use crate::proved::lease_manager::values::number::ClientNo;
 use crate::proved::lease_manager::values::request::Ask;
 use crate::proved::lease_state::{FileId, Memory};
 
@@ -16,44 +16,44 @@ use crate::proved::lease_state::{FileId, Memory};
 /// `Memory` where there is none left.
 pub fn conclude(tables: &mut Tables, outs: &mut Outs, client: ClientNo, ask: Ask, outcome: Outcome) -> Result<(), Memory> {
     match outcome {
-        Outcome::Refused(status) => outs.refuse(client, ask, status),
+        Outcome::Refused(status) => outs.refuse(client, status),
         Outcome::Waits => Ok(()),
-        Outcome::Ready(file) => answer(tables, outs, client, file, ask),
+        Outcome::Ready => answer(tables, outs, client, ask),
     }
 }
 
 // Answers a request about the file, which is ready.
-fn answer(tables: &mut Tables, outs: &mut Outs, client: ClientNo, file: FileNo, ask: Ask) -> Result<(), Memory> {
+fn answer(tables: &mut Tables, outs: &mut Outs, client: ClientNo, ask: Ask) -> Result<(), Memory> {
     match ask {
         Ask::Create { file, access, share, ask } => create(tables, outs, Opening { client, file, access, share, ask }),
-        Ask::Read { fid } => read(tables, outs, client, file, fid),
-        Ask::Write { fid, fits } => write(tables, outs, client, file, fid, fits),
+        Ask::Read { .. } => read(outs, client),
+        Ask::Write { .. } => write(outs, client),
         Ask::Close { fid } => close(tables, outs, client, fid),
     }
 }
 
 fn create(tables: &mut Tables, outs: &mut Outs, opening: Opening) -> Result<(), Memory> {
     match opening.ask.reconnect {
-        Some(fid) => reconnect(tables, outs, opening.client, opening.file, opening.ask.lease, fid),
+        Some(fid) => reconnect(tables, outs, opening.client, opening.ask.lease, fid),
         None => grant(tables, outs, opening),
     }
 }
 
 // A read goes on (profile; MS-SMB2 3.3.5.12).
-fn read(tables: &mut Tables, outs: &mut Outs, client: ClientNo, file: FileNo, fid: FileId) -> Result<(), Memory> {
-    outs.read_done(client, fid)
+fn read(outs: &mut Outs, client: ClientNo) -> Result<(), Memory> {
+    outs.read_done(client)
 }
 
 // A write goes on: it is told that its file changes, and its reply follows directly (3.3.5.13).
-fn write(tables: &mut Tables, outs: &mut Outs, client: ClientNo, file: FileNo, fid: FileId, fits: bool) -> Result<(), Memory> {
-    outs.changed(file, client)?;
-    outs.write_done(client, fid)?;
+fn write(outs: &mut Outs, client: ClientNo) -> Result<(), Memory> {
+    outs.changed()?;
+    outs.write_done(client)?;
     Ok(())
 }
 
 // An open is closed (3.3.5.10).
 fn close(tables: &mut Tables, outs: &mut Outs, client: ClientNo, fid: FileId) -> Result<(), Memory> {
     tables.close(Closing::Named(fid))?;
-    outs.closed(client, fid)?;
+    outs.closed(client)?;
     Ok(())
 }

@@ -7,7 +7,7 @@ use crate::proved::lease_manager::tables::Tables;
 use crate::proved::lease_manager::values::closing::Closing;
 use crate::proved::lease_manager::values::key::LeaseName;
 use crate::proved::lease_manager::values::lease::HeldLease;
-use crate::proved::lease_manager::values::number::{ClientNo, FileNo};
+use crate::proved::lease_manager::values::number::ClientNo;
 use crate::proved::lease_manager::values::request::Ask;
 use crate::proved::lease_manager::values::want::Want;
 use crate::proved::lease_state::{LeaseState, Memory, Status};
@@ -24,7 +24,7 @@ pub enum Outcome {
     /// For an acknowledgment of a break.
     Waits,
     /// To be answered, on this file.
-    Ready(FileNo),
+    Ready,
 }
 
 impl Outcome {
@@ -32,7 +32,7 @@ impl Outcome {
     pub fn waits(self) -> bool {
         match self {
             Outcome::Waits => true,
-            Outcome::Refused(_) | Outcome::Ready(_) => false,
+            Outcome::Refused(_) | Outcome::Ready => false,
         }
     }
 }
@@ -53,7 +53,7 @@ pub fn attempt(tables: &mut Tables, outs: &mut Outs, ended: &mut Ended, client: 
 fn round(tables: &mut Tables, outs: &mut Outs, ended: &mut Ended, client: ClientNo, ask: Ask) -> Result<Option<Outcome>, Memory> {
     match tables.finding(client, ask)? {
         Finding::Fails(status) => Ok(Some(Outcome::Refused(status))),
-        Finding::Ready(file) => Ok(Some(Outcome::Ready(file))),
+        Finding::Ready => Ok(Some(Outcome::Ready)),
         Finding::Needs(wants) => {
             meet_all(tables, outs, ended, &wants)?;
             if must_wait(tables, ask, &wants) { Ok(Some(Outcome::Waits)) } else { Ok(None) }

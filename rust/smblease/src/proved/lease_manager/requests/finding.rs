@@ -15,7 +15,7 @@ pub enum Finding {
     /// It is refused.
     Fails(Status),
     /// It can be answered; with the file that it is about.
-    Ready(FileNo),
+    Ready,
     /// It needs these leases to be broken.
     Needs(Vec<Want>),
 }
@@ -39,7 +39,7 @@ impl Tables {
         match self.connected_open(client, fid) {
             Some(one) => {
                 if one.access.reads() {
-                    Finding::Ready(one.file)
+                    Finding::Ready
                 } else {
                     Finding::Fails(Status::AccessDenied)
                 }
@@ -50,7 +50,7 @@ impl Tables {
 
     fn close_finding(&self, client: ClientNo, fid: FileId) -> Finding {
         match self.connected_open(client, fid) {
-            Some(one) => Finding::Ready(one.file),
+            Some(_) => Finding::Ready,
             None => Finding::Fails(Status::FileClosed),
         }
     }
@@ -76,7 +76,7 @@ impl Tables {
     // docs/DECISIONS.md: "A write whose wanted keys already break to none".
     fn write_needs(&self, own: Option<LeaseName>, file: FileNo) -> Result<Finding, Memory> {
         if !self.is_hindered(own, file) {
-            return Ok(Finding::Ready(file));
+            return Ok(Finding::Ready);
         }
         Ok(Finding::Needs(self.wants(Wish::Nothing, own, file)?))
     }
@@ -102,7 +102,7 @@ impl Tables {
 
     // A reconnect fails in one way whatever is wrong (profile).
     fn reconnect_finding(&self, client: ClientNo, file: FileNo, own: Option<LeaseName>, fid: FileId) -> Finding {
-        if self.has_awaiting(client, file, own, fid) { Finding::Ready(file) } else { Finding::Fails(Status::ObjectNameNotFound) }
+        if self.has_awaiting(client, file, own, fid) { Finding::Ready } else { Finding::Fails(Status::ObjectNameNotFound) }
     }
 
     // First the key's file, then conflicts, then cached writes (profile).
@@ -111,7 +111,7 @@ impl Tables {
             return Ok(Finding::Fails(Status::InvalidParameter));
         }
         if !self.has_conflict_on(file, access, share) {
-            return Ok(needing(self.wants(Wish::NoWrites, own, file)?, file));
+            return Ok(needing(self.wants(Wish::NoWrites, own, file)?));
         }
         let wants = self.wants(Wish::NoHandles { access, share }, own, file)?;
         if has_none(&wants) { Ok(Finding::Fails(Status::SharingViolation)) } else { Ok(Finding::Needs(wants)) }
@@ -119,8 +119,8 @@ impl Tables {
 }
 
 // The request about the file needs these leases to be broken, and can be answered where there are none.
-fn needing(needed: Vec<Want>, file: FileNo) -> Finding {
-    if has_none(&needed) { Finding::Ready(file) } else { Finding::Needs(needed) }
+fn needing(needed: Vec<Want>) -> Finding {
+    if has_none(&needed) { Finding::Ready } else { Finding::Needs(needed) }
 }
 
 // Whether nothing is wanted.

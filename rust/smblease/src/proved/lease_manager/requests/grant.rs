@@ -7,7 +7,7 @@ use crate::proved::lease_manager::values::key::LeaseName;
 use crate::proved::lease_manager::values::lease::HeldLease;
 use crate::proved::lease_manager::values::number::{ClientNo, FileNo};
 use crate::proved::lease_manager::values::open::OpenEntry;
-use crate::proved::lease_manager::values::request::{Ask, CreateAsk};
+use crate::proved::lease_manager::values::request::CreateAsk;
 use crate::proved::lease_state::{Access, FileId, LeaseKey, LeaseState, Memory, Rise, Share, Status};
 
 /// A create that is ready, with its client.
@@ -20,13 +20,6 @@ pub struct Opening {
     pub ask: CreateAsk,
 }
 
-impl Opening {
-    // What its client asked.
-    fn ask(&self) -> Ask {
-        Ask::Create { file: self.file, access: self.access, share: self.share, ask: self.ask }
-    }
-}
-
 /// Grants a new open. FileIds are 1, 2, 3 and so on, never used again (profile); after the last
 /// there is no grant.
 ///
@@ -36,7 +29,7 @@ impl Opening {
 // docs/DECISIONS.md: "A lease belongs to one file".
 pub fn grant(tables: &mut Tables, outs: &mut Outs, opening: Opening) -> Result<(), Memory> {
     if tables.last_id() == u64::MAX {
-        return outs.refuse(opening.client, opening.ask(), Status::InsufficientResources);
+        return outs.refuse(opening.client, Status::InsufficientResources);
     }
     let lease = lease_after(tables, opening.client, opening.file, opening.ask.lease);
     grant_with(tables, outs, opening, lease)
@@ -50,9 +43,9 @@ fn grant_with(tables: &mut Tables, outs: &mut Outs, opening: Opening, lease: Hel
     let file_id = FileId(tables.last_id() + 1);
     let one = OpenEntry { file_id, client, file, lease_key: key_bytes(ask.lease), access, share, durable, connected: true };
     tables.open(one, lease)?;
-    outs.opened(file, client)?;
+    outs.opened()?;
     let answer = CreateAnswer { lease: lease_given(ask.lease, lease), durable };
-    outs.created(client, file, file_id, answer)
+    outs.created(client, file_id, answer)
 }
 
 // The key in an RqLs context.
@@ -115,14 +108,13 @@ pub fn reconnect(
     tables: &mut Tables,
     outs: &mut Outs,
     client: ClientNo,
-    file: FileNo,
     asked: Option<(LeaseKey, LeaseState)>,
     file_id: FileId,
 ) -> Result<(), Memory> {
     let lease = standing_lease(tables, client, asked);
     tables.connect_again(file_id);
     let answer = CreateAnswer { lease: lease_given(asked, lease), durable: false };
-    outs.created(client, file, file_id, answer)
+    outs.created(client, file_id, answer)
 }
 
 // The lease of the key that a create names.

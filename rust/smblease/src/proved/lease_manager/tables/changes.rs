@@ -182,8 +182,6 @@ fn close_one(opens: &mut Opens, summaries: &mut Summaries, id: FileId) {
 
 // Adds an open, with the lease of its key.
 fn add(opens: &mut Opens, summaries: &mut Summaries, alloc: Global, one: OpenEntry, lease: HeldLease) -> Result<(), Memory> {
-    // So no count of them reaches its end.
-    let count = opens.len();
     summaries.gain(alloc, &one, lease)?;
     opens.push(one)?;
     Ok(())

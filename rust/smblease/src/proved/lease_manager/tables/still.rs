@@ -50,7 +50,7 @@ impl Tables {
             return Ok(false);
         }
         match self.finding(client, ask)? {
-            Finding::Fails(_) | Finding::Ready(_) => Ok(false),
+            Finding::Fails(_) | Finding::Ready => Ok(false),
             Finding::Needs(wants) => {
                 let waits = self.only_wait(file, ask, &wants)?;
                 Ok(waits)

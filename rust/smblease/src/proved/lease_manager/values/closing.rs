@@ -2,7 +2,6 @@
 
 use crate::proved::lease_manager::tables::summaries::Summaries;
 use crate::proved::lease_manager::values::key::LeaseName;
-use crate::proved::lease_manager::values::lease::HeldLease;
 use crate::proved::lease_manager::values::number::ClientNo;
 use crate::proved::lease_manager::values::open::OpenEntry;
 use crate::proved::lease_state::FileId;

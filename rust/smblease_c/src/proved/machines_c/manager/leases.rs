@@ -4,7 +4,7 @@ use crate::proved::machines_c::handles::{Outcome, write_id};
 use crate::proved::machines_c::manager::handle::ManagerHandle;
 use crate::proved::machines_c::values::{KeyBytes, MaybeKey};
 use smblease::proved::lease_manager::{ClientNo, FileNo, HeldLease};
-use smblease::proved::lease_state::{FileId, LeaseKey, LeaseState};
+use smblease::proved::lease_state::{LeaseKey, LeaseState};
 use std::alloc::Global;
 
 /// A lease: `struct smblease_held_lease`.
