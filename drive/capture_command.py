@@ -5,6 +5,7 @@ import argparse
 import subprocess
 import sys
 import tempfile
+from collections import Counter
 from collections.abc import Iterable, Iterator, Sequence
 from dataclasses import replace
 
@@ -14,6 +15,7 @@ from smblease.program import find_program
 from drive.capture_connections import LeftOut, Overview, overview_of
 from drive.capture_files import file_at, keys_in, session_key
 from drive.capture_findings import Verdict, findings_in, parted
+from drive.capture_json import json_of
 from drive.capture_lines import lines_of
 from drive.commands import NOT_DRIVEN, SAFE, ended, write
 from drive.faults import DriveFault, Usage
@@ -44,7 +46,9 @@ def parser() -> argparse.ArgumentParser:
                                    epilog=EPILOG, formatter_class=argparse.RawDescriptionHelpFormatter)
     made.add_argument("capture", metavar="FILE", help="a capture that tshark reads, as pcapng; - for standard input")
     made.add_argument("--record", metavar="OUT", help="write the record there")
-    made.add_argument("--lines", action="store_true", help="print the lines that leasecheck capture reads, and nothing else")
+    shown = made.add_mutually_exclusive_group()
+    shown.add_argument("--lines", action="store_true", help="print the lines that leasecheck capture reads, and nothing else")
+    shown.add_argument("--json", action="store_true", help="print one JSON object")
     made.add_argument("--at", choices=("client", "server"), default="server",
                       help="where it was made; at a server, which is presumed, it only bounds when clients took messages")
     made.add_argument("--port", metavar="PORT", type=int, action="append", default=[],
@@ -72,10 +76,12 @@ def said_by(program: str, words: Sequence[str], lines: Iterable[str]) -> str:
     return had.stdout
 
 
-def _remarks(capture: Capture, overview: Overview, unread: int) -> Iterator[str]:
+def _left_out(left_out: Counter[LeftOut]) -> Iterator[str]:
+    return (f"left out: {reason.told(left_out[reason])}" for reason in LeftOut if left_out[reason])
+
+
+def _remarks(capture: Capture, overview: Overview) -> Iterator[str]:
     """What is to be said of how the capture was read."""
-    left_out = overview.left_out_of(unread)
-    yield from (f"left out: {reason.told(left_out[reason])}" for reason in LeftOut if left_out[reason])
     if not capture.is_ordered:
         yield "the packets aren't in the order of their times in the capture: they were put in that order"
     if capture.fault:
@@ -112,14 +118,16 @@ def _tell(arguments: argparse.Namespace, capture: Capture, overview: Overview, p
     words = ["--at", arguments.at, *(["--record"] if arguments.record else [])]
     record, told = parted(said_by(arguments.leasecheck, words, lines), bool(arguments.record))
     findings = findings_in(told)
-    is_whole = not capture.fault and not any(overview.left_out_of(findings.unread).values())
-    verdict = findings.verdict(is_whole)
-    found = [verdict.word, *findings.lines(), *_remarks(capture, overview, findings.unread)]
+    left_out = overview.left_out_of(findings.counts.unread)
+    verdict = findings.verdict(not capture.fault and not any(left_out.values()))
+    remarks = list(_remarks(capture, overview))
+    found = [verdict.word, *findings.lines(), *_left_out(left_out), *remarks]
     if arguments.record:
         write(arguments.record, "".join(f"{line}\n" for line in (*record, *(f"# {line}" for line in found))).encode())
     progress.ends()
     # In one piece, so that a reader may go after the first line.
-    sys.stdout.write("".join(f"{line}\n" for line in found))
+    text = "".join(f"{line}\n" for line in found)
+    sys.stdout.write(json_of(verdict, findings, left_out, remarks) if arguments.json else text)
     return verdict.status
 
 

@@ -10,8 +10,10 @@ _UNDECIDED = ("no client of it is", "what is shown can't have happened", "it can
 # A name may have any character, and the words behind it have no colon with a space.
 _JUDGED = rf"safe|unsafe(?:, packet \d+ at [0-9.]+)?|not judged, (?:{'|'.join(_UNDECIDED)})"
 _FILE = re.compile(rf"file(?P<place>.*): (?P<judged>{_JUDGED})(?P<clients>(?:, [!-~]+)*)")
-_CLIENT = re.compile(r"client (?P<address>[!-~]+): not judged.*")
-_COUNTS = re.compile(r".* frames, (?P<unread>\d+) of them unreadable")
+_AT = r"packet (?P<packet>\d+) at (?P<seconds>[0-9.]+)"
+_WORDS = re.compile(rf"(?P<verdict>safe|unsafe|not judged)(?:, {_AT}|, (?P<reason>.*))?")
+_CLIENT = re.compile(rf"client (?P<address>[!-~]+): not judged(?: after {_AT})?, (?P<reason>.*)")
+_COUNTS = re.compile(r"(?P<connections>\d+) connections, (?P<frames>\d+) frames, (?P<unread>\d+) of them unreadable")
 _REMARK = "# "
 
 
@@ -40,12 +42,37 @@ class FileFinding:
     clients: tuple[str, ...]
 
     @property
+    def _words(self) -> re.Match[str]:
+        found = _WORDS.fullmatch(self.judged)
+        assert found, self.judged
+        return found
+
+    @property
+    def verdict(self) -> str:
+        return self._words["verdict"]
+
+    @property
+    def reason(self) -> str | None:
+        """Why nothing is decided of it."""
+        return self._words["reason"]
+
+    @property
+    def packet(self) -> int | None:
+        """The packet at which the first rule is broken in the order that is shown."""
+        return int(self._words["packet"]) if self._words["packet"] else None
+
+    @property
+    def seconds(self) -> str | None:
+        """The time of that packet, in seconds from the first one."""
+        return self._words["seconds"]
+
+    @property
     def is_safe(self) -> bool:
-        return self.judged == "safe"
+        return self.verdict == "safe"
 
     @property
     def is_judged(self) -> bool:
-        return not self.judged.startswith("not judged")
+        return self.verdict != "not judged"
 
     def without(self, lost: Sequence[str]) -> FileFinding:
         """It isn't safe where one of its clients isn't judged."""
@@ -59,35 +86,73 @@ class FileFinding:
 
 
 @dataclass(frozen=True)
+class ClientFinding:
+    """A client that isn't judged, or not after a packet, with its time in seconds from the first one, and why."""
+
+    address: str
+    packet: int | None
+    seconds: str | None
+    reason: str
+
+    def __str__(self) -> str:
+        since = "" if self.packet is None else f" after packet {self.packet} at {self.seconds}"
+        return f"client {self.address}: not judged{since}, {self.reason}"
+
+
+@dataclass(frozen=True)
+class Counts:
+    """How much there is in a capture: its connections, their frames, and those of them that can't be read."""
+
+    connections: int
+    frames: int
+    unread: int
+
+    def __str__(self) -> str:
+        return f"{self.connections} connections, {self.frames} frames, {self.unread} of them unreadable"
+
+
+@dataclass(frozen=True)
 class Findings:
-    """The verdict of leasecheck, what it finds of files, the clients that aren't judged, and its other lines."""
+    """The verdict of leasecheck, what it finds of files, clients that aren't judged, its other lines, and how much there is."""
 
     said: Verdict
     files: tuple[FileFinding, ...]
-    lost: tuple[str, ...]
+    clients: tuple[ClientFinding, ...]
     others: tuple[str, ...]
-    unread: int
+    counts: Counts
 
     def verdict(self, is_whole: bool) -> Verdict:
         """Safe is what is so of each file and each client, where nothing of the capture is left out."""
         if self.said is not Verdict.SAFE:
             return self.said
-        is_judged = is_whole and not self.lost and all(it.is_judged for it in self.files)
+        is_judged = is_whole and not self.clients and all(it.is_judged for it in self.files)
         return Verdict.SAFE if is_judged else Verdict.IN_PART
 
     def lines(self) -> Iterator[str]:
         yield from map(str, self.files)
+        yield from map(str, self.clients)
         yield from self.others
+        yield str(self.counts)
 
 
 def findings_in(lines: Sequence[str]) -> Findings:
     """What the lines say, of which the first is the verdict."""
     found = [it for line in lines[1:] if (it := _FILE.fullmatch(line))]
-    lost = tuple(it["address"] for line in lines[1:] if (it := _CLIENT.fullmatch(line)))
-    files = tuple(_file(it).without(lost) for it in found)
-    others = tuple(line for line in lines[1:] if not _FILE.fullmatch(line))
-    counts = _COUNTS.fullmatch(lines[-1])
-    return Findings(_SAID[lines[0]], files, lost, others, int(counts["unread"]) if counts else 0)
+    clients = tuple(_client(it) for line in lines[1:] if (it := _CLIENT.fullmatch(line)))
+    files = tuple(_file(it).without([one.address for one in clients]) for it in found)
+    others = tuple(line for line in lines[1:-1] if not _FILE.fullmatch(line) and not _CLIENT.fullmatch(line))
+    return Findings(_SAID[lines[0]], files, clients, others, _counts(lines[-1]))
+
+
+def _client(found: re.Match[str]) -> ClientFinding:
+    packet = int(found["packet"]) if found["packet"] else None
+    return ClientFinding(found["address"], packet, found["seconds"], found["reason"])
+
+
+def _counts(line: str) -> Counts:
+    found = _COUNTS.fullmatch(line)
+    assert found, line
+    return Counts(*map(int, found.groups()))
 
 
 def _file(found: re.Match[str]) -> FileFinding:

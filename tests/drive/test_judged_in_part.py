@@ -76,7 +76,7 @@ def test_names_that_look_like_findings() -> None:
 
 
 def test_number_of_unreadable_frames() -> None:
-    assert findings_in(["nothing judged", "1 connections, 20 frames, 7 of them unreadable"]).unread == 7
+    assert findings_in(["nothing judged", "1 connections, 20 frames, 7 of them unreadable"]).counts.unread == 7
 
 
 # ---- captures
