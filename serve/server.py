@@ -4,7 +4,7 @@ from __future__ import annotations
 import asyncio
 import itertools
 import logging
-import os
+import secrets
 import uuid
 from collections.abc import Callable
 from typing import TYPE_CHECKING
@@ -33,6 +33,8 @@ if TYPE_CHECKING:
 LOG = logging.getLogger("serve")
 # Durable opens that are kept without a connection: those of one client, and of all; the newest of them.
 MOST_KEPT, MOST_KEPT_OF_ALL = 64, 4096
+# What a SessionId never is: none (2.2.1.2), and that of the request before it in a compound (3.3.5.2.7.2).
+NO_SESSION_IDS = (0, (1 << 64) - 1)
 
 
 class Server:  # pylint: disable=too-many-instance-attributes  # its parts find one another by it
@@ -50,7 +52,6 @@ class Server:  # pylint: disable=too-many-instance-attributes  # its parts find 
         self.begun: list[Pending] = []
         self.connections: set[Connection] = set()
         self.brake = PasswordBrake()
-        self.session_ids = itertools.count((int.from_bytes(os.urandom(6), "little") << 8) + 1)
         self.tree_ids, self.async_ids, self.own_file_ids = (itertools.count(it + 1) for it in (0, 0, OWN_FILE_IDS))
         self.leases = Leases(self)
         self.forced_breaks = ForcedBreaks(self)
@@ -120,6 +121,13 @@ class Server:  # pylint: disable=too-many-instance-attributes  # its parts find 
             self.record.strayed(client)
         else:
             self.join(client, connection, str(uuid.UUID(bytes=connection.guid)))
+
+    def next_session_id(self) -> int:
+        """One that nobody can guess."""
+        while True:
+            found = secrets.randbits(64)
+            if found not in self.sessions and found not in NO_SESSION_IDS:
+                return found
 
     def end_session(self, session: Session) -> None:
         """With the last one of a client's last connection the client is gone."""

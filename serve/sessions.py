@@ -111,17 +111,18 @@ class Sessions(Handlers):
     def _new(self, connection: Connection) -> Session:
         if len(connection.sessions) == MOST_SESSIONS:
             raise StatusError(Status.INSUFFICIENT_RESOURCES)
-        session = Session(next(self._server.session_ids), connection)
+        session = Session(self._server.next_session_id(), connection)
         connection.sessions[session.identifier] = session
         self._server.sessions[session.identifier] = session
         return session
 
     def _establish(self, session: Session, proved: Authentication, message: RequestMessage) -> None:
-        """An earlier session of the same owner that is named is over (3.3.5.5.3); a client is connected once."""
+        """An earlier session of the same user that is named is over (3.3.5.5.3); no guest is the same user as another one. A
+        client is connected once."""
         if session.is_ready and session.owner != proved.owner:
             raise StatusError(Status.ACCESS_DENIED)
         old = self._server.sessions.get(message.number(HEADER + 16, 8))
-        if old and old is not session and old.owner == proved.owner:
+        if old and old is not session and proved.key and old.owner == proved.owner:
             self._server.end_session(old)
         if not session.is_ready:
             self._server.connect_client(session.connection)

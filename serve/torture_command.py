@@ -23,6 +23,8 @@ from serve.server_process import ServerProcess
 if TYPE_CHECKING:
     from drive.servers import PrivateServer
 
+# A session is ended by another one of its user alone, which no guest is.
+USER, PASSWORD = "torture", "torture"
 SUITES = ("smb2.lease", "smb2.durable-open", "smb2.durable-open-disconnect")
 EPILOG = """Each test is a line: its name, `passed`, `failed` or `skipped`, its seconds, and smbtorture's own words, if any.
 
@@ -123,7 +125,8 @@ def torture(arguments: argparse.Namespace) -> int:
         if arguments.smbd:
             return private_server()
         record = f"{arguments.record}{name}" if arguments.record else None
-        return ServerProcess(arguments.leasecheck, record, ["--rules", arguments.rules])
+        words = ["--rules", arguments.rules, "--user", f"{USER}%{PASSWORD}", "--guests"]
+        return ServerProcess(arguments.leasecheck, record, words, USER, PASSWORD)
     if arguments.smbd:
         # Compiled once, before servers are made side by side.
         library()

@@ -15,10 +15,9 @@ from tests.serve.conftest import Start
 from tests.serve.test_command_line import BARE
 
 TORTURED = ["smb2.lease.request", "smb2.lease.upgrade", "smb2.lease.upgrade2", "smb2.lease.statopen3", "smb2.lease.rename_wait",
-            "smb2.lease.duplicate_open", "smb2.durable-open.reopen1a-lease", "smb2.durable-open.delete_on_close1",
-            "smb2.durable-open.lock-lease", "smb2.durable-open.oplock", "smb2.durable-open.reopen2-lease", "smb2.lease.complex1",
-            "smb2.lease.timeout-disconnect", "smb2.lease.breaking1", "smb2.lease.breaking6", "smb2.lease.upgrade3",
-            "smb2.durable-open.read-only"]
+            "smb2.lease.duplicate_open", "smb2.durable-open.delete_on_close1", "smb2.durable-open.lock-lease",
+            "smb2.durable-open.oplock", "smb2.durable-open.reopen2-lease", "smb2.lease.complex1", "smb2.lease.timeout-disconnect",
+            "smb2.lease.breaking1", "smb2.lease.breaking6", "smb2.lease.upgrade3", "smb2.durable-open.read-only"]
 USER = "somebody%secret"
 
 
@@ -42,6 +41,15 @@ def ended(client: "subprocess.Popen[str]") -> tuple[int, str]:
 ])
 def test_smbtorture(program: str, name: str, words: list[str], interpreter: tuple[str, ...]) -> None:
     row = run_test(name, lambda _: ServerProcess(program, words=words, interpreter=interpreter), 60.0)
+    assert row.kind is Kind.PASSED, row.text
+
+
+@needs.program("smbtorture")
+@needs.package("impacket")
+@pytest.mark.parametrize("name", ["smb2.durable-open.reopen1a", "smb2.durable-open.reopen1a-lease"])
+def test_smbtorture_of_a_user(program: str, name: str) -> None:
+    """A session that is named by the next one of its user is over."""
+    row = run_test(name, lambda _: ServerProcess(program, None, ["--user", USER, "--guests"], *USER.split("%")), 60.0)
     assert row.kind is Kind.PASSED, row.text
 
 

@@ -1,17 +1,20 @@
 """Whose word counts: sessions and durable opens have an owner, and with --user nobody else comes in."""
 from __future__ import annotations
 
+import secrets
 import socket
 import struct
+from pathlib import Path
 from typing import TYPE_CHECKING
 
 import pytest
-from smblease import Context, CreateAsk, LeaseState, Status, append_context
+from smblease import Context, CreateAsk, LeaseState, Rules, Status, append_context
 
 from drive.headers import Command, Message
 from serve.server_process import ServerProcess
 from tests import needs
 from tests.serve.conftest import Connect, Start
+from tests.serve.in_process import FrameClient, Sent, server_in
 from tests.serve.requests import (ECHO, KEY, Body, acknowledgment, close, create, frame, header, leased, negotiate, ntlm_tokens,
                                   query_directory, read, session_setup, tree_connect)
 from tests.serve.test_other_clients import USER, ended, smbclient
@@ -25,26 +28,64 @@ LIST: Body = create("", access=0x81, disposition=1, options=1)
 NAME, PASSWORD = USER.split("%")
 
 
-def set_up(client: "WireClient", name: str, previous: int = 0) -> Message:
-    """A session of a guest of this name on a connection that has one already; the last answer."""
+def set_up(client: "WireClient", name: str, previous: int = 0, password: str | None = None) -> Message:
+    """A session of this name on a connection that has one already, a guest's where it has no password; the last answer."""
     used, client.session = client.session, 0
-    for token in ntlm_tokens(name):
-        message = client.ask(session_setup(token, previous))
+    message = client.ask(session_setup(ntlm_tokens(name)[0], previous))
+    if message.status == Status.MORE_PROCESSING_REQUIRED:
         client.session = message.session
-        if message.status not in (Status.SUCCESS, Status.MORE_PROCESSING_REQUIRED):
-            break
+        proof = ntlm_tokens(name)[1] if password is None else proved(message, name, password)
+        message = client.ask(session_setup(proof, previous))
     client.session = used
     return message
 
 
-@pytest.mark.parametrize("name, status", [pytest.param("guest", Status.USER_SESSION_DELETED, id="its_owner"),
-                                          pytest.param("GUEST", Status.USER_SESSION_DELETED, id="its_owner_in_capitals"),
-                                          pytest.param("other", Status.SUCCESS, id="another_guest")])
-def test_a_session_that_is_named_by_another(served: ServerProcess, connect: Connect, name: str, status: Status) -> None:
-    """It ends where its owner names it, and else goes on (3.3.5.5.3)."""
+def proved(challenge: Message, name: str, password: str) -> bytes:
+    """An AUTHENTICATE_MESSAGE that a password was used for."""
+    from impacket import ntlm  # pylint: disable=import-outside-toplevel
+    first = ntlm.NTLMAuthNegotiate()
+    first.fromString(ntlm_tokens(name)[0])
+    token = challenge.part(challenge.number(68, 2), challenge.number(70, 2))
+    return bytes(ntlm.getNTLMSSPType3(first, token, name, password, "")[0].getData())
+
+
+@pytest.mark.parametrize("name", ["guest", "GUEST", "other"])
+def test_a_session_that_is_named_by_a_guest(served: ServerProcess, connect: Connect, name: str) -> None:
+    """It goes on: a guest is nobody's same user, whatever he calls himself (3.3.5.5.3)."""
     one, other = connect(served), connect(served)
     assert set_up(other, name, previous=one.session).status == Status.SUCCESS
+    assert one.status(LIST) == Status.SUCCESS
+
+
+@needs.package("impacket")
+@pytest.mark.parametrize("name, password, status", [
+    pytest.param(NAME, PASSWORD, Status.USER_SESSION_DELETED, id="its_user"),
+    pytest.param(NAME.upper(), PASSWORD, Status.USER_SESSION_DELETED, id="its_user_in_capitals"),
+    pytest.param("guest", None, Status.SUCCESS, id="a_guest")])
+def test_a_users_session_that_is_named(start: Start, connect: Connect, name: str, password: str | None, status: Status) -> None:
+    """It ends where its own user names it, and else goes on (3.3.5.5.3)."""
+    server = start("--user", USER, "--guests")
+    one, other = connect(server, user=NAME, password=PASSWORD), connect(server)
+    assert set_up(other, name, one.session, password).status == Status.SUCCESS
     assert one.status(LIST) == status
+
+
+def test_session_ids_are_no_numbers_in_a_row(served: ServerProcess, connect: Connect) -> None:
+    """Who knows his own knows none of the others."""
+    one = connect(served)
+    found = sorted([one.session, *(one.set_up_another_session() for _ in range(20))])
+    assert all(later - earlier > 1 << 32 for earlier, later in zip(found, found[1:]))
+
+
+def test_which_session_ids_are_given(tmp_path: Path, monkeypatch: pytest.MonkeyPatch) -> None:
+    """None that a session has, not 0, and not that which stands for the one before (2.2.1.2, 3.3.5.2.7.2)."""
+    drawn = iter([0, (1 << 64) - 1, 5, 5, 7])
+    monkeypatch.setattr(secrets, "randbits", lambda _: next(drawn))
+    (tmp_path / "share").mkdir()
+    (tmp_path / "streams").mkdir()
+    with server_in(tmp_path / "share", tmp_path / "streams", Rules()) as server:
+        sent: Sent = []
+        assert [FrameClient(server, guid, sent).session for guid in (b"1" * 16, b"2" * 16)] == [5, 7]
 
 
 @needs.package("impacket")
