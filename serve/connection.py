@@ -3,7 +3,7 @@ from __future__ import annotations
 
 import asyncio
 import logging
-from dataclasses import dataclass
+from dataclasses import dataclass, replace
 from typing import TYPE_CHECKING
 
 from smblease import Status
@@ -16,7 +16,7 @@ from serve.packets import (LONGEST_FRAME, LONGEST_WITHOUT_SESSION, MOST_IN_FRAME
                            Response, framed, split_compound)
 from serve.request import WITHOUT_SESSION, Request
 from serve.sessions import ANY_DIALECT, Session, negotiated
-from serve.status_error import StatusError
+from serve.status_error import EXHAUSTED, StatusError
 
 if TYPE_CHECKING:
     from serve.server import Server
@@ -73,9 +73,9 @@ class Chain:
         return request
 
     def send(self) -> None:
-        if self._responses:
-            self._connection.send(framed(self._responses))
-        self._responses = []
+        responses, self._responses = self._responses, []
+        if responses:
+            self._connection.send(_framed(responses))
 
     def answered(self, pending: Pending, answer: Answer) -> None:
         message = pending.request.message
@@ -94,6 +94,15 @@ class Chain:
             self.go_on()
         else:
             self.send()
+
+
+def _framed(responses: list[Response]) -> bytes:
+    """A frame; where there is no memory for it, one that has no bytes of files."""
+    try:
+        return framed(responses)
+    except MemoryError:
+        refused = Answer(Status.INSUFFICIENT_RESOURCES)
+        return framed([replace(it, status=refused.status, body=refused.body, data=b"") if it.data else it for it in responses])
 
 
 class Connection(asyncio.Protocol):
@@ -156,7 +165,7 @@ class Connection(asyncio.Protocol):
                 if frame is None:
                     break
                 self._take(frame)
-        except Unreadable:
+        except (Unreadable, *EXHAUSTED):
             self._flush()
             self.close()
         finally:
@@ -277,7 +286,11 @@ class Connection(asyncio.Protocol):
         outgoing, self._outgoing = self._outgoing, []
         if not outgoing or not self.is_open or self._transport.is_closing():
             return
-        self._transport.write(b"".join(outgoing) if len(outgoing) > 1 else outgoing[0])
+        try:
+            self._transport.write(b"".join(outgoing) if len(outgoing) > 1 else outgoing[0])
+        except MemoryError:
+            # What is missing there would be taken for what was answered.
+            self.server.loop.call_soon(self.close)
         unread = self.unread
         if unread > MOST_UNREAD or unread > UNREAD and sum(it.unread for it in self.server.connections) > MOST_UNREAD_OF_ALL:
             self.server.loop.call_soon(self.close)

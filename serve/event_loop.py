@@ -12,12 +12,13 @@ from typing import Any
 from smblease.faults import ToolFault
 
 from drive.faults import DriveFault, Usage
+from serve.status_error import EXHAUSTED
 
 LOG = logging.getLogger("serve")
 
 
 class Loop:
-    """An event loop that ends with the first fault of what it calls."""
+    """An event loop that ends with the first fault of what it calls, but for those that are one client's."""
 
     def __init__(self) -> None:
         self.events = asyncio.new_event_loop()
@@ -32,6 +33,8 @@ class Loop:
             if events.time() > self._said + 1:
                 LOG.warning("%s: %s", context["message"], fault.strerror)
                 self._said = events.time()
+        elif isinstance(fault, EXHAUSTED):
+            LOG.warning("%s: %s", context["message"], type(fault).__name__)
         elif fault:
             self._fault = self._fault or fault
             events.stop()

@@ -17,7 +17,7 @@ from drive.headers import Unreadable
 from serve.asks import Acknowledging, Asked, Handling, Meanwhile, Steps, Yielded
 from serve.disk_status import status_of
 from serve.packets import Answer
-from serve.status_error import RefusedByManager, StatusError
+from serve.status_error import EXHAUSTED, RefusedByManager, StatusError
 
 if TYPE_CHECKING:
     from serve.server import Server
@@ -68,7 +68,7 @@ class ManagerHost:
     def _called(self, call: Callable[[Manager], Decisions | None]) -> Decisions:
         try:
             return call(self.manager) or ()
-        except MachineLost:
+        except (MachineLost, *EXHAUSTED):
             self._lost()
             return ()
 
@@ -85,7 +85,11 @@ class ManagerHost:
         self.is_draining = True
         try:
             while self._decisions:
-                self._carry_out(*self._decisions.popleft())
+                try:
+                    self._carry_out(*self._decisions.popleft())
+                except EXHAUSTED:
+                    # It can't be told any more who was sent what.
+                    self._lost()
         finally:
             self.is_draining = False
 

@@ -7,10 +7,11 @@ import shutil
 import stat
 import tempfile
 from collections.abc import Iterator
-from contextlib import contextmanager
+from contextlib import closing, contextmanager
 from typing import NamedTuple
 
 from drive.faults import DriveFault
+from serve.deep_folders import Descent, go_through, remove_all
 
 LOG = logging.getLogger("serve")
 
@@ -35,21 +36,40 @@ def served_folders(folder: str | None, is_writable: bool) -> Iterator[Folders]:
         try:
             if folder is not None and not is_writable:
                 _copy(folder, share)
-        except OSError as fault:
-            raise DriveFault(f"{fault.filename or folder}: {fault.strerror}") from None
-        yield Folders(share, streams)
+            yield Folders(share, streams)
+        finally:
+            # (the module tempfile goes down one call for each folder)
+            remove_all(work)
 
 
 def _copy(source: str, target: str) -> None:
-    for name in sorted(os.listdir(source)):
-        found, made = os.path.join(source, name), os.path.join(target, name)
-        mode = os.lstat(found).st_mode
-        if stat.S_ISLNK(mode):
-            LOG.warning("%s: a link, which isn't followed", found)
-        elif stat.S_ISDIR(mode):
-            os.mkdir(made)
-            _copy(found, made)
-        elif stat.S_ISREG(mode):
-            shutil.copy2(found, made, follow_symlinks=False)
-        else:
-            LOG.warning("%s: no plain file, which isn't served", found)
+    with closing(Descent(source)) as here, closing(Descent(target)) as there:
+        def copy(name: bytes) -> bool:
+            try:
+                return _copied(here, there, name)
+            except OSError as fault:
+                raise DriveFault(f"{here.path(name)}: {fault.strerror}") from None
+
+        def leave() -> None:
+            here.climb()
+            there.climb()
+        try:
+            go_through(here, copy, leave)
+        except OSError as fault:
+            raise DriveFault(f"{source}: {fault.strerror}") from None
+
+
+def _copied(here: Descent, there: Descent, name: bytes) -> bool:
+    """Copies one name, and answers whether it is a folder, whose names are next."""
+    mode = here.mode(name)
+    if stat.S_ISLNK(mode):
+        LOG.warning("%s: a link, which isn't followed", here.path(name))
+    elif stat.S_ISDIR(mode):
+        here.descend(name)
+        os.mkdir(name, dir_fd=there.folder)
+        there.descend(name)
+    elif stat.S_ISREG(mode):
+        shutil.copy2(here.place(name), there.place(name), follow_symlinks=False)
+    else:
+        LOG.warning("%s: no plain file, which isn't served", here.path(name))
+    return stat.S_ISDIR(mode)

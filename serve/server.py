@@ -25,7 +25,7 @@ from serve.password_brake import PasswordBrake
 from serve.record import Record
 from serve.sessions import Session
 from serve.settings import Settings
-from serve.status_error import StatusError
+from serve.status_error import EXHAUSTED, StatusError
 
 if TYPE_CHECKING:
     from serve.node import Node
@@ -84,10 +84,11 @@ class Server:  # pylint: disable=too-many-instance-attributes  # its parts find 
         for opened in list(self.opens.values()):
             self.forget_open(opened)
 
-    def failed(self, fault: Exception) -> Status:
+    @staticmethod
+    def failed(fault: Exception) -> Status:
         LOG.warning("a request broke down: %s: %s", type(fault).__name__, str(fault)[:200])
         LOG.debug("where:", exc_info=fault)
-        return Status.UNSUCCESSFUL
+        return Status.INSUFFICIENT_RESOURCES if isinstance(fault, EXHAUSTED) else Status.UNSUCCESSFUL
 
     # Tasks
 

@@ -3,6 +3,9 @@ from __future__ import annotations
 
 from smblease import Status
 
+# What a request ends with that needs more memory, or a deeper stack, than there is.
+EXHAUSTED = (MemoryError, RecursionError)
+
 
 class StatusError(Exception):
     """A request is answered this status."""

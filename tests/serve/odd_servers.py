@@ -1,4 +1,5 @@
-"""serve/run with a manager that isn't the proved one, or a disk that is slow: `python3 odd_servers.py KIND serve/run WORD..`."""
+"""serve/run with a manager that isn't the proved one, or a disk that is slow or needs too much:
+`python3 odd_servers.py KIND serve/run WORD..`."""
 from __future__ import annotations
 
 import errno
@@ -14,7 +15,7 @@ sys.path[:0] = [TOP, os.path.join(TOP, "python")]
 from smblease import Access, MachineLost, Manager, Rules, Share  # noqa: E402  # pylint: disable=wrong-import-position
 from smblease.manager_decisions import Decisions  # noqa: E402  # pylint: disable=wrong-import-position
 
-from serve import manager_host, read_write_lock, run_command  # noqa: E402  # pylint: disable=wrong-import-position
+from serve import disk_bytes, manager_host, read_write_lock, run_command  # noqa: E402  # pylint: disable=wrong-import-position
 
 CREATES = itertools.count(1)
 
@@ -47,6 +48,18 @@ class Wrong(Manager):
         return self._other.create(client, *words) if client == 2 else super().create(client, *words)
 
 
+class GreedyReads:
+    """The first read needs more memory than there is, and the second one a deeper stack."""
+
+    def __init__(self) -> None:
+        self._faults = iter((MemoryError, RecursionError))
+
+    def __call__(self, descriptor: int, offset: int, length: int) -> bytes:
+        for fault in self._faults:
+            raise fault
+        return disk_bytes.read_bytes(descriptor, offset, length)
+
+
 class SlowDisk:
     """The module `os`, but that a disk takes its time for a flush, and then fails the second one."""
 
@@ -64,7 +77,7 @@ class SlowDisk:
 
 
 KINDS = {"forgetful": (manager_host, "Manager", Forgetful), "wrong": (manager_host, "Manager", Wrong),
-         "slow": (read_write_lock, "os", SlowDisk())}
+         "greedy": (read_write_lock, "read_bytes", GreedyReads()), "slow": (read_write_lock, "os", SlowDisk())}
 
 if __name__ == "__main__":
     setattr(*KINDS[sys.argv[1]])
