@@ -16,6 +16,11 @@ from serve.status_error import EXHAUSTED
 
 LOG = logging.getLogger("serve")
 
+def ending_signals() -> list[signal.Signals]:
+    """SIGHUP isn't one where nohup, say, has it passed over."""
+    is_hung_up = signal.getsignal(signal.SIGHUP) is not signal.SIG_IGN
+    return [signal.SIGTERM, signal.SIGINT, signal.SIGQUIT, *([signal.SIGHUP] if is_hung_up else [])]
+
 
 class Loop:
     """An event loop that ends with the first fault of what it calls, but for those that are one client's."""
@@ -51,7 +56,7 @@ class Loop:
         return int(listening.sockets[0].getsockname()[1])
 
     def run(self) -> None:
-        for number in (signal.SIGTERM, signal.SIGINT):
+        for number in ending_signals():
             self.events.add_signal_handler(number, self.events.stop)
         self.events.run_forever()
         if isinstance(self._fault, ToolFault):

@@ -6,6 +6,7 @@ import contextlib
 import logging
 import resource
 import shutil
+import signal
 import sys
 from collections.abc import Sequence
 from typing import TYPE_CHECKING
@@ -17,7 +18,7 @@ from drive.faults import DriveFault, Usage
 from serve.connection import Connection
 from serve.disk import Disk
 from serve.disk_bytes import LARGEST
-from serve.event_loop import Loop
+from serve.event_loop import Loop, ending_signals
 from serve.names import FORBIDDEN
 from serve.namespace import Namespace
 from serve.record import Record
@@ -32,8 +33,9 @@ if TYPE_CHECKING:
 
 LOG = logging.getLogger("serve")
 RULES = "by-key,whole"
-EPILOG = """It prints `port N`, and serves until it is ended by SIGINT or SIGTERM. With --record it then prints the verdict of the
-record. docs/SERVE.md says what is the proved manager's and what the shell's, and which rules a record can break.
+EPILOG = """It prints `port N`, and serves until it is ended by SIGINT, SIGTERM, SIGHUP or SIGQUIT. With --record it then prints
+the verdict of the record. docs/SERVE.md says what is the proved manager's and what the shell's, and which rules a record can
+break.
 
 Exit status: 0 it was ended, and the record, if any, is safe; 1 it couldn't begin or go on; 2 the command line is
 refused; 3 the record is unsafe."""
@@ -104,8 +106,15 @@ def allow_descriptors() -> None:
         resource.setrlimit(resource.RLIMIT_NOFILE, (most, most))
 
 
+def end_early(_: int, __: object) -> None:
+    """Before connections are taken; what is temporary is removed."""
+    sys.exit(NOT_DRIVEN)
+
+
 def serve(arguments: argparse.Namespace) -> int:
     settings = settings_of(arguments)
+    for number in {signal.SIGHUP, signal.SIGQUIT}.intersection(ending_signals()):
+        signal.signal(number, end_early)
     if arguments.record and not shutil.which(arguments.leasecheck):
         raise DriveFault(f"{arguments.leasecheck}: no program, which --record needs")
     allow_descriptors()

@@ -96,17 +96,29 @@ def test_want_of_memory(program: str, connect: Connect) -> None:
     assert (server.status, server.complaints.count("\n"), "no memory" in server.complaints) == (0, 1, True)
 
 
-def test_a_signal_ends_it(start: Start, connect: Connect, tmp_path: Path) -> None:
+@pytest.mark.parametrize("number", [signal.SIGINT, signal.SIGTERM, signal.SIGHUP, signal.SIGQUIT])
+def test_a_signal_ends_it(start: Start, connect: Connect, tmp_path: Path, number: signal.Signals) -> None:
     """The record, fact by fact, and its verdict."""
     server = start(record=tmp_path / "record")
     one = connect(server)
     one.ask(write(one.open(create("file")), 0, b"x"))
-    os.kill(server.process, signal.SIGINT)
+    os.kill(server.process, number)
     wait_for_end(server)
     server.close()
     facts = [it for it in (tmp_path / "record").read_text(encoding="utf-8").splitlines() if not it.startswith("#")]
     assert facts == ["joined 1", "start 1 -", "opened 1 1", "sent 1", "wrote 1 1 1 0 78 through", "changed 1 1 1 0 78", "sent 1"]
     assert server.verdict == "safe"
+
+
+def test_a_signal_that_it_was_started_to_pass_over(start: Start, connect: Connect) -> None:
+    """As nohup does for SIGHUP."""
+    before = signal.signal(signal.SIGHUP, signal.SIG_IGN)
+    try:
+        server = start()
+    finally:
+        signal.signal(signal.SIGHUP, before)
+    os.kill(server.process, signal.SIGHUP)
+    assert connect(server).status(create("file")) == Status.SUCCESS
 
 
 def test_a_manager_that_is_wrong(program: str, connect: Connect, tmp_path: Path) -> None:
