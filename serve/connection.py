@@ -105,7 +105,7 @@ def _framed(responses: list[Response]) -> bytes:
         return framed([replace(it, status=refused.status, body=refused.body, data=b"") if it.data else it for it in responses])
 
 
-class Connection(asyncio.Protocol):
+class Connection(asyncio.Protocol):  # pylint: disable=too-many-instance-attributes  # it has what came and what goes
     def __init__(self, server: Server) -> None:
         self.server = server
         self.address = ""
@@ -117,6 +117,9 @@ class Connection(asyncio.Protocol):
         self._transport = asyncio.Transport()
         self._frames = Frames()
         self._credits = Credits()
+        # when bytes came last
+        self.heard = 0.0
+        self._timer: asyncio.TimerHandle | None = None
         self._is_unread = self._is_taking = False
         self._outgoing: list[bytes] = []
         self._pending: dict[int, Pending] = {}
@@ -135,9 +138,21 @@ class Connection(asyncio.Protocol):
         assert isinstance(transport, asyncio.Transport)
         self._transport, self.address = transport, str((transport.get_extra_info("peername") or [""])[0])
         transport.set_write_buffer_limits(UNREAD)
-        self.server.connections.add(self)
+        self.heard = self.server.loop.time()
+        self.await_session()
+        self.server.connect(self)
+
+    def await_session(self) -> None:
+        """It has none, and is closed unless it gets one in time."""
+        self._timer = self.server.loop.call_later(self.server.settings.session_timer, self.close)
+
+    def stop_waiting(self) -> None:
+        if self._timer:
+            self._timer.cancel()
+            self._timer = None
 
     def data_received(self, data: bytes) -> None:
+        self.heard = self.server.loop.time()
         self._frames.add(data)
         self._take_frames()
 
@@ -299,6 +314,7 @@ class Connection(asyncio.Protocol):
         if self.is_open:
             self.is_open = False
             self._transport.abort()
+            self.stop_waiting()
             self.server.connections.discard(self)
             for session in list(self.sessions.values()):
                 self.server.end_session(session)

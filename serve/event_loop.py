@@ -6,6 +6,7 @@ import ipaddress
 import logging
 import os
 import signal
+import socket
 from collections.abc import Callable
 from typing import Any
 
@@ -15,6 +16,7 @@ from drive.faults import DriveFault, Usage
 from serve.status_error import EXHAUSTED
 
 LOG = logging.getLogger("serve")
+AT_ONCE, WAITING = 16, 128
 
 def ending_signals() -> list[signal.Signals]:
     """SIGHUP isn't one where nohup, say, has it passed over."""
@@ -47,13 +49,16 @@ class Loop:
     def listen(self, address: str, port: int, made: Callable[[], asyncio.Protocol]) -> int:
         """Takes connections at a port, once it runs; the port."""
         try:
-            ipaddress.ip_address(address)
-            listening = self.events.run_until_complete(self.events.create_server(made, address, port))
+            family = socket.AF_INET6 if ipaddress.ip_address(address).version == 6 else socket.AF_INET
+            listening = socket.create_server((address, port), family=family)
+            self.events.run_until_complete(self.events.create_server(made, sock=listening, backlog=AT_ONCE))
+            # (asyncio has one number for those that wait and those that it takes before any is served)
+            listening.listen(WAITING)
         except ValueError:
             raise Usage("--address is an address of IP") from None
         except OSError as fault:
             raise DriveFault(f"{address}, port {port}: {os.strerror(fault.errno or 0)}") from None
-        return int(listening.sockets[0].getsockname()[1])
+        return int(listening.getsockname()[1])
 
     def run(self) -> None:
         for number in ending_signals():

@@ -30,8 +30,10 @@ class Namespace:
         self._held: dict[str, Node] = {}
         self._numbers = FileNumbers()
         self._left_out: set[bytes] = set()
-        # the other half of the descriptors is for connections
-        self._most = max(64, resource.getrlimit(resource.RLIMIT_NOFILE)[0] // 2)
+        # the other half of the descriptors is for connections, but for some that are needed for a moment
+        limit = resource.getrlimit(resource.RLIMIT_NOFILE)[0]
+        self._most = max(64, limit // 2)
+        self.most_connections = max(16, limit - self._most - 16 - min(64, limit // 8))
 
     # What is there
 

@@ -58,6 +58,8 @@ def parser() -> argparse.ArgumentParser:
     made.add_argument("--break-timer", type=float, default=35.0, metavar="S", help="seconds that a break is waited for (35)")
     made.add_argument("--durable-timer", type=float, default=960.0, metavar="S",
                       help="seconds that a durable open is kept without a connection (960)")
+    made.add_argument("--session-timer", type=float, default=30.0, metavar="S",
+                      help="seconds that a connection is kept without a session (30)")
     made.add_argument("--rules", default=RULES, metavar="RULES",
                       help="by-client or by-key, a comma, and as-free or whole; or profile, the rules of docs/PROFILE.md "
                            f"({RULES}, as Windows and Samba have it)")
@@ -87,7 +89,7 @@ def settings_of(arguments: argparse.Namespace) -> Settings:
         raise Usage("--port is from 0 to 65535")
     if not arguments.share or FORBIDDEN & set(arguments.share) or "\\" in arguments.share:
         raise Usage("--share is a name")
-    if not 0 < arguments.break_timer < 1e9 or not 0 < arguments.durable_timer < 1e9:
+    if not all(0 < it < 1e9 for it in (arguments.break_timer, arguments.durable_timer, arguments.session_timer)):
         raise Usage("timers are more than 0 seconds")
     if not 0 < arguments.limit <= LARGEST:
         raise Usage(f"--limit is from 1 to {LARGEST}")
@@ -96,7 +98,8 @@ def settings_of(arguments: argparse.Namespace) -> Settings:
     if arguments.guests and arguments.user is None:
         raise Usage("--guests goes with --user; without one all are guests")
     return Settings(arguments.share, user_of(arguments.user), arguments.break_timer, arguments.durable_timer,
-                    arguments.guests or arguments.user is None, rules_of(arguments.rules), arguments.limit)
+                    arguments.session_timer, arguments.guests or arguments.user is None, rules_of(arguments.rules),
+                    arguments.limit)
 
 
 def allow_descriptors() -> None:

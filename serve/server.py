@@ -111,10 +111,20 @@ class Server:  # pylint: disable=too-many-instance-attributes  # its parts find 
 
     # Who is connected
 
+    def connect(self, connection: Connection) -> None:
+        """Where there are too many, the one that was silent for the longest goes of those that don't work: one without a session
+        before others."""
+        self.connections.add(connection)
+        if len(self.connections) > self.names.most_connections:
+            at_work = {it.connection for it in self.opens.values()}
+            idle = [it for it in self.connections if it not in at_work and not it.tasks and it is not connection]
+            min(idle, key=lambda it: (it.client is not None, it.heard), default=connection).close()
+
     def connect_client(self, connection: Connection) -> None:
         """All connections of a ClientGuid are one client."""
         if connection.client or connection.guid is None:
             return
+        connection.stop_waiting()
         client = self.clients.of_guid(connection.guid) or self.clients.take(connection.guid)
         connection.client = client
         if client.is_connected:
@@ -142,6 +152,8 @@ class Server:  # pylint: disable=too-many-instance-attributes  # its parts find 
         opens = [it for it in self.opens.values() if it.connection is connection]
         connected = [client, *(it for it in self.clients.of(connection) if it is not client)]
         connection.client = None
+        if connection.is_open:
+            connection.await_session()
         for one in connected:
             one.connections.remove(connection)
         cut = [it for it in connected if not it.is_connected]

@@ -18,6 +18,8 @@ class Settings:
     user: NamedUser | None = None
     break_timer: float = 35.0
     durable_timer: float = 960.0
+    # seconds that a connection is kept without a session
+    session_timer: float = 30.0
     has_guests: bool = True
     rules: Rules = Rules()
     # the most bytes of a file

@@ -48,6 +48,7 @@ def wait_for_end(server: ServerProcess) -> None:
     pytest.param([*PLACE, "--limit", "0"], 2, "serve/run: --limit", id="--limit"),
     pytest.param([*PLACE, "--writable"], 2, "serve/run: --writable", id="--writable"),
     pytest.param([*PLACE, "--break-timer", "0"], 2, "serve/run: timers", id="--break-timer"),
+    pytest.param([*PLACE, "--session-timer", "0"], 2, "serve/run: timers", id="--session-timer"),
     pytest.param([*PLACE, "--control", "77"], 2, "serve/run: --control", id="--control"),
     pytest.param([*PLACE, "--folder", "/nowhere"], 1, "serve/run: /nowhere", id="--folder"),
     pytest.param([*PLACE, "--record", "/nowhere/record"], 1, "serve/run: /nowhere/record", id="--record"),
