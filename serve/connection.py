@@ -25,6 +25,8 @@ LOG = logging.getLogger("serve")
 # Past so many bytes that a client hasn't read its requests wait; it is closed past more of them, or where all have too many.
 UNREAD, MOST_UNREAD, MOST_UNREAD_OF_ALL = 1 << 20, 1 << 24, 1 << 27
 MOST_PENDING = 512
+# Bytes that the server has in memory for those without a session, and what it takes one for that is half made.
+MOST_WITHOUT_SESSION, HALF_MADE = 1 << 26, 2048
 # So many answers go in one piece, if none of them is large.
 MOST_TOGETHER, LARGE = 32, 4096
 OLD_PROTOCOL = b"\xffSMB"
@@ -117,6 +119,8 @@ class Connection(asyncio.Protocol):  # pylint: disable=too-many-instance-attribu
         self._transport = asyncio.Transport()
         self._frames = Frames()
         self._credits = Credits()
+        # bytes that count for those without a session
+        self._without_session = 0
         # when bytes came last
         self.heard = 0.0
         self._timer: asyncio.TimerHandle | None = None
@@ -155,6 +159,19 @@ class Connection(asyncio.Protocol):  # pylint: disable=too-many-instance-attribu
         self.heard = self.server.loop.time()
         self._frames.add(data)
         self._take_frames()
+        if not self.client and not self.count_without_session():
+            self.close()
+
+    def count_without_session(self) -> bool:
+        """Counts what is kept here without a session, or for one that is half made; whether it is within what all may have."""
+        kept = 0
+        if self.is_open:
+            kept = 0 if self.client else len(self._frames) + self.unread
+            kept += sum(HALF_MADE + it.authentication.kept for it in self.sessions.values() if it.authentication)
+        more = kept - self._without_session
+        self._without_session = kept
+        self.server.without_session += more
+        return more <= 0 or self.server.without_session <= MOST_WITHOUT_SESSION
 
     def eof_received(self) -> None:
         self.close()
@@ -318,3 +335,4 @@ class Connection(asyncio.Protocol):  # pylint: disable=too-many-instance-attribu
             self.server.connections.discard(self)
             for session in list(self.sessions.values()):
                 self.server.end_session(session)
+            self.count_without_session()

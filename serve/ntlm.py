@@ -48,6 +48,11 @@ class Authentication:
         self.key: bytes | None = None
         self.is_over = False
 
+    @property
+    def kept(self) -> int:
+        """The bytes that it has in memory."""
+        return len(self._negotiate) + len(self._challenge) + len(self._mechanisms)
+
     def reply(self, data: bytes) -> bytes:
         """The server's next message. What can't be read is Unreadable."""
         is_wrapped = data[:1] != SIGNATURE[:1]

@@ -152,6 +152,10 @@ class Frames:
     def __init__(self) -> None:
         self._bytes = bytearray()
 
+    def __len__(self) -> int:
+        """The bytes that aren't taken yet."""
+        return len(self._bytes)
+
     def add(self, data: bytes) -> None:
         self._bytes += data
 

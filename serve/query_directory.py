@@ -12,7 +12,7 @@ from drive.headers import HEADER
 from serve.attributes import attributes_of
 from serve.node import Node
 from serve.opens import Open
-from serve.packets import Answer
+from serve.packets import LONGEST_TRANSFER, Answer
 from serve.request import Handlers, Request
 from serve.status_error import StatusError
 
@@ -20,6 +20,8 @@ DIRECTORY, FULL, BOTH, NAMES, BOTH_WITH_ID, FULL_WITH_ID = 1, 2, 3, 12, 37, 38
 # How many zeros an entry has before its name, and whether it has the file's identifier after them. One of NAMES has neither.
 GAPS = {DIRECTORY: (0, False), FULL: (4, False), BOTH: (30, False), BOTH_WITH_ID: (32, True), FULL_WITH_ID: (8, True)}
 RESTART, SINGLE, REOPEN = 1, 2, 16
+# Names that are still to be listed by the opens of a session, if it has begun several lists.
+MOST_LISTED = 1 << 18
 WILD = str.maketrans({"<": "*", ">": "?", '"': "."})
 
 
@@ -44,15 +46,26 @@ class QueryDirectory(Handlers):
         opened = request.open()
         if not opened.node.is_folder:
             raise StatusError(Status.INVALID_PARAMETER)
+        if most > LONGEST_TRANSFER:
+            raise StatusError(Status.INVALID_PARAMETER)
         if kind not in GAPS and kind != NAMES:
             raise StatusError(Status.INVALID_INFO_CLASS)
         is_first = opened.listing is None or bool(flags & (RESTART | REOPEN))
         if is_first or opened.listing is None:
-            opened.listing = self._matching(opened, pattern)
+            opened.listing = None
+            opened.listing = self._begun(opened, pattern)
         entries = self._entries(opened.node, opened.listing, kind, most, bool(flags & SINGLE))
         if not entries:
             raise StatusError(Status.NO_SUCH_FILE if is_first else Status.NO_MORE_FILES)
         return Answer(Status.SUCCESS, struct.pack("<HHL", 9, HEADER + 8, len(entries)) + entries)
+
+    def _begun(self, opened: Open, pattern: str) -> list[str]:
+        """A list of any length, unless the session has begun others."""
+        found = self._matching(opened, pattern)
+        others = sum(len(it.listing) for it in self._server.opens.values() if it.session is opened.session and it.listing)
+        if others and others + len(found) > MOST_LISTED:
+            raise StatusError(Status.INSUFFICIENT_RESOURCES)
+        return found
 
     def _matching(self, opened: Open, pattern: str) -> list[str]:
         """The names that are to be listed, the last one first."""

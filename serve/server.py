@@ -51,6 +51,8 @@ class Server:  # pylint: disable=too-many-instance-attributes  # its parts find 
         self.sessions: dict[int, Session] = {}
         self.begun: list[Pending] = []
         self.connections: set[Connection] = set()
+        # bytes that are kept for connections without a session, and for sessions that are half made
+        self.without_session = 0
         self.brake = PasswordBrake()
         self.tree_ids, self.async_ids, self.own_file_ids = (itertools.count(it + 1) for it in (0, 0, OWN_FILE_IDS))
         self.leases = Leases(self)
@@ -147,6 +149,7 @@ class Server:  # pylint: disable=too-many-instance-attributes  # its parts find 
         self.sessions.pop(session.identifier, None)
         if connection.client and not any(it.is_ready for it in connection.sessions.values()):
             self._disconnect_client(connection, connection.client)
+        connection.count_without_session()
 
     def _disconnect_client(self, connection: Connection, client: ManagerClient) -> None:
         opens = [it for it in self.opens.values() if it.connection is connection]

@@ -96,15 +96,17 @@ class Sessions(Handlers):
             reply = current.reply(token)
             if current.is_over:
                 self._establish(session, current, message)
+                session.authentication = None
+            if not connection.count_without_session():
+                raise StatusError(Status.INSUFFICIENT_RESOURCES)
         except (StatusError, Unreadable):
             session.authentication = None
             if not session.is_ready:
                 self._server.end_session(session)
+            connection.count_without_session()
             raise
         status = Status.SUCCESS if current.is_over else Status.MORE_PROCESSING_REQUIRED
         flags = IS_GUEST if current.is_over and not session.key else 0
-        if current.is_over:
-            session.authentication = None
         body = struct.pack("<HHHH", 9, flags, HEADER + 8, len(reply)) + reply
         return Answer(status, body, session=session.identifier, key=session.key if current.is_over else None)
 

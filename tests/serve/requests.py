@@ -81,9 +81,9 @@ def rename(file_id: int, name: str, replaces: bool = True) -> Body:
     return set_info(file_id, 10, struct.pack("<QQL", replaces, 0, len(text)) + text)
 
 
-def query_directory(file_id: int, pattern: str = "*") -> Body:
+def query_directory(file_id: int, pattern: str = "*", length: int = 4096, flags: int = 0) -> Body:
     text = pattern.encode("utf-16le")
-    return Command.QUERY_DIRECTORY, struct.pack("<HBBL16sHHL", 33, 37, 0, 0, wire(file_id), 96, len(text), 4096) + text
+    return Command.QUERY_DIRECTORY, struct.pack("<HBBL16sHHL", 33, 37, flags, 0, wire(file_id), 96, len(text), length) + text
 
 
 def acknowledgment(key: uuid.UUID, letters: str) -> Body:

@@ -8,17 +8,20 @@ import uuid
 from pathlib import Path
 
 import pytest
-from smblease import Context, CreateAsk, LeaseState, Status, append_context
+from smblease import Context, CreateAsk, LeaseState, Rules, Status, append_context
 
 from drive.faults import DriveFault
-from drive.headers import RELATED, Command
+from drive.headers import RELATED, Command, Message
+from serve import connection
 from serve.password_brake import SECONDS, TRIES, PasswordBrake
 from serve.server_process import ServerProcess
 from serve.status_error import StatusError
 from tests import needs
 from tests.paths import TOP
 from tests.serve.conftest import Connect, Start
-from tests.serve.requests import ECHO, Body, create, frame, header, leased, lock, negotiate, read, write
+from tests.serve.in_process import FrameClient, Sent, Transport, server_in
+from tests.serve.requests import (ECHO, Body, close, create, frame, header, leased, lock, negotiate, ntlm_tokens, query_directory,
+                                  read, session_setup, write)
 from tests.serve.test_other_clients import USER
 
 MIB = 1 << 20
@@ -46,6 +49,72 @@ def test_clients_that_do_not_read(served: ServerProcess, connect: Connect) -> No
     assert first.status(ECHO) == Status.SUCCESS
     assert most_memory(served) - before < 64 * MIB
     assert {len(greedy[-1].answer_to(number).data) for number in numbers} == {80 + MIB}
+
+
+def test_sessions_that_are_half_made(served: ServerProcess, connect: Connect) -> None:
+    """What they need is bounded for all together: the newest is refused, until others are gone."""
+    first = connect(served)
+    before, streams, statuses = most_memory(served), [raw(served) for _ in range(24)], set()
+    token = ntlm_tokens("guest")[0] + bytes(60000)
+    for stream in streams:
+        stream.sendall(frame(header(Command.NEGOTIATE, 0, 0, 0) + negotiate(b"g" * 16)[1]))
+        for number in range(1, 65):
+            answer_of(stream)
+            stream.sendall(frame(header(Command.SESSION_SETUP, number, 0, 0) + session_setup(token)[1]))
+        statuses.add(answer_of(stream).status)
+    assert statuses == {Status.MORE_PROCESSING_REQUIRED, Status.INSUFFICIENT_RESOURCES}
+    assert most_memory(served) - before < 80 * MIB
+    assert first.status(ECHO) == Status.SUCCESS
+    for stream in streams:
+        stream.close()
+    assert connect(served).status(create("file")) == Status.SUCCESS
+
+
+def answer_of(stream: socket.socket) -> Message:
+    length, = struct.unpack(">L", stream.recv(4, socket.MSG_WAITALL))
+    return Message(stream.recv(length, socket.MSG_WAITALL))
+
+
+def test_halves_of_frames(tmp_path: Path, monkeypatch: pytest.MonkeyPatch) -> None:
+    """Those of clients without a session are bounded for all together; past that the newest is closed."""
+    monkeypatch.setattr(connection, "MOST_WITHOUT_SESSION", 3 * 60000)
+    with server_in(*folders(tmp_path), Rules()) as server:
+        member = FrameClient(server, b"1" * 16, [])
+        there = [connection.Connection(server) for _ in range(4)]
+        for one in there:
+            one.connection_made(Transport(member, []))
+            one.data_received(struct.pack(">L", 65000) + bytes(50000))
+        assert [it.is_open for it in there] == [True, True, True, False]
+        member.connection.data_received(struct.pack(">L", 65000) + bytes(50000))
+        there[0].close()
+        there[1].data_received(bytes(5000))
+        assert (member.connection.is_open, there[1].is_open) == (True, True)
+
+
+def test_lists_that_are_begun(tmp_path: Path, monkeypatch: pytest.MonkeyPatch) -> None:
+    """A list of any length can be had, and no second one beside it that makes them too long together."""
+    monkeypatch.setattr("serve.query_directory.MOST_LISTED", 6)
+    share, streams = folders(tmp_path)
+    for number in range(6):
+        (share / f"file-{number}").touch()
+    with server_in(share, streams, Rules()) as server:
+        sent: Sent = []
+        one = FrameClient(server, b"1" * 16, sent)
+        for _ in range(2):
+            one.give(create("", access=0x81, disposition=1, options=1))
+        first, second = (message.number(128, 8) for _, message in sent)
+        for body in (query_directory(first, length=400), query_directory(second), close(first), query_directory(second),
+                     query_directory(second, length=MIB + 1)):
+            one.give(body)
+    assert [message.status for _, message in sent[2:]] == [
+        Status.SUCCESS, Status.INSUFFICIENT_RESOURCES, Status.SUCCESS, Status.SUCCESS, Status.INVALID_PARAMETER]
+
+
+def folders(below: Path) -> tuple[Path, Path]:
+    share, streams = below / "share", below / "streams"
+    share.mkdir()
+    streams.mkdir()
+    return share, streams
 
 
 def test_a_compound_that_asks_for_too_much(served: ServerProcess, connect: Connect) -> None:
