@@ -3,6 +3,8 @@ from __future__ import annotations
 
 import asyncio
 import logging
+import time
+from collections import deque
 from dataclasses import dataclass, replace
 from typing import TYPE_CHECKING
 
@@ -25,6 +27,8 @@ LOG = logging.getLogger("serve")
 # Past so many bytes that a client hasn't read its requests wait; it is closed past more of them, or where all have too many.
 UNREAD, MOST_UNREAD, MOST_UNREAD_OF_ALL = 1 << 20, 1 << 24, 1 << 27
 MOST_PENDING = 512
+# Seconds after which others are served, between two requests.
+TURN = 0.002
 # Bytes that the server has in memory for those without a session, and what it takes one for that is half made.
 MOST_WITHOUT_SESSION, HALF_MADE = 1 << 26, 2048
 # So many answers go in one piece, if none of them is large.
@@ -51,22 +55,24 @@ class Chain:
         self._connection = connection
         self._requests = requests
         self._responses: list[Response] = []
+        # the bytes of answers that wait for those after them
+        self.held = 0
         self._session, self._tree = requests[0].session, requests[0].tree
         self._previous: int | None = None
         self._failed: Status | None = None
         self._is_waiting = self._is_going = False
 
     def go_on(self) -> None:
-        """Begins each request once the one before it is answered, and sends the answers after the last."""
-        if self._is_going:
-            return
+        """Begins each request once the one before it is answered, until it is others' turn; sends the answers after the last."""
         self._is_going = True
         while self._requests and not self._is_waiting and self._connection.is_open:
             self._is_waiting = True
             self._connection.begin(Pending(self._asked(self._requests.pop(0)), self), self._failed)
+            if not self._is_waiting and not self._connection.has_turn:
+                break
         self._is_going = False
-        if not self._is_waiting:
-            self.send()
+        if self._requests and not self._is_waiting:
+            self._connection.go_on_later(self)
 
     def _asked(self, message: RequestMessage) -> Request:
         request = Request(message, self._connection, self._connection.server, self._session, self._tree, self._previous)
@@ -74,10 +80,10 @@ class Chain:
             request.session_id, request.tree_id = message.session, message.tree
         return request
 
-    def send(self) -> None:
-        responses, self._responses = self._responses, []
-        if responses:
-            self._connection.send(_framed(responses))
+    def take_answers(self) -> bytes:
+        """A frame of the answers that there are."""
+        responses, self._responses, self.held = self._responses, [], 0
+        return _framed(responses)
 
     def answered(self, pending: Pending, answer: Answer) -> None:
         message = pending.request.message
@@ -88,14 +94,14 @@ class Chain:
         if message.command is Command.CREATE and answer.status >> 30 == 3:
             self._failed = answer.status
         self._responses.append(self._connection.response(pending, answer, self._session, self._tree))
-        if sum(it.length for it in self._responses) > UNREAD:
-            self.send()
-        self._is_waiting = False
+        self.held += self._responses[-1].length
+        self._connection.hold(self)
         # The last answer goes at once: what is decided next may be for the same client.
-        if self._requests:
-            self.go_on()
-        else:
-            self.send()
+        if not self._requests or not self._is_going or self.held > UNREAD:
+            self._connection.send_held()
+        self._is_waiting = False
+        if self._requests and not self._is_going:
+            self._connection.go_on_later(self)
 
 
 def _framed(responses: list[Response]) -> bytes:
@@ -125,13 +131,23 @@ class Connection(asyncio.Protocol):  # pylint: disable=too-many-instance-attribu
         self.heard = 0.0
         self._timer: asyncio.TimerHandle | None = None
         self._is_unread = self._is_taking = False
+        # those of a frame that aren't begun or go on, and those with answers that aren't sent
+        self._chains: deque[Chain] = deque()
+        self._holding: dict[Chain, None] = {}
+        self._turn_ends = 0.0
+        self._is_due = False
         self._outgoing: list[bytes] = []
         self._pending: dict[int, Pending] = {}
 
     @property
     def unread(self) -> int:
         """Bytes that the client hasn't read yet."""
-        return self._transport.get_write_buffer_size() if self.is_open else 0
+        return self._transport.get_write_buffer_size() + sum(it.held for it in self._holding) if self.is_open else 0
+
+    @property
+    def has_turn(self) -> bool:
+        """Whether more may be done now: the client reads what it is answered, and others don't wait for long."""
+        return not self._is_unread and time.monotonic() < self._turn_ends
 
     @property
     def tasks(self) -> list[Task]:
@@ -189,20 +205,57 @@ class Connection(asyncio.Protocol):  # pylint: disable=too-many-instance-attribu
         self._take_frames()
 
     def _take_frames(self) -> None:
-        """What came, as long as the client reads what it is answered. Small answers go together."""
-        self._is_taking = True
+        """What came, one after the other, as long as the client reads what it is answered, and until others have their turn.
+        Small answers go together."""
+        self._is_taking, self._turn_ends = True, time.monotonic() + TURN
         try:
-            while self.is_open and not self._is_unread:
-                frame = self._frames.next(LONGEST_FRAME if self.client else LONGEST_WITHOUT_SESSION)
-                if frame is None:
+            while self.is_open and not self._is_unread and self._take_next():
+                if not self.has_turn:
+                    self._give_turn()
                     break
-                self._take(frame)
         except (Unreadable, *EXHAUSTED):
             self._flush()
             self.close()
         finally:
             self._is_taking = False
             self._flush()
+
+    def _take_next(self) -> bool:
+        """What is left of a frame, else the next one; whether there was any."""
+        if self._chains:
+            self._chains.popleft().go_on()
+            return True
+        frame = self._frames.next(LONGEST_FRAME if self.client else LONGEST_WITHOUT_SESSION)
+        if frame is not None:
+            self._take(frame)
+        return frame is not None
+
+    def _give_turn(self) -> None:
+        """Goes on once others were served; nothing more is read before."""
+        if not self._is_due and self.is_open:
+            self._is_due = True
+            self._transport.pause_reading()
+            self.server.loop.call_soon(self._take_turn)
+
+    def _take_turn(self) -> None:
+        self._is_due = False
+        if self.is_open and not self._is_unread:
+            self._transport.resume_reading()
+            self._take_frames()
+
+    def go_on_later(self, chain: Chain) -> None:
+        self._chains.appendleft(chain)
+        if not self._is_taking:
+            self._give_turn()
+
+    def hold(self, chain: Chain) -> None:
+        self._holding[chain] = None
+
+    def send_held(self) -> None:
+        """What chains have been answered goes before what is decided later."""
+        holding, self._holding = self._holding, {}
+        for chain in holding:
+            self.send(chain.take_answers())
 
     def _take(self, frame: bytes) -> None:
         if frame[:4] == OLD_PROTOCOL:
@@ -217,8 +270,9 @@ class Connection(asyncio.Protocol):  # pylint: disable=too-many-instance-attribu
                     chains[-1].append(message)
                 else:
                     chains.append([message])
-            for chain in chains:
-                Chain(self, chain).go_on()
+            self._chains.extend(Chain(self, chain) for chain in chains)
+            if self._chains:
+                self._chains.popleft().go_on()
 
     def _credit(self, message: RequestMessage) -> None:
         """A request without its credits ends the connection (3.3.5.2.3), and so does one before NEGOTIATE."""
@@ -283,7 +337,7 @@ class Connection(asyncio.Protocol):  # pylint: disable=too-many-instance-attribu
         """STATUS_PENDING, for a request that waits (3.3.4.2)."""
         if pending.is_answered or not self.is_open:
             return
-        pending.chain.send()
+        self.send_held()
         message = pending.request.message
         interim = self.response(pending, Answer(Status.PENDING), pending.request.session_id, pending.request.tree_id)
         pending.async_id = interim.async_id = next(self.server.async_ids)
@@ -307,6 +361,7 @@ class Connection(asyncio.Protocol):  # pylint: disable=too-many-instance-attribu
 
     def notify(self, body: bytes) -> None:
         """A break (2.2.23)."""
+        self.send_held()
         self.send(framed([Response(Command.OPLOCK_BREAK, Status.SUCCESS, NOTIFICATION, 0, 0, 0, body)]))
 
     def send(self, data: bytes) -> None:
@@ -330,6 +385,8 @@ class Connection(asyncio.Protocol):  # pylint: disable=too-many-instance-attribu
     def close(self) -> None:
         if self.is_open:
             self.is_open = False
+            self._chains.clear()
+            self._holding.clear()
             self._transport.abort()
             self.stop_waiting()
             self.server.connections.discard(self)

@@ -56,6 +56,12 @@ class Transport(asyncio.Transport):  # pylint: disable=abstract-method  # a conn
     def set_write_buffer_limits(self, high: int | None = None, low: int | None = None) -> None:
         """Nothing is ever left to be written."""
 
+    def pause_reading(self) -> None:
+        """Nothing comes by itself."""
+
+    def resume_reading(self) -> None:
+        """Nor does it here."""
+
     def get_write_buffer_size(self) -> int:
         return 0
 
