@@ -4,11 +4,12 @@ from __future__ import annotations
 import argparse
 import contextlib
 import logging
+import os
 import resource
 import shutil
 import signal
 import sys
-from collections.abc import Sequence
+from collections.abc import Mapping, Sequence
 from typing import TYPE_CHECKING
 
 from smblease.program import find_program, judge
@@ -33,6 +34,8 @@ if TYPE_CHECKING:
 
 LOG = logging.getLogger("serve")
 RULES = "by-key,whole"
+# (smbclient and the commands of drive/ have the same)
+PASSWORD_VARIABLE = "PASSWD"
 EPILOG = """It prints `port N`, and serves until it is ended by SIGINT, SIGTERM, SIGHUP or SIGQUIT. With --record it then prints
 the verdict of the record. docs/SERVE.md says what is the proved manager's and what the shell's, and which rules a record can
 break.
@@ -52,8 +55,10 @@ def parser() -> argparse.ArgumentParser:
     made.add_argument("--writable", action="store_true", help="serve the folder itself, whose files then change")
     made.add_argument("--limit", type=int, default=LARGEST, metavar="BYTES", help="the most bytes that a file is given")
     made.add_argument("--record", metavar="FILE", help="write the record there, and have it judged at the end")
-    made.add_argument("--user", metavar="USER%PASSWORD",
-                      help="a user, whose sessions are signed, in place of guests; needs impacket")
+    made.add_argument("--user", metavar="USER[%PASSWORD]",
+                      help="a user, whose sessions are signed, in place of guests; needs impacket. A password that isn't there "
+                           f"is taken from a file, else from the variable {PASSWORD_VARIABLE}")
+    made.add_argument("--password-file", metavar="FILE", help="the user's password, which is the first line of this file")
     made.add_argument("--guests", action="store_true", help="let guests in too; the user's client then chooses whether to sign")
     made.add_argument("--break-timer", type=float, default=35.0, metavar="S", help="seconds that a break is waited for (35)")
     made.add_argument("--durable-timer", type=float, default=960.0, metavar="S",
@@ -69,12 +74,37 @@ def parser() -> argparse.ArgumentParser:
     return made
 
 
-def user_of(user: str | None) -> User | None:
+def password_of(name: str, file: str | None, variables: Mapping[str, str]) -> str:
+    """A user's password, where it doesn't stand on the command line: the first line of a file, else a variable."""
+    if file is None:
+        if not variables.get(PASSWORD_VARIABLE):
+            raise Usage(f"--user is USER%PASSWORD, or the password of {name} is in --password-file FILE or in the variable "
+                        f"{PASSWORD_VARIABLE}")
+        return variables[PASSWORD_VARIABLE]
+    try:
+        with open(file, encoding="utf-8") as lines:
+            found = lines.readline().rstrip("\r\n")
+    except OSError as fault:
+        raise DriveFault(f"{file}: {fault.strerror}") from None
+    except UnicodeDecodeError:
+        raise DriveFault(f"{file}: no text of UTF-8") from None
+    if not found:
+        raise DriveFault(f"{file}: no password in the first line")
+    return found
+
+
+def user_of(user: str | None, file: str | None, variables: Mapping[str, str]) -> User | None:
     if user is None:
+        if file is not None:
+            raise Usage("--password-file goes with --user")
         return None
     name, percent, password = user.partition("%")
-    if not name or not percent:
+    if not name:
         raise Usage("--user is USER%PASSWORD")
+    if percent and file is not None:
+        raise Usage("--user USER%PASSWORD and --password-file both have a password: one is enough")
+    if not percent:
+        password = password_of(name, file, variables)
     try:
         # Guests are served without that package.
         from serve.named_user import NamedUser  # pylint: disable=import-outside-toplevel
@@ -97,9 +127,9 @@ def settings_of(arguments: argparse.Namespace) -> Settings:
         raise Usage("--writable goes with --folder")
     if arguments.guests and arguments.user is None:
         raise Usage("--guests goes with --user; without one all are guests")
-    return Settings(arguments.share, user_of(arguments.user), arguments.break_timer, arguments.durable_timer,
-                    arguments.session_timer, arguments.guests or arguments.user is None, rules_of(arguments.rules),
-                    arguments.limit)
+    return Settings(arguments.share, user_of(arguments.user, arguments.password_file, os.environ),
+                    arguments.break_timer, arguments.durable_timer, arguments.session_timer,
+                    arguments.guests or arguments.user is None, rules_of(arguments.rules), arguments.limit)
 
 
 def allow_descriptors() -> None:

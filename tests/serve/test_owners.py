@@ -166,6 +166,18 @@ def signing(for_the_user: ServerProcess, connect: Connect) -> "WireClient":
 
 
 @needs.package("impacket")
+@pytest.mark.parametrize("has_file", [True, False], ids=["in_a_file", "in_a_variable"])
+def test_a_password_that_is_not_on_the_command_line(start: Start, connect: Connect, tmp_path: Path,
+                                                    monkeypatch: pytest.MonkeyPatch, has_file: bool) -> None:
+    """Everybody can read that while the server runs. A file counts before the variable."""
+    (tmp_path / "password").write_text(f"{PASSWORD}\nanother line\n", encoding="utf-8")
+    monkeypatch.setenv("PASSWD", "another" if has_file else PASSWORD)
+    server = start("--user", NAME, *(["--password-file", str(tmp_path / "password")] if has_file else []))
+    one = connect(server, user=NAME, password=PASSWORD)
+    assert one.answer_to(one.send(LIST, signs=True)).status == Status.SUCCESS
+
+
+@needs.package("impacket")
 def test_a_request_that_is_signed(signing: "WireClient") -> None:
     message = signing.answer_to(signing.send(LIST, signs=True))
     assert message.status == Status.SUCCESS
