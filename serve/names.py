@@ -1,12 +1,39 @@
 """Names as SMB has them, and which names of the disk can be sent."""
 from __future__ import annotations
 
+from functools import lru_cache
+
 from smblease import Status
 
 from serve.status_error import StatusError
 
 FORBIDDEN = set('"*/<>?|') | {chr(code) for code in range(32)}
 LONGEST = 255
+FINAL_SIGMA, SIGMA = "\u03c2", "\u03a3"
+
+
+def text_of(data: bytes) -> str:
+    """A name as it comes on the wire. Half of a surrogate pair is no character."""
+    try:
+        return data.decode("utf-16le")
+    except UnicodeDecodeError:
+        raise StatusError(Status.OBJECT_NAME_INVALID) from None
+
+
+@lru_cache(4096)
+def folded(name: str) -> str:
+    """A name with case left out, as upcase tables have it: one code unit for one, and only where both are letters of one pair.
+    What is beyond the basic plane is left as it is, and nothing is composed or taken apart."""
+    return "".join(map(_upper, name))
+
+
+@lru_cache(65536)
+def _upper(letter: str) -> str:
+    if letter == FINAL_SIGMA:
+        return SIGMA
+    upper = letter.upper()
+    is_pair = len(upper) == 1 and letter <= "\uffff" and upper.lower() == letter
+    return upper if is_pair else letter
 
 
 def path_of(name: str) -> str:

@@ -1,20 +1,20 @@
 """QUERY_DIRECTORY (3.3.5.18)."""
 from __future__ import annotations
 
-import fnmatch
 import os
-import re
 import struct
 
 from smblease import Status
 
 from drive.headers import HEADER
 from serve.attributes import attributes_of
+from serve.names import text_of
 from serve.node import Node
 from serve.opens import Open
 from serve.packets import LONGEST_TRANSFER, Answer
 from serve.request import Handlers, Request
 from serve.status_error import StatusError
+from serve.wildcards import matches
 
 DIRECTORY, FULL, BOTH, NAMES, BOTH_WITH_ID, FULL_WITH_ID = 1, 2, 3, 12, 37, 38
 # How many zeros an entry has before its name, and whether it has the file's identifier after them. One of NAMES has neither.
@@ -22,7 +22,6 @@ GAPS = {DIRECTORY: (0, False), FULL: (4, False), BOTH: (30, False), BOTH_WITH_ID
 RESTART, SINGLE, REOPEN = 1, 2, 16
 # Names that are still to be listed by the opens of a session, if it has begun several lists.
 MOST_LISTED = 1 << 18
-WILD = str.maketrans({"<": "*", ">": "?", '"': "."})
 
 
 def entry(found: os.stat_result, allocated: int, name: str, kind: int) -> bytes:
@@ -42,7 +41,7 @@ class QueryDirectory(Handlers):
         message = request.message
         kind, flags, most = message.number(HEADER + 2, 1), message.number(HEADER + 3, 1), message.number(HEADER + 28, 4)
         length = message.number(HEADER + 26, 2)
-        pattern = message.text(message.number(HEADER + 24, 2), length) if length else "*"
+        pattern = text_of(message.part(message.number(HEADER + 24, 2), length)) if length else "*"
         opened = request.open()
         if not opened.node.is_folder:
             raise StatusError(Status.INVALID_PARAMETER)
@@ -69,10 +68,8 @@ class QueryDirectory(Handlers):
 
     def _matching(self, opened: Open, pattern: str) -> list[str]:
         """The names that are to be listed, the last one first."""
-        glob = "*" if pattern == "*.*" else pattern.translate(WILD).replace("[", "[[]")
-        shape = re.compile(fnmatch.translate(glob), re.IGNORECASE)
-        dots = [".", ".."] if shape.match(".") else []
-        return [*dots, *(it for it in self._server.names.names_below(opened.node) if shape.match(it))][::-1]
+        dots = [".", ".."] if matches(pattern, ".") else []
+        return [*dots, *(it for it in self._server.names.names_below(opened.node) if matches(pattern, it))][::-1]
 
     def _entry(self, folder: Node, name: str, kind: int) -> bytes | None:
         """What has gone meanwhile, and what isn't served, has none."""
