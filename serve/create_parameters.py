@@ -8,8 +8,8 @@ from uuid import UUID
 
 from smblease import Access, CreateAsk, Fault, LeaseState, Share, Status, each_context
 
-from drive.headers import HEADER, Unreadable, create_name
-from serve.names import path_of
+from drive.headers import HEADER, Unreadable
+from serve.names import path_of, text_of
 from serve.opens import BATCH, DELETE, EXCLUSIVE, LEASE, LEVEL_II, NO_LEVEL, SHARE_DELETE, Open, counts, reads, specific, writes
 from serve.packets import RequestMessage
 from serve.status_error import StatusError
@@ -76,8 +76,8 @@ def read_parameters(message: RequestMessage) -> CreateParameters:
         raise Unreadable
     level, impersonation, access, attributes, share, disposition, options, place, length = FIXED.unpack_from(message.data, HEADER)
     ask, others = _contexts(message.part(place, length)) if length else (CreateAsk(), {})
-    return CreateParameters(path_of(create_name(message)), specific(access), share, disposition, options, attributes, level,
-                            impersonation, ask, others)
+    path = path_of(text_of(message.buffer(HEADER + 44, message.number(HEADER + 46, 2))))
+    return CreateParameters(path, specific(access), share, disposition, options, attributes, level, impersonation, ask, others)
 
 
 def _contexts(text: bytes) -> tuple[CreateAsk, dict[bytes, bytes]]:

@@ -6,7 +6,7 @@ from collections.abc import Iterator, Sequence
 from contextlib import contextmanager
 from dataclasses import dataclass, field
 
-from serve.names import sent_name
+from serve.names import folded, sent_name
 
 FOLDER = os.O_RDONLY | os.O_DIRECTORY | os.O_NOFOLLOW | os.O_CLOEXEC
 MOST_NAMES = 500000
@@ -30,13 +30,13 @@ class Known:
     count: int = 0
 
     def add(self, name: str) -> None:
-        alike = self.names.setdefault(name.lower(), [])
+        alike = self.names.setdefault(folded(name), [])
         if name not in alike:
             alike.append(name)
             self.count += 1
 
     def remove(self, name: str) -> None:
-        alike = self.names.get(name.lower(), [])
+        alike = self.names.get(folded(name), [])
         if name in alike:
             alike.remove(name)
             self.count -= 1
@@ -62,7 +62,7 @@ class FolderNames:
                 if text is not None:
                     known.add(text)
         self._keep(found, known)
-        return known.names.get(name.lower(), [])
+        return known.names.get(folded(name), [])
 
     def _taken(self, folder: os.stat_result) -> Known | None:
         """What is known of it, if that is still right."""

@@ -11,7 +11,7 @@ from smblease import Status
 from serve.disk import Disk, Located, stat_in
 from serve.file_numbers import FileNumbers
 from serve.folder_names import names_in
-from serve.names import joined, sent_name, split
+from serve.names import folded, joined, sent_name, split
 from serve.node import WRITABLE, Node, node_of
 from serve.status_error import StatusError
 from serve.streams import Streams
@@ -85,7 +85,7 @@ class Namespace:
         names = [(it, sent_name(it)) for it in names_in(folder.file)]
         for name in [it for it, text in names if text is None]:
             self._warn(name)
-        return sorted((text for _, text in names if text is not None), key=str.lower)
+        return sorted((text for _, text in names if text is not None), key=folded)
 
     def _warn(self, name: bytes) -> None:
         if name not in self._left_out and len(self._left_out) < MOST_WARNINGS:

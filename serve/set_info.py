@@ -8,7 +8,7 @@ from smblease import Status
 
 from drive.headers import HEADER
 from serve.asks import Handling, Steps
-from serve.names import path_of
+from serve.names import folded, path_of, text_of
 from serve.node import READ_ONLY, Node
 from serve.opens import DELETE, WRITE_ATTRIBUTES, Open, writes
 from serve.packets import Answer
@@ -74,7 +74,7 @@ class SetInfo(Handlers):
         length = int.from_bytes(data[16:20], "little")
         if 20 + length > len(data):
             raise StatusError(Status.INFO_LENGTH_MISMATCH)
-        path, node = path_of(data[20:20 + length].decode("utf-16le", errors="replace")), opened.node
+        path, node = path_of(text_of(data[20:20 + length])), opened.node
         self._check_new_name(node, path, bool(data[0]))
         yield from self._break_handles(request, opened)
         self._server.names.rename(node, path, self._check_new_name(node, path, bool(data[0])))
@@ -82,7 +82,7 @@ class SetInfo(Handlers):
 
     def _check_new_name(self, node: Node, path: str, replaces: bool) -> Node | None:
         """The file that goes for the new name. It is looked for anew after every wait."""
-        if not path or not node.path or node.is_folder and f"{path}\\".lower().startswith(f"{node.path}\\".lower()):
+        if not path or not node.path or node.is_folder and folded(f"{path}\\").startswith(folded(f"{node.path}\\")):
             raise StatusError(Status.OBJECT_PATH_NOT_FOUND)
         if ":" in path or node.is_stream:
             raise StatusError(Status.NOT_SUPPORTED)

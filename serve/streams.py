@@ -7,6 +7,7 @@ from typing import NamedTuple, Tuple
 from smblease import Status
 
 from serve.disk import Disk
+from serve.names import folded
 from serve.status_error import StatusError
 
 MOST = 4096
@@ -28,12 +29,12 @@ class Streams:
         self._places = itertools.count(1)
 
     def find(self, file: Identity, name: str) -> Stream | None:
-        return self._streams.get((file, name.lower()))
+        return self._streams.get((file, folded(name)))
 
     def make(self, file: Identity, name: str) -> Stream:
         if len(self._streams) == MOST:
             raise StatusError(Status.INSUFFICIENT_RESOURCES)
-        return self._streams.setdefault((file, name.lower()), Stream(name, str(next(self._places))))
+        return self._streams.setdefault((file, folded(name)), Stream(name, str(next(self._places))))
 
     def of(self, file: Identity) -> list[Stream]:
         return [stream for known, stream in self._streams.items() if known[0] == file]

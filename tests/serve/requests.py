@@ -31,7 +31,7 @@ def wire(file_id: int) -> bytes:
 
 def create(name: str, access: int = 0x12019F, share: int = 7, disposition: int = 3, options: int = 0, level: int = 0,
            contexts: bytes = b"") -> Body:
-    text = name.encode("utf-16le")
+    text = name.encode("utf-16le", "surrogatepass")
     padded = text + bytes(-len(text) % 8)
     fixed = struct.pack("<HBBLQQLLLLLHHLL", 57, 0, level, 2, 0, 0, access, 0, share, disposition, options, 120, len(text),
                         120 + len(padded) if contexts else 0, len(contexts))
@@ -77,12 +77,12 @@ def set_info(file_id: int, kind: int, data: bytes) -> Body:
 
 
 def rename(file_id: int, name: str, replaces: bool = True) -> Body:
-    text = name.encode("utf-16le")
+    text = name.encode("utf-16le", "surrogatepass")
     return set_info(file_id, 10, struct.pack("<QQL", replaces, 0, len(text)) + text)
 
 
 def query_directory(file_id: int, pattern: str = "*", length: int = 4096, flags: int = 0) -> Body:
-    text = pattern.encode("utf-16le")
+    text = pattern.encode("utf-16le", "surrogatepass")
     return Command.QUERY_DIRECTORY, struct.pack("<HBBL16sHHL", 33, 37, flags, 0, wire(file_id), 96, len(text), length) + text
 
 
@@ -119,7 +119,7 @@ def session_setup(token: bytes, previous: int = 0, mode: int = 1) -> Body:
 
 def ntlm_tokens(name: str) -> list[bytes]:
     """A NEGOTIATE_MESSAGE and an AUTHENTICATE_MESSAGE of this name, without a password (MS-NLMP 2.2.1.1, 2.2.1.3)."""
-    text = name.encode("utf-16le")
+    text = name.encode("utf-16le", "surrogatepass")
     empty, fields = struct.pack("<HHL", 0, 0, 64), struct.pack("<HHL", len(text), len(text), 64)
     authenticate = b"NTLMSSP\0" + struct.pack("<L", 3) + empty * 3 + fields + empty * 2 + struct.pack("<L", 0x00080201) + text
     return [b"NTLMSSP\0" + struct.pack("<LL", 1, 0x00080201) + bytes(16), authenticate]
