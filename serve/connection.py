@@ -59,7 +59,8 @@ class Chain:
         self.held = 0
         self._session, self._tree = requests[0].session, requests[0].tree
         self._previous: int | None = None
-        self._failed: Status | None = None
+        # The first request of a frame is related to none (3.3.5.2.7.2).
+        self._failed: Status | None = Status.INVALID_PARAMETER if requests[0].is_related else None
         self._is_waiting = self._is_going = False
 
     def go_on(self) -> None:
@@ -89,8 +90,8 @@ class Chain:
         message = pending.request.message
         self._session = answer.session or pending.request.session_id
         self._tree = answer.tree or pending.request.tree_id
-        if answer.opened is not None:
-            self._previous = answer.opened
+        opened = answer.opened if answer.opened is not None else pending.request.named
+        self._previous = self._previous if opened is None else opened
         if message.command is Command.CREATE and answer.status >> 30 == 3:
             self._failed = answer.status
         self._responses.append(self._connection.response(pending, answer, self._session, self._tree))

@@ -6,7 +6,7 @@ from typing import TYPE_CHECKING
 
 from smblease import Status
 
-from drive.headers import HEADER, PREVIOUS, Command
+from drive.headers import HEADER, PREVIOUS, Command, Unreadable
 from serve.opens import ManagerClient, Open
 from serve.packets import RequestMessage
 from serve.status_error import StatusError
@@ -70,6 +70,14 @@ class Request:
         if wire[:8] != wire[8:]:
             raise StatusError(Status.FILE_CLOSED)
         return int.from_bytes(wire[:8], "little")
+
+    @property
+    def named(self) -> int | None:
+        """The FileId that those which are related to it mean, if it names one."""
+        try:
+            return self.file_id() if self.message.file_id else None
+        except (StatusError, Unreadable):
+            return None
 
     def find(self) -> Open | None:
         """The request's open, which is its own connection's. A FileId that the shell doesn't know is left to the manager."""

@@ -9,6 +9,7 @@ from hypothesis import given, strategies as some
 from smblease import CreateAnswer, LeaseState, Status, each_context
 
 from drive.headers import RELATED, Command, Unreadable
+from serve.create_parameters import OPEN
 from serve.packets import Credits, Frames, split_compound
 from serve.server_process import ServerProcess
 from tests.serve.conftest import Connect
@@ -67,6 +68,32 @@ def test_a_compound(served: ServerProcess, connect: Connect) -> None:
     assert [it.command for it in answers] == [command for command, _ in bodies]
     assert [it.status for it in answers] == [Status.SUCCESS] * 4 + [Status.FILE_CLOSED]
     assert answers[2].part(80, 8) == b"\0\0\0bytes"
+
+
+def test_a_compound_that_begins_with_another_request(served: ServerProcess, connect: Connect) -> None:
+    """Each is by the FileId of the one before it, also where that isn't a CREATE (3.3.5.2.7.2)."""
+    from tests.serve.wire_client import parts_of  # pylint: disable=import-outside-toplevel
+    one = connect(served)
+    kept, other = one.open(create("file")), one.open(create("other"))
+    bodies = [write(kept), read(EVERY_FILE_ID), close(other), close(EVERY_FILE_ID)]
+    one.stream.sendall(compound(one.number, one.session, one.tree, bodies))
+    answers = parts_of(one.receive())
+    assert [it.status for it in answers] == [Status.SUCCESS] * 3 + [Status.FILE_CLOSED]
+    one.number += len(bodies)
+    assert answers[1].part(80, 8) == b"\0\0\0bytes" and one.status(read(kept)) == Status.SUCCESS
+
+
+def test_a_first_request_that_is_related(served: ServerProcess, connect: Connect) -> None:
+    """It is refused, and so is what is related to it; nothing is done, and what comes in the next frame is (3.3.5.2.7.2)."""
+    from tests.serve.wire_client import parts_of  # pylint: disable=import-outside-toplevel
+    one = connect(served)
+    bodies = [create("file"), write(EVERY_FILE_ID), close(EVERY_FILE_ID)]
+    data = bytearray(compound(one.number, one.session, one.tree, bodies))
+    data[4 + 16] |= RELATED
+    one.stream.sendall(data)
+    assert [it.status for it in parts_of(one.receive())] == [Status.INVALID_PARAMETER] * 3
+    one.number += len(bodies)
+    assert one.status(create("file", disposition=OPEN)) == Status.OBJECT_NAME_NOT_FOUND
 
 
 def test_a_long_compound(served: ServerProcess, connect: Connect) -> None:
