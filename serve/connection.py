@@ -312,6 +312,7 @@ class Connection(asyncio.Protocol):  # pylint: disable=too-many-instance-attribu
             request.session.check_signature(message)
         handler = self.server.commands.handler(request)
         message.check_size()
+        message.check_charge()
         handled = handler(request)
         return handled if isinstance(handled, Answer) else (yield from handled)
 

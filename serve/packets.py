@@ -26,6 +26,11 @@ SIZES = {Command.NEGOTIATE: 36, Command.SESSION_SETUP: 25, Command.LOGOFF: 4, Co
          Command.CREATE: 57, Command.CLOSE: 24, Command.FLUSH: 24, Command.READ: 49, Command.WRITE: 49, Command.LOCK: 48,
          Command.IOCTL: 57, Command.ECHO: 4, Command.QUERY_DIRECTORY: 33, Command.CHANGE_NOTIFY: 32, Command.QUERY_INFO: 41,
          Command.SET_INFO: 33}
+# Where a request says how many bytes it sends, and where how many it may be answered: what is together is added.
+PAYLOADS: dict[Command, list[tuple[int, ...]]] = {
+    Command.READ: [(4,)], Command.WRITE: [(4,)], Command.QUERY_DIRECTORY: [(28,)], Command.IOCTL: [(28, 40), (32, 44)],
+    Command.QUERY_INFO: [(4,), (12,)], Command.SET_INFO: [(4,)], Command.CHANGE_NOTIFY: [(4,)]}
+CREDIT_BYTES = 65536
 
 
 @dataclass(frozen=True)
@@ -67,6 +72,13 @@ class RequestMessage(Message):
     def check_size(self) -> None:
         """The StructureSize has to be that of the command. The messages of OPLOCK_BREAK have several."""
         if self.command in SIZES and self.number(HEADER, 2) != SIZES[self.command]:
+            raise Unreadable
+
+    def check_charge(self) -> None:
+        """What it costs has to be enough for what it transfers (3.3.5.2.5). A charge of 0 is one of 1."""
+        places = PAYLOADS.get(self.command, []) if self.command is not None else []
+        most = max((sum(self.number(HEADER + it, 4) for it in sums) for sums in places), default=0)
+        if most > CREDIT_BYTES * max(1, self.charge):
             raise Unreadable
 
 

@@ -17,8 +17,8 @@ NEW_NAME = "other.dat"
 Body = Tuple[Command, bytes]
 
 
-def header(command: int, number: int, session: int, tree: int, following: int = 0, flags: int = 0) -> bytes:
-    return HEAD.pack(b"\xfeSMB", 64, 1, 0, command, 31, flags, following, number, 0, tree, session, bytes(16))
+def header(command: int, number: int, session: int, tree: int, following: int = 0, flags: int = 0, charge: int = 1) -> bytes:
+    return HEAD.pack(b"\xfeSMB", 64, charge, 0, command, 31, flags, following, number, 0, tree, session, bytes(16))
 
 
 def frame(data: bytes) -> bytes:

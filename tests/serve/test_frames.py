@@ -48,13 +48,13 @@ def test_unreadable(data: bytes) -> None:
         split_compound(data)
 
 
-def compound(number: int, session: int, tree: int, bodies: list[Body]) -> bytes:
+def compound(number: int, session: int, tree: int, bodies: list[Body], charge: int = 1) -> bytes:
     """A frame of these requests, each related to the one before it."""
     data = b""
     for place, (command, body) in enumerate(bodies):
         body += bytes(-len(body) % 8)
         following = 64 + len(body) if place < len(bodies) - 1 else 0
-        data += header(command, number + place, session, tree, following, RELATED if place else 0) + body
+        data += header(command, number + place * charge, session, tree, following, RELATED if place else 0, charge) + body
     return frame(data)
 
 

@@ -6,6 +6,7 @@ import struct
 import subprocess
 import uuid
 from pathlib import Path
+from typing import TYPE_CHECKING
 
 import pytest
 from smblease import Context, CreateAsk, LeaseState, Rules, Status, append_context
@@ -24,9 +25,20 @@ from tests.serve.requests import (ECHO, Body, close, create, frame, header, leas
                                   read, session_setup, write)
 from tests.serve.test_other_clients import USER
 
+if TYPE_CHECKING:
+    from tests.serve.wire_client import WireClient
+
 MIB = 1 << 20
+# what a transfer of so much costs (MS-SMB2 3.1.5.2)
+MIB_CHARGE = 16
 BATCH = 9
 NAME, PASSWORD = USER.split("%")
+
+
+def collect_credits(client: "WireClient") -> None:
+    """Each request is given more than it costs."""
+    for _ in range(30):
+        assert client.status(ECHO) == Status.SUCCESS
 
 
 def most_memory(server: ServerProcess) -> int:
@@ -45,7 +57,8 @@ def test_clients_that_do_not_read(served: ServerProcess, connect: Connect) -> No
     numbers = []
     for client in greedy:
         opened = client.open(create("file"))
-        numbers = [client.send(read(opened, MIB)) for _ in range(40)]
+        collect_credits(client)
+        numbers = [client.send(read(opened, MIB), charge=MIB_CHARGE) for _ in range(40)]
     assert first.status(ECHO) == Status.SUCCESS
     assert most_memory(served) - before < 64 * MIB
     assert {len(greedy[-1].answer_to(number).data) for number in numbers} == {80 + MIB}
@@ -123,9 +136,9 @@ def test_a_compound_that_asks_for_too_much(served: ServerProcess, connect: Conne
     one, other = connect(served), connect(served)
     file_id = one.open(create("file"))
     one.ask(write(file_id, MIB - 1, b"x"))
+    collect_credits(one)
     before = most_memory(served)
-    one.number += 1
-    one.stream.sendall(compound(one.number - 1, one.session, one.tree, [read(file_id, MIB)] * 30))
+    one.stream.sendall(compound(one.number, one.session, one.tree, [read(file_id, MIB)] * 30, MIB_CHARGE))
     assert other.status(ECHO) == Status.SUCCESS
     assert most_memory(served) - before < 64 * MIB
 

@@ -44,14 +44,14 @@ class WireClient:
     def close(self) -> None:
         self._connection.close()
 
-    def send(self, body: Body, signs: bool = False, damages: bool = False) -> int:
+    def send(self, body: Body, signs: bool = False, damages: bool = False, charge: int = 1) -> int:
         command, text = body
-        data = header(command, self.number, self.session, self.tree, flags=SIGNED if signs else 0) + text
+        data = header(command, self.number, self.session, self.tree, flags=SIGNED if signs else 0, charge=charge) + text
         if signs:
             data = data[:48] + signature(data, self.key) + data[64:]
         self.stream.sendall(frame(data[:-1] + bytes([data[-1] ^ damages])))
-        self.number += 1
-        return self.number - 1
+        number, self.number = self.number, self.number + max(1, charge)
+        return number
 
     def send_cancel(self, number: int) -> None:
         self.stream.sendall(frame(header(Command.CANCEL, number, self.session, self.tree) + struct.pack("<HH", 4, 0)))
