@@ -51,7 +51,12 @@ class Meanwhile:
     work: Callable[[], None]
 
 
-Yielded = Union[Asked, Acknowledging, Meanwhile]
+@dataclass(frozen=True, eq=False)
+class Pause:
+    """What waits for something that isn't the manager's, until it is resumed or taken back."""
+
+
+Yielded = Union[Asked, Acknowledging, Meanwhile, Pause]
 Waits = Generator[Yielded, Any, Found]
 Handling = Waits[Answer]
 Steps = Waits[None]

@@ -9,15 +9,16 @@ from smblease import Status
 from drive.headers import Command
 from serve.asks import Handling
 from serve.create import Create
+from serve.locking import Locking
 from serve.packets import Answer
 from serve.pipes import Pipes
 from serve.query_directory import QueryDirectory
 from serve.query_info import QueryInfo
-from serve.read_write_lock import ReadWriteLock
 from serve.request import WITHOUT_TREE, Request
 from serve.sessions import Sessions
 from serve.set_info import SetInfo
 from serve.status_error import StatusError
+from serve.transfers import Transfers
 
 if TYPE_CHECKING:
     from serve.server import Server
@@ -27,14 +28,14 @@ Handler = Callable[[Request], Union[Answer, Handling]]
 
 class Commands:
     def __init__(self, server: Server) -> None:
-        sessions, transfers = Sessions(server), ReadWriteLock(server)
+        sessions, transfers = Sessions(server), Transfers(server)
         self._of_pipes = Pipes(server).handlers
         self._handlers: dict[Command | None, Handler] = {
             Command.NEGOTIATE: sessions.negotiate, Command.SESSION_SETUP: sessions.set_up, Command.LOGOFF: sessions.log_off,
             Command.TREE_CONNECT: sessions.connect_tree, Command.TREE_DISCONNECT: sessions.disconnect_tree,
             Command.ECHO: sessions.echo, Command.OPLOCK_BREAK: server.leases.acknowledge,
             Command.CREATE: Create(server).create, Command.CLOSE: transfers.close, Command.FLUSH: transfers.flush,
-            Command.READ: transfers.read, Command.WRITE: transfers.write, Command.LOCK: transfers.lock,
+            Command.READ: transfers.read, Command.WRITE: transfers.write, Command.LOCK: Locking(server).lock,
             Command.QUERY_INFO: QueryInfo(server).query, Command.SET_INFO: SetInfo(server).set,
             Command.QUERY_DIRECTORY: QueryDirectory(server).query, Command.IOCTL: QueryInfo.control,
             Command.CHANGE_NOTIFY: QueryInfo.notify,

@@ -14,7 +14,7 @@ from smblease.manager_decisions import (Acknowledged, Breaks, Closed, Decision, 
                                         Refused, Waits, Withdrawn)
 
 from drive.headers import Unreadable
-from serve.asks import Acknowledging, Asked, Handling, Meanwhile, Steps, Yielded
+from serve.asks import Acknowledging, Asked, Handling, Meanwhile, Pause, Steps, Yielded
 from serve.disk_status import status_of
 from serve.packets import Answer
 from serve.status_error import EXHAUSTED, RefusedByManager, StatusError
@@ -34,6 +34,7 @@ class Task:
     # what it waits for
     asked: Asked | None = None
     tag: int = 0
+    pause: Pause | None = None
 
 
 class ManagerHost:
@@ -47,7 +48,8 @@ class ManagerHost:
         # by their clients and their tags
         self._waiting: dict[int, dict[int, Task]] = {}
         # an acknowledgment with its task
-        self._decisions: deque[tuple[Decision, Task | None]] = deque()
+        self._decisions: deque[tuple[Decision | Pause, Task | None]] = deque()
+        self._paused: dict[Pause, Task] = {}
         self.is_draining = False
 
     @property
@@ -76,6 +78,7 @@ class ManagerHost:
         """There was no memory: nobody knows any longer who has what open, or caches it."""
         self.manager = Manager(self._rules)
         self._decisions.clear()
+        self._decisions.extend((it, None) for it in self._paused)
         self.abandon(set(self._waiting), Status.USER_SESSION_DELETED)
         self._server.lost()
 
@@ -96,9 +99,17 @@ class ManagerHost:
     def withdraw(self, task: Task) -> None:
         """Takes a request back, where it waits in the manager. What closes an open goes on: its client has forgotten that."""
         asked, tag = task.asked, task.tag
-        if asked and asked.closes is None:
+        if task.pause:
+            self._resumed(task.pause)
+            self._refuse(task, StatusError(Status.CANCELLED))
+        elif asked and asked.closes is None:
             client, file = asked.client.number, asked.file
             self.call(lambda manager: manager.withdraw(client, tag, file))
+
+    def resume(self, pauses: list[Pause]) -> None:
+        """These go on once what is decided by now is carried out."""
+        self._decisions.extend((it, None) for it in pauses)
+        pauses.clear()
 
     def abandon(self, clients: set[int], status: Status) -> None:
         """The manager has forgotten what these clients asked for."""
@@ -108,8 +119,12 @@ class ManagerHost:
 
     # Decisions
 
-    def _carry_out(self, decision: Decision, task: Task | None) -> None:
-        if isinstance(decision, Breaks):
+    def _carry_out(self, decision: Decision | Pause, task: Task | None) -> None:
+        if isinstance(decision, Pause):
+            paused = self._resumed(decision)
+            if paused:
+                self._send(paused, None)
+        elif isinstance(decision, Breaks):
             self._server.broken(decision)
         elif isinstance(decision, Ended):
             self._server.ended(decision.file_id)
@@ -189,6 +204,10 @@ class ManagerHost:
         if isinstance(asked, Meanwhile):
             self._wait_for(task, asked)
             return
+        if isinstance(asked, Pause):
+            task.asked, task.pause = None, asked
+            self._paused[asked] = task
+            return
         is_decided = self._acknowledge(task, asked) if isinstance(asked, Acknowledging) else self._put(task, asked)
         if not is_decided and not task.is_over:
             if task.asked:
@@ -223,6 +242,13 @@ class ManagerHost:
                 raise fault
             self._server.settle()
         self._server.loop.run_in_executor(None, asked.work).add_done_callback(done)
+
+    def _resumed(self, pause: Pause) -> Task | None:
+        """Who paused, if that isn't over."""
+        task = self._paused.pop(pause, None)
+        if task:
+            task.pause = None
+        return task
 
     def _taken(self, client: int, tag: int) -> Task | None:
         tasks = self._waiting.get(client, {})

@@ -9,6 +9,7 @@ from typing import TYPE_CHECKING
 from serve.disk import Located
 
 if TYPE_CHECKING:
+    from serve.asks import Pause
     from serve.opens import Open
 
 READ_ONLY, FOLDER, ARCHIVE = 0x1, 0x10, 0x20
@@ -34,6 +35,8 @@ class Node:
     is_deleting: bool = False
     is_gone: bool = False
     opens: list[Open] = field(default_factory=list)
+    # what waits until a lock or an open of it is given up
+    pauses: list[Pause] = field(default_factory=list)
 
     @property
     def identity(self) -> tuple[int, int]:

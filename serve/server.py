@@ -180,6 +180,7 @@ class Server:  # pylint: disable=too-many-instance-attributes  # its parts find 
         """An open of a connection that is over: it is closed where its client has another one, else kept or forgotten."""
         opened.connection = opened.session = opened.tree = None
         opened.is_breaking = False
+        self.host.resume(opened.node.pauses)
         if opened.client and opened.client.is_connected:
             self.start(self.close_open(opened))
         elif opened.client and self.host.manager.left_behind(opened.file_id):
@@ -251,6 +252,7 @@ class Server:  # pylint: disable=too-many-instance-attributes  # its parts find 
         node = opened.node
         self.connected_again(opened)
         node.opens.remove(opened)
+        self.host.resume(node.pauses)
         node.is_deleting = (node.is_deleting or opened.deletes) and not (node.is_folder and self.names.has_below(node))
         self._lease_gone(opened)
         if node.is_deleting and not node.opens and not node.is_gone:

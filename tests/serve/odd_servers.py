@@ -15,7 +15,7 @@ sys.path[:0] = [TOP, os.path.join(TOP, "python")]
 from smblease import Access, MachineLost, Manager, Rules, Share  # noqa: E402  # pylint: disable=wrong-import-position
 from smblease.manager_decisions import Decisions  # noqa: E402  # pylint: disable=wrong-import-position
 
-from serve import disk_bytes, manager_host, read_write_lock, run_command  # noqa: E402  # pylint: disable=wrong-import-position
+from serve import disk_bytes, manager_host, run_command, transfers  # noqa: E402  # pylint: disable=wrong-import-position
 
 CREATES = itertools.count(1)
 
@@ -77,7 +77,7 @@ class SlowDisk:
 
 
 KINDS = {"forgetful": (manager_host, "Manager", Forgetful), "wrong": (manager_host, "Manager", Wrong),
-         "greedy": (read_write_lock, "read_bytes", GreedyReads()), "slow": (read_write_lock, "os", SlowDisk())}
+         "greedy": (transfers, "read_bytes", GreedyReads()), "slow": (transfers, "os", SlowDisk())}
 
 if __name__ == "__main__":
     setattr(*KINDS[sys.argv[1]])

@@ -17,7 +17,8 @@ from tests.serve.test_command_line import BARE
 TORTURED = ["smb2.lease.request", "smb2.lease.upgrade", "smb2.lease.upgrade2", "smb2.lease.statopen3", "smb2.lease.rename_wait",
             "smb2.lease.duplicate_open", "smb2.durable-open.delete_on_close1", "smb2.durable-open.lock-lease",
             "smb2.durable-open.oplock", "smb2.durable-open.reopen2-lease", "smb2.lease.complex1", "smb2.lease.timeout-disconnect",
-            "smb2.lease.breaking1", "smb2.lease.breaking6", "smb2.lease.upgrade3", "smb2.durable-open.read-only"]
+            "smb2.lease.breaking1", "smb2.lease.breaking6", "smb2.lease.upgrade3", "smb2.durable-open.read-only",
+            "smb2.lock.valid-request", "smb2.lock.cancel-logoff", "smb2.lock.stacking"]
 USER = "somebody%secret"
 
 

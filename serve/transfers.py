@@ -1,4 +1,4 @@
-"""CLOSE, FLUSH, READ, WRITE and LOCK (3.3.5.10 to 3.3.5.14)."""
+"""CLOSE, FLUSH, READ and WRITE (3.3.5.10 to 3.3.5.13)."""
 from __future__ import annotations
 
 import os
@@ -13,17 +13,16 @@ from drive.headers import HEADER
 from serve.asks import Handling, Meanwhile, Waits, closing, reading, refused, writing
 from serve.attributes import attributes_of
 from serve.disk_bytes import LARGEST, read_bytes, write_bytes
-from serve.opens import Lock, ManagerClient, Open, reads, writes
-from serve.packets import LONGEST_TRANSFER, Answer, RequestMessage
+from serve.locking import is_kept_from
+from serve.opens import ManagerClient, Open, reads, writes
+from serve.packets import LONGEST_TRANSFER, Answer
 from serve.request import Handlers, Request
 from serve.status_error import StatusError
 
 WITH_ATTRIBUTES = 1
-MOST_LOCKS = 1024
-SHARED, EXCLUSIVE, UNLOCK, AT_ONCE = 1, 2, 4, 16
 
 
-class ReadWriteLock(Handlers):
+class Transfers(Handlers):
     def close(self, request: Request) -> Handling:
         opened = yield from self._open(request, Manager.close_open)
         node, flags = opened.node, request.message.number(HEADER + 2, 2) & WITH_ATTRIBUTES
@@ -53,8 +52,7 @@ class ReadWriteLock(Handlers):
         if length > LONGEST_TRANSFER:
             raise StatusError(Status.INVALID_PARAMETER)
         opened = yield from self._open(request, Manager.read)
-        locked = any(it.is_exclusive and it.meets(offset, length) for it in _locks_of_others(opened))
-        client = self._checked(opened, reads(opened.access), locked)
+        client = self._checked(opened, reads(opened.access), is_kept_from(opened, offset, length, is_write=False))
         file, start = opened.node, min(offset, LARGEST)
         data = yield from reading(client, opened, lambda: read_bytes(file.file, start, length))
         if length and len(data) < max(1, least):
@@ -70,8 +68,7 @@ class ReadWriteLock(Handlers):
             raise StatusError(Status.INVALID_PARAMETER)
         fits = offset + length <= self._server.settings.limit
         opened = yield from self._open(request, lambda manager, client, tag, file_id: manager.write(client, tag, file_id, fits))
-        locked = any(it.meets(offset, length) for it in _locks_of_others(opened))
-        client = self._checked(opened, writes(opened.access), locked)
+        client = self._checked(opened, writes(opened.access), is_kept_from(opened, offset, length, is_write=True))
         node, number, record = opened.node, client.next_write(), self._server.record
         if fits:
             record.wrote(client, node, number, offset, data)
@@ -104,57 +101,9 @@ class ReadWriteLock(Handlers):
             raise StatusError(Status.FILE_LOCK_CONFLICT)
         return opened.client
 
-    def lock(self, request: Request) -> Handling:
-        """Locks are the shell's; who locks has all others cache nothing. A lock that isn't to be had is refused at once."""
-        message = request.message
-        opened = request.open()
-        count = message.number(HEADER + 2, 2)
-        if not count or opened.node.is_folder:
-            raise StatusError(Status.INVALID_PARAMETER)
-        wanted = [_lock(message, HEADER + 24 + 24 * place) for place in range(count)]
-        if wanted[0][1] & UNLOCK:
-            _unlock(opened, [it[0] for it in wanted])
-        else:
-            if sum(len(it.locks) for it in opened.node.opens) + count > MOST_LOCKS:
-                raise StatusError(Status.INSUFFICIENT_RESOURCES)
-            yield from self._server.forced_breaks.break_all(request, opened, lambda: _take_locks(opened, wanted))
-        return Answer(Status.SUCCESS, struct.pack("<HH", 4, 0))
-
 
 def _sync(descriptor: int) -> None:
     try:
         os.fsync(descriptor)
     finally:
         os.close(descriptor)
-
-
-def _take_locks(opened: Open, wanted: list[tuple[Lock, int]]) -> None:
-    """All of them, or none."""
-    locks = [*opened.locks]
-    for lock, flags in wanted:
-        if flags & ~AT_ONCE not in (SHARED, EXCLUSIVE):
-            raise StatusError(Status.INVALID_PARAMETER)
-        if any(it.meets(lock.offset, lock.length) and (it.is_exclusive or lock.is_exclusive)
-               for it in [*_locks_of_others(opened), *locks]):
-            raise StatusError(Status.LOCK_NOT_GRANTED)
-        locks.append(lock)
-    opened.locks = locks
-
-
-def _lock(message: RequestMessage, place: int) -> tuple[Lock, int]:
-    offset, length, flags = message.number(place, 8), message.number(place + 8, 8), message.number(place + 16, 4)
-    if offset + length > 1 << 64:
-        raise StatusError(Status.INVALID_LOCK_RANGE)
-    return Lock(offset, length, bool(flags & EXCLUSIVE)), flags
-
-
-def _unlock(opened: Open, wanted: list[Lock]) -> None:
-    for lock in wanted:
-        found = next((it for it in opened.locks if (it.offset, it.length) == (lock.offset, lock.length)), None)
-        if found is None:
-            raise StatusError(Status.RANGE_NOT_LOCKED)
-        opened.locks.remove(found)
-
-
-def _locks_of_others(opened: Open) -> list[Lock]:
-    return [lock for it in opened.node.opens if it is not opened for lock in it.locks]
