@@ -11,7 +11,8 @@ from serve.asks import Handling, Steps, Waits, opening
 from serve.attributes import attributes_of
 from serve.create_parameters import (ALLOCATION, CREATE, CREATED, DELETE_ON_CLOSE, DIRECTORY_FILE, MAKING, MOST_ACCESS,
                                      NON_DIRECTORY_FILE, ON_DISK, OPENED, OVERWRITE, OVERWRITE_IF, OVERWRITTEN, RWH, SUPERSEDE,
-                                     SUPERSEDED, CreateParameters, check, conflicts, level_of, oplock_state, read_parameters)
+                                     SUPERSEDED, WRITE_THROUGH, CreateParameters, check, conflicts, level_of, oplock_state,
+                                     read_parameters)
 from serve.node import READ_ONLY, Node
 from serve.opens import ALL_ACCESS, BATCH, LEASE, NO_LEVEL, SHARE_READ, ManagerClient, Open, counts, is_stat, reads, writes
 from serve.packets import Answer
@@ -198,7 +199,8 @@ class Create(Handlers):
     def _kept(self, request: Request, wanted: CreateParameters, node: Node, file_id: int | None = None) -> Open:
         """An open of the manager's by its FileId, or one of the shell's own."""
         opened = Open(file_id or next(self._server.own_file_ids), node, wanted.access, wanted.share, request.connection,
-                      request.session, request.tree, deletes=bool(wanted.options & DELETE_ON_CLOSE), owner=request.session.owner)
+                      request.session, request.tree, deletes=bool(wanted.options & DELETE_ON_CLOSE), owner=request.session.owner,
+                      writes_through=bool(wanted.options & WRITE_THROUGH))
         self._server.names.hold(node)
         node.opens.append(opened)
         self._server.opens[opened.file_id] = opened

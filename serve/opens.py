@@ -77,6 +77,8 @@ class Open:  # pylint: disable=too-many-instance-attributes  # it has the state 
     level: int = NO_LEVEL
     is_durable: bool = False
     deletes: bool = False
+    # what it writes is on disk before that is answered
+    writes_through: bool = False
     owner: str = ""
     position: int = 0
     locks: list[Lock] = field(default_factory=list)

@@ -1,6 +1,7 @@
 """CLOSE, FLUSH, READ and WRITE (3.3.5.10 to 3.3.5.13)."""
 from __future__ import annotations
 
+import errno
 import os
 import struct
 from collections.abc import Callable
@@ -20,6 +21,7 @@ from serve.request import Handlers, Request
 from serve.status_error import StatusError
 
 WITH_ATTRIBUTES = 1
+WRITE_THROUGH = 1
 
 
 class Transfers(Handlers):
@@ -41,9 +43,8 @@ class Transfers(Handlers):
 
     def flush(self, request: Request) -> Handling:
         """Others are served while the disk writes."""
-        opened = request.open()
-        if opened.node.is_writable:
-            yield Meanwhile(partial(_sync, os.dup(opened.node.file)))
+        node = request.open().node
+        yield Meanwhile(partial(_sync_folder if node.is_folder else _sync, os.dup(node.file)))
         return Answer(Status.SUCCESS, struct.pack("<HH", 4, 0))
 
     def read(self, request: Request) -> Handling:
@@ -78,6 +79,8 @@ class Transfers(Handlers):
                 write_bytes(node.file, offset, data)
             record.changed(client, node, number, offset, data)
         yield from writing(client, node, opened.file_id, change, fits)
+        if opened.writes_through or message.number(HEADER + 44, 4) & WRITE_THROUGH:
+            yield Meanwhile(partial(_sync, os.dup(node.file)))
         opened.position = offset + length
         return Answer(Status.SUCCESS, struct.pack("<HHLLHH", 17, 0, length, 0, 0, 0) + b"\0")
 
@@ -107,3 +110,12 @@ def _sync(descriptor: int) -> None:
         os.fsync(descriptor)
     finally:
         os.close(descriptor)
+
+
+def _sync_folder(descriptor: int) -> None:
+    """There are file systems whose folders can't be synced."""
+    try:
+        _sync(descriptor)
+    except OSError as fault:
+        if fault.errno != errno.EINVAL:
+            raise
