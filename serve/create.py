@@ -14,7 +14,8 @@ from serve.create_parameters import (ALLOCATION, CREATE, CREATED, DELETE_ON_CLOS
                                      SUPERSEDED, WRITE_THROUGH, CreateParameters, check, conflicts, level_of, oplock_state,
                                      read_parameters)
 from serve.node import READ_ONLY, Node
-from serve.opens import ALL_ACCESS, BATCH, LEASE, NO_LEVEL, SHARE_READ, ManagerClient, Open, counts, is_stat, reads, writes
+from serve.opens import (ALL_ACCESS, BATCH, LEASE, NO_LEVEL, SHARE_READ, ManagerClient, Open, counts, is_of_attributes, is_stat,
+                         reads, writes)
 from serve.packets import Answer
 from serve.request import Handlers, Request
 from serve.resizing import resizing
@@ -106,7 +107,8 @@ class Create(Handlers):
             yield from self._resolve_conflicts(request, wanted, node)
         if writes(wanted.access) or wanted.empties:
             self._server.names.make_writable(node)
-        if not (reads(wanted.access) or writes(wanted.access) or wanted.empties) and wanted.level == NO_LEVEL:
+        if not (reads(wanted.access) or writes(wanted.access) or wanted.empties) and (
+                wanted.level == NO_LEVEL or is_of_attributes(wanted.access)):
             return (yield from self._file_without_data(request, wanted, node)), b""
         client, ask = self._manager_client(request, wanted, node)
         try:

@@ -47,6 +47,11 @@ def is_stat(access: int) -> bool:
     return not access & ~(READ_ATTRIBUTES | WRITE_ATTRIBUTES | SYNCHRONIZE | READ_CONTROL)
 
 
+def is_of_attributes(access: int) -> bool:
+    """Whether an open is of attributes alone, so that it is granted neither an oplock nor a lease."""
+    return not access & ~(READ_ATTRIBUTES | WRITE_ATTRIBUTES | SYNCHRONIZE)
+
+
 def counts(access: int) -> bool:
     """Whether share access matters for an open."""
     return bool(reads(access) or writes(access) or access & DELETE)

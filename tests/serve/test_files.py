@@ -2,17 +2,18 @@
 from __future__ import annotations
 
 import pytest
-from smblease import CreateAnswer, LeaseState, Status
+from smblease import CreateAnswer, CreateAsk, LeaseState, Status
 
 from drive.headers import Command, Message
 from serve.create_parameters import CREATE, DELETE_ON_CLOSE, OPEN, OVERWRITE, OVERWRITE_IF
 from serve.server_process import ServerProcess
 from tests.serve.conftest import Connect
-from tests.serve.requests import KEY, acknowledge_oplock, acknowledgment, close, create, leased, lock, read, set_info, write
+from tests.serve.requests import (KEY, OTHER_KEY, acknowledge_oplock, acknowledgment, close, create, leased, lock, read, set_info,
+                                  write)
 
 DELETING = 0x13019F
 UNLOCK = 4
-LEVEL_II, BATCH = 1, 9
+LEVEL_II, BATCH, LEASE = 1, 9, 0xFF
 
 
 def end_of_file(message: Message) -> int:
@@ -137,6 +138,21 @@ def test_sharing(shared: ServerProcess, connect: Connect, access: int, expected:
     one, other = connect(shared), connect(shared)
     one.open(create("file", access=0x120089, share=1))
     assert other.status(create("file", access=access, share=7)) == expected
+
+
+@pytest.mark.parametrize("access", [0x80, 0x100, 0x180, 0x100080])
+@pytest.mark.parametrize("letters", [pytest.param("", id="a_batch_oplock"), pytest.param("RWH", id="a_lease")])
+def test_an_open_of_attributes_that_asks_to_cache(shared: ServerProcess, connect: Connect, access: int, letters: str) -> None:
+    """It breaks nothing, shares with all, and is granted nothing; nobody else has it in the way (MS-FSA 2.1.4.12, 2.1.5.1.2)."""
+    one, other, name = connect(shared), connect(shared), f"attributes-{access:x}-{letters}"
+    contexts = CreateAsk(OTHER_KEY, LeaseState.of("RWH")).write() if letters else b""
+    looking = create(name, access=access, level=LEASE if letters else BATCH, contexts=contexts)
+    looks = other.ask(looking)
+    assert (looks.status, looks.number(66, 1)) == (Status.SUCCESS, 0)
+    asks = CreateAsk(KEY, LeaseState.of("RWH")).write()
+    assert one.ask(create(name, share=0, level=LEASE, contexts=asks)).status == Status.SUCCESS
+    looks = other.ask(looking)
+    assert (looks.status, looks.number(66, 1), other.breaks, one.has_more(0.05)) == (Status.SUCCESS, 0, [], False)
 
 
 def test_locks_that_are_refused_together(served: ServerProcess, connect: Connect) -> None:
