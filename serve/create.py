@@ -13,7 +13,8 @@ from serve.create_parameters import (ALLOCATION, CREATE, CREATED, DELETE_ON_CLOS
                                      NON_DIRECTORY_FILE, ON_DISK, OPENED, OVERWRITE, OVERWRITE_IF, OVERWRITTEN, RWH, SUPERSEDE,
                                      SUPERSEDED, WRITE_THROUGH, CreateParameters, check, conflicts, level_of, oplock_state,
                                      read_parameters)
-from serve.node import READ_ONLY, Node
+from serve.kept_attributes import HIDDEN, READ_ONLY, SYSTEM, keep
+from serve.node import Node
 from serve.opens import (ALL_ACCESS, BATCH, LEASE, NO_LEVEL, SHARE_READ, ManagerClient, Open, counts, is_of_attributes, is_stat,
                          reads, writes)
 from serve.packets import Answer
@@ -55,6 +56,7 @@ class Create(Handlers):
             raise StatusError(Status.FILE_IS_A_DIRECTORY)
         node = names.hold(node) if node else names.make(wanted.path, is_folder, bool(wanted.attributes & READ_ONLY))
         try:
+            self._check_attributes(wanted, node, action)
             if is_folder:
                 return self._answer(wanted, self._folder(request, wanted, node), action, b"")
             self._server.record.start(node)
@@ -66,6 +68,14 @@ class Create(Handlers):
             raise
         finally:
             names.release(node)
+
+    @staticmethod
+    def _check_attributes(wanted: CreateParameters, node: Node, action: int) -> None:
+        """What is made has those that are asked for. Who overwrites has to know of "hidden" and "system" (MS-FSA 2.1.5.1.2.1)."""
+        if action == CREATED and not node.is_stream:
+            keep(node.file, wanted.kept_attributes(node.is_folder))
+        elif wanted.empties and node.kept.of(node.is_folder) & ~wanted.attributes & (HIDDEN | SYSTEM):
+            raise StatusError(Status.ACCESS_DENIED)
 
     def _action(self, wanted: CreateParameters, node: Node | None) -> int:
         if node is None:
@@ -138,9 +148,10 @@ class Create(Handlers):
             if node.is_gone or node.is_deleting:
                 raise StatusError(Status.DELETE_PENDING)
             if wanted.empties and action != CREATED:
+                keep(node.file, wanted.kept_attributes(node.is_folder))
                 yield from resizing(self._server.record, opened, 0)
             yield from self._break_for_deletion(request, opened)
-        except StatusError:
+        except (StatusError, OSError):
             yield from self._server.close_open(opened)
             raise
 
@@ -269,6 +280,6 @@ class Create(Handlers):
             contexts = append_context(contexts, Context(MOST_ACCESS, struct.pack("<LL", 0, ALL_ACCESS)))
         if ON_DISK in wanted.others:
             contexts = append_context(contexts, Context(ON_DISK, struct.pack("<QQ16s", found.st_ino, found.st_dev, b"")))
-        head = struct.pack("<HBBL", 89, opened.level, 0, action) + attributes_of(found, node.allocated)
+        head = struct.pack("<HBBL", 89, opened.level, 0, action) + attributes_of(found, node.kept, node.allocated)
         tail = struct.pack("<LQQLL", 0, opened.file_id, opened.file_id, HEADER + 88 if contexts else 0, len(contexts))
         return Answer(Status.SUCCESS, head + tail + contexts, opened=opened.file_id)

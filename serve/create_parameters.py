@@ -9,6 +9,7 @@ from uuid import UUID
 from smblease import Access, CreateAsk, Fault, LeaseState, Share, Status, each_context
 
 from drive.headers import HEADER, Unreadable
+from serve.kept_attributes import ARCHIVE
 from serve.names import path_of, text_of
 from serve.opens import BATCH, DELETE, EXCLUSIVE, LEASE, LEVEL_II, NO_LEVEL, SHARE_DELETE, Open, counts, reads, specific, writes
 from serve.packets import RequestMessage
@@ -50,6 +51,10 @@ class CreateParameters:
     @property
     def allocation(self) -> int:
         return int.from_bytes(self.others.get(ALLOCATION, b"")[:8], "little")
+
+    def kept_attributes(self, is_folder: bool) -> int:
+        """Those of what it makes or overwrites; a file has "archive" then."""
+        return self.attributes if is_folder else self.attributes | ARCHIVE
 
     @property
     def empties(self) -> bool:

@@ -11,8 +11,9 @@ from smblease import Status
 from serve.disk import Disk, Located, stat_in
 from serve.file_numbers import FileNumbers
 from serve.folder_names import names_in
+from serve.kept_attributes import WRITABLE
 from serve.names import folded, joined, sent_name, split
-from serve.node import WRITABLE, Node, node_of
+from serve.node import Node, node_of
 from serve.status_error import StatusError
 from serve.streams import Streams
 

@@ -7,14 +7,13 @@ from dataclasses import dataclass, field
 from typing import TYPE_CHECKING
 
 from serve.disk import Located
+from serve.kept_attributes import FOLDER, NORMAL, NOTHING, READ_ONLY, WRITABLE, Kept, kept_at
 
 if TYPE_CHECKING:
     from serve.asks import Pause
     from serve.opens import Open
 
-READ_ONLY, FOLDER, ARCHIVE = 0x1, 0x10, 0x20
 UNIT = 4096
-WRITABLE = 0o200
 
 
 @dataclass(eq=False)
@@ -64,8 +63,12 @@ class Node:
         return self.found if self.descriptor is None else os.fstat(self.descriptor)
 
     @property
+    def kept(self) -> Kept:
+        return NOTHING if self.descriptor is None else kept_at(self.descriptor)
+
+    @property
     def is_read_only(self) -> bool:
-        return bool(attributes_in(self.stat) & READ_ONLY)
+        return is_read_only(self.stat)
 
     @property
     def file(self) -> int:
@@ -78,11 +81,15 @@ def node_of(located: Located) -> Node:
     return Node(located.path, located.stat)
 
 
-def attributes_in(found: os.stat_result) -> int:
-    """What the disk has of attributes: a file that may only be read is one that its owner may not write."""
-    if stat.S_ISDIR(found.st_mode):
-        return FOLDER
-    return ARCHIVE | (0 if found.st_mode & WRITABLE else READ_ONLY)
+def is_read_only(found: os.stat_result) -> bool:
+    """A file that may only be read is one that its owner may not write."""
+    return not stat.S_ISDIR(found.st_mode) and not found.st_mode & WRITABLE
+
+
+def attributes_in(found: os.stat_result, kept: Kept) -> int:
+    """A file that has no attribute has the one that says so (MS-FSCC 2.6)."""
+    is_folder = stat.S_ISDIR(found.st_mode)
+    return kept.of(is_folder) | (FOLDER if is_folder else 0) | (READ_ONLY if is_read_only(found) else 0) or NORMAL
 
 
 def allocation(found: os.stat_result, allocated: int = 0) -> int:

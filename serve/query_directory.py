@@ -8,6 +8,7 @@ from smblease import Status
 
 from drive.headers import HEADER
 from serve.attributes import attributes_of
+from serve.kept_attributes import Kept, kept_below
 from serve.names import text_of
 from serve.node import Node
 from serve.opens import Open
@@ -24,13 +25,13 @@ RESTART, SINGLE, REOPEN = 1, 2, 16
 MOST_LISTED = 1 << 18
 
 
-def entry(found: os.stat_result, allocated: int, name: str, kind: int) -> bytes:
+def entry(found: os.stat_result, kept: Kept, allocated: int, name: str, kind: int) -> bytes:
     """An entry for a file, with no distance to the next one yet."""
     text = name.encode("utf-16le", errors="replace")
     length = struct.pack("<L", len(text))
     if kind == NAMES:
         return bytes(8) + length + text
-    times, (zeros, is_identified) = attributes_of(found, allocated), GAPS[kind]
+    times, (zeros, is_identified) = attributes_of(found, kept, allocated), GAPS[kind]
     # An entry has the length before the allocation.
     head = bytes(8) + times[:32] + times[40:48] + times[32:40] + times[48:] + length
     return head + bytes(zeros) + (struct.pack("<Q", found.st_ino) if is_identified else b"") + text
@@ -74,10 +75,12 @@ class QueryDirectory(Handlers):
     def _entry(self, folder: Node, name: str, kind: int) -> bytes | None:
         """What has gone meanwhile, and what isn't served, has none."""
         if name in (".", ".."):
-            return entry(folder.stat, 0, name, kind)
+            return entry(folder.stat, folder.kept, 0, name, kind)
         held = self._server.names.held(folder, name)
-        found = held.stat if held else self._server.names.stat_below(folder, name)
-        return entry(found, held.allocated if held else 0, name, kind) if found else None
+        if held:
+            return entry(held.stat, held.kept, held.allocated, name, kind)
+        found = self._server.names.stat_below(folder, name)
+        return entry(found, kept_below(folder.file, name), 0, name, kind) if found else None
 
     def _entries(self, folder: Node, listing: list[str], kind: int, most: int, is_single: bool) -> bytes:
         """As many entries as fit, each at a multiple of eight."""

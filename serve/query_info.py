@@ -23,11 +23,11 @@ SERIAL = 0x1EA5E
 
 
 def attributes(node: Node) -> bytes:
-    return attributes_of(node.stat, node.allocated)
+    return attributes_of(node.stat, node.kept, node.allocated)
 
 
 def basic(node: Node) -> bytes:
-    return attributes(node)[:32] + struct.pack("<LL", attributes_in(node.stat), 0)
+    return attributes(node)[:32] + struct.pack("<LL", attributes_in(node.stat, node.kept), 0)
 
 
 def standard(node: Node) -> bytes:
@@ -59,7 +59,7 @@ FILE_CLASSES: dict[int, Callable[[Open], bytes]] = {
     7: lambda it: bytes(4), 8: lambda it: struct.pack("<L", it.access), 14: lambda it: struct.pack("<Q", it.position),
     16: lambda it: bytes(4), 17: lambda it: bytes(4), 18: everything, 21: lambda it: named(it.node.name),
     22: lambda it: stream(it.node), 28: lambda it: bytes(16), 34: lambda it: attributes(it.node) + bytes(4),
-    35: lambda it: struct.pack("<LL", attributes_in(it.node.stat), 0), 48: lambda it: named(it.node.path),
+    35: lambda it: struct.pack("<LL", attributes_in(it.node.stat, it.node.kept), 0), 48: lambda it: named(it.node.path),
 }
 FILESYSTEM_CLASSES: dict[int, Callable[[os.statvfs_result], bytes]] = {
     1: lambda _: struct.pack("<QLLBB", 0, SERIAL, len(LABEL), 0, 0) + LABEL,

@@ -8,8 +8,9 @@ from smblease import Status
 
 from drive.headers import HEADER
 from serve.asks import Handling, Steps
+from serve.kept_attributes import FOLDER, READ_ONLY, TEMPORARY, keep
 from serve.names import folded, path_of, text_of
-from serve.node import READ_ONLY, Node
+from serve.node import Node
 from serve.opens import DELETE, WRITE_ATTRIBUTES, Open, writes
 from serve.packets import Answer
 from serve.query_info import FILE
@@ -54,12 +55,15 @@ class SetInfo(Handlers):
         return Answer(Status.SUCCESS, struct.pack("<H", 2))
 
     def _set_basic(self, opened: Open, data: bytes) -> None:
-        """The times of the last access and the last write are the disk's; the other two it has by itself, or hasn't."""
+        """What the disk has no place for is kept first: where that can't be nothing is set. The time of a change is its own."""
         if not opened.access & WRITE_ATTRIBUTES:
             raise StatusError(Status.ACCESS_DENIED)
         node, attributes = opened.node, int.from_bytes(data[32:36], "little")
         times = [None if it in UNCHANGED else signed(it) for it in (data[place:place + 8] for place in range(0, 32, 8))]
-        accessed, written = times[1], times[2]
+        created, accessed, written = times[:3]
+        if attributes & (TEMPORARY if node.is_folder else FOLDER):
+            raise StatusError(Status.INVALID_PARAMETER)
+        keep(node.file, attributes, created)
         if accessed is not None or written is not None:
             found = node.stat
             os.utime(node.file, ns=(found.st_atime_ns if accessed is None else on_disk(accessed),

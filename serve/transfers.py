@@ -32,7 +32,7 @@ class Transfers(Handlers):
 
         def let_go() -> None:
             if flags:
-                attributes[:] = attributes_of(node.stat, node.allocated)
+                attributes[:] = attributes_of(node.stat, node.kept, node.allocated)
             self._server.forget_open(opened)
         if opened.client:
             self._server.leases.believes_nothing(opened)

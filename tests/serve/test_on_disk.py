@@ -207,7 +207,7 @@ def test_attributes_and_times_that_the_disk_has(one: "WireClient", folder: Path)
     found = (folder / "file").stat()
     assert (found.st_atime_ns, found.st_mtime_ns, found.st_mode & 0o222) == (10 ** 18, 10 ** 18 + 1000, 0)
     told = one.ask(query_info(opened, ALL_INFORMATION)).part(72, 40)
-    assert struct.unpack("<QQQ", told[8:24] + told[:8])[:2] == (time, time + 10) and told[32] == 0x21
+    assert struct.unpack("<QQQ", told[8:24] + told[:8])[:2] == (time, time + 10) and told[32] == 0x01
     assert one.status(set_info(opened, BASIC, struct.pack("<QQQQLL", 0, 0, 0, 0, 0x80, 0))) == Status.SUCCESS
     assert (folder / "file").stat().st_mode & 0o200
 
