@@ -24,7 +24,7 @@ def text_of(data: bytes) -> str:
 def folded(name: str) -> str:
     """A name with case left out, as upcase tables have it: one code unit for one, and only where both are letters of one pair.
     What is beyond the basic plane is left as it is, and nothing is composed or taken apart."""
-    return "".join(map(_upper, name))
+    return name.upper() if name.isascii() else "".join(map(_upper, name))
 
 
 @lru_cache(65536)
