@@ -66,6 +66,8 @@ class Locking(Handlers):
     def _pause(self, request: Request, opened: Open) -> Steps:
         """Until a lock of the file is given up, or an open of it. Who has closed it or was cut meanwhile gets none."""
         pause, pauses = Pause(), opened.node.pauses
+        if len(pauses) >= MOST_LOCKS:
+            raise StatusError(Status.INSUFFICIENT_RESOURCES)
         pauses.append(pause)
         try:
             yield pause

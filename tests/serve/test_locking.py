@@ -2,14 +2,17 @@
 from __future__ import annotations
 
 import itertools
+from pathlib import Path
 from typing import TYPE_CHECKING
 
 import pytest
-from smblease import CreateAsk, Status
+from smblease import CreateAsk, Rules, Status
 
 from drive.headers import ASYNC, Command
+from serve import locking
 from serve.server_process import ServerProcess
 from tests.serve.conftest import Connect
+from tests.serve.in_process import FrameClient, Sent, server_in
 from tests.serve.requests import KEY, Body, close, create, leased, lock, read, write
 from tests.serve.test_late_answers import LOGOFF, TREE_DISCONNECT
 
@@ -145,6 +148,31 @@ def test_its_own_locks(shared: ServerProcess, connect: Connect, name: str) -> No
     assert one.status(lock(opened, EXCLUSIVE | AT_ONCE)) == Status.SUCCESS
     assert one.status(write(opened, 0, b"x")) == Status.SUCCESS
     assert [one.status(lock(opened, it | AT_ONCE)) for it in (EXCLUSIVE, SHARED)] == [Status.LOCK_NOT_GRANTED, Status.SUCCESS]
+
+
+def test_how_many_wait(tmp_path: Path, monkeypatch: pytest.MonkeyPatch) -> None:
+    """Past that they are refused, as long as others wait."""
+    monkeypatch.setattr(locking, "MOST_LOCKS", 2)
+    share, streams = tmp_path / "share", tmp_path / "streams"
+    share.mkdir()
+    streams.mkdir()
+    sent: Sent = []
+    with server_in(share, streams, Rules()) as server:
+        one = FrameClient(server, b"g" * 16, sent)
+
+        def statuses(body: Body) -> list[int]:
+            del sent[:]
+            one.give(body)
+            return [it.status for _, it in sent]
+        statuses(create("file"))
+        first = sent[0][1].number(128, 8)
+        assert statuses(lock(first)) == [Status.SUCCESS]
+        statuses(create("file"))
+        second = sent[0][1].number(128, 8)
+        assert [statuses(lock(second, EXCLUSIVE)) for _ in range(3)] == [
+            [Status.PENDING], [Status.PENDING], [Status.INSUFFICIENT_RESOURCES]]
+        assert statuses(lock(first, UNLOCK)) == [Status.SUCCESS] * 2
+        one.cut()
 
 
 @pytest.mark.parametrize("flags", [0, SHARED | EXCLUSIVE, UNLOCK | AT_ONCE, AT_ONCE, 32])
