@@ -42,8 +42,11 @@ class Transfers(Handlers):
         return Answer(Status.SUCCESS, struct.pack("<HHL", 60, flags, 0) + attributes)
 
     def flush(self, request: Request) -> Handling:
-        """Others are served while the disk writes."""
-        node = request.open().node
+        """Others are served while the disk writes. Who adds to a folder has the rights of one who writes a file."""
+        opened = request.open()
+        node = opened.node
+        if not writes(opened.access):
+            raise StatusError(Status.ACCESS_DENIED)
         yield Meanwhile(partial(_sync_folder if node.is_folder else _sync, os.dup(node.file)))
         return Answer(Status.SUCCESS, struct.pack("<HH", 4, 0))
 

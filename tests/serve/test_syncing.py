@@ -101,6 +101,13 @@ def test_a_flush(served: Served, body: Body, name: str) -> None:
     assert served.disk.synced == [((served.folder / name).stat().st_ino, 0)]
 
 
+@pytest.mark.parametrize("body", [create("file", access=0x120089), create("folder", access=0x81, options=1)])
+def test_a_flush_by_an_open_that_can_not_write(served: Served, body: Body) -> None:
+    """It is refused, as by smbd: of a folder by an open that can't add to it (3.3.5.11)."""
+    assert served.ask(flush(served.open(body))).status == Status.ACCESS_DENIED
+    assert not served.disk.synced
+
+
 @pytest.mark.parametrize("fault, expected", [(errno.EINVAL, Status.SUCCESS), (errno.EIO, Status.IO_DEVICE_ERROR)])
 def test_a_folder_that_can_not_be_flushed(served: Served, fault: int, expected: Status) -> None:
     """There are file systems that have nothing of the kind."""
