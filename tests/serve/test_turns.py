@@ -16,7 +16,7 @@ from tests import needs
 from tests.serve.conftest import Connect
 from tests.serve.in_process import FrameClient, Sent, server_in
 from tests.serve.requests import ECHO, KEY, Body, create, frame, header, leased, query_directory, read, write
-from tests.serve.test_greedy_clients import MIB, folders, most_memory
+from tests.serve.test_greedy_clients import MIB, MIB_CHARGE, collect_credits, folders, most_memory
 
 pytest.importorskip("impacket", reason=f"there is no package impacket; {needs.INSTALLS}")
 from tests.serve.wire_client import WireClient, parts_of  # noqa: E402  # pylint: disable=wrong-import-position
@@ -26,13 +26,13 @@ LIST: Body = create("", access=0x81, disposition=1, options=1)
 RESTART = 1
 
 
-def requests(number: int, session: int, tree: int, bodies: List[Body], flags: int = 0) -> bytes:
-    """A frame of these requests."""
+def requests(number: int, session: int, tree: int, bodies: List[Body], flags: int = 0, charge: int = 1) -> bytes:
+    """A frame of these requests, each at so many credits."""
     data = b""
     for place, (command, body) in enumerate(bodies):
         body += bytes(-len(body) % 8)
         following = 64 + len(body) if place < len(bodies) - 1 else 0
-        data += header(command, number + place, session, tree, following, flags if place else 0) + body
+        data += header(command, number + place * charge, session, tree, following, flags if place else 0, charge) + body
     return frame(data)
 
 
@@ -112,8 +112,9 @@ def test_answers_that_are_read_slowly(served: ServerProcess, connect: Connect) -
     one, other = connect(served), connect(served)
     opened = one.open(create("file"))
     one.ask(write(opened, MIB - 1, b"x"))
+    collect_credits(one)
     before, count = most_memory(served), 24
-    one.stream.sendall(requests(one.number, one.session, one.tree, [read(opened, MIB)] * count))
+    one.stream.sendall(requests(one.number, one.session, one.tree, [read(opened, MIB)] * count, charge=MIB_CHARGE))
     assert [other.status(ECHO) for _ in range(20)] == [Status.SUCCESS] * 20
     assert [(message.status, len(message.data)) for message in (one.receive() for _ in range(count))] == [
         (Status.SUCCESS, 80 + MIB)] * count
