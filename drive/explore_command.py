@@ -30,7 +30,7 @@ from drive.slots import Slots
 from drive.workers import rows_of
 
 # From so many unexplained records on, and so large a share of them, the server is another one than the departures are of.
-FEW, SHARE = 3, 0.2
+FEW, SHARE = 3, 0.5
 EPILOG = """FOLDER/table begins with how it was made, and --resume goes on with it only where that is the same. It gets a line for
 each schedule: its number; what --seed draws it by alone; `blind` (its events were chosen beforehand), `guided` (each by
 what the run had come to), `aimed` (guided towards a write during a break to reads) or what its scene aims at; its
