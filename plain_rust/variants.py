@@ -98,10 +98,10 @@ class Use:
         return is_pattern(self.item.body or [], self.opening)
 
     def reads(self, field: str) -> bool:
-        """Whether it is of a pattern that names a field, or makes a value for it by more than a name."""
+        """Whether it is of a pattern that names a field or compares it, or makes a value for it by more than a name."""
         mine = [[token for token in part if not token.is_sign(":")] for name, part in self.group.parts() if name == field]
-        is_named = any(token.kind is Kind.WORD and token.text != NAMELESS for part in mine for token in part)
-        return is_named if self.is_pattern else not all(is_plain(part) for part in mine)
+        is_looked_at = any(not token.is_trivia and token.text not in (NAMELESS, ".") for part in mine for token in part)
+        return is_looked_at if self.is_pattern else not all(is_plain(part) for part in mine)
 
 
 def first_word(part: Sequence[Token]) -> str:

@@ -8,6 +8,7 @@ enum Told {
     },
     Went,
     Read(bool),
+    Count(u8),
     Seen {
         at: u8,
     },
@@ -48,6 +49,8 @@ fn client_of(told: &Told) -> Option<u8> {
         Told::Came { client, .. } => Some(*client),
         Told::Went | Told::Read(true) => None,
         Told::Read(_) => None,
+        Told::Count(0) => None,
+        Told::Count(_) => Some(1),
         Told::Seen { at } => Some(*at),
     }
 }
