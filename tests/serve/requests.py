@@ -8,7 +8,7 @@ from typing import Tuple
 
 from smblease import Acknowledgment, Context, CreateAsk, LeaseState, append_context
 
-from drive.headers import Command
+from drive.headers import RELATED, Command
 
 HEAD = struct.Struct("<4sHHLHHLLQLLQ16s")
 EVERY_FILE_ID = 0xFFFFFFFFFFFFFFFF
@@ -143,3 +143,18 @@ CREATES: list[Body] = [
     create("plain.dat:stream", disposition=5), leased("leased.dat", KEY, "RWH", True), leased("plain.dat", OTHER_KEY, "RH"),
     create("leased.dat", contexts=CreateAsk(reconnect=0).write()),
 ]
+
+
+def together(number: int, session: int, tree: int, bodies: list[Body], flags: int = 0, charge: int = 1) -> bytes:
+    """A frame of these requests, each at so many credits; the flags are those of all but the first."""
+    data = b""
+    for place, (command, body) in enumerate(bodies):
+        body += bytes(-len(body) % 8)
+        following = 64 + len(body) if place < len(bodies) - 1 else 0
+        data += header(command, number + place * charge, session, tree, following, flags if place else 0, charge) + body
+    return frame(data)
+
+
+def compound(number: int, session: int, tree: int, bodies: list[Body], charge: int = 1) -> bytes:
+    """A frame of these requests, each related to the one before it."""
+    return together(number, session, tree, bodies, RELATED, charge)

@@ -13,7 +13,7 @@ from serve.create_parameters import OPEN
 from serve.packets import Credits, Frames, split_compound
 from serve.server_process import ServerProcess
 from tests.serve.conftest import Connect
-from tests.serve.requests import ECHO, EVERY_FILE_ID, KEY, Body, close, create, frame, header, leased, read, write
+from tests.serve.requests import ECHO, EVERY_FILE_ID, KEY, close, compound, create, frame, header, leased, read, write
 
 ECHO_HEADER = header(Command.ECHO, 0, 0, 0)
 IN_ONE_FRAME = 1000
@@ -46,16 +46,6 @@ def test_frames_in_pieces() -> None:
 def test_unreadable(data: bytes) -> None:
     with pytest.raises(Unreadable):
         split_compound(data)
-
-
-def compound(number: int, session: int, tree: int, bodies: list[Body], charge: int = 1) -> bytes:
-    """A frame of these requests, each related to the one before it."""
-    data = b""
-    for place, (command, body) in enumerate(bodies):
-        body += bytes(-len(body) % 8)
-        following = 64 + len(body) if place < len(bodies) - 1 else 0
-        data += header(command, number + place * charge, session, tree, following, RELATED if place else 0, charge) + body
-    return frame(data)
 
 
 def test_a_compound(served: ServerProcess, connect: Connect) -> None:

@@ -21,8 +21,8 @@ from tests import needs
 from tests.paths import TOP
 from tests.serve.conftest import Connect, Start
 from tests.serve.in_process import FrameClient, Sent, Transport, server_in
-from tests.serve.requests import (ECHO, Body, close, create, frame, header, leased, lock, negotiate, ntlm_tokens, query_directory,
-                                  read, session_setup, write)
+from tests.serve.requests import (ECHO, Body, close, compound, create, frame, header, leased, lock, negotiate, ntlm_tokens,
+                                  query_directory, read, session_setup, write)
 from tests.serve.test_other_clients import USER
 
 if TYPE_CHECKING:
@@ -132,7 +132,6 @@ def folders(below: Path) -> tuple[Path, Path]:
 
 def test_a_compound_that_asks_for_too_much(served: ServerProcess, connect: Connect) -> None:
     """Its connection is closed; another one is served."""
-    from tests.serve.test_frames import compound  # pylint: disable=import-outside-toplevel
     one, other = connect(served), connect(served)
     file_id = one.open(create("file"))
     one.ask(write(file_id, MIB - 1, b"x"))

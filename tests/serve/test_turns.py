@@ -15,7 +15,7 @@ from serve.server_process import ServerProcess
 from tests import needs
 from tests.serve.conftest import Connect
 from tests.serve.in_process import FrameClient, Sent, server_in
-from tests.serve.requests import ECHO, KEY, Body, create, frame, header, leased, query_directory, read, write
+from tests.serve.requests import ECHO, KEY, Body, create, frame, header, leased, query_directory, read, together, write
 from tests.serve.test_greedy_clients import MIB, MIB_CHARGE, collect_credits, folders, most_memory
 
 pytest.importorskip("impacket", reason=f"there is no package impacket; {needs.INSTALLS}")
@@ -24,16 +24,6 @@ from tests.serve.wire_client import WireClient, parts_of  # noqa: E402  # pylint
 COUNT = 1000
 LIST: Body = create("", access=0x81, disposition=1, options=1)
 RESTART = 1
-
-
-def requests(number: int, session: int, tree: int, bodies: List[Body], flags: int = 0, charge: int = 1) -> bytes:
-    """A frame of these requests, each at so many credits."""
-    data = b""
-    for place, (command, body) in enumerate(bodies):
-        body += bytes(-len(body) % 8)
-        following = 64 + len(body) if place < len(bodies) - 1 else 0
-        data += header(command, number + place * charge, session, tree, following, flags if place else 0, charge) + body
-    return frame(data)
 
 
 @pytest.mark.parametrize("flags", [RELATED, 0], ids=["related", "unrelated"])
@@ -48,7 +38,7 @@ def test_others_are_served_between(served: ServerProcess, connect: Connect, flag
     one.stream.sendall(frame(bytes(first) + ECHO[1]))
     one.receive()
     lists = [query_directory(opened, "nothing", flags=RESTART)] * COUNT
-    one.stream.sendall(requests(one.number + 1, one.session, one.tree, [*lists[1:], ECHO], flags))
+    one.stream.sendall(together(one.number + 1, one.session, one.tree, [*lists[1:], ECHO], flags))
     answered = 0
     while one.number + COUNT not in there(one):
         assert other.status(ECHO) == Status.SUCCESS
@@ -78,7 +68,7 @@ def test_the_order_of_what_a_client_is_sent(tmp_path: Path, monkeypatch: pytest.
         sent: Sent = []
         one, other = (FrameClient(server, guid, sent) for guid in (b"1" * 16, b"2" * 16))
         bodies = [leased("file", KEY, "RWH"), *[ECHO] * 3]
-        one.connection.data_received(requests(one.number, one.session, one.tree, bodies, RELATED))
+        one.connection.data_received(together(one.number, one.session, one.tree, bodies, RELATED))
         assert not sent, "its answer waits for the others"
         other.give(create("file"))
         play(server)
@@ -101,7 +91,7 @@ def test_the_order_of_requests(tmp_path: Path, monkeypatch: pytest.MonkeyPatch) 
         opened = sent.pop()[1].number(128, 8)
         turns = [write(opened, 0, b"1"), read(opened), write(opened, 0, b"2"), read(opened)]
         for place, part in enumerate((turns[:3], turns[3:])):
-            one.connection.data_received(requests(one.number + 3 * place, one.session, one.tree, part))
+            one.connection.data_received(together(one.number + 3 * place, one.session, one.tree, part))
         play(server)
     assert [message.data[80:] for _, message in sent if message.command == Command.READ] == [b"1", b"2"]
     assert [message.identifier for _, message in sent] == list(range(one.number, one.number + 4))
@@ -114,7 +104,7 @@ def test_answers_that_are_read_slowly(served: ServerProcess, connect: Connect) -
     one.ask(write(opened, MIB - 1, b"x"))
     collect_credits(one)
     before, count = most_memory(served), 24
-    one.stream.sendall(requests(one.number, one.session, one.tree, [read(opened, MIB)] * count, charge=MIB_CHARGE))
+    one.stream.sendall(together(one.number, one.session, one.tree, [read(opened, MIB)] * count, charge=MIB_CHARGE))
     assert [other.status(ECHO) for _ in range(20)] == [Status.SUCCESS] * 20
     assert [(message.status, len(message.data)) for message in (one.receive() for _ in range(count))] == [
         (Status.SUCCESS, 80 + MIB)] * count
