@@ -6,9 +6,9 @@ import sys
 from collections.abc import Iterator
 from contextlib import contextmanager
 
-from drive.place import Place
-from drive.servers import PrivateServer
-from serve.server_process import ServerProcess
+from smblease.drive.place import Place
+from smblease.drive.servers import PrivateServer
+from smblease.serve.server_process import ServerProcess
 from tests.paths import TESTS
 
 

@@ -22,13 +22,13 @@ sys.path[:0] = [str(TOP), str(TOP / "python"), str(TOP / "examples" / "python")]
 
 # pylint: disable=wrong-import-position
 from file_server import FileServer, Handle, Request  # noqa: E402
+
 from smblease import Access, Acknowledgment, CreateAnswer, CreateAsk, Fault, LeaseState, Manager, Share, Status  # noqa: E402
+from smblease.drive.headers import HEADER, Command, create_name  # noqa: E402
 from smblease.manager_decisions import (Acknowledged, Breaks, Closed, Decision, Ended, GoesOn, NotAcknowledged,  # noqa: E402
                                         Opened, Refused, Waits)
+from smblease.serve.packets import RequestMessage  # noqa: E402
 from smblease.values import LARGEST_FILE, Rules  # noqa: E402
-
-from drive.headers import HEADER, Command, create_name  # noqa: E402
-from serve.packets import RequestMessage  # noqa: E402
 from tests.drive.small_wire import CLOSED, SmallConnection, created, read, written  # noqa: E402
 
 LATE = 0.08

@@ -6,12 +6,11 @@ import struct
 from typing import Protocol
 
 from smblease import CreateAnswer, Status
-
-from drive.headers import ASYNC, FROM_SERVER, HEADER, UNASKED, Command, Unreadable
-from serve.ntlm import Authentication
-from serve.packets import ERROR_BODY, LONGEST_TRANSFER, Frames, RequestMessage, Response, framed, split_compound
-from serve.password_brake import PasswordBrake
-from serve.spnego import offered
+from smblease.drive.headers import ASYNC, FROM_SERVER, HEADER, UNASKED, Command, Unreadable
+from smblease.serve.ntlm import Authentication
+from smblease.serve.packets import ERROR_BODY, LONGEST_TRANSFER, Frames, RequestMessage, Response, framed, split_compound
+from smblease.serve.password_brake import PasswordBrake
+from smblease.serve.spnego import offered
 
 DIALECT, IS_GUEST, DISK, FULL_ACCESS, LEASE = 0x0210, 1, 1, 0x1F01FF, 0xFF
 DONE = struct.pack("<HH", 4, 0)

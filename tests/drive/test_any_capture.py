@@ -15,7 +15,7 @@ from pathlib import Path
 
 import pytest
 
-from drive.progress import Progress
+from smblease.drive.progress import Progress
 from tests import needs
 from tests.drive import hand_made
 from tests.drive.commands import Ran, ran

@@ -7,9 +7,9 @@ from pathlib import Path
 
 import pytest
 
-from drive.capture_lines import lines_of
-from drive.packets import read_capture
-from drive.tshark import ANY_PORT
+from smblease.drive.capture_lines import lines_of
+from smblease.drive.packets import read_capture
+from smblease.drive.tshark import ANY_PORT
 from tests import needs
 from tests.drive.commands import ran
 from tests.drive.hand_made import Made

@@ -17,7 +17,6 @@ import pytest
 
 from smblease.program import judge
 from smblease.schedules import Schedule
-
 from tests import needs
 from tests.drive.commands import PRIVATE_SMBD, ran
 from tests.drive.judging import SAFE, UNSAFE
@@ -25,8 +24,8 @@ from tests.paths import EXAMPLE, TOP, name_of
 
 pytest.importorskip("impacket", reason=f"there is no package impacket; {needs.INSTALLS}")
 # pylint: disable=wrong-import-position
-from drive.runner import Runner  # noqa: E402
-from drive.servers import PrivateServer  # noqa: E402
+from smblease.drive.runner import Runner  # noqa: E402
+from smblease.drive.servers import PrivateServer  # noqa: E402
 
 pytestmark = [*PRIVATE_SMBD, needs.program("tshark"), needs.program("dumpcap")]
 TORTURES = ("request", "nobreakself", "upgrade3")

@@ -7,9 +7,8 @@ from pathlib import Path
 
 import pytest
 
+from smblease.drive.capture_findings import Findings, Verdict, findings_in
 from smblease.program import judge
-
-from drive.capture_findings import Findings, Verdict, findings_in
 from tests import needs
 from tests.drive import hand_made
 from tests.drive.commands import Ran, ran

@@ -16,13 +16,13 @@ from tests.drive.commands import ran, with_private_smbd
 from tests.paths import TESTS, TOP, built_program
 
 pytest.importorskip("impacket", reason=f"there is no package impacket; {needs.INSTALLS}")
+from smblease.drive import connections  # noqa: E402
+from smblease.drive.connections import Connection  # noqa: E402
+from smblease.drive.faults import DriveFault, Usage  # noqa: E402
+from smblease.drive.login import Login, login_of  # noqa: E402
+from smblease.drive.place import Place  # noqa: E402
 # pylint: disable=wrong-import-position
 from tests.drive.named import named_proved, named_smbd  # noqa: E402
-from drive import connections  # noqa: E402
-from drive.connections import Connection  # noqa: E402
-from drive.faults import DriveFault, Usage  # noqa: E402
-from drive.login import Login, login_of  # noqa: E402
-from drive.place import Place  # noqa: E402
 
 USERS = {
     "games%secret": Login("games", "secret"), "OFFICE\\games%secret": Login("games", "secret", "OFFICE"),

@@ -12,12 +12,12 @@ import pytest
 
 pytest.importorskip("impacket", reason="there is no package impacket; tools/setup installs it")
 # pylint: disable=wrong-import-position
-from drive import explore_command  # noqa: E402
-from drive.exploration import Explorer  # noqa: E402
-from drive.explored import Row  # noqa: E402
-from drive.runner import NOTHING  # noqa: E402
-from drive.slots import Slots  # noqa: E402
-from drive.tried import Tried  # noqa: E402
+from smblease.drive import explore_command  # noqa: E402
+from smblease.drive.exploration import Explorer  # noqa: E402
+from smblease.drive.explored import Row  # noqa: E402
+from smblease.drive.runner import NOTHING  # noqa: E402
+from smblease.drive.slots import Slots  # noqa: E402
+from smblease.drive.tried import Tried  # noqa: E402
 
 COUNT = 12
 VERDICTS = {3: "unsafe 12 3", 4: "fault smbd doesn't start", 5: "unsure: unsafe 9 1, breaks after answers safe", 7: "unsafe 40 1",

@@ -21,19 +21,19 @@ pytest.importorskip("impacket", reason="there is no package impacket; tools/setu
 # pylint: disable=wrong-import-position
 from impacket.smb3 import SessionError  # noqa: E402
 
-from drive import connections, explore_command, run_command  # noqa: E402
-from drive.clock import PAIR, PAIRS, Clocks  # noqa: E402
-from drive.connections import FileId  # noqa: E402
-from drive.explanations import Run, facts_of  # noqa: E402
-from drive.explored import Head, Row, Table  # noqa: E402
-from drive.faults import DriveFault  # noqa: E402
-from drive.peers import DrivenPeer  # noqa: E402
-from drive.place import Place  # noqa: E402
-from drive.random_schedules import Chooser, blind_schedule  # noqa: E402
-from drive.records import Arrival, Order, Record, applied  # noqa: E402
-from drive.runner import Outcome, Runner  # noqa: E402
-from drive.shrinking import shrunk  # noqa: E402
-from drive.tried import Tried  # noqa: E402
+from smblease.drive import connections, explore_command, run_command  # noqa: E402
+from smblease.drive.clock import PAIR, PAIRS, Clocks  # noqa: E402
+from smblease.drive.connections import FileId  # noqa: E402
+from smblease.drive.explanations import Run, facts_of  # noqa: E402
+from smblease.drive.explored import Head, Row, Table  # noqa: E402
+from smblease.drive.faults import DriveFault  # noqa: E402
+from smblease.drive.peers import DrivenPeer  # noqa: E402
+from smblease.drive.place import Place  # noqa: E402
+from smblease.drive.random_schedules import Chooser, blind_schedule  # noqa: E402
+from smblease.drive.records import Arrival, Order, Record, applied  # noqa: E402
+from smblease.drive.runner import Outcome, Runner  # noqa: E402
+from smblease.drive.shrinking import shrunk  # noqa: E402
+from smblease.drive.tried import Tried  # noqa: E402
 from tests.drive.commands import FOUND  # noqa: E402
 from tests.paths import SCHEDULES, TESTS, TOP, name_of  # noqa: E402
 

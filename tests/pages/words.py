@@ -12,7 +12,7 @@ from typing import Iterator, NamedTuple
 from tests.paths import TESTS, TOP
 
 ALLOWED = TESTS / "pages" / "words.allowed"
-FILES = ("*.md", "docs/*.md", "drive/*.md", "serve/*.md", "crates/*/src/**/*.rt", "include/*.h")
+FILES = ("*.md", "docs/*.md", "python/smblease/*/*.md", "crates/*/src/**/*.rt", "include/*.h")
 # A name of code such as left_behind isn't the word: an underscore belongs to the name.
 WORDS = re.compile(r"\b(?:behind|beside|told|tells?|(?:take|takes|taking|took|taken) (?:no )?memory|memory is taken"
                    r"|growths?|hears?|heard|stray(?:s|ed|ing)?)\b"

@@ -7,9 +7,9 @@ from dataclasses import dataclass
 from pathlib import Path
 from typing import Callable
 
-from drive.random_schedules import Chooser, blind_schedule
-from tests.drive.taps import SIDES
+from smblease.drive.random_schedules import Chooser, blind_schedule
 from tests.drive.tapped_runs import ACKNOWLEDGES, CLOSES_ANY, CREATES, SEEN_LOSSES, Run, Ways
+from tests.drive.taps import SIDES
 from tests.paths import RECORDS, TESTS, files_of
 from tests.program.ran import ACKNOWLEDGMENT, BREAK
 

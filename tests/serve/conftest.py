@@ -8,7 +8,7 @@ from typing import TYPE_CHECKING
 
 import pytest
 
-from serve.server_process import ServerProcess
+from smblease.serve.server_process import ServerProcess
 from tests import needs
 
 if TYPE_CHECKING:

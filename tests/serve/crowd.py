@@ -6,9 +6,8 @@ import threading
 import uuid
 
 from smblease import CreateAsk, LeaseState, Notification, Status
-
-from drive.headers import HEADER, UNASKED, Command, Message
-from drive.place import Place
+from smblease.drive.headers import HEADER, UNASKED, Command, Message
+from smblease.drive.place import Place
 from tests.serve.requests import Body, close, create, read, write
 from tests.serve.wire_client import WireClient, file_id
 

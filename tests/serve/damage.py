@@ -5,9 +5,8 @@ import random
 import struct
 
 from smblease import Status
-
-from drive.headers import Command
-from drive.place import Place
+from smblease.drive.headers import Command
+from smblease.drive.place import Place
 from tests.serve import requests
 from tests.serve.requests import Body
 from tests.serve.wire_client import WireClient

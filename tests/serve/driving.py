@@ -5,12 +5,11 @@ import random
 from collections.abc import Callable
 from typing import Any
 
+from smblease.drive.explanations import is_replayed
+from smblease.drive.random_schedules import Chooser, blind_schedule
+from smblease.drive.runner import Runner
 from smblease.program import replay
 from smblease.schedules import Schedule
-
-from drive.explanations import is_replayed
-from drive.random_schedules import Chooser, blind_schedule
-from drive.runner import Runner
 
 
 def facts_and_replay(program: str, server: Callable[[], Any], schedule: Schedule) -> tuple[bool, list[str], list[str]]:

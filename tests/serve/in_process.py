@@ -11,17 +11,16 @@ from pathlib import Path
 from typing import Any, List, Tuple
 
 from smblease import Rules, Status
-
-from drive.headers import ASYNC, Command, Message
-from serve.asks import Asked
-from serve.connection import Connection
-from serve.disk import Disk
-from serve.manager_host import ManagerHost, Task
-from serve.namespace import Namespace
-from serve.record import Record
-from serve.server import Server
-from serve.settings import Settings
-from serve.streams import Streams
+from smblease.drive.headers import ASYNC, Command, Message
+from smblease.serve.asks import Asked
+from smblease.serve.connection import Connection
+from smblease.serve.disk import Disk
+from smblease.serve.manager_host import ManagerHost, Task
+from smblease.serve.namespace import Namespace
+from smblease.serve.record import Record
+from smblease.serve.server import Server
+from smblease.serve.settings import Settings
+from smblease.serve.streams import Streams
 from tests.serve.requests import Body, header, negotiate, ntlm_tokens, session_setup, tree_connect
 
 Sent = List[Tuple["FrameClient", Message]]

@@ -10,12 +10,11 @@ import time
 from typing import Any
 
 TOP = os.path.dirname(os.path.dirname(os.path.dirname(os.path.abspath(__file__))))
-sys.path[:0] = [TOP, os.path.join(TOP, "python")]
+sys.path.insert(0, os.path.join(TOP, "python"))
 
 from smblease import Access, MachineLost, Manager, Rules, Share  # noqa: E402  # pylint: disable=wrong-import-position
 from smblease.manager_decisions import Decisions  # noqa: E402  # pylint: disable=wrong-import-position
-
-from serve import disk_bytes, manager_host, run_command, transfers  # noqa: E402  # pylint: disable=wrong-import-position
+from smblease.serve import disk_bytes, manager_host, run_command, transfers  # noqa: E402  # pylint: disable=wrong-import-position
 
 CREATES = itertools.count(1)
 

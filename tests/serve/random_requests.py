@@ -10,10 +10,9 @@ from functools import partial
 from typing import Any
 
 from smblease import CreateAnswer, CreateAsk, LeaseState, Notification, Status
-
-from drive.headers import UNASKED, Message
-from serve.manager_clients import SHELLS
-from serve.server import Server
+from smblease.drive.headers import UNASKED, Message
+from smblease.serve.manager_clients import SHELLS
+from smblease.serve.server import Server
 from tests.serve.in_process import FrameClient, Sent
 from tests.serve.plain_files import PlainFiles
 from tests.serve.requests import Body, acknowledge_oplock, acknowledgment, close, create, lock, read, rename, set_info, write

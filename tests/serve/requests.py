@@ -7,8 +7,7 @@ from collections.abc import Sequence
 from typing import Tuple
 
 from smblease import Acknowledgment, Context, CreateAsk, LeaseState, append_context
-
-from drive.headers import RELATED, Command
+from smblease.drive.headers import RELATED, Command
 
 HEAD = struct.Struct("<4sHHLHHLLQLLQ16s")
 EVERY_FILE_ID = 0xFFFFFFFFFFFFFFFF

@@ -8,9 +8,10 @@ from pathlib import Path
 from typing import Any
 
 import pytest
-from smblease import Rules, Status
 
-from serve import disk_bytes, server as server_module
+from smblease import Rules, Status
+from smblease.serve import disk_bytes
+from smblease.serve import server as server_module
 from tests.serve.in_process import NotingHost, Sent, server_in
 from tests.serve.random_requests import RandomRequests
 

@@ -8,11 +8,11 @@ from pathlib import Path
 from typing import TYPE_CHECKING, NamedTuple
 
 import pytest
-from smblease import Rules, Status
 
-from drive.headers import Command, Message
-from serve.create_parameters import OPEN, OVERWRITE_IF
-from serve.server_process import ServerProcess
+from smblease import Rules, Status
+from smblease.drive.headers import Command, Message
+from smblease.serve.create_parameters import OPEN, OVERWRITE_IF
+from smblease.serve.server_process import ServerProcess
 from tests.serve.conftest import Connect, Start
 from tests.serve.in_process import FrameClient, Sent, server_in
 from tests.serve.requests import Body, close, create, query_directory, query_info, set_info

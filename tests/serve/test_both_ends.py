@@ -6,9 +6,9 @@ import subprocess
 from pathlib import Path
 
 import pytest
-from smblease.schedules import Schedule
 
-from serve.server_process import DrivenServer
+from smblease.schedules import Schedule
+from smblease.serve.server_process import DrivenServer
 from tests import needs
 from tests.paths import SCHEDULES, TOP
 

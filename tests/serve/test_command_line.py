@@ -10,9 +10,9 @@ import time
 from pathlib import Path
 
 import pytest
-from smblease import CreateAnswer, LeaseState, Status
 
-from serve.server_process import ServerProcess
+from smblease import CreateAnswer, LeaseState, Status
+from smblease.serve.server_process import ServerProcess
 from tests import needs
 from tests.paths import TOP
 from tests.serve.conftest import Connect, Start

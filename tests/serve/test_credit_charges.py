@@ -4,10 +4,10 @@ from __future__ import annotations
 import struct
 
 import pytest
-from smblease import Status
 
-from drive.headers import Command
-from serve.server_process import ServerProcess
+from smblease import Status
+from smblease.drive.headers import Command
+from smblease.serve.server_process import ServerProcess
 from tests.serve.conftest import Connect
 from tests.serve.requests import Body, create, read, set_info, wire, write
 

@@ -8,9 +8,9 @@ from pathlib import Path
 
 import pytest
 
-from serve import folder_names
-from serve.disk import Disk
-from serve.folder_names import FolderNames
+from smblease.serve import folder_names
+from smblease.serve.disk import Disk
+from smblease.serve.folder_names import FolderNames
 
 NAMES = ["File", "FILE", "file", "Other", "OTHER", "Ö", "ö", "third"]
 

@@ -5,13 +5,14 @@ import socket
 import struct
 
 import pytest
-from hypothesis import given, strategies as some
-from smblease import CreateAnswer, LeaseState, Status, each_context
+from hypothesis import given
+from hypothesis import strategies as some
 
-from drive.headers import RELATED, Command, Unreadable
-from serve.create_parameters import OPEN
-from serve.packets import Credits, Frames, split_compound
-from serve.server_process import ServerProcess
+from smblease import CreateAnswer, LeaseState, Status, each_context
+from smblease.drive.headers import RELATED, Command, Unreadable
+from smblease.serve.create_parameters import OPEN
+from smblease.serve.packets import Credits, Frames, split_compound
+from smblease.serve.server_process import ServerProcess
 from tests.serve.conftest import Connect
 from tests.serve.requests import ECHO, EVERY_FILE_ID, KEY, close, compound, create, frame, header, leased, read, write
 

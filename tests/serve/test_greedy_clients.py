@@ -9,14 +9,14 @@ from pathlib import Path
 from typing import TYPE_CHECKING
 
 import pytest
-from smblease import Context, CreateAsk, LeaseState, Rules, Status, append_context
 
-from drive.faults import DriveFault
-from drive.headers import RELATED, Command, Message
-from serve import connection
-from serve.password_brake import SECONDS, TRIES, PasswordBrake
-from serve.server_process import ServerProcess
-from serve.status_error import StatusError
+from smblease import Context, CreateAsk, LeaseState, Rules, Status, append_context
+from smblease.drive.faults import DriveFault
+from smblease.drive.headers import RELATED, Command, Message
+from smblease.serve import connection
+from smblease.serve.password_brake import SECONDS, TRIES, PasswordBrake
+from smblease.serve.server_process import ServerProcess
+from smblease.serve.status_error import StatusError
 from tests import needs
 from tests.paths import TOP
 from tests.serve.conftest import Connect, Start
@@ -106,7 +106,7 @@ def test_halves_of_frames(tmp_path: Path, monkeypatch: pytest.MonkeyPatch) -> No
 
 def test_lists_that_are_begun(tmp_path: Path, monkeypatch: pytest.MonkeyPatch) -> None:
     """A list of any length can be had, and no second one beside it that makes them too long together."""
-    monkeypatch.setattr("serve.query_directory.MOST_LISTED", 6)
+    monkeypatch.setattr("smblease.serve.query_directory.MOST_LISTED", 6)
     share, streams = folders(tmp_path)
     for number in range(6):
         (share / f"file-{number}").touch()

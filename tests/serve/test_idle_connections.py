@@ -7,10 +7,10 @@ import time
 from contextlib import ExitStack
 
 import pytest
-from smblease import Status
 
-from drive.headers import Command
-from serve.server_process import ServerProcess
+from smblease import Status
+from smblease.drive.headers import Command
+from smblease.serve.server_process import ServerProcess
 from tests import needs
 from tests.serve.conftest import Connect, Start
 from tests.serve.requests import ECHO, create, frame, header, negotiate, read

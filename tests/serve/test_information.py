@@ -6,10 +6,10 @@ import struct
 from pathlib import Path
 
 import pytest
-from smblease import Status
 
-from drive.headers import Command
-from serve.server_process import ServerProcess
+from smblease import Status
+from smblease.drive.headers import Command
+from smblease.serve.server_process import ServerProcess
 from tests.paths import TOP
 from tests.serve.conftest import Connect
 from tests.serve.requests import Body, create, wire, write

@@ -5,10 +5,10 @@ import struct
 from typing import TYPE_CHECKING
 
 import pytest
-from smblease import CreateAnswer, CreateAsk, LeaseState, Status
 
-from drive.headers import Command
-from serve.server_process import ServerProcess
+from smblease import CreateAnswer, CreateAsk, LeaseState, Status
+from smblease.drive.headers import Command
+from smblease.serve.server_process import ServerProcess
 from tests.serve.conftest import Connect
 from tests.serve.requests import KEY, OTHER_KEY, Body, acknowledgment, close, create, leased
 

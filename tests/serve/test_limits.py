@@ -7,11 +7,11 @@ from pathlib import Path
 from typing import TYPE_CHECKING
 
 import pytest
-from smblease import CreateAnswer, LeaseState, Status
 
-from drive.headers import Message
-from serve.create_parameters import DELETE_ON_CLOSE, OVERWRITE_IF
-from serve.server_process import ServerProcess
+from smblease import CreateAnswer, LeaseState, Status
+from smblease.drive.headers import Message
+from smblease.serve.create_parameters import DELETE_ON_CLOSE, OVERWRITE_IF
+from smblease.serve.server_process import ServerProcess
 from tests.serve.conftest import Connect, Start
 from tests.serve.requests import KEY, close, create, frame, header, leased, read, set_info, write
 

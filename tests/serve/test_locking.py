@@ -6,11 +6,11 @@ from pathlib import Path
 from typing import TYPE_CHECKING
 
 import pytest
-from smblease import CreateAsk, Rules, Status
 
-from drive.headers import ASYNC, Command
-from serve import locking
-from serve.server_process import ServerProcess
+from smblease import CreateAsk, Rules, Status
+from smblease.drive.headers import ASYNC, Command
+from smblease.serve import locking
+from smblease.serve.server_process import ServerProcess
 from tests.serve.conftest import Connect
 from tests.serve.in_process import FrameClient, Sent, server_in
 from tests.serve.requests import KEY, Body, close, create, leased, lock, read, write

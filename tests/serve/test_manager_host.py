@@ -7,11 +7,10 @@ from typing import Any, cast
 
 from smblease import Manager, Rules, Status
 from smblease.manager_decisions import Decision, Decisions, GoesOn, Refused, Waits, Withdrawn
-
-from serve.asks import Asked, Steps
-from serve.manager_host import ManagerHost, Task
-from serve.opens import ManagerClient
-from serve.packets import Answer
+from smblease.serve.asks import Asked, Steps
+from smblease.serve.manager_host import ManagerHost, Task
+from smblease.serve.opens import ManagerClient
+from smblease.serve.packets import Answer
 
 CLIENT = ManagerClient(1)
 

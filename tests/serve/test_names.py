@@ -2,11 +2,11 @@
 from __future__ import annotations
 
 import pytest
-from smblease import Status
 
-from serve.create_parameters import OPEN, OVERWRITE_IF
-from serve.names import folded
-from serve.server_process import ServerProcess
+from smblease import Status
+from smblease.serve.create_parameters import OPEN, OVERWRITE_IF
+from smblease.serve.names import folded
+from smblease.serve.server_process import ServerProcess
 from tests.serve.conftest import Connect
 from tests.serve.requests import create, query_directory, read, rename, write
 

@@ -4,10 +4,10 @@ from __future__ import annotations
 import struct
 
 import pytest
-from smblease import Context, Status, append_context
 
-from serve.create_parameters import OVERWRITE_IF
-from serve.server_process import ServerProcess
+from smblease import Context, Status, append_context
+from smblease.serve.create_parameters import OVERWRITE_IF
+from smblease.serve.server_process import ServerProcess
 from tests.serve.conftest import Connect
 from tests.serve.requests import Body, create, lock, query_directory, query_info, set_info, write
 

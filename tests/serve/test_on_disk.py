@@ -10,16 +10,16 @@ from pathlib import Path
 from typing import TYPE_CHECKING
 
 import pytest
-from smblease import Status
 
-from drive.headers import Command, Message
-from serve.create_parameters import CREATE, DELETE_ON_CLOSE, DIRECTORY_FILE, OPEN, OVERWRITE
-from serve.server_process import ServerProcess
+from smblease import Status
+from smblease.drive.headers import Command, Message
+from smblease.serve.create_parameters import CREATE, DELETE_ON_CLOSE, DIRECTORY_FILE, OPEN, OVERWRITE
+from smblease.serve.server_process import ServerProcess
 from tests import needs
 from tests.paths import TOP
 from tests.serve.conftest import Connect, Start
-from tests.serve.requests import (KEY, OTHER_KEY, acknowledgment, close, create, flush, leased, query_directory, query_info,
-                                  read, rename, set_info, write)
+from tests.serve.requests import (KEY, OTHER_KEY, acknowledgment, close, create, flush, leased, query_directory, query_info, read,
+                                  rename, set_info, write)
 
 if TYPE_CHECKING:
     from tests.serve.wire_client import WireClient

@@ -8,8 +8,8 @@ from pathlib import Path
 
 import pytest
 
-from serve.server_process import ServerProcess
-from serve.torture_command import Kind, run_test
+from smblease.serve.server_process import ServerProcess
+from smblease.serve.torture_command import Kind, run_test
 from tests import needs
 from tests.serve.conftest import Start
 from tests.serve.test_command_line import BARE

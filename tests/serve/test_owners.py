@@ -8,10 +8,10 @@ from pathlib import Path
 from typing import TYPE_CHECKING
 
 import pytest
-from smblease import Context, CreateAsk, LeaseState, Rules, Status, append_context
 
-from drive.headers import Command, Message
-from serve.server_process import ServerProcess
+from smblease import Context, CreateAsk, LeaseState, Rules, Status, append_context
+from smblease.drive.headers import Command, Message
+from smblease.serve.server_process import ServerProcess
 from tests import needs
 from tests.serve.conftest import Connect, Start
 from tests.serve.in_process import FrameClient, Sent, server_in

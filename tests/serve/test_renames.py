@@ -9,10 +9,10 @@ from pathlib import Path
 from typing import TYPE_CHECKING
 
 import pytest
-from smblease import Rules, Status
 
-from serve.create_parameters import CREATE, DELETE_ON_CLOSE, DIRECTORY_FILE, OPEN, OVERWRITE_IF
-from serve.server_process import ServerProcess
+from smblease import Rules, Status
+from smblease.serve.create_parameters import CREATE, DELETE_ON_CLOSE, DIRECTORY_FILE, OPEN, OVERWRITE_IF
+from smblease.serve.server_process import ServerProcess
 from tests.serve.conftest import Connect
 from tests.serve.in_process import FrameClient, Sent, server_in
 from tests.serve.requests import KEY, OTHER_KEY, Body, acknowledgment, close, create, leased, read, rename, set_info, write

@@ -5,10 +5,10 @@ from pathlib import Path
 from typing import TYPE_CHECKING
 
 import pytest
-from smblease import CreateAnswer, CreateAsk, LeaseState, Status
 
-from drive.headers import Command
-from serve.server_process import ServerProcess
+from smblease import CreateAnswer, CreateAsk, LeaseState, Status
+from smblease.drive.headers import Command
+from smblease.serve.server_process import ServerProcess
 from tests.serve.conftest import Connect, Start
 from tests.serve.requests import ECHO, KEY, OTHER_KEY, acknowledgment, close, create, leased, read, write
 

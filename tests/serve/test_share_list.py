@@ -10,9 +10,8 @@ from collections.abc import Iterator
 import pytest
 
 from smblease import Status
-
-from drive.headers import Command, Message
-from serve.server_process import ServerProcess
+from smblease.drive.headers import Command, Message
+from smblease.serve.server_process import ServerProcess
 from tests import needs
 from tests.serve import requests
 from tests.serve.conftest import Connect, Start

@@ -8,10 +8,10 @@ from collections.abc import Iterator
 from pathlib import Path
 
 import pytest
-from smblease import Rules, Status
 
-from drive.headers import Message
-from serve.server import Server
+from smblease import Rules, Status
+from smblease.drive.headers import Message
+from smblease.serve.server import Server
 from tests.serve.in_process import FrameClient, Sent, server_in
 from tests.serve.requests import Body, create, flush, write
 

@@ -5,11 +5,11 @@ import struct
 import time
 
 import pytest
-from smblease import CreateAsk, LeaseState, Status
 
-from drive.faults import DriveFault
-from drive.headers import ASYNC, Command
-from serve.server_process import ServerProcess
+from smblease import CreateAsk, LeaseState, Status
+from smblease.drive.faults import DriveFault
+from smblease.drive.headers import ASYNC, Command
+from smblease.serve.server_process import ServerProcess
 from tests.serve.conftest import Connect, Start
 from tests.serve.requests import KEY, acknowledgment, close, create, frame, header, leased, read
 

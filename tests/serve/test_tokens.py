@@ -5,10 +5,11 @@ import random
 from collections.abc import Callable
 
 import pytest
-from hypothesis import given, strategies as some
+from hypothesis import given
+from hypothesis import strategies as some
 
-from drive.headers import Unreadable
-from serve import ntlm, spnego
+from smblease.drive.headers import Unreadable
+from smblease.serve import ntlm, spnego
 from tests import needs
 
 theirs = pytest.importorskip("impacket.ntlm", reason=f"there is no package impacket; {needs.INSTALLS}")

@@ -6,12 +6,12 @@ from pathlib import Path
 from typing import List, Tuple
 
 import pytest
-from smblease import Rules, Status
 
-from drive.headers import RELATED, Command, Message
-from serve import connection
-from serve.server import Server
-from serve.server_process import ServerProcess
+from smblease import Rules, Status
+from smblease.drive.headers import RELATED, Command, Message
+from smblease.serve import connection
+from smblease.serve.server import Server
+from smblease.serve.server_process import ServerProcess
 from tests import needs
 from tests.serve.conftest import Connect
 from tests.serve.in_process import FrameClient, Sent, server_in

@@ -6,12 +6,12 @@ import os
 from pathlib import Path
 
 import pytest
-from smblease import Rules, Status
 
-from serve import connection
-from serve.event_loop import Loop
-from serve.packets import Response, framed
-from serve.server_process import ServerProcess
+from smblease import Rules, Status
+from smblease.serve import connection
+from smblease.serve.event_loop import Loop
+from smblease.serve.packets import Response, framed
+from smblease.serve.server_process import ServerProcess
 from tests.serve.conftest import Connect, Start
 from tests.serve.in_process import FrameClient, Sent, server_in
 from tests.serve.requests import create, query_directory, read, write

@@ -8,11 +8,11 @@ from contextlib import closing
 from typing import TYPE_CHECKING
 
 import pytest
-from smblease import Status
 
-from drive.headers import Command
-from serve.server_process import ServerProcess
-from serve.wildcards import matches
+from smblease import Status
+from smblease.drive.headers import Command
+from smblease.serve.server_process import ServerProcess
+from smblease.serve.wildcards import matches
 from tests import needs
 from tests.serve.conftest import Connect
 from tests.serve.requests import Body, create
@@ -89,7 +89,7 @@ def test_a_listing(served: ServerProcess, connect: Connect, pattern: str, expect
 def samba() -> Iterator["WireClient"]:
     """A client of a private smbd."""
     pytest.importorskip("impacket", reason=f"there is no package impacket; {needs.INSTALLS}")
-    from drive.servers import PrivateServer  # pylint: disable=import-outside-toplevel
+    from smblease.drive.servers import PrivateServer  # pylint: disable=import-outside-toplevel
     from tests.serve.wire_client import WireClient  # pylint: disable=import-outside-toplevel
     with closing(PrivateServer()) as server, closing(WireClient(server.place)) as client:
         yield client

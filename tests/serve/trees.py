@@ -11,7 +11,7 @@ from collections.abc import Sequence
 from pathlib import Path
 from typing import Any
 
-from drive.place import Place
+from smblease.drive.place import Place
 
 NAMES = ("plain", "with spaces in it", "Größe", "名前", "CAPITALS", "dots.and.more", "a'b&c;d", "-dash", "x" * 60)
 AT_ONCE = 65536

@@ -9,10 +9,9 @@ import struct
 import uuid
 
 from smblease import Status
-
-from drive.connections import Connection
-from drive.headers import UNASKED, Command, Message
-from drive.place import Place
+from smblease.drive.connections import Connection
+from smblease.drive.headers import UNASKED, Command, Message
+from smblease.drive.place import Place
 from tests.serve.requests import Body, frame, header, ntlm_tokens, session_setup, tree_connect
 
 SECONDS = 20.0

@@ -1,0 +1,69 @@
+"""What is found in a capture, as one JSON object (docs/CAPTURES.md, "As JSON")."""
+from __future__ import annotations
+
+import json
+from collections import Counter
+from collections.abc import Sequence
+from typing import Optional, TypedDict
+
+from smblease.drive.capture_connections import LeftOut
+from smblease.drive.capture_findings import ClientFinding, FileFinding, Findings, Verdict
+
+
+class FileObject(TypedDict):
+    """A file: its place, what is decided, why where nothing is, where it is unsafe its packet and time, and its clients."""
+
+    server: str
+    path: str
+    verdict: str
+    reason: Optional[str]
+    packet: Optional[int]
+    seconds: Optional[str]
+    clients: Sequence[str]
+
+
+class ClientObject(TypedDict):
+    """A client that isn't judged, or not after a packet, and why."""
+
+    address: str
+    packet: Optional[int]
+    seconds: Optional[str]
+    reason: str
+
+
+class CaptureObject(TypedDict):
+    """All that is found in a capture."""
+
+    verdict: str
+    status: int
+    files: Sequence[FileObject]
+    clients: Sequence[ClientObject]
+    connections: int
+    frames: int
+    left_out: dict[str, int]
+    remarks: Sequence[str]
+
+
+def _file(found: FileFinding) -> FileObject:
+    server, _, path = found.place.strip().partition(" ")
+    return {"server": server, "path": path, "verdict": found.verdict, "reason": found.reason, "packet": found.packet,
+            "seconds": found.seconds, "clients": found.clients}
+
+
+def _client(found: ClientFinding) -> ClientObject:
+    return {"address": found.address, "packet": found.packet, "seconds": found.seconds, "reason": found.reason}
+
+
+def json_of(verdict: Verdict, findings: Findings, left_out: Counter[LeftOut], remarks: Sequence[str]) -> str:
+    """The object in one line."""
+    found: CaptureObject = {
+        "verdict": verdict.word,
+        "status": verdict.status,
+        "files": [_file(it) for it in findings.files],
+        "clients": [_client(it) for it in findings.clients],
+        "connections": findings.counts.connections,
+        "frames": findings.counts.frames,
+        "left_out": {it.name.lower(): count for it, count in left_out.items() if count},
+        "remarks": [*findings.others, *remarks],
+    }
+    return json.dumps(found, ensure_ascii=False) + "\n"

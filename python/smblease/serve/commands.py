@@ -1,0 +1,54 @@
+"""What handles the commands of requests."""
+from __future__ import annotations
+
+from collections.abc import Callable
+from typing import TYPE_CHECKING, Union
+
+from smblease import Status
+from smblease.drive.headers import Command
+from smblease.serve.asks import Handling
+from smblease.serve.create import Create
+from smblease.serve.locking import Locking
+from smblease.serve.packets import Answer
+from smblease.serve.pipes import Pipes
+from smblease.serve.query_directory import QueryDirectory
+from smblease.serve.query_info import QueryInfo
+from smblease.serve.request import WITHOUT_TREE, Request
+from smblease.serve.sessions import Sessions
+from smblease.serve.set_info import SetInfo
+from smblease.serve.status_error import StatusError
+from smblease.serve.transfers import Transfers
+
+if TYPE_CHECKING:
+    from smblease.serve.server import Server
+
+Handler = Callable[[Request], Union[Answer, Handling]]
+
+
+class Commands:
+    def __init__(self, server: Server) -> None:
+        sessions, transfers = Sessions(server), Transfers(server)
+        self._of_pipes = Pipes(server).handlers
+        self._handlers: dict[Command | None, Handler] = {
+            Command.NEGOTIATE: sessions.negotiate, Command.SESSION_SETUP: sessions.set_up, Command.LOGOFF: sessions.log_off,
+            Command.TREE_CONNECT: sessions.connect_tree, Command.TREE_DISCONNECT: sessions.disconnect_tree,
+            Command.ECHO: sessions.echo, Command.OPLOCK_BREAK: server.leases.acknowledge,
+            Command.CREATE: Create(server).create, Command.CLOSE: transfers.close, Command.FLUSH: transfers.flush,
+            Command.READ: transfers.read, Command.WRITE: transfers.write, Command.LOCK: Locking(server).lock,
+            Command.QUERY_INFO: QueryInfo(server).query, Command.SET_INFO: SetInfo(server).set,
+            Command.QUERY_DIRECTORY: QueryDirectory(server).query, Command.IOCTL: QueryInfo.control,
+            Command.CHANGE_NOTIFY: QueryInfo.notify,
+        }
+
+    def check_known(self, command: Command | None) -> None:
+        if command not in self._handlers:
+            raise StatusError(Status.NOT_SUPPORTED)
+
+    def handler(self, request: Request) -> Handler:
+        """What handles a request, whose command is known. One without the tree that it needs is refused."""
+        command = request.message.command
+        if command in WITHOUT_TREE or not request.tree.is_pipe:
+            return self._handlers[command]
+        if command not in self._of_pipes:
+            raise StatusError(Status.INVALID_DEVICE_REQUEST)
+        return self._of_pipes[command]

@@ -1,0 +1,398 @@
+"""A connection: its bytes, its requests in their compounds, and what is answered."""
+from __future__ import annotations
+
+import asyncio
+import logging
+import time
+from collections import deque
+from dataclasses import dataclass, replace
+from typing import TYPE_CHECKING
+
+from smblease import Status
+from smblease.drive.headers import ASYNC, FROM_SERVER
+from smblease.drive.headers import UNASKED as NOTIFICATION
+from smblease.drive.headers import Command, Unreadable
+from smblease.serve.asks import Handling
+from smblease.serve.manager_host import Task
+from smblease.serve.opens import ManagerClient
+from smblease.serve.packets import (LONGEST_FRAME, LONGEST_WITHOUT_SESSION, MOST_IN_FRAME, Answer, Credits, Frames,
+                                    RequestMessage, Response, framed, split_compound)
+from smblease.serve.request import WITHOUT_SESSION, Request
+from smblease.serve.sessions import ANY_DIALECT, Session, negotiated
+from smblease.serve.status_error import EXHAUSTED, StatusError
+
+if TYPE_CHECKING:
+    from smblease.serve.server import Server
+
+LOG = logging.getLogger("serve")
+# Past so many bytes that a client hasn't read its requests wait; it is closed past more of them, or where all have too many.
+UNREAD, MOST_UNREAD, MOST_UNREAD_OF_ALL = 1 << 20, 1 << 24, 1 << 27
+MOST_PENDING = 512
+# Seconds after which others are served, between two requests.
+TURN = 0.002
+# Bytes that the server has in memory for those without a session, and what it takes one for that is half made.
+MOST_WITHOUT_SESSION, HALF_MADE = 1 << 26, 2048
+# So many answers go in one piece, if none of them is large.
+MOST_TOGETHER, LARGE = 32, 4096
+OLD_PROTOCOL = b"\xffSMB"
+OLD_NEGOTIATE = 0x72
+
+
+@dataclass(eq=False)
+class Pending:
+    """A request that isn't answered for good."""
+
+    request: Request
+    chain: Chain
+    async_id: int | None = None
+    is_answered: bool = False
+    task: Task | None = None
+
+
+class Chain:
+    """A request and those that are related to it, which are done one after the other."""
+
+    def __init__(self, connection: Connection, requests: list[RequestMessage]) -> None:
+        self._connection = connection
+        self._requests = requests
+        self._responses: list[Response] = []
+        # the bytes of answers that wait for those after them
+        self.held = 0
+        self._session, self._tree = requests[0].session, requests[0].tree
+        self._previous: int | None = None
+        # The first request of a frame is related to none (3.3.5.2.7.2).
+        self._failed: Status | None = Status.INVALID_PARAMETER if requests[0].is_related else None
+        self._is_waiting = self._is_going = False
+
+    def go_on(self) -> None:
+        """Begins each request once the one before it is answered, until it is others' turn; sends the answers after the last."""
+        self._is_going = True
+        while self._requests and not self._is_waiting and self._connection.is_open:
+            self._is_waiting = True
+            self._connection.begin(Pending(self._asked(self._requests.pop(0)), self), self._failed)
+            if not self._is_waiting and not self._connection.has_turn:
+                break
+        self._is_going = False
+        if self._requests and not self._is_waiting:
+            self._connection.go_on_later(self)
+
+    def _asked(self, message: RequestMessage) -> Request:
+        request = Request(message, self._connection, self._connection.server, self._session, self._tree, self._previous)
+        if not message.is_related:
+            request.session_id, request.tree_id = message.session, message.tree
+        return request
+
+    def take_answers(self) -> bytes:
+        """A frame of the answers that there are."""
+        responses, self._responses, self.held = self._responses, [], 0
+        return _framed(responses)
+
+    def answered(self, pending: Pending, answer: Answer) -> None:
+        message = pending.request.message
+        self._session = answer.session or pending.request.session_id
+        self._tree = answer.tree or pending.request.tree_id
+        opened = answer.opened if answer.opened is not None else pending.request.named
+        self._previous = self._previous if opened is None else opened
+        if message.command is Command.CREATE and answer.status >> 30 == 3:
+            self._failed = answer.status
+        self._responses.append(self._connection.response(pending, answer, self._session, self._tree))
+        self.held += self._responses[-1].length
+        self._connection.hold(self)
+        # The last answer goes at once: what is decided next may be for the same client.
+        if not self._requests or not self._is_going or self.held > UNREAD:
+            self._connection.send_held()
+        self._is_waiting = False
+        if self._requests and not self._is_going:
+            self._connection.go_on_later(self)
+
+
+def _framed(responses: list[Response]) -> bytes:
+    """A frame; where there is no memory for it, one that has no bytes of files."""
+    try:
+        return framed(responses)
+    except MemoryError:
+        refused = Answer(Status.INSUFFICIENT_RESOURCES)
+        return framed([replace(it, status=refused.status, body=refused.body, data=b"") if it.data else it for it in responses])
+
+
+class Connection(asyncio.Protocol):  # pylint: disable=too-many-instance-attributes  # it has what came and what goes
+    def __init__(self, server: Server) -> None:
+        self.server = server
+        self.address = ""
+        self.guid: bytes | None = None
+        self.is_negotiated = False
+        self.is_open = True
+        self.client: ManagerClient | None = None
+        self.sessions: dict[int, Session] = {}
+        self._transport = asyncio.Transport()
+        self._frames = Frames()
+        self._credits = Credits()
+        # bytes that count for those without a session
+        self._without_session = 0
+        # when bytes came last
+        self.heard = 0.0
+        self._timer: asyncio.TimerHandle | None = None
+        self._is_unread = self._is_taking = False
+        # those of a frame that aren't begun or go on, and those with answers that aren't sent
+        self._chains: deque[Chain] = deque()
+        self._holding: dict[Chain, None] = {}
+        self._turn_ends = 0.0
+        self._is_due = False
+        self._outgoing: list[bytes] = []
+        self._pending: dict[int, Pending] = {}
+
+    @property
+    def unread(self) -> int:
+        """Bytes that the client hasn't read yet."""
+        return self._transport.get_write_buffer_size() + sum(it.held for it in self._holding) if self.is_open else 0
+
+    @property
+    def has_turn(self) -> bool:
+        """Whether more may be done now: the client reads what it is answered, and others don't wait for long."""
+        return not self._is_unread and time.monotonic() < self._turn_ends
+
+    @property
+    def tasks(self) -> list[Task]:
+        """Those of requests that aren't answered for good."""
+        return [it.task for it in self._pending.values() if it.task]
+
+    def connection_made(self, transport: asyncio.BaseTransport) -> None:
+        assert isinstance(transport, asyncio.Transport)
+        self._transport, self.address = transport, str((transport.get_extra_info("peername") or [""])[0])
+        transport.set_write_buffer_limits(UNREAD)
+        self.heard = self.server.loop.time()
+        self.await_session()
+        self.server.connect(self)
+
+    def await_session(self) -> None:
+        """It has none, and is closed unless it gets one in time."""
+        self._timer = self.server.loop.call_later(self.server.settings.session_timer, self.close)
+
+    def stop_waiting(self) -> None:
+        if self._timer:
+            self._timer.cancel()
+            self._timer = None
+
+    def data_received(self, data: bytes) -> None:
+        self.heard = self.server.loop.time()
+        self._frames.add(data)
+        self._take_frames()
+        if not self.client and not self.count_without_session():
+            self.close()
+
+    def count_without_session(self) -> bool:
+        """Counts what is kept here without a session, or for one that is half made; whether it is within what all may have."""
+        kept = 0
+        if self.is_open:
+            kept = 0 if self.client else len(self._frames) + self.unread
+            kept += sum(HALF_MADE + it.authentication.kept for it in self.sessions.values() if it.authentication)
+        more = kept - self._without_session
+        self._without_session = kept
+        self.server.without_session += more
+        return more <= 0 or self.server.without_session <= MOST_WITHOUT_SESSION
+
+    def eof_received(self) -> None:
+        self.close()
+
+    def connection_lost(self, _: Exception | None) -> None:
+        self.close()
+
+    def pause_writing(self) -> None:
+        self._is_unread = True
+        self._transport.pause_reading()
+
+    def resume_writing(self) -> None:
+        self._is_unread = False
+        self._transport.resume_reading()
+        self._take_frames()
+
+    def _take_frames(self) -> None:
+        """What came, one after the other, as long as the client reads what it is answered, and until others have their turn.
+        Small answers go together."""
+        self._is_taking, self._turn_ends = True, time.monotonic() + TURN
+        try:
+            while self.is_open and not self._is_unread and self._take_next():
+                if not self.has_turn:
+                    self._give_turn()
+                    break
+        except (Unreadable, *EXHAUSTED):
+            self._flush()
+            self.close()
+        finally:
+            self._is_taking = False
+            self._flush()
+
+    def _take_next(self) -> bool:
+        """What is left of a frame, else the next one; whether there was any."""
+        if self._chains:
+            self._chains.popleft().go_on()
+            return True
+        frame = self._frames.next(LONGEST_FRAME if self.client else LONGEST_WITHOUT_SESSION)
+        if frame is not None:
+            self._take(frame)
+        return frame is not None
+
+    def _give_turn(self) -> None:
+        """Goes on once others were served; nothing more is read before."""
+        if not self._is_due and self.is_open:
+            self._is_due = True
+            self._transport.pause_reading()
+            self.server.loop.call_soon(self._take_turn)
+
+    def _take_turn(self) -> None:
+        self._is_due = False
+        if self.is_open and not self._is_unread:
+            self._transport.resume_reading()
+            self._take_frames()
+
+    def go_on_later(self, chain: Chain) -> None:
+        self._chains.appendleft(chain)
+        if not self._is_taking:
+            self._give_turn()
+
+    def hold(self, chain: Chain) -> None:
+        self._holding[chain] = None
+
+    def send_held(self) -> None:
+        """What chains have been answered goes before what is decided later."""
+        holding, self._holding = self._holding, {}
+        for chain in holding:
+            self.send(chain.take_answers())
+
+    def _take(self, frame: bytes) -> None:
+        if frame[:4] == OLD_PROTOCOL:
+            self._old_negotiate(frame)
+        elif frame:
+            chains: list[list[RequestMessage]] = []
+            for message in split_compound(frame, MOST_IN_FRAME if self.is_negotiated else 1):
+                self._credit(message)
+                if message.command is Command.CANCEL:
+                    self._cancel(message)
+                elif message.is_related and chains:
+                    chains[-1].append(message)
+                else:
+                    chains.append([message])
+            self._chains.extend(Chain(self, chain) for chain in chains)
+            if self._chains:
+                self._chains.popleft().go_on()
+
+    def _credit(self, message: RequestMessage) -> None:
+        """A request without its credits ends the connection (3.3.5.2.3), and so does one before NEGOTIATE."""
+        is_early = self.guid is None and message.command is not Command.NEGOTIATE
+        is_free = message.command is Command.CANCEL
+        if message.is_from_server or not is_free and (
+                is_early or not self._credits.take(message.identifier, max(1, message.charge))):
+            raise Unreadable
+
+    def _old_negotiate(self, frame: bytes) -> None:
+        """The NEGOTIATE of SMB 1 that names SMB 2 among its dialects (3.3.5.3.1)."""
+        is_one = frame[4:5] == bytes([OLD_NEGOTIATE]) and b"\x02SMB 2.???\0" in frame
+        if self.is_negotiated or not is_one or not self._credits.take(0, 1):
+            raise Unreadable
+        answer = negotiated(self.server, ANY_DIALECT)
+        self.send(framed([Response(Command.NEGOTIATE, answer.status, 0, self._credits.grant(1), 0, 0, answer.body)]))
+
+    def begin(self, pending: Pending, failed: Status | None) -> None:
+        message = pending.request.message
+        self._pending[message.identifier] = pending
+        handling = self._handle(pending.request, failed if message.is_related else None)
+        pending.task = Task(handling, lambda answer: self._answered(pending, answer))
+        self.server.begun.append(pending)
+        self.server.host.start(pending.task)
+        self.server.send_interim_responses()
+
+    def _handle(self, request: Request, failed: Status | None) -> Handling:
+        """`failed` is what became of the create that the request is related to."""
+        if failed:
+            raise StatusError(failed)
+        message = request.message
+        self.server.commands.check_known(message.command)
+        if len(self._pending) > MOST_PENDING:
+            raise StatusError(Status.INSUFFICIENT_RESOURCES)
+        if message.command not in WITHOUT_SESSION:
+            request.session.check_signature(message)
+        handler = self.server.commands.handler(request)
+        message.check_size()
+        message.check_charge()
+        handled = handler(request)
+        return handled if isinstance(handled, Answer) else (yield from handled)
+
+    def _answered(self, pending: Pending, answer: Answer) -> None:
+        message = pending.request.message
+        self._pending.pop(message.identifier, None)
+        if LOG.isEnabledFor(logging.DEBUG):
+            LOG.debug("client %s: %s %d: %s", self.client.number if self.client else "-", message.name, message.identifier,
+                      answer.status.name)
+        pending.is_answered = True
+        if self.is_open:
+            pending.chain.answered(pending, answer)
+
+    def response(self, pending: Pending, answer: Answer, session: int, tree: int) -> Response:
+        message = pending.request.message
+        found = self.sessions.get(session)
+        key = answer.key or (found.key if found and message.is_signed else None)
+        granted = self._credits.grant(message.credits_asked) if pending.async_id is None else 0
+        flags = FROM_SERVER | (message.flags & 4)
+        return Response(message.number(12, 2), answer.status, message.identifier, granted, session, tree, answer.body,
+                        answer.data, message.charge, flags, pending.async_id, key)
+
+    def send_interim_response(self, pending: Pending) -> None:
+        """STATUS_PENDING, for a request that waits (3.3.4.2)."""
+        if pending.is_answered or not self.is_open:
+            return
+        self.send_held()
+        message = pending.request.message
+        interim = self.response(pending, Answer(Status.PENDING), pending.request.session_id, pending.request.tree_id)
+        pending.async_id = interim.async_id = next(self.server.async_ids)
+        interim.flags = FROM_SERVER | ASYNC | (message.flags & 4)
+        self.send(framed([interim]))
+
+    def _cancel(self, message: RequestMessage) -> None:
+        """A request that waits in the manager is taken back."""
+        wanted = message.async_id
+        found = next((it for it in self._pending.values() if it.async_id == wanted), None) if wanted is not None \
+            else self._pending.get(message.identifier)
+        session = self.sessions.get(found.request.session_id) if found else None
+        try:
+            if session:
+                session.check_signature(message)
+        except StatusError:
+            return
+        if found and found.task:
+            self.server.host.withdraw(found.task)
+            self.server.settle()
+
+    def notify(self, body: bytes) -> None:
+        """A break (2.2.23)."""
+        self.send_held()
+        self.send(framed([Response(Command.OPLOCK_BREAK, Status.SUCCESS, NOTIFICATION, 0, 0, 0, body)]))
+
+    def send(self, data: bytes) -> None:
+        self._outgoing.append(data)
+        if not self._is_taking or len(self._outgoing) == MOST_TOGETHER or len(data) > LARGE:
+            self._flush()
+
+    def _flush(self) -> None:
+        outgoing, self._outgoing = self._outgoing, []
+        if not outgoing or not self.is_open or self._transport.is_closing():
+            return
+        try:
+            self._transport.write(b"".join(outgoing) if len(outgoing) > 1 else outgoing[0])
+        except MemoryError:
+            # What is missing there would be taken for what was answered.
+            self.server.loop.call_soon(self.close)
+        unread = self.unread
+        if unread > MOST_UNREAD or unread > UNREAD and sum(it.unread for it in self.server.connections) > MOST_UNREAD_OF_ALL:
+            self.server.loop.call_soon(self.close)
+
+    def close(self) -> None:
+        if self.is_open:
+            self.is_open = False
+            self._chains.clear()
+            self._holding.clear()
+            self._transport.abort()
+            self.stop_waiting()
+            self.server.connections.discard(self)
+            for session in list(self.sessions.values()):
+                self.server.end_session(session)
+            self.count_without_session()

@@ -1,0 +1,127 @@
+"""What a CREATE asks for (2.2.13), and what of it goes to the manager."""
+from __future__ import annotations
+
+import itertools
+import struct
+from dataclasses import dataclass, replace
+from uuid import UUID
+
+from smblease import Access, CreateAsk, Fault, LeaseState, Share, Status, each_context
+from smblease.drive.headers import HEADER, Unreadable
+from smblease.serve.kept_attributes import ARCHIVE
+from smblease.serve.names import path_of, text_of
+from smblease.serve.opens import (BATCH, DELETE, EXCLUSIVE, LEASE, LEVEL_II, NO_LEVEL, SHARE_DELETE, Open, counts, reads,
+                                  specific, writes)
+from smblease.serve.packets import RequestMessage
+from smblease.serve.status_error import StatusError
+
+# Level and impersonation, access, attributes, share, disposition and options, and where the contexts are (2.2.13).
+FIXED = struct.Struct("<3xBL16xLLLLL4xLL")
+SUPERSEDE, OPEN, CREATE, OPEN_IF, OVERWRITE, OVERWRITE_IF = range(6)
+MAKING = {SUPERSEDE, CREATE, OPEN_IF, OVERWRITE_IF}
+EMPTYING = {SUPERSEDE, OVERWRITE, OVERWRITE_IF}
+DIRECTORY_FILE, WRITE_THROUGH, NON_DIRECTORY_FILE, DELETE_ON_CLOSE = 0x1, 0x2, 0x40, 0x1000
+SUPERSEDED, OPENED, CREATED, OVERWRITTEN = range(4)
+MOST_CONTEXTS = 32
+MOST_ACCESS, ON_DISK, ALLOCATION = b"MxAc", b"QFid", b"AlSi"
+# A client that knows durable handles of version 2 may send only that when it connects one of version 1 again.
+RECONNECT_2 = b"DH2C"
+RWH = LeaseState.of("RWH")
+OPLOCK_STATES = {NO_LEVEL: LeaseState.NONE, LEVEL_II: LeaseState.R, EXCLUSIVE: LeaseState.of("RW"), BATCH: RWH}
+
+
+@dataclass(frozen=True)
+class CreateParameters:
+    path: str
+    access: int
+    share: int
+    disposition: int
+    options: int
+    attributes: int
+    level: int
+    impersonation: int
+    ask: CreateAsk
+    # the other contexts by their names
+    others: dict[bytes, bytes]
+
+    @property
+    def key(self) -> UUID | None:
+        return self.ask.key if self.level == LEASE or self.ask.reconnect is not None else None
+
+    @property
+    def allocation(self) -> int:
+        return int.from_bytes(self.others.get(ALLOCATION, b"")[:8], "little")
+
+    def kept_attributes(self, is_folder: bool) -> int:
+        """Those of what it makes or overwrites; a file has "archive" then."""
+        return self.attributes if is_folder else self.attributes | ARCHIVE
+
+    @property
+    def empties(self) -> bool:
+        return self.disposition in EMPTYING
+
+    @property
+    def rights(self) -> tuple[Access, Share]:
+        """Access and share as the manager has them. Who empties a file writes it; who holds a lease alone reads."""
+        access = reads(self.access) + 2 * (writes(self.access) or self.empties)
+        return Access(access or 1), Share(self.share & 3) if access else Share.READ_WRITE
+
+    def lease_ask(self, has_oplock: bool) -> CreateAsk:
+        """What is asked for as it came, but for a lease that the level doesn't ask for; and for handles, where another open has
+        an oplock."""
+        if self.level != LEASE and self.ask.key is not None:
+            return CreateAsk(durable=self.ask.durable, reconnect=self.ask.reconnect)
+        if has_oplock and LeaseState.H in self.ask.state:
+            return replace(self.ask, state=self.ask.state & ~LeaseState.H)
+        return self.ask
+
+
+def read_parameters(message: RequestMessage) -> CreateParameters:
+    if len(message.data) < HEADER + FIXED.size:
+        raise Unreadable
+    level, impersonation, access, attributes, share, disposition, options, place, length = FIXED.unpack_from(message.data, HEADER)
+    ask, others = _contexts(message.part(place, length)) if length else (CreateAsk(), {})
+    path = path_of(text_of(message.buffer(HEADER + 44, message.number(HEADER + 46, 2))))
+    return CreateParameters(path, specific(access), share, disposition, options, attributes, level, impersonation, ask, others)
+
+
+def _contexts(text: bytes) -> tuple[CreateAsk, dict[bytes, bytes]]:
+    try:
+        contexts = list(itertools.islice(each_context(text), MOST_CONTEXTS + 1))
+        if len(contexts) > MOST_CONTEXTS:
+            raise StatusError(Status.INVALID_PARAMETER)
+        ask, others = CreateAsk.read(text), {it.name: it.data for it in contexts}
+    except Fault as fault:
+        raise StatusError(Status(fault.status)) from None
+    again = others.get(RECONNECT_2, b"")
+    if ask.reconnect is None and len(again) == 36:
+        ask = replace(ask, reconnect=int.from_bytes(again[:8], "little"))
+    return ask, others
+
+
+def check(wanted: CreateParameters, limit: int) -> None:
+    """What a create that reconnects isn't asked for."""
+    if wanted.impersonation > 3 or wanted.disposition > OVERWRITE_IF or wanted.share > 7 or wanted.allocation > limit:
+        raise StatusError(Status.INVALID_PARAMETER)
+    if not wanted.access or wanted.options & DELETE_ON_CLOSE and not wanted.access & DELETE:
+        raise StatusError(Status.ACCESS_DENIED)
+
+
+def conflicts(wanted: CreateParameters, other: Open) -> bool:
+    """Whether one deletes and the other doesn't share that; what is read and written is shared by the manager's rules."""
+    if not counts(wanted.access) or not counts(other.access):
+        return False
+    return bool(wanted.access & DELETE and not other.share & SHARE_DELETE
+                or other.access & DELETE and not wanted.share & SHARE_DELETE)
+
+
+def oplock_state(level: int) -> LeaseState:
+    """The lease that an oplock of this level is."""
+    return OPLOCK_STATES.get(level, RWH)
+
+
+def level_of(wanted: int, state: LeaseState) -> int:
+    """The level of an oplock whose lease has this state."""
+    if oplock_state(wanted) is state:
+        return wanted
+    return LEVEL_II if LeaseState.R in state else NO_LEVEL

@@ -1,0 +1,215 @@
+"""SMB2 messages as they come and go: frames, headers, compounds and signatures (2.1, 2.2.1)."""
+from __future__ import annotations
+
+import hashlib
+import hmac
+import struct
+from dataclasses import dataclass, field
+
+from smblease import Status
+from smblease.drive.headers import ASYNC, COMMANDS, FROM_SERVER, HEADER, RELATED, Command, Field, Message, Unreadable
+from smblease.drive.packets import PROTOCOL
+
+HEAD = struct.Struct("<4sHHLHHLLQQQ16s")
+# Of a request's header what follows its StructureSize, but for the signature.
+FIXED = struct.Struct("<HLHHLLQLLQ")
+ERROR_BODY = struct.pack("<HBBL", 9, 0, 0, 0) + b"\0"
+SIGNED = 8
+# The most that is read or written at once; and what a frame may hold, which has room for headers and contexts too.
+LONGEST_TRANSFER = 1 << 20
+LONGEST_FRAME = LONGEST_TRANSFER + 131072
+LONGEST_WITHOUT_SESSION = 65536
+MOST_IN_FRAME = 1024
+# The StructureSize of requests.
+SIZES = {Command.NEGOTIATE: 36, Command.SESSION_SETUP: 25, Command.LOGOFF: 4, Command.TREE_CONNECT: 9, Command.TREE_DISCONNECT: 4,
+         Command.CREATE: 57, Command.CLOSE: 24, Command.FLUSH: 24, Command.READ: 49, Command.WRITE: 49, Command.LOCK: 48,
+         Command.IOCTL: 57, Command.ECHO: 4, Command.QUERY_DIRECTORY: 33, Command.CHANGE_NOTIFY: 32, Command.QUERY_INFO: 41,
+         Command.SET_INFO: 33}
+# Where a request says how many bytes it sends, and where how many it may be answered: what is together is added.
+PAYLOADS: dict[Command, list[tuple[int, ...]]] = {
+    Command.READ: [(4,)], Command.WRITE: [(4,)], Command.QUERY_DIRECTORY: [(28,)], Command.IOCTL: [(28, 40), (32, 44)],
+    Command.QUERY_INFO: [(4,), (12,)], Command.SET_INFO: [(4,)], Command.CHANGE_NOTIFY: [(4,)]}
+CREDIT_BYTES = 65536
+
+
+@dataclass(frozen=True)
+class RequestMessage(Message):
+    """A request; its fields are read at their places from the header's first byte."""
+
+    charge, credits_asked = Field(6, 2), Field(14, 2)
+
+    def __post_init__(self) -> None:
+        """What every request is asked for is read once."""
+        super().__post_init__()
+        charge, _, code, credits_asked, flags, _, identifier, _, tree, session = FIXED.unpack_from(self.data, 6)
+        self.__dict__.update(charge=charge, command=COMMANDS.get(code), credits_asked=credits_asked, flags=flags,
+                             identifier=identifier, tree=tree, session=session)
+
+    @property
+    def is_related(self) -> bool:
+        return bool(self.flags & RELATED)
+
+    @property
+    def is_signed(self) -> bool:
+        return bool(self.flags & SIGNED)
+
+    @property
+    def async_id(self) -> int | None:
+        return self.number(32, 8) if self.flags & ASYNC else None
+
+    def buffer(self, offset_place: int, length: int) -> bytes:
+        """Bytes that lie where a field of two bytes says."""
+        return self.part(self.number(offset_place, 2), length) if length else b""
+
+    def view(self, offset_place: int, length: int) -> memoryview:
+        """The same, where the message has them."""
+        place = self.number(offset_place, 2)
+        if length and place + length > len(self.data):
+            raise Unreadable
+        return memoryview(self.data)[place:place + length]
+
+    def check_size(self) -> None:
+        """The StructureSize has to be that of the command. The messages of OPLOCK_BREAK have several."""
+        if self.command in SIZES and self.number(HEADER, 2) != SIZES[self.command]:
+            raise Unreadable
+
+    def check_charge(self) -> None:
+        """What it costs has to be enough for what it transfers (3.3.5.2.5). A charge of 0 is one of 1."""
+        places = PAYLOADS.get(self.command, []) if self.command is not None else []
+        most = max((sum(self.number(HEADER + it, 4) for it in sums) for sums in places), default=0)
+        if most > CREDIT_BYTES * max(1, self.charge):
+            raise Unreadable
+
+
+@dataclass
+class Answer:
+    """What a request is answered: a status, and the body where that isn't an error's."""
+
+    status: Status
+    body: bytes = ERROR_BODY
+    # what follows the body, as the bytes of a file
+    data: bytes = b""
+    # what the answer says of session, tree and open where the request didn't
+    session: int | None = None
+    tree: int | None = None
+    opened: int | None = None
+    key: bytes | None = None
+
+
+@dataclass
+class Response:
+    """A message on its way to a client."""
+
+    command: int
+    status: int
+    message: int
+    credits: int
+    session: int
+    tree: int
+    body: bytes
+    data: bytes = b""
+    charge: int = 0
+    flags: int = FROM_SERVER
+    async_id: int | None = None
+    key: bytes | None = field(default=None, repr=False)
+
+    @property
+    def length(self) -> int:
+        return HEADER + len(self.body) + len(self.data)
+
+    def header(self, following: int) -> bytes:
+        flags = self.flags | (ASYNC if self.async_id is not None else 0) | (SIGNED if self.key else 0)
+        place = self.async_id if self.async_id is not None else self.tree << 32
+        return HEAD.pack(PROTOCOL, HEADER, self.charge, self.status, self.command, self.credits, flags, following,
+                         self.message, place, self.session, bytes(16))
+
+
+def signed(data: bytes, key: bytes) -> bytes:
+    """A message with its signature (3.1.4.1): of a session of dialect 2.1 the first half of an HMAC of SHA-256."""
+    clear = data[:48] + bytes(16) + data[64:]
+    return data[:48] + hmac.new(key, clear, hashlib.sha256).digest()[:16] + data[64:]
+
+
+def framed(responses: list[Response]) -> bytes:
+    """A frame of one message, or of a compound whose messages begin at multiples of eight."""
+    parts = [b""]
+    for place, response in enumerate(responses, 1):
+        padding = -response.length % 8 if place < len(responses) else 0
+        following = response.length + padding if place < len(responses) else 0
+        message = [response.header(following), response.body, response.data, bytes(padding)]
+        parts += [signed(b"".join(message), response.key)] if response.key else message
+    parts[0] = struct.pack(">L", sum(map(len, parts)))
+    return b"".join(parts)
+
+
+def split_compound(frame: bytes, most: int = MOST_IN_FRAME) -> list[RequestMessage]:
+    """The requests of a frame, so many at most."""
+    found: list[RequestMessage] = []
+    start, following = 0, HEADER
+    while following:
+        head = RequestMessage(frame[start:start + HEADER])
+        following, left = head.number(20, 4), len(frame) - start
+        is_placed = not following or HEADER <= following <= left - HEADER and following % 8 == 0
+        if head.data[:4] != PROTOCOL or head.number(4, 2) != HEADER or not is_placed or len(found) == most:
+            raise Unreadable
+        found.append(RequestMessage(frame[start:start + following] if following else frame[start:]))
+        start += following
+    return found
+
+
+class Frames:
+    """The bytes of a stream, cut into frames."""
+
+    def __init__(self) -> None:
+        self._bytes = bytearray()
+
+    def __len__(self) -> int:
+        """The bytes that aren't taken yet."""
+        return len(self._bytes)
+
+    def add(self, data: bytes) -> None:
+        self._bytes += data
+
+    def next(self, longest: int = LONGEST_FRAME) -> bytes | None:
+        """The next whole frame. What can't begin one is Unreadable."""
+        if len(self._bytes) < 4:
+            return None
+        length = int.from_bytes(self._bytes[1:4], "big")
+        if self._bytes[0] or length > longest:
+            raise Unreadable
+        if len(self._bytes) < 4 + length:
+            return None
+        with memoryview(self._bytes) as whole:
+            frame = bytes(whole[4:4 + length])
+        del self._bytes[:4 + length]
+        return frame
+
+
+class Credits:
+    """The numbers that requests of a connection may have (3.3.1.1)."""
+
+    MOST = 8192
+
+    def __init__(self) -> None:
+        self._low = 0
+        self._high = 1
+        self._used: set[int] = set()
+
+    def take(self, number: int, charge: int) -> bool:
+        """Takes the numbers of a request; they have to be there."""
+        wanted = range(number, number + charge)
+        if number < self._low or number + charge > self._high or any(it in self._used for it in wanted):
+            return False
+        self._used.update(wanted)
+        while self._low in self._used:
+            self._used.discard(self._low)
+            self._low += 1
+        return True
+
+    def grant(self, request: int) -> int:
+        """How many more there are; at least one where none is left."""
+        left = self._high - self._low - len(self._used)
+        given = min(max(request, 1), max(0, self.MOST - (self._high - self._low)))
+        given = max(given, 0 if left else 1)
+        self._high += given
+        return given

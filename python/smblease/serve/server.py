@@ -1,0 +1,304 @@
+"""The server: what is there, who is connected, and what happens to opens."""
+from __future__ import annotations
+
+import asyncio
+import itertools
+import logging
+import secrets
+import uuid
+from collections.abc import Callable
+from typing import TYPE_CHECKING
+
+from smblease import LeaseState, Status
+from smblease.manager_decisions import Breaks
+from smblease.serve.asks import Steps, closing
+from smblease.serve.commands import Commands
+from smblease.serve.connection import Connection, Pending
+from smblease.serve.forced_breaks import ForcedBreaks
+from smblease.serve.leases import Leases
+from smblease.serve.manager_clients import ManagerClients
+from smblease.serve.manager_host import ManagerHost, Task
+from smblease.serve.namespace import Namespace
+from smblease.serve.opens import OWN_FILE_IDS, LeaseSeen, ManagerClient, Open
+from smblease.serve.password_brake import PasswordBrake
+from smblease.serve.record import Record
+from smblease.serve.sessions import Session
+from smblease.serve.settings import Settings
+from smblease.serve.status_error import EXHAUSTED, StatusError
+
+if TYPE_CHECKING:
+    from smblease.serve.node import Node
+
+LOG = logging.getLogger("serve")
+# Durable opens that are kept without a connection: those of one client, and of all; the newest of them.
+MOST_KEPT, MOST_KEPT_OF_ALL = 64, 4096
+# What a SessionId never is: none (2.2.1.2), and that of the request before it in a compound (3.3.5.2.7.2).
+NO_SESSION_IDS = (0, (1 << 64) - 1)
+
+
+class Server:  # pylint: disable=too-many-instance-attributes  # its parts find one another by it
+    """The shell around the proved manager."""
+
+    def __init__(self, settings: Settings, loop: asyncio.AbstractEventLoop, record: Record, names: Namespace) -> None:
+        self.settings, self.loop, self.record, self.names = settings, loop, record, names
+        self.guid = uuid.uuid4().bytes
+        self.host = ManagerHost(settings.rules, self)
+        self.clients = ManagerClients()
+        self.opens: dict[int, Open] = {}
+        # the opens that are kept, the one that was left first before the others
+        self._kept: dict[int, Open] = {}
+        self.sessions: dict[int, Session] = {}
+        self.begun: list[Pending] = []
+        self.connections: set[Connection] = set()
+        # bytes that are kept for connections without a session, and for sessions that are half made
+        self.without_session = 0
+        self.brake = PasswordBrake()
+        self.tree_ids, self.async_ids, self.own_file_ids = (itertools.count(it + 1) for it in (0, 0, OWN_FILE_IDS))
+        self.leases = Leases(self)
+        self.forced_breaks = ForcedBreaks(self)
+        self.commands = Commands(self)
+
+    # What the manager decides
+
+    def sent(self, number: int) -> None:
+        """The manager's client is sent a message."""
+        client = self.clients.numbered(number)
+        if client:
+            self.record.sent(client)
+
+    def broken(self, decision: Breaks) -> None:
+        client = self.clients.numbered(decision.client)
+        if client and client.is_connected:
+            self.record.sent(client)
+            self.leases.broken(client, decision.notification)
+
+    def ended(self, file_id: int) -> None:
+        opened = self.opens.get(file_id)
+        if opened:
+            self.forget_open(opened)
+
+    def lost(self) -> None:
+        """There is a new manager, which knows of nothing."""
+        LOG.warning("there was no memory for the manager: all connections are cut, and all opens are gone")
+        for connection in list(self.connections):
+            connection.close()
+        for opened in list(self.opens.values()):
+            self.forget_open(opened)
+
+    @staticmethod
+    def failed(fault: Exception) -> Status:
+        LOG.warning("a request broke down: %s: %s", type(fault).__name__, str(fault)[:200])
+        LOG.debug("where:", exc_info=fault)
+        return Status.INSUFFICIENT_RESOURCES if isinstance(fault, EXHAUSTED) else Status.UNSUCCESSFUL
+
+    # Tasks
+
+    def settle(self) -> None:
+        self.host.drain()
+        self.send_interim_responses()
+
+    def send_interim_responses(self) -> None:
+        """The clients of requests that were begun and wait get STATUS_PENDING, once all is quiet."""
+        if self.host.is_draining:
+            return
+        begun, self.begun = self.begun, []
+        for pending in begun:
+            if pending.task and not pending.task.is_over:
+                pending.request.connection.send_interim_response(pending)
+
+    def start(self, handling: Steps) -> None:
+        """Something that nobody waits for."""
+        self.host.start(Task(handling, lambda answer: None))
+
+    # Who is connected
+
+    def connect(self, connection: Connection) -> None:
+        """Where there are too many, the one that was silent for the longest goes of those that don't work: one without a session
+        before others."""
+        self.connections.add(connection)
+        if len(self.connections) > self.names.most_connections:
+            at_work = {it.connection for it in self.opens.values()}
+            idle = [it for it in self.connections if it not in at_work and not it.tasks and it is not connection]
+            min(idle, key=lambda it: (it.client is not None, it.heard), default=connection).close()
+
+    def connect_client(self, connection: Connection) -> None:
+        """All connections of a ClientGuid are one client."""
+        if connection.client or connection.guid is None:
+            return
+        connection.stop_waiting()
+        client = self.clients.of_guid(connection.guid) or self.clients.take(connection.guid)
+        connection.client = client
+        if client.is_connected:
+            client.connections.append(connection)
+            self.record.strayed(client)
+        else:
+            self.join(client, connection, str(uuid.UUID(bytes=connection.guid)))
+
+    def next_session_id(self) -> int:
+        """One that nobody can guess."""
+        while True:
+            found = secrets.randbits(64)
+            if found not in self.sessions and found not in NO_SESSION_IDS:
+                return found
+
+    def end_session(self, session: Session) -> None:
+        """With the last one of a client's last connection the client is gone."""
+        connection = session.connection
+        connection.sessions.pop(session.identifier, None)
+        self.sessions.pop(session.identifier, None)
+        if connection.client and not any(it.is_ready for it in connection.sessions.values()):
+            self._disconnect_client(connection, connection.client)
+        connection.count_without_session()
+
+    def _disconnect_client(self, connection: Connection, client: ManagerClient) -> None:
+        opens = [it for it in self.opens.values() if it.connection is connection]
+        connected = [client, *(it for it in self.clients.of(connection) if it is not client)]
+        connection.client = None
+        if connection.is_open:
+            connection.await_session()
+        for one in connected:
+            one.connections.remove(connection)
+        cut = [it for it in connected if not it.is_connected]
+        for one in cut:
+            self._cut(one)
+        for opened in opens:
+            self._leave(opened)
+        self._limit_kept([it for it in opens if it.file_id in self._kept])
+        # The last one first: none goes on because one before it is taken back.
+        for task in reversed(connection.tasks if client.is_connected else []):
+            self.host.withdraw(task)
+        self.host.abandon({it.number for it in cut}, Status.USER_SESSION_DELETED)
+        self._drop(client)
+        self.settle()
+
+    def _cut(self, client: ManagerClient) -> None:
+        self.record.dropped(client)
+        self.host.call(lambda manager: manager.cut(client.number))
+
+    def _leave(self, opened: Open) -> None:
+        """An open of a connection that is over: it is closed where its client has another one, else kept or forgotten."""
+        opened.connection = opened.session = opened.tree = None
+        opened.is_breaking = False
+        self.host.resume(opened.node.pauses)
+        if opened.client and opened.client.is_connected:
+            self.start(self.close_open(opened))
+        elif opened.client and self.host.manager.left_behind(opened.file_id):
+            opened.timer = self.loop.call_later(self.settings.durable_timer, lambda: self.scavenge(opened.file_id))
+            self._kept[opened.file_id] = opened
+        else:
+            self.forget_open(opened)
+
+    def _limit_kept(self, opens: list[Open]) -> None:
+        """The newest of these are kept, which one client left, and of all that are kept."""
+        for opened in opens[:-MOST_KEPT]:
+            self.scavenge(opened.file_id)
+        while len(self._kept) > MOST_KEPT_OF_ALL:
+            self.scavenge(next(iter(self._kept)))
+
+    def _drop(self, client: ManagerClient) -> None:
+        """A client of a ClientGuid that left nothing is as one that never came."""
+        if client.is_connected or client.opens or self.clients.numbered(client.number) is not client or client.guid is None:
+            return
+        self._forget(client)
+
+    def _forget(self, client: ManagerClient) -> None:
+        """The manager remembers what expired of a client until it joins."""
+        if client.has_expired:
+            self.host.call(lambda manager: manager.join(client.number))
+            self.host.call(lambda manager: manager.cut(client.number))
+        self.clients.free(client)
+
+    def connected_again(self, opened: Open) -> None:
+        self.stop_timer(opened)
+        self._kept.pop(opened.file_id, None)
+
+    # What becomes of opens
+
+    def scavenge(self, file_id: int) -> bool:
+        opened = self.opens.get(file_id)
+        if opened is None or not self.host.manager.left_behind(file_id):
+            return False
+        self.host.call(lambda manager: manager.scavenge(file_id))
+        self.settle()
+        return True
+
+    def close_open(self, opened: Open) -> Steps:
+        """Closes an open, in the manager too."""
+        if opened.client and not opened.client.is_connected:
+            self.scavenge(opened.file_id)
+        elif opened.client:
+            self.leases.believes_nothing(opened)
+            yield from self.close_in_manager(opened.client, opened.node, opened.file_id)
+        self.forget_open(opened)
+
+    def close_in_manager(self, client: ManagerClient, node: Node, file_id: int) -> Steps:
+        """Where it has ended by itself, or its client is cut while that waits, it isn't kept either."""
+        try:
+            yield from closing(client, node, file_id)
+        except StatusError:
+            self.host.call(lambda manager: manager.scavenge(file_id))
+
+    def close_all(self, concerned: Callable[[Open], bool], is_wanted: bool) -> Steps:
+        for opened in [it for it in self.opens.values() if is_wanted and it.is_connected and concerned(it)]:
+            if opened.file_id in self.opens:
+                yield from self.close_open(opened)
+
+    def forget_open(self, opened: Open) -> None:
+        """An open is gone. With the last one of a file goes its name, where it is to be deleted; a folder stays with what is in
+        it."""
+        if self.opens.pop(opened.file_id, None) is None:
+            return
+        node = opened.node
+        self.connected_again(opened)
+        node.opens.remove(opened)
+        self.host.resume(node.pauses)
+        node.is_deleting = (node.is_deleting or opened.deletes) and not (node.is_folder and self.names.has_below(node))
+        self._lease_gone(opened)
+        if node.is_deleting and not node.opens and not node.is_gone:
+            self._remove(node)
+        self.names.release(node)
+
+    def _remove(self, node: Node) -> None:
+        try:
+            self.names.remove(node)
+        except OSError as fault:
+            LOG.warning("%s: it was to be deleted: %s", node.path, fault.strerror)
+
+    def _lease_gone(self, opened: Open) -> None:
+        client, lease = opened.client, opened.lease
+        if client is None:
+            return
+        if lease and opened in lease.opens:
+            lease.opens.remove(opened)
+        if lease and not lease.opens:
+            self.record.believes(client, lease, LeaseState.NONE)
+            self.stop_timer(lease)
+            del client.leases[lease.key]
+        client.opens -= 1
+        if client.open is opened:
+            self.free(client)
+        self._drop(client)
+
+    def free(self, client: ManagerClient) -> None:
+        """A client that was there for one open isn't needed any more."""
+        client.open = None
+        if client.is_connected:
+            self._cut(client)
+        self._forget(client)
+
+    def borrow(self, connection: Connection, who: str, is_shells: bool = False) -> ManagerClient:
+        """A client of the manager for one open of a connection."""
+        client = self.clients.take(None, is_shells)
+        self.join(client, connection, who)
+        return client
+
+    def join(self, client: ManagerClient, connection: Connection, who: str) -> None:
+        client.connections = [connection]
+        self.record.joined(client, who)
+        self.host.call(lambda manager: manager.join(client.number))
+
+    @staticmethod
+    def stop_timer(concerned: LeaseSeen | Open) -> None:
+        if concerned.timer:
+            concerned.timer.cancel()
+            concerned.timer = None

@@ -1,0 +1,143 @@
+"""serve/torture: tests of smbtorture, each against a server of its own."""
+from __future__ import annotations
+
+import argparse
+import re
+import subprocess
+import time
+from collections.abc import Callable, Sequence
+from concurrent.futures import ThreadPoolExecutor
+from contextlib import closing
+from dataclasses import dataclass
+from enum import Enum
+from typing import TYPE_CHECKING
+
+from smblease.drive.clock import library
+from smblease.drive.commands import NOT_DRIVEN, SAFE, ended
+from smblease.drive.faults import DriveFault, Usage
+from smblease.program import find_program
+from smblease.serve.run_command import RULES
+from smblease.serve.server_process import ServerProcess
+
+if TYPE_CHECKING:
+    from smblease.drive.servers import PrivateServer
+
+# A session is ended by another one of its user alone, which no guest is.
+USER, PASSWORD = "torture", "torture"
+SUITES = ("smb2.lease", "smb2.durable-open", "smb2.durable-open-disconnect")
+EPILOG = """Each test is a line: its name, `passed`, `failed` or `skipped`, its seconds, and smbtorture's own words, if any.
+
+Exit status: 0 none failed; 1 some did, or couldn't be run; 2 the command line is refused."""
+
+
+class Kind(Enum):
+    PASSED = "passed"
+    FAILED = "failed"
+    SKIPPED = "skipped"
+
+
+@dataclass(frozen=True)
+class Row:
+    name: str
+    kind: Kind
+    seconds: float
+    words: str
+
+    @property
+    def text(self) -> str:
+        return f"{self.name:45} {self.kind.value:8} {self.seconds:6.1f} {self.words}".rstrip()
+
+
+def parser() -> argparse.ArgumentParser:
+    made = argparse.ArgumentParser(prog="serve/torture", description="Runs tests of smbtorture against the server of serve/run.",
+                                   epilog=EPILOG, formatter_class=argparse.RawDescriptionHelpFormatter)
+    made.add_argument("name", metavar="NAME", nargs="*", help="a test, as smb2.lease.request; all of the suites where none is")
+    made.add_argument("--smbd", action="store_true", help="against a private smbd, for comparison; needs root")
+    made.add_argument("--rules", default=RULES, metavar="RULES", help=f"with serve/run --rules RULES ({RULES})")
+    made.add_argument("--limit", type=float, default=150.0, metavar="S", help="seconds that a test may take (150)")
+    made.add_argument("--jobs", type=int, default=2, metavar="N", help="how many at a time (2)")
+    made.add_argument("--record", metavar="PREFIX", help="keep the records as PREFIX followed by the test's name")
+    made.add_argument("--leasecheck", metavar="PATH", default=find_program(), help="the program leasecheck")
+    return made
+
+
+def known_tests() -> list[str]:
+    """The tests of the suites, as smbtorture lists them: with the last name twice."""
+    output = _ran(["smbtorture", "--list"], 60.0).stdout
+    names = [line.strip().rpartition(".")[0] for line in output.splitlines()]
+    return [name for name in names if name.rpartition(".")[0] in SUITES]
+
+
+def _ran(words: list[str], limit: float) -> subprocess.CompletedProcess[str]:
+    try:
+        return subprocess.run(words, stdin=subprocess.DEVNULL, capture_output=True, text=True, errors="replace", timeout=limit,
+                              check=False)
+    except OSError as fault:
+        raise DriveFault(f"smbtorture: {fault.strerror} (tools/setup installs it)") from None
+
+
+def run_test(name: str, server: Callable[[str], ServerProcess | PrivateServer], limit: float) -> Row:
+    begun = time.monotonic()
+    with closing(server(name)) as target:
+        place = target.place
+        words = ["smbtorture", f"//{place.host}/{place.share}", "-p", str(place.port), "-U", f"{place.user}%{place.password}",
+                 "-m", "SMB2_10", name]
+        try:
+            output = _ran(words, limit)
+            kind, why = _outcome(output.stdout + output.stderr, output.returncode)
+        except subprocess.TimeoutExpired:
+            kind, why = Kind.FAILED, f"not over within {limit:.0f} s"
+    complaints = target.complaints.strip() if isinstance(target, ServerProcess) else ""
+    return Row(name, kind, time.monotonic() - begun, f"{why} {complaints}".strip())
+
+
+def _outcome(output: str, status: int) -> tuple[Kind, str]:
+    found = re.search(r"^(success|skip|failure|error): \S+(?: \[\n(.*?)\n\])?$", output, re.MULTILINE | re.DOTALL)
+    words = " ".join((found.group(2) or "").split()) if found else _last_status(output)
+    if found and found.group(1) == "success" and status == 0:
+        return Kind.PASSED, ""
+    return (Kind.SKIPPED if found and found.group(1) == "skip" else Kind.FAILED), words
+
+
+def _last_status(output: str) -> str:
+    """The last line with a status, where smbtorture breaks down without a word of its own."""
+    lines = [line for line in output.splitlines() if "NT_STATUS_" in line]
+    return " ".join((lines or output.splitlines() or ["nothing"])[-1].split())
+
+
+def private_server() -> PrivateServer:
+    try:
+        # The proved server is tested without impacket.
+        from smblease.drive import servers  # pylint: disable=import-outside-toplevel
+    except ImportError:
+        raise DriveFault("--smbd needs impacket, which can't be imported (tools/setup installs it)") from None
+    return servers.PrivateServer()
+
+
+def torture(arguments: argparse.Namespace) -> int:
+    known = known_tests()
+    unknown = [name for name in arguments.name if name not in known]
+    if unknown or arguments.jobs < 1:
+        raise Usage(f"no test of {', '.join(SUITES)}: {unknown[0]}" if unknown else "--jobs is at least 1")
+
+    def server(name: str) -> ServerProcess | PrivateServer:
+        if arguments.smbd:
+            return private_server()
+        record = f"{arguments.record}{name}" if arguments.record else None
+        words = ["--rules", arguments.rules, "--user", f"{USER}%{PASSWORD}", "--guests"]
+        return ServerProcess(arguments.leasecheck, record, words, USER, PASSWORD)
+    if arguments.smbd:
+        # Compiled once, before servers are made side by side.
+        library()
+    rows: list[Row] = []
+    with ThreadPoolExecutor(arguments.jobs) as pool:
+        for row in pool.map(lambda name: run_test(name, server, arguments.limit), arguments.name or known):
+            rows.append(row)
+            print(row.text, flush=True)
+    counts = [sum(row.kind is kind for row in rows) for kind in Kind]
+    print(", ".join(f"{count} {kind.value}" for count, kind in zip(counts, Kind)))
+    return NOT_DRIVEN if counts[1] else SAFE
+
+
+def main(words: Sequence[str] | None = None) -> int:
+    return ended(parser(), torture, words)
