@@ -8,7 +8,6 @@ use capture_wire::{Command, Header, read_header};
 use lease_state::Memory;
 use lease_wire::first_message;
 use std::alloc::{AllocError, Global};
-use std::convert::AsSlice;
 use std::marker::Model;
 
 /// What a message is to others.

@@ -3,7 +3,7 @@
 use lease_client::{Answer, Client, Command, lease_key};
 use lease_state::{Access, Bytes, FileId, FileNo, LeaseState, Memory, Patch, Reply, Share};
 use lease_wire::{CreateAnswer, write_create_reply};
-use std::alloc::{AllocError, Global};
+use std::alloc::Global;
 
 const GUID: [u8; 16] = [0x11; 16];
 

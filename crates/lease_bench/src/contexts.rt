@@ -2,7 +2,7 @@
 
 use lease_state::{FileId, LeaseKey, LeaseState, Memory};
 use lease_wire::{CreateAsk, read_create, write_create_ask};
-use std::alloc::{AllocError, Global};
+use std::alloc::Global;
 
 // A request with a lease of RWH, a foreign context and a durable open.
 const CHAIN: [u8; 120] = *b"\x38\0\0\0\x10\0\x04\0\0\0\x18\0\x20\0\0\0RqLs\0\0\0\0\

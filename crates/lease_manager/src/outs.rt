@@ -98,7 +98,7 @@ impl Outs {
     }
 
     /// An open is closed.
-    pub fn closed(&mut self, client: ClientNo, file_id: FileId) -> Result<(), Memory>
+    pub fn close_done(&mut self, client: ClientNo, file_id: FileId) -> Result<(), Memory>
         ensures { OnOk result (self.new ≡ self.old ++ model.Out.Sent client.0 (model.Reply.Closed file_id.0) ∷ []) }
     {
         self.push(Out::Closed { client, file_id })

@@ -6,8 +6,7 @@ use crate::Memory;
 use std::convert::AsSlice;
 use std::marker::Model;
 
-/// Bytes that a value owns, as those of a write or of a request's create contexts (profile).
-/// Contracts see the list of them.
+/// Bytes that a value owns, such as those of a write or of a request's create contexts (profile). To contracts they are a list.
 #[derive(Debug, Drop)]
 pub struct Bytes {
     items: Vec<u8>,

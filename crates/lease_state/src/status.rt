@@ -6,20 +6,29 @@ use thiserror::Error;
 /// The status of a refused request (MS-SMB2 3.3.5; the codes are those of MS-ERREF 2.3.1).
 #[derive(Clone, Copy, Debug, PartialEq, Eq, Hash, Error)]
 pub enum Status {
+    /// An acknowledgment of a lease that isn't breaking (3.3.5.22.2).
     #[error("STATUS_UNSUCCESSFUL")]
     Unsuccessful,
+    /// A message that can't be read, a create under a key that has a lease on another file, or a write past the
+    /// greatest size of a file.
     #[error("STATUS_INVALID_PARAMETER")]
     InvalidParameter,
+    /// A read or write by an open whose access doesn't allow it.
     #[error("STATUS_ACCESS_DENIED")]
     AccessDenied,
+    /// No such file, no lease of the key that is acknowledged, or no durable open to connect again.
     #[error("STATUS_OBJECT_NAME_NOT_FOUND")]
     ObjectNameNotFound,
+    /// A create whose access or share conflicts with those of another open (2.2.13).
     #[error("STATUS_SHARING_VIOLATION")]
     SharingViolation,
+    /// No FileId is left for another open (profile).
     #[error("STATUS_INSUFFICIENT_RESOURCES")]
     InsufficientResources,
+    /// An acknowledgment of a state that isn't within the one that the break named (3.3.5.22.2).
     #[error("STATUS_REQUEST_NOT_ACCEPTED")]
     RequestNotAccepted,
+    /// A request by a FileId of which the client has no open.
     #[error("STATUS_FILE_CLOSED")]
     FileClosed,
 }

@@ -8,9 +8,7 @@ ghost use Rattle.lease_texts.specs.{Schedules.part_in, Schedules.part_kinds, Com
 use crate::commands::{CLOSE, FLUSH, OPEN, READ, WRITE, is_command, read_command};
 use crate::fault::LineFault;
 use crate::fields::Fields;
-use crate::kinds::Field::{
-    Access, Bytes, Client, Content, Durable, File, Guid, Offset, Request, Share, State,
-};
+use crate::kinds::Field::{Client, Content, File, Guid, Request};
 use crate::kinds::{Row, Table};
 use crate::requests::read_request;
 use crate::said::line;

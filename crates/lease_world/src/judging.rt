@@ -132,7 +132,7 @@ impl Judge {
 #[cfg(test)]
 mod tests {
     use super::Judge;
-    use lease_facts::{Fact, Verdict};
+    use lease_facts::Fact;
     use lease_state::{ClientNo, Memory};
     use std::alloc::Global;
     use std::test::Fail;

@@ -12,7 +12,6 @@ use capture_texts::{
 };
 use lease_texts::{TextFault, push_fact};
 use std::alloc::{AllocError, Global};
-use std::fmt::Write as _;
 
 // The capture that a text is.
 fn capture_of(alloc: Global, side: Side, text: &[u8]) -> Result<Capture, Refusal>

@@ -5,7 +5,6 @@ use crate::finding::{ClientFinding, EpochFinding, FileFinding, Report};
 use crate::records::record::{RecordLine, push_remark};
 use lease_state::Memory;
 use std::alloc::Global;
-use std::fmt::Write as _;
 
 fn push_files(
     alloc: Global,

@@ -14,7 +14,6 @@ use capture_judge::Level;
 use lease_facts::Fact;
 use lease_state::{Bytes, ClientNo, FileNo, LeaseState, Memory};
 use std::alloc::Global;
-use std::fmt::Write as _;
 
 /// A line of the record of a capture.
 #[derive(Debug, Drop)]

@@ -154,6 +154,6 @@ fn close(tables: &mut Tables, outs: &mut Outs, client: ClientNo, fid: FileId) ->
     ensures queues { OnOk result (tables.new.queues ≡ tables.old.queues) }
 {
     tables.close(Closing::Named(fid))?;
-    outs.closed(client, fid)?;
+    outs.close_done(client, fid)?;
     Ok(())
 }

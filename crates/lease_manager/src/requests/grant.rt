@@ -34,7 +34,7 @@ pub struct Opening {
 
 impl Opening {
     // What its client asked.
-    fn ask(&self) -> Ask
+    fn as_ask(&self) -> Ask
         ensures { request_like result ≡ requests.FileRequest.Create self.now.file.0 self.now.access self.now.share
             (Some (ask_of self.now.ask)) }
     {
@@ -64,7 +64,11 @@ pub fn grant(tables: &mut Tables, outs: &mut Outs, opening: Opening) -> Result<(
     ensures queues { OnOk result (tables.new.queues ≡ tables.old.queues) }
 {
     if tables.last_id() == u64::MAX {
-        return outs.refuse(opening.client, opening.ask(), Status::InsufficientResources);
+        return outs.refuse(
+            opening.client,
+            opening.as_ask(),
+            Status::InsufficientResources,
+        );
     }
     let lease = lease_after(tables, opening.client, opening.file, opening.ask.lease);
     grant_with(tables, outs, opening, lease)

@@ -4,7 +4,6 @@ ghost use Rattle.lease_manager.specs.Summaries.{lease_in};
 
 use crate::tables::summaries::Summaries;
 use crate::values::key::LeaseName;
-use crate::values::lease::HeldLease;
 use crate::values::number::ClientNo;
 use crate::values::open::OpenEntry;
 use lease_state::FileId;

@@ -13,7 +13,7 @@ use crate::handles::{Outcome, write_id};
 use crate::manager::handle::ManagerHandle;
 use crate::values::{KeyBytes, MaybeKey};
 use lease_manager::{ClientNo, FileNo, HeldLease};
-use lease_state::{FileId, LeaseKey, LeaseState};
+use lease_state::{LeaseKey, LeaseState};
 use std::alloc::Global;
 
 /// A lease: `struct smblease_held_lease`.

@@ -6,7 +6,6 @@ ghost use Rattle.record_words.specs.words.FactWords.{way_words, deed_words, fact
 ghost use Rattle.lease_facts.specs.Facts.{client_of};
 ghost use Rattle.lease_facts.specs.declared.fact.Fact.TheVariants as fact;
 
-use lease_client::Settlement;
 use lease_facts::{Fact, FactKind};
 use lease_state::Patch;
 use lease_texts::{digits_of, outcome_word, state_letters};

@@ -6,7 +6,6 @@ use capture_texts::{
 use capture_wire::Command;
 use lease_texts::push_fact;
 use std::alloc::Global;
-use std::fmt::Write as _;
 use std::test::Fail;
 
 fn text_of(alloc: Global, lines: &[RecordLine]) -> Result<String, Fail> {
