@@ -59,7 +59,8 @@ acknowledgment lease (_ ∷ later) = acknowledgment lease later
 
 -- A connection may be given up without a word, and an open whose FileId its client guessed may be closed before the response
 -- with it is seen. So a lease is sure only up to the last request that shows it: one by the FileId of one of its opens that the
--- server does, and after that, until the open is closed, any that it answers on the connection on which that was made.
+-- server does, and after that, until the open is closed, any that it answers on the connection on which that was made. The last
+-- doesn't hold where the server ended the open by itself, which only a later answer shows.
 
 -- the request is about the lease, by an open that was made with the message of this number, or before it
 abbrev pub is_use : Lease → ℕ → Asked → Bool
@@ -69,11 +70,18 @@ is_use lease number one = is_for lease one.lease && nat_le one.opened number
 abbrev pub is_own : Lease → ℕ → Asked → Bool
 is_own lease number one = is_for lease one.lease && one.opened == number
 
--- The request shows the lease; `live` says whether the open that was made with the message is known to be there.
+-- the server is found to have ended the open that was made with a message
+abbrev pub is_gone : ℕ → Event → Bool
+is_gone number (event.Gone one) = one.opened == number
+is_gone number _ = false
+
+-- The request shows the lease; `live` says whether the open that was made with the message is known to be there, unless it is gone
+-- later.
 abbrev pub shows : Lease → Sent → Bool → Asked → List Event → Bool
 shows lease sent live one later =
     if is_use lease sent.number one then unwrap_or (answer lease one.connection one.id later) false
-    else (live && one.connection == sent.connection) && is_some (answer lease one.connection one.id later)
+    else ((live && one.connection == sent.connection) && not (list_any (is_gone sent.number) later))
+    && is_some (answer lease one.connection one.id later)
 
 -- A break that has to be acknowledged, and isn't: the server gives up the lease when its timer runs out (3.3.6.5), from which on
 -- nothing of the lease is sure. It may do so before the message leaves it, but not before it made what it sent on the same
@@ -97,6 +105,8 @@ last_shown lease sent live found (event.Asked one ∷ later) =
     then last_shown lease sent (live || is_own lease sent.number one) (Some one) later
     else last_shown lease sent live found later
 last_shown lease sent live found (event.Closed one ∷ later) =
+    last_shown lease sent (live && not (one.opened == sent.number)) found later
+last_shown lease sent live found (event.Gone one ∷ later) =
     last_shown lease sent (live && not (one.opened == sent.number)) found later
 last_shown lease sent live found (event.Ended end ∷ later) =
     if is_same end.lease lease then found else last_shown lease sent live found later
@@ -169,6 +179,7 @@ is_before since (event.Acknowledged given) = nat_le given.last since
 is_before since (event.Asked one) = nat_le one.position since
 is_before since (event.Answered one) = nat_le one.position since
 is_before since (event.Closed one) = true
+is_before since (event.Gone one) = true
 is_before since (event.Ended end) = nat_le end.last since
 is_before since (event.Taken proof) = nat_le proof.last since
 is_before since _ = false

@@ -23,6 +23,7 @@ use Rattle.capture_walk.specs.declared.event.Lease.{Lease}
 use Rattle.capture_walk.specs.declared.event.Sent.{Sent}
 use Rattle.capture_walk.specs.declared.event.Grant.{Grant}
 use Rattle.capture_walk.specs.declared.event.Break.{Break}
+use Rattle.capture_walk.specs.declared.event.Asked.{Asked}
 use Rattle.capture_walk.specs.declared.event.Said.{Said}
 use Rattle.capture_walk.specs.declared.event.Remade.{Remade}
 use Rattle.capture_walk.specs.declared.event.Event.{Event}
@@ -99,6 +100,18 @@ answer_by seen (Some id) = event.Answered (record {
   done = is_done seen.note;
   position = seen.latest;
 }) ∷ []
+
+-- the last request with a MessageId on a connection
+abbrev pub last_asked : ℕ → ℕ → Option Asked → List Event → Option Asked
+last_asked connection id found [] = found
+last_asked connection id found (event.Asked one ∷ later) =
+    last_asked connection id (if one.connection == connection && one.id == id then Some one else found) later
+last_asked connection id found (_ ∷ later) = last_asked connection id found later
+
+-- the open that a request is about isn't there any more
+abbrev pub gone : Option Asked → List Event
+gone None = []
+gone (Some one) = event.Gone (record { opened = one.opened }) ∷ []
 
 -- ---- leases that end
 
@@ -349,6 +362,7 @@ told_by (note.Close name) seen client one since held before =
 told_by (note.Acknowledge given) seen client one since held before =
     acknowledged seen given (lease_under client given.key.0 held) before
 told_by (note.Break break) seen client one since held before = broken seen break client held before
+told_by (note.Gone id) seen client one since held before = gone (last_asked seen.connection id None before)
 told_by note.Gap seen client one since held before = lost_of seen client since held
 told_by note.Taken seen client one since held before = all_taken seen ∷ []
 told_by _ seen client one since held before = []

@@ -33,6 +33,7 @@ abbrev pub answered : Note → Option ℕ
 answered (note.CreateGiven given) = Some given.id
 answered (note.Done id) = Some id
 answered (note.Answered id) = Some id
+answered (note.Gone id) = Some id
 answered _ = None
 
 -- the server did what it asks
@@ -75,5 +76,6 @@ is_answer (note.TreeGiven given) = true
 is_answer (note.CreateGiven given) = true
 is_answer (note.Done id) = true
 is_answer (note.Answered id) = true
+is_answer (note.Gone id) = true
 is_answer (note.Break break) = true
 is_answer _ = false

@@ -168,6 +168,11 @@ tree_note header (TreeId tree) =
     note.TreeGiven (record { id = header.message_id; session = header.session_id; tree = tree })
 tree_note header (AsyncId async) = note.Gap
 
+-- The server has no such session (USER_SESSION_DELETED, MS-SMB2 3.3.5.2.9), no such tree connect (NETWORK_NAME_DELETED, 3.3.5.2.11)
+-- or no such open (FILE_CLOSED, as 3.3.5.12 has it for READ): it may have ended any of these by itself.
+abbrev pub is_gone : ℕ → Bool
+is_gone status = status == 3221225987 || (status == 3221225673 || status == 3221225768)
+
 -- a response that nothing was read of: that of TREE_CONNECT counts where it is of STATUS_SUCCESS, and one of STATUS_PENDING is
 -- not for good
 abbrev pub other_note : Header → Note
@@ -175,6 +180,7 @@ other_note header =
     if header.status == 259 then note.Other
     else if header.command == 3 && header.status == 0 then tree_note header header.tree_or_async
     else if header.status == 0 then note.Done header.message_id
+    else if is_gone header.status then note.Gone header.message_id
     else note.Answered header.message_id
 
 abbrev pub response_note : Header → Response → Note

@@ -2,7 +2,7 @@ ghost use Rattle.std.specs.Prelude.{◌≡◌, true, false, ◌&&◌, ◌≤◌,
 ghost use Rattle.std.specs.List.{list_any};
 ghost use Rattle.capture_judge.specs.Worked.{shown};
 ghost use Rattle.capture_walk.specs.Chains.{answer, taken, is_accepted, acknowledgment, is_for, is_use, is_own, shows};
-ghost use Rattle.capture_walk.specs.Chains.{cuts, shown_before, last_shown};
+ghost use Rattle.capture_walk.specs.Chains.{cuts, shown_before, last_shown, is_gone};
 ghost use Rattle.capture_walk.specs.Chains.{sure_by, kept_until, changes_by_grant, changes_by_break, changes, changes_by};
 ghost use Rattle.capture_walk.specs.Chains.{doubt, earliest, lost_since, is_before, is_known, cut_off, known_changes};
 ghost use Rattle.capture_walk.specs.Chains.{leases_on, chains_on, files_in, is_file, is_same, chain_by, chain_of};
@@ -21,7 +21,7 @@ fn is_before(since: u64, event: &Event) -> bool
         Event::Acknowledged(given) => given.last <= since,
         Event::Asked(one) => one.position <= since,
         Event::Answered(one) => one.position <= since,
-        Event::Closed(_) => true,
+        Event::Closed(_) | Event::Gone(_) => true,
         Event::Ended(end) => end.last <= since,
         Event::Taken(proof) => proof.last <= since,
         Event::Stray(_) | Event::Misnumbered(_) | Event::Lost(_) | Event::Remade(_) => false,
@@ -125,6 +125,27 @@ fn is_own(lease: Lease, number: u64, one: &Asked) -> bool
     is_for(lease, one.lease) && one.opened == number
 }
 
+fn is_gone(number: u64, event: &Event) -> bool
+    ensures { result ≡ is_gone number event.now }
+{
+    match event {
+        Event::Gone(one) => one.opened == number,
+        _ => false,
+    }
+}
+
+// Whether the server is found to have ended the open that was made with a message.
+fn has_gone(number: u64, later: &[Event], since: Option<u64>) -> bool
+    ensures { result ≡ list_any (is_gone number) (filter (is_known since) later.now) }
+{
+    for event in later {
+        if is_known(since, event) && is_gone(number, event) {
+            return true;
+        }
+    }
+    false
+}
+
 // Whether the request shows the lease, where the open that was made with the message is known to be there or not.
 fn shows(
     lease: Lease,
@@ -141,6 +162,7 @@ fn shows(
     }
     is_live
         && one.connection == sent.connection
+        && !has_gone(sent.number, later, since)
         && answer(lease, one.connection, one.id, later, since).is_some()
 }
 
@@ -180,6 +202,7 @@ fn last_shown(lease: Lease, sent: Sent, later: &[Event], since: Option<u64>) -> 
                 found = Some(*one);
             }
             Event::Closed(one) => is_live = is_live && one.opened != sent.number,
+            Event::Gone(one) => is_live = is_live && one.opened != sent.number,
             Event::Ended(end) if end.lease.is(lease) => return found,
             Event::Broken(broken) if cuts(lease, broken, &later[index + 1..], since) => {
                 return shown_before(broken, found);

@@ -111,6 +111,8 @@ pub enum Note<'a> {
     CreateGiven(CreateGiven),
     /// Any other response of STATUS_SUCCESS, by its MessageId: the server did what the request asks.
     Done(u64),
+    /// A response by which the server has no such open any more, by its MessageId.
+    Gone(u64),
     /// Any other response but an interim one, by its MessageId.
     Answered(u64),
     /// A request that is about an open, and doesn't close it.
@@ -190,7 +192,7 @@ impl<'a> Note<'a> {
     {
         match self {
             Note::CreateGiven(given) => Some(given.id),
-            Note::Done(id) | Note::Answered(id) => Some(id),
+            Note::Done(id) | Note::Answered(id) | Note::Gone(id) => Some(id),
             _ => None,
         }
     }
@@ -230,6 +232,7 @@ impl<'a> Note<'a> {
                 | Note::CreateGiven(_)
                 | Note::Done(_)
                 | Note::Answered(_)
+                | Note::Gone(_)
                 | Note::Break(_)
         )
     }

@@ -22,6 +22,12 @@ const DIRECTORY: u32 = 16;
 
 const STATUS_PENDING: u32 = 0x103;
 
+const USER_SESSION_DELETED: u32 = 0xc000_0203;
+
+const NETWORK_NAME_DELETED: u32 = 0xc000_00c9;
+
+const FILE_CLOSED: u32 = 0xc000_0128;
+
 const TREE_CONNECT: u16 = 3;
 
 // Half of the FileId by which a related request names the open of the one before it.
@@ -303,6 +309,13 @@ fn tree_note<'a>(header: &Header) -> Note<'a>
     }
 }
 
+// Whether the server has no such session, tree connect or open any more.
+fn is_gone(status: u32) -> bool
+    ensures { result ≡ reading.is_gone status }
+{
+    status == USER_SESSION_DELETED || status == NETWORK_NAME_DELETED || status == FILE_CLOSED
+}
+
 fn other_note<'a>(header: &Header) -> Note<'a>
     ensures { result ≡ reading.other_note header.now }
 {
@@ -314,6 +327,9 @@ fn other_note<'a>(header: &Header) -> Note<'a>
     }
     if header.status == 0 {
         return Note::Done(header.message_id);
+    }
+    if is_gone(header.status) {
+        return Note::Gone(header.message_id);
     }
     Note::Answered(header.message_id)
 }

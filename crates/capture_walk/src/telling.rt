@@ -7,12 +7,12 @@ ghost use Rattle.capture_walk.specs.Events.{last_said, without_epoch, is_newer, 
 ghost use Rattle.capture_walk.specs.Events.{has_order, follows_on, misnumbered, ordered, new_epoch, grant_of, break_of};
 ghost use Rattle.capture_walk.specs.Events.{dispute, is_stray_of, strayed, stray};
 ghost use Rattle.capture_walk.specs.Events.{granted_lease, granted_of, lost_under, broken_of, broken, lost_of, lost_at, missing};
-ghost use Rattle.capture_walk.specs.Events.{acknowledged, closed, asked_of, asked_by, answer_by, heard, told_remade, told_by, is_under, is_of, all_taken};
+ghost use Rattle.capture_walk.specs.Events.{last_asked, gone, acknowledged, closed, asked_of, asked_by, answer_by, heard, told_remade, told_by, is_under, is_of, all_taken};
 ghost use Rattle.capture_walk.specs.declared.event.Event.TheVariants as event;
 
 use crate::event::{
-    Acknowledged, Answered, Asked, Break, Closed, End, Event, Grant, Lease, Loss, Misnumbered,
-    NotJudged, Proof, Remade, Said, Sent, Stray,
+    Acknowledged, Answered, Asked, Break, Closed, End, Event, Gone, Grant, Lease, Loss,
+    Misnumbered, NotJudged, Proof, Remade, Said, Sent, Stray,
 };
 use crate::note::{BreakNote, KeyLevel, LeaseGiven, Note, OpenName, Seen};
 use crate::opens::Open;
@@ -137,6 +137,31 @@ pub(crate) fn push_heard(
             done: seen.note.is_done(),
             position: seen.latest,
         }))?;
+    }
+    Ok(())
+}
+
+// The last request with a MessageId on a connection.
+fn last_asked(events: &[Event], connection: u64, id: u64) -> Option<Asked>
+    ensures { result ≡ last_asked connection id None events.now }
+{
+    let mut found = None;
+    for event in events {
+        if let Event::Asked(one) = event {
+            if one.connection == connection && one.id == id {
+                found = Some(*one);
+            }
+        }
+    }
+    found
+}
+
+// The open that a request is about isn't there any more.
+fn push_gone(events: &mut Vec<Event>, asked: Option<Asked>) -> Result<(), Memory>
+    ensures { OnOk result (events.new.items ≡ events.old.items ++ gone asked) }
+{
+    if let Some(one) = asked {
+        events.push(Event::Gone(Gone { opened: one.opened }))?;
     }
     Ok(())
 }
@@ -702,6 +727,10 @@ pub(crate) fn push_told(
             push_acknowledged(events, seen, given, lease_under(opens, client, given.key))
         }
         Note::Break(one) => push_broken(events, seen, one, client, opens),
+        Note::Gone(id) => {
+            let asked = last_asked(events, seen.connection, id);
+            push_gone(events, asked)
+        }
         Note::Gap => push_lost(events, seen, client, since, opens),
         Note::Taken => push_all_taken(events, seen),
         _ => Ok(()),
