@@ -1,4 +1,4 @@
--- Files: each of a server, a share's path, a name and one life. Messages that are called past have the newest one first, and so
+-- Files: each of a server, a share's path, a name, a time at which it was made, and one life. Messages that are called past have the newest one first, and so
 -- has the table.
 use Rattle.std.specs.Prelude.{◌≡◌, ℕ, ◌==◌, ◌&&◌, ◌||◌, not, Bool, true, false, if◌then◌else◌, List, [], ◌∷◌, ◌++◌, Option, Some, None}
 use Rattle.std.specs.Prelude.{unwrap_or, bytes_eq}
@@ -14,21 +14,33 @@ use Rattle.capture_walk.specs.declared.files.Named.{Named}
 use Rattle.capture_walk.specs.declared.files.Files.{Files}
 use Rattle.capture_walk.specs.declared.files.Place as declared
 
--- where a file is: names that differ in a byte are those of different files
+-- Where a file is, and when it was made: names that differ in a byte are those of different files, and so are times. One name may
+-- lead to several files, as where a share has a folder of its own for each user; and a file whose CreationTime is set anew
+-- (MS-FSCC 2.4.7) is taken for another one, so that one key may have been seen for two files.
 pub record Place : Type 0 where
   pub server : ℕ
   pub path : List ℕ
   pub name : List ℕ
+  pub creation_time : ℕ
 
 abbrev pub is_same_place : Place → Place → Bool
-is_same_place one other = (one.server == other.server && bytes_eq one.path other.path) && bytes_eq one.name other.name
+is_same_place one other =
+    ((one.server == other.server && one.creation_time == other.creation_time) && bytes_eq one.path other.path)
+    && bytes_eq one.name other.name
 
 -- a file, by its place and its number
 abbrev pub named_at : Place → ℕ → Named
-named_at place file = record { server = place.server; path = place.path; name = place.name; file = file }
+named_at place file = record {
+  server = place.server;
+  path = place.path;
+  name = place.name;
+  creation_time = place.creation_time;
+  file = file;
+}
 
 abbrev pub place_of_named : Named → Place
-place_of_named one = record { server = one.server; path = one.path; name = one.name }
+place_of_named one =
+    record { server = one.server; path = one.path; name = one.name; creation_time = one.creation_time }
 
 -- ---- by looking back
 
@@ -38,11 +50,12 @@ abbrev pub is_unnamed : Create → Bool → Bool
 is_unnamed create is_new = create.unnamed || (create.remade && not is_new)
 
 -- the place that a CREATE names, where its request and its tree connect were seen
-abbrev pub place_by : ℕ → Option Create → Bool → Option (List ℕ) → Option Place
-place_by server None is_new path = None
-place_by server (Some create) is_new None = None
-place_by server (Some create) is_new (Some path) =
-    if is_unnamed create is_new then None else Some (record { server = server; path = path; name = create.name })
+abbrev pub place_by : ℕ → Option Create → CreateGiven → Option (List ℕ) → Option Place
+place_by server None given path = None
+place_by server (Some create) given None = None
+place_by server (Some create) given (Some path) =
+    if is_unnamed create given.is_new then None
+    else Some (record { server = server; path = path; name = create.name; creation_time = given.creation_time })
 
 abbrev pub create_path : ℕ → ℕ → Option Create → List Seen → Option (List ℕ)
 create_path server session None past = None
@@ -51,7 +64,7 @@ create_path server session (Some create) past = path_of server session create.tr
 -- the place of the file that a CREATE response is of
 abbrev pub place_given : Seen → CreateGiven → List Seen → Option Place
 place_given seen given past =
-    place_by seen.server (pending seen.connection given.id past) given.is_new
+    place_by seen.server (pending seen.connection given.id past) given
     (create_path seen.server given.session (pending seen.connection given.id past) past)
 
 -- the file that a CREATE opens, by the message's number: the one that has its name, or one whose life begins with it
@@ -120,7 +133,12 @@ place_of_life file (one ∷ others) = if one.file == file then Some (place_of_na
 -- ---- the table
 
 abbrev pub place_view : declared.Place → Place
-place_view place = record { server = place.server; path = place.path.now; name = place.name.now }
+place_view place = record {
+  server = place.server;
+  path = place.path.now;
+  name = place.name.now;
+  creation_time = place.creation_time;
+}
 
 abbrev pub file_in : Place → List Named → Option ℕ
 file_in place [] = None

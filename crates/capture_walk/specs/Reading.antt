@@ -190,6 +190,7 @@ response_note header (response.Create given contexts) = note.CreateGiven (record
   session = header.session_id;
   file_id = given.file_id;
   is_new = is_new given;
+  creation_time = given.creation_time;
   lease = lease_given given contexts.lease;
 })
 response_note header (response.Break notification new_epoch) = note.Break (record {

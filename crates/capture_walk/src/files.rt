@@ -20,6 +20,8 @@ pub struct Place<'a> {
     pub path: &'a [u8],
     /// The name below the share, as it stands in the CREATE request.
     pub name: &'a [u8],
+    /// When the file was made.
+    pub creation_time: u64,
 }
 
 // The file at a place.
@@ -28,6 +30,7 @@ pub(crate) struct Named {
     server: u64,
     path: Bytes,
     name: Bytes,
+    creation_time: u64,
     file: u64,
 }
 
@@ -47,6 +50,7 @@ fn named_at(alloc: Global, place: Place<'_>, file: u64) -> Result<Named, Memory>
         server: place.server,
         path: Bytes::new(Vec::from_slice(alloc, place.path)?),
         name: Bytes::new(Vec::from_slice(alloc, place.name)?),
+        creation_time: place.creation_time,
         file,
     })
 }
@@ -68,6 +72,7 @@ impl Files {
     {
         for one in &self.named {
             if one.server == place.server
+                && one.creation_time == place.creation_time
                 && one.path.as_slice() == place.path
                 && one.name.as_slice() == place.name
             {
@@ -140,6 +145,7 @@ impl Files {
                     server: one.server,
                     path: one.path.as_slice(),
                     name: one.name.as_slice(),
+                    creation_time: one.creation_time,
                 });
             }
         }

@@ -59,6 +59,8 @@ pub struct CreateGiven {
     pub file_id: Smb2FileId,
     /// Whether it made the file, or another one in its place.
     pub is_new: bool,
+    /// When the file was made.
+    pub creation_time: u64,
     /// A lease of either version on a file; those on folders don't count.
     pub lease: Option<LeaseGiven>,
 }

@@ -105,7 +105,7 @@ pub(crate) fn place_of<'a>(
     trees: &'a Trees,
 ) -> Option<Place<'a>>
     ensures { (past : List Seen) → KnowsTrees past trees.now → option_map place_view result
-        ≡ place_by seen.now.server (Some create.now) given.is_new
+        ≡ place_by seen.now.server (Some create.now) given
         (path_of seen.now.server given.session create.now.tree past) }
 {
     let path = trees.path_of(seen.server, given.session, create.tree)?;
@@ -116,6 +116,7 @@ pub(crate) fn place_of<'a>(
         server: seen.server,
         path,
         name: create.name.as_slice(),
+        creation_time: given.creation_time,
     })
 }
 

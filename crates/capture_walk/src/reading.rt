@@ -344,6 +344,7 @@ fn response_note<'a>(header: &Header, response: &Response) -> Note<'a>
             session: header.session_id,
             file_id: given.file_id,
             is_new: given.action == 0 || given.action == 2,
+            creation_time: given.creation_time,
             lease: lease_given(given, contexts.lease),
         }),
         Response::Break(notification, new_epoch) => Note::Break(BreakNote {

@@ -22,12 +22,13 @@ pub record IsCreateRequest (message : List ℕ) (request : CreateRequest) : Type
   pub options : request.options ≡ number_at 104 4 message
   pub name : request.name.now ≡ part_at 108 message
 
--- CREATE response (2.2.14): StructureSize at 64, which is 89, OplockLevel at 66, Flags at 67, CreateAction at 68, times from
--- 72 on, AllocationSize at 104, EndofFile at 112, FileAttributes at 120, FileId at 128, CreateContextsOffset at 144 and Length
+-- CREATE response (2.2.14): StructureSize at 64, which is 89, OplockLevel at 66, Flags at 67, CreateAction at 68, CreationTime at
+-- 72, other times from 80 on, AllocationSize at 104, EndofFile at 112, FileAttributes at 120, FileId at 128, CreateContextsOffset at 144 and Length
 -- at 148; the fixed part ends at 152
 pub record IsCreateResponse (message : List ℕ) (response : CreateResponse) : Type 0 where
   pub oplock_level : response.oplock_level ≡ slice_index message 66
   pub action : response.action ≡ number_at 68 4 message
+  pub creation_time : response.creation_time ≡ number_at 72 8 message
   pub attributes : response.attributes ≡ number_at 120 4 message
   pub file_id : response.file_id ≡ file_id_at 128 message
 

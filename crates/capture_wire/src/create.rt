@@ -34,6 +34,8 @@ pub struct CreateResponse {
     pub oplock_level: u8,
     /// CreateAction: whether the file was opened, made, or made anew.
     pub action: u32,
+    /// CreationTime: when the file was made, in units of 100 ns.
+    pub creation_time: u64,
     /// FileAttributes.
     pub attributes: u32,
     pub file_id: Smb2FileId,
@@ -74,6 +76,7 @@ pub fn read_create_response(message: &[u8]) -> Result<CreateResponse, MessageFau
     Ok(CreateResponse {
         oplock_level: message[66],
         action: LittleEndian::read_u32(&message[68..]),
+        creation_time: LittleEndian::read_u64(&message[72..]),
         attributes: LittleEndian::read_u32(&message[120..]),
         file_id: file_id_at(message, 128),
     })

@@ -131,6 +131,7 @@ fn grant(capture: &mut Capture, turn: u32, client: u32, file: u32) -> Result<(),
         session: name.session,
         file_id: name.file_id,
         is_new: false,
+        creation_time: 0,
         lease: Some(lease),
     };
     capture.take(client, Note::CreateGiven(given))

@@ -132,6 +132,7 @@ fn creates_are_read(rt: HostRuntime) -> Result<(), Fail> {
     let create = CreateResponse {
         oplock_level: 0xff,
         action: 2,
+        creation_time: 0x5f44_4554_4145_5243,
         attributes: 0x20,
         file_id: FILE_ID,
     };

@@ -108,6 +108,7 @@ fn grant_numbered(
         session: name.session,
         file_id: name.file_id,
         is_new: false,
+        creation_time: 0,
         lease: Some(lease),
     };
     walk.take(&seen(number, connection, Note::CreateGiven(given)))

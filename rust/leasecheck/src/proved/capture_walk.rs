@@ -41,8 +41,8 @@ mod walk;
 pub use chains::{chains_on, files_in};
 pub use compound::{FrameFault, read_frame};
 pub use event::{
-    Acknowledged, Answered, Asked, Break, Closed, End, Event, Grant, Lease, Loss, Misnumbered, NotJudged, Proof, Remade, Sent,
-    Stray,
+    Acknowledged, Answered, Asked, Break, Closed, End, Event, Gone, Grant, Lease, Loss, Misnumbered, NotJudged, Proof, Remade,
+    Sent, Stray,
 };
 pub use files::Place;
 pub use frame::Frame;

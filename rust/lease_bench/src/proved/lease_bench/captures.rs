@@ -100,8 +100,14 @@ fn give_up(capture: &mut Capture, client: u32, file: u32) -> Result<(), Memory> 
 fn grant(capture: &mut Capture, turn: u32, client: u32, file: u32) -> Result<(), Memory> {
     let name = name_of_open(0, client, turn);
     let lease = LeaseGiven { key: key_of(client, file), level: Level::Writes, breaking: false, epoch: None };
-    let given =
-        CreateGiven { id: u64::from(turn) + 2, session: name.session, file_id: name.file_id, is_new: false, lease: Some(lease) };
+    let given = CreateGiven {
+        id: u64::from(turn) + 2,
+        session: name.session,
+        file_id: name.file_id,
+        is_new: false,
+        creation_time: 0,
+        lease: Some(lease),
+    };
     capture.take(client, Note::CreateGiven(given))
 }
 

@@ -14,7 +14,7 @@ fn is_before(since: u64, event: &Event) -> bool {
         Event::Acknowledged(given) => given.last <= since,
         Event::Asked(one) => one.position <= since,
         Event::Answered(one) => one.position <= since,
-        Event::Closed(_) => true,
+        Event::Closed(_) | Event::Gone(_) => true,
         Event::Ended(end) => end.last <= since,
         Event::Taken(proof) => proof.last <= since,
         Event::Stray(_) | Event::Misnumbered(_) | Event::Lost(_) | Event::Remade(_) => false,
@@ -92,12 +92,32 @@ fn is_own(lease: Lease, number: u64, one: &Asked) -> bool {
     is_for(lease, one.lease) && one.opened == number
 }
 
+fn is_gone(number: u64, event: &Event) -> bool {
+    match event {
+        Event::Gone(one) => one.opened == number,
+        _ => false,
+    }
+}
+
+// Whether the server is found to have ended the open that was made with a message.
+fn has_gone(number: u64, later: &[Event], since: Option<u64>) -> bool {
+    for event in later {
+        if is_known(since, event) && is_gone(number, event) {
+            return true;
+        }
+    }
+    false
+}
+
 // Whether the request shows the lease, where the open that was made with the message is known to be there or not.
 fn shows(lease: Lease, sent: Sent, is_live: bool, one: &Asked, later: &[Event], since: Option<u64>) -> bool {
     if is_use(lease, sent.number, one) {
         return answer(lease, one.connection, one.id, later, since).unwrap_or(false);
     }
-    is_live && one.connection == sent.connection && answer(lease, one.connection, one.id, later, since).is_some()
+    is_live
+        && one.connection == sent.connection
+        && !has_gone(sent.number, later, since)
+        && answer(lease, one.connection, one.id, later, since).is_some()
 }
 
 // Whether nothing of the lease is sure from the break on.
@@ -126,6 +146,7 @@ fn last_shown(lease: Lease, sent: Sent, later: &[Event], since: Option<u64>) -> 
                 found = Some(*one);
             }
             Event::Closed(one) => is_live = is_live && one.opened != sent.number,
+            Event::Gone(one) => is_live = is_live && one.opened != sent.number,
             Event::Ended(end) if end.lease.is(lease) => return found,
             Event::Broken(broken) if cuts(lease, broken, &later[index + 1..], since) => {
                 return shown_before(broken, found);

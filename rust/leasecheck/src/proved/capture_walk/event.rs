@@ -179,6 +179,13 @@ pub struct Answered {
     pub position: u64,
 }
 
+/// An answer that shows that the server has no such open any more: it ended it by itself, at some time before.
+#[derive(Clone, Copy, Debug, PartialEq, Eq)]
+pub struct Gone {
+    /// The number of the message that made the open; 0 where the request is about none that is known.
+    pub opened: u64,
+}
+
 /// The end of an open under a lease.
 #[derive(Clone, Copy, Debug, PartialEq, Eq)]
 pub struct Closed {
@@ -203,6 +210,7 @@ pub enum Event {
     Acknowledged(Acknowledged),
     Asked(Asked),
     Answered(Answered),
+    Gone(Gone),
     Closed(Closed),
     Ended(End),
     Taken(Proof),

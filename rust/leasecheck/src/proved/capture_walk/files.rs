@@ -14,6 +14,8 @@ pub struct Place<'a> {
     pub path: &'a [u8],
     /// The name below the share, as it stands in the CREATE request.
     pub name: &'a [u8],
+    /// When the file was made.
+    pub creation_time: u64,
 }
 
 // The file at a place.
@@ -22,6 +24,7 @@ pub(crate) struct Named {
     server: u64,
     path: Bytes,
     name: Bytes,
+    creation_time: u64,
     file: u64,
 }
 
@@ -39,6 +42,7 @@ fn named_at(alloc: Global, place: Place<'_>, file: u64) -> Result<Named, Memory>
         server: place.server,
         path: Bytes::new(Vec::from_slice(alloc, place.path)?),
         name: Bytes::new(Vec::from_slice(alloc, place.name)?),
+        creation_time: place.creation_time,
         file,
     })
 }
@@ -52,7 +56,11 @@ impl Files {
     /// The file at a place.
     pub(crate) fn find(&self, place: Place<'_>) -> Option<u64> {
         for one in &self.named {
-            if one.server == place.server && one.path.as_slice() == place.path && one.name.as_slice() == place.name {
+            if one.server == place.server
+                && one.creation_time == place.creation_time
+                && one.path.as_slice() == place.path
+                && one.name.as_slice() == place.name
+            {
                 return Some(one.file);
             }
         }
@@ -92,7 +100,12 @@ impl Files {
     pub(crate) fn place_of(&self, file: u64) -> Option<Place<'_>> {
         for one in &self.begun {
             if one.file == file {
-                return Some(Place { server: one.server, path: one.path.as_slice(), name: one.name.as_slice() });
+                return Some(Place {
+                    server: one.server,
+                    path: one.path.as_slice(),
+                    name: one.name.as_slice(),
+                    creation_time: one.creation_time,
+                });
             }
         }
         None

@@ -58,6 +58,8 @@ pub struct CreateGiven {
     pub file_id: Smb2FileId,
     /// Whether it made the file, or another one in its place.
     pub is_new: bool,
+    /// When the file was made.
+    pub creation_time: u64,
     /// A lease of either version on a file; those on folders don't count.
     pub lease: Option<LeaseGiven>,
 }
@@ -110,6 +112,8 @@ pub enum Note<'a> {
     CreateGiven(CreateGiven),
     /// Any other response of STATUS_SUCCESS, by its MessageId: the server did what the request asks.
     Done(u64),
+    /// A response by which the server has no such open any more, by its MessageId.
+    Gone(u64),
     /// Any other response but an interim one, by its MessageId.
     Answered(u64),
     /// A request that is about an open, and doesn't close it.
@@ -177,7 +181,7 @@ impl<'a> Note<'a> {
     pub(crate) fn answered(self) -> Option<u64> {
         match self {
             Note::CreateGiven(given) => Some(given.id),
-            Note::Done(id) | Note::Answered(id) => Some(id),
+            Note::Done(id) | Note::Answered(id) | Note::Gone(id) => Some(id),
             _ => None,
         }
     }
@@ -205,7 +209,10 @@ impl<'a> Note<'a> {
 
     // Whether it is a server's message that says something.
     pub(crate) fn is_answer(self) -> bool {
-        matches!(self, Note::TreeGiven(_) | Note::CreateGiven(_) | Note::Done(_) | Note::Answered(_) | Note::Break(_))
+        matches!(
+            self,
+            Note::TreeGiven(_) | Note::CreateGiven(_) | Note::Done(_) | Note::Answered(_) | Note::Gone(_) | Note::Break(_)
+        )
     }
 
     // Whether it ends opens of a connection, a session or a tree connect.

@@ -73,7 +73,7 @@ pub(crate) fn place_of<'a>(seen: &Seen<'_>, given: CreateGiven, create: &'a Crea
     if create.unnamed || (create.remade && !given.is_new) {
         return None;
     }
-    Some(Place { server: seen.server, path, name: create.name.as_slice() })
+    Some(Place { server: seen.server, path, name: create.name.as_slice(), creation_time: given.creation_time })
 }
 
 /// What a CREATE response opens. The file that it opens becomes known.

@@ -18,6 +18,12 @@ const DIRECTORY: u32 = 16;
 
 const STATUS_PENDING: u32 = 0x103;
 
+const USER_SESSION_DELETED: u32 = 0xc000_0203;
+
+const NETWORK_NAME_DELETED: u32 = 0xc000_00c9;
+
+const FILE_CLOSED: u32 = 0xc000_0128;
+
 const TREE_CONNECT: u16 = 3;
 
 // Half of the FileId by which a related request names the open of the one before it.
@@ -212,6 +218,11 @@ fn tree_note<'a>(header: &Header) -> Note<'a> {
     }
 }
 
+// Whether the server has no such session, tree connect or open any more.
+fn is_gone(status: u32) -> bool {
+    status == USER_SESSION_DELETED || status == NETWORK_NAME_DELETED || status == FILE_CLOSED
+}
+
 fn other_note<'a>(header: &Header) -> Note<'a> {
     if header.status == STATUS_PENDING {
         return Note::Other;
@@ -221,6 +232,9 @@ fn other_note<'a>(header: &Header) -> Note<'a> {
     }
     if header.status == 0 {
         return Note::Done(header.message_id);
+    }
+    if is_gone(header.status) {
+        return Note::Gone(header.message_id);
     }
     Note::Answered(header.message_id)
 }
@@ -233,6 +247,7 @@ fn response_note<'a>(header: &Header, response: &Response) -> Note<'a> {
             session: header.session_id,
             file_id: given.file_id,
             is_new: given.action == 0 || given.action == 2,
+            creation_time: given.creation_time,
             lease: lease_given(given, contexts.lease),
         }),
         Response::Break(notification, new_epoch) => Note::Break(BreakNote {

@@ -4,8 +4,8 @@ use std::prelude::Vec;
 
 use crate::proved::capture_judge::Level;
 use crate::proved::capture_walk::event::{
-    Acknowledged, Answered, Asked, Break, Closed, End, Event, Grant, Lease, Loss, Misnumbered, NotJudged, Proof, Remade, Said,
-    Sent, Stray,
+    Acknowledged, Answered, Asked, Break, Closed, End, Event, Gone, Grant, Lease, Loss, Misnumbered, NotJudged, Proof, Remade,
+    Said, Sent, Stray,
 };
 use crate::proved::capture_walk::note::{BreakNote, KeyLevel, LeaseGiven, Note, OpenName, Seen};
 use crate::proved::capture_walk::opens::Open;
@@ -88,6 +88,27 @@ pub(crate) fn push_heard(events: &mut Vec<Event>, seen: &Seen<'_>, client: Optio
             done: seen.note.is_done(),
             position: seen.latest,
         }))?;
+    }
+    Ok(())
+}
+
+// The last request with a MessageId on a connection.
+fn last_asked(events: &[Event], connection: u64, id: u64) -> Option<Asked> {
+    let mut found = None;
+    for event in events {
+        if let Event::Asked(one) = event {
+            if one.connection == connection && one.id == id {
+                found = Some(*one);
+            }
+        }
+    }
+    found
+}
+
+// The open that a request is about isn't there any more.
+fn push_gone(events: &mut Vec<Event>, asked: Option<Asked>) -> Result<(), Memory> {
+    if let Some(one) = asked {
+        events.push(Event::Gone(Gone { opened: one.opened }))?;
     }
     Ok(())
 }
@@ -452,6 +473,10 @@ pub(crate) fn push_told(
         Note::OnOpen(name) | Note::Close(name) => push_proof(events, seen, open_named(opens, seen.server, name)),
         Note::Acknowledge(given) => push_acknowledged(events, seen, given, lease_under(opens, client, given.key)),
         Note::Break(one) => push_broken(events, seen, one, client, opens),
+        Note::Gone(id) => {
+            let asked = last_asked(events, seen.connection, id);
+            push_gone(events, asked)
+        }
         Note::Gap => push_lost(events, seen, client, since, opens),
         Note::Taken => push_all_taken(events, seen),
         _ => Ok(()),

@@ -109,7 +109,13 @@ fn creates_are_read() {
             b"\x59\0\xff\0\x02\0\0\0CREATED_ACCESSEDWRITTEN_CHANGED_allocateend_file\x20\0\0\0\0\0\0\0\
 \x05\0\0\0\0\0\0\0\x06\0\0\0\0\0\0\0\0\0\0\0\0\0\0\0",
         )?;
-        let create = CreateResponse { oplock_level: 0xff, action: 2, attributes: 0x20, file_id: FILE_ID };
+        let create = CreateResponse {
+            oplock_level: 0xff,
+            action: 2,
+            creation_time: 0x5f44_4554_4145_5243,
+            attributes: 0x20,
+            file_id: FILE_ID,
+        };
         assert_eq!(read_create_response(&response), Ok(create));
         assert_eq!(read_create_request(&response), Err(MessageFault::WrongSize));
         Ok(())

@@ -62,7 +62,8 @@ fn grant(walk: &mut Walk, number: u64, connection: u8, level: Level) -> Result<(
 fn grant_numbered(walk: &mut Walk, number: u64, connection: u8, level: Level, epoch: Option<u16>) -> Result<(), Memory> {
     let name = open_name(0, connection);
     let lease = LeaseGiven { key: key(connection), level, breaking: false, epoch };
-    let given = CreateGiven { id: 2, session: name.session, file_id: name.file_id, is_new: false, lease: Some(lease) };
+    let given =
+        CreateGiven { id: 2, session: name.session, file_id: name.file_id, is_new: false, creation_time: 0, lease: Some(lease) };
     walk.take(&seen(number, connection, Note::CreateGiven(given)))
 }
 

@@ -5,11 +5,11 @@ use crate::proved::lease_state::Memory;
 use std::alloc::Global;
 use std::collections::BTreeMap;
 
-/// The number of a break's timer, from 1 on: no two timers that one [`BreakTimers`] starts have one.
+/// The number of a break's timer, from 1 on. No two timers that the same [`BreakTimers`] starts share a number.
 #[derive(Clone, Copy, Debug, PartialEq, Eq, PartialOrd, Ord, Hash)]
 pub struct BreakNo(pub u64);
 
-/// The timers of breaks that run. A lease has one at most, that of its last break.
+/// The timers of lease breaks that are running. Each lease has at most one, which is that of its latest break.
 #[derive(Debug)]
 pub struct BreakTimers {
     started: u64,

@@ -58,7 +58,7 @@ impl Outs {
     }
 
     /// An open is closed.
-    pub fn closed(&mut self, client: ClientNo) -> Result<(), Memory> {
+    pub fn close_done(&mut self, client: ClientNo) -> Result<(), Memory> {
         self.push(Out::Closed { client })
     }
 

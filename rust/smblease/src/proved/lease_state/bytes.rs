@@ -5,8 +5,7 @@ use std::prelude::Vec;
 use crate::proved::lease_state::Memory;
 use std::convert::AsSlice;
 
-/// Bytes that a value owns, as those of a write or of a request's create contexts (profile).
-/// Contracts see the list of them.
+/// Bytes that a value owns, such as those of a write or of a request's create contexts (profile). To contracts they are a list.
 #[derive(Debug)]
 pub struct Bytes {
     items: Vec<u8>,

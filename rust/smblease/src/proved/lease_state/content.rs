@@ -34,7 +34,7 @@ impl From<AllocError> for ContentFault {
     }
 }
 
-/// The bytes of a file (profile): `FILE_LIMIT` at most. Contracts see the list of them.
+/// The bytes of a file (profile), `FILE_LIMIT` at most. To contracts they are a list.
 #[derive(Debug)]
 pub struct Content {
     bytes: Vec<u8>,

@@ -1,19 +1,19 @@
 // Made by tools/plain_rust from crates/lease_state/src/rules.rt. Changes belong there.
 
-/// Which requests of one client on one file have their turn one after another (own). A request that
-/// comes while an earlier one waits for a lease break waits behind it where both have one turn.
+/// Which requests of a client on a file take turns (own). A request that comes while an earlier one waits for a lease break waits
+/// until that one is answered, if the two take turns.
 #[derive(Clone, Copy, Debug, PartialEq, Eq, Hash)]
 pub enum Order {
-    /// All requests of a client on a file.
+    /// All requests of a client on a file take turns.
     ByClient,
-    /// Those under one lease key, and those by one FileId. A create without a key waits behind none.
+    /// Requests under the same lease key take turns, and so do requests by the same FileId. A create without a key waits for no other request.
     ByKey,
 }
 
-/// How far a lease rises that isn't breaking, when a create under its key asks for more than it has (own).
+/// How far a lease rises when a create under its key asks for more than it has (own). A lease that is breaking never rises.
 #[derive(Clone, Copy, Debug, PartialEq, Eq, Hash)]
 pub enum Rise {
-    /// As far as other opens of the file allow.
+    /// To what was asked, as far as other opens of the file allow.
     AsFree,
     /// To all that was asked, or not at all. The first create under a key is granted what is free.
     Whole,

@@ -3,13 +3,22 @@
 /// The status of a refused request (MS-SMB2 3.3.5; the codes are those of MS-ERREF 2.3.1).
 #[derive(Clone, Copy, Debug, PartialEq, Eq, Hash)]
 pub enum Status {
+    /// An acknowledgment of a lease that isn't breaking (3.3.5.22.2).
     Unsuccessful,
+    /// A message that can't be read, a create under a key that has a lease on another file, or a write past the
+    /// greatest size of a file.
     InvalidParameter,
+    /// A read or write by an open whose access doesn't allow it.
     AccessDenied,
+    /// No such file, no lease of the key that is acknowledged, or no durable open to connect again.
     ObjectNameNotFound,
+    /// A create whose access or share conflicts with those of another open (2.2.13).
     SharingViolation,
+    /// No FileId is left for another open (profile).
     InsufficientResources,
+    /// An acknowledgment of a state that isn't within the one that the break named (3.3.5.22.2).
     RequestNotAccepted,
+    /// A request by a FileId of which the client has no open.
     FileClosed,
 }
 

@@ -54,6 +54,6 @@ fn write(outs: &mut Outs, client: ClientNo) -> Result<(), Memory> {
 // An open is closed (3.3.5.10).
 fn close(tables: &mut Tables, outs: &mut Outs, client: ClientNo, fid: FileId) -> Result<(), Memory> {
     tables.close(Closing::Named(fid))?;
-    outs.closed(client)?;
+    outs.close_done(client)?;
     Ok(())
 }
