@@ -85,8 +85,9 @@ def create(identifier: int, name: str | bytes, contexts: bytes = b"") -> bytes:
     return message(5, fixed + text + bytes(-len(text) % 8) + contexts, identifier)
 
 
-def created(identifier: int, number: int, contexts: bytes = b"", action: int = 1, length: int = 3) -> bytes:
-    fixed = struct.pack("<HBBL", 89, 255 if contexts else 0, 0, action) + bytes(40) + struct.pack("<QLL", length, 0x20, 0)
+def created(identifier: int, number: int, contexts: bytes = b"", action: int = 1, length: int = 3, made_at: int = 0) -> bytes:
+    fixed = struct.pack("<HBBLQ", 89, 255 if contexts else 0, 0, action, made_at) + bytes(32)
+    fixed += struct.pack("<QLL", length, 0x20, 0)
     fixed += file_id(number) + struct.pack("<LL", 152 if contexts else 0, len(contexts))
     return message(5, fixed + contexts, identifier, answers=True)
 
@@ -145,6 +146,18 @@ def notification(key: int, held: int, left: int, flags: int = 1, epoch: int = 0)
 
 def acknowledgment(identifier: int, key: int, state: int) -> bytes:
     return message(18, struct.pack("<HHL", 36, 0, 0) + bytes([key] * 16) + struct.pack("<LQ", state, 0), identifier)
+
+
+def echo(identifier: int) -> bytes:
+    return message(13, struct.pack("<HH", 4, 0), identifier)
+
+
+def echoed(identifier: int) -> bytes:
+    return message(13, struct.pack("<HH", 4, 0), identifier, answers=True)
+
+
+def refused(command: int, identifier: int, status: int) -> bytes:
+    return message(command, struct.pack("<HHLB", 9, 0, 0, 0), identifier, status, True)
 
 
 def acknowledged(identifier: int, key: int, state: int, status: int = 0) -> bytes:

@@ -17,6 +17,8 @@ class Expected(NamedTuple):
 
 
 NOT_UNSAFE = Expected(False, False)
+FILE_CLOSED, ACCESS_DENIED = 0xC0000128, 0xC0000022
+GONE = {"FILE_CLOSED": FILE_CLOSED, "NETWORK_NAME_DELETED": 0xC00000C9, "USER_SESSION_DELETED": 0xC0000203}
 
 
 def reads_still(line: Line) -> None:
@@ -276,6 +278,55 @@ def break_after_the_last_close(made: Made) -> Expected:
     return NOT_UNSAFE
 
 
+def opens_made_at(line: Line, number: int, grant: bytes, time: int) -> None:
+    """Opens a file that was made at a time, with a lease, and reads it."""
+    line.asks(hand_made.create(3, "f", grant))
+    line.answers(hand_made.created(3, number, grant, made_at=time))
+    line.asks(hand_made.read(4, number))
+    line.answers(hand_made.read_done(4, b"abc"))
+
+
+def of_two_times(made: Made, times: tuple[int, int]) -> Expected:
+    """A share may be a folder of its own for each user: CreationTime tells the files of one name apart."""
+    line, other = Line(made, 50001), Line(made, 50002)
+    line.begins(1)
+    opens_made_at(line, 11, hand_made.lease(0xA1, R | W | H), times[0])
+    other.begins(2)
+    opens_made_at(other, 22, hand_made.lease(0xB2, R | H), times[1])
+    reads_still(line)
+    is_unsafe = times[0] == times[1]
+    return Expected(is_unsafe, is_unsafe)
+
+
+def ended_by_the_server(made: Made, status: int) -> Expected:
+    """The server ends an open by itself and grants its lease to another client; a later answer shows that the open is gone. Until
+    then an ECHO shows that the connection is there, and not that the open is. Where the answer says nothing of that, it does."""
+    line, other = Line(made, 50001), Line(made, 50002)
+    line.begins(1)
+    line.opens(3, 11, 0xA1, R | W | H)
+    other.begins(2)
+    other.opens(3, 22, 0xB2, R | H)
+    line.asks(hand_made.echo(5))
+    line.answers(hand_made.echoed(5))
+    line.asks(hand_made.read(6, 11))
+    line.answers(hand_made.refused(8, 6, status))
+    is_there = status == ACCESS_DENIED
+    return Expected(is_there, is_there)
+
+
+def used_before_the_server_ended_it(made: Made) -> Expected:
+    """What the server did by an open beside another client's lease shows that both had theirs, whatever became of the open."""
+    line, other = Line(made, 50001), Line(made, 50002)
+    line.begins(1)
+    line.opens(3, 11, 0xA1, R | W | H)
+    other.begins(2)
+    other.opens(3, 22, 0xB2, R | H)
+    reads_still(line)
+    line.asks(hand_made.read(6, 11))
+    line.answers(hand_made.refused(8, 6, FILE_CLOSED))
+    return Expected(True, True)
+
+
 SCENARIOS: dict[str, Callable[[Made], Expected]] = {
     "two caches": two_caches, "a break that is acknowledged": break_acknowledged,
     "a break that isn't acknowledged": break_not_acknowledged,
@@ -289,6 +340,11 @@ SCENARIOS: dict[str, Callable[[Made], Expected]] = {
     "a server at two addresses": server_at_two_addresses, "two clients, dialect 3.1.1": of_dialect_311,
     **{f"a break over another connection, with{'' if epochs else 'out'} epochs": partial(broken_elsewhere, epochs=epochs)
        for epochs in (True, False)},
+    **{f"files made at {'one time' if one == other else 'two times'}": partial(of_two_times, times=(one, other))
+       for one, other in ((1000, 1000), (1000, 2000))},
+    **{f"an open that the server ended, {name}": partial(ended_by_the_server, status=status) for name, status in GONE.items()},
+    "an open that is there still, ACCESS_DENIED": partial(ended_by_the_server, status=ACCESS_DENIED),
+    "an open that the server ended after it was used": used_before_the_server_ended_it,
     "a break after the last close": break_after_the_last_close, "odd breaks": odd_breaks,
     **{f"two clients, {kind}": partial(of_two_clients, kind=kind)
        for kind in ("whole", "before", "dialect", "gap", "cut", "encrypted", "rename", "made again")},
