@@ -10,10 +10,11 @@ from tests.drive.hand_made import H, Line, Made, R, W
 
 
 class Expected(NamedTuple):
-    """Whether the capture is unsafe with `--at client` and with `--at server`."""
+    """Whether the capture is unsafe with `--at client` and with `--at server`, and whether it is at the server by what that granted."""
 
     at_client: bool
     at_server: bool
+    is_granted: bool = False
 
 
 NOT_UNSAFE = Expected(False, False)
@@ -74,7 +75,8 @@ def break_not_acknowledged(made: Made) -> Expected:
 
 
 def closes_that_cross(made: Made, had_grant: bool) -> Expected:
-    """The close reaches the server after the other's grant. Its sender's host may have had nothing since its own."""
+    """The close reaches the server after the other's grant. Its sender's host may have had nothing since its own: then what the
+    server granted goes together with nothing, though its clients may have cached one after the other."""
     line, other = Line(made, 50001), Line(made, 50002)
     line.begins(1)
     line.opens(3, 11, 0xA1, R | W | H)
@@ -85,7 +87,7 @@ def closes_that_cross(made: Made, had_grant: bool) -> Expected:
     line.answers(hand_made.message(13, bytes(4), 9, answers=True))
     line.asks(hand_made.close(6, hand_made.file_id(11)), had=None if had_grant else had)
     line.answers(hand_made.closed(6))
-    return Expected(True, had_grant)
+    return Expected(True, True, is_granted=not had_grant)
 
 
 def close_in_a_compound(made: Made) -> Expected:
@@ -224,7 +226,7 @@ def server_at_two_addresses(made: Made) -> Expected:
 
 def acknowledged_elsewhere(made: Made) -> Expected:
     """An acknowledgment over another connection of the client shows that the break was taken where it came, and nothing of what
-    that other connection brought: at a server its grant isn't known to be taken."""
+    that other connection brought: at a server its grant isn't known to be taken, though the server held both."""
     line, again, other = Line(made, 50001), Line(made, 50002), Line(made, 50003)
     line.begins(1)
     line.opens(3, 11, 0xA1, R | W | H)
@@ -241,7 +243,7 @@ def acknowledged_elsewhere(made: Made) -> Expected:
     other.answers(hand_made.closed(5))
     again.asks(hand_made.read(7, 31))
     again.answers(hand_made.read_done(7, b"abc"))
-    return Expected(True, False)
+    return Expected(True, True, is_granted=True)
 
 
 def key_used_again(made: Made, kind: str, state: int = R | H) -> Expected:

@@ -39,6 +39,7 @@ def test_record_of_a_scenario(name: str, program: str, tmp_path: Path) -> None:
         had = ran("capture", [capture, "--at", side, "--record", tmp_path / "record"])
         text = (tmp_path / "record").read_text(encoding="utf-8")
         verdict = judge(program, text)
+        assert ("unsafe by the server's grants" in had.out) == (side == "server" and expected.is_granted), had.out
         assert (had.status == UNSAFE, verdict.rule, verdict.is_safe) == (is_unsafe, 1 if is_unsafe else None, not is_unsafe), text
         lines = text.splitlines()
         packets = [packet_of(remark) for remark, fact in zip(lines, lines[1:]) if fact.startswith("believes ")]

@@ -1,15 +1,17 @@
 """`leasecheck capture` on taps of random runs: where server and clients keep the rules, nobody is charged, at either end.
 
 How strong this is: `FOUND` has how many of 60 runs with a server that breaks a rule (faulty_servers) are found unsafe at the
-client, and how many at the server. The others can have happened with a server that keeps the rules: many end before it answers
-what would show that a lease was there still. Where a server sends breaks and waits for nobody, a client may have given up its
-cache before its acknowledgment, so that this is a charge only where a grant overtakes a break.
+client, and how many at the server: by what clients believed, and by what the server granted alone. The others can have happened
+with a server that keeps the rules: many end before it answers what would show that a lease was there still. Where a server sends
+breaks and waits for nobody, a client may have given up its cache before its acknowledgment, so that clients clash only where a
+grant overtakes a break; but it granted what doesn't go together.
 
 Runs that were charged once, though the server keeps the rules, are in charged_runs.
 """
 from __future__ import annotations
 
 from dataclasses import replace
+from itertools import count, islice
 from typing import NamedTuple
 
 import pytest
@@ -17,6 +19,7 @@ import pytest
 from tests.drive.charged_runs import CHARGED, Charged
 from tests.drive.faulty_servers import BreaksNothing, FaultyServer, GrantsWhatIsWanted, LeasesOutliveOpens, WaitsForNobody
 from tests.drive.judging import NOTHING_JUDGED, SAFE, UNSAFE, judged
+from tests.drive.raised_grants import raised
 from tests.drive.taps import CLIENT, SERVER, SIDES
 from tests.drive.tapped_runs import ACKNOWLEDGES, CLOSES_ANY, CLOSES_KNOWN, CREATES, SEEN_LOSSES, Loss, Run, Ways
 
@@ -41,25 +44,40 @@ INNOCENT = {
     "all, at one server": replace(ALL, servers=1),
 }
 FAULTY_RUNS = 60
-FOUND: dict[type[FaultyServer], dict[str, int]] = {
-    GrantsWhatIsWanted: {CLIENT: 29, SERVER: 19}, BreaksNothing: {CLIENT: 28, SERVER: 8},
-    WaitsForNobody: {CLIENT: 17, SERVER: 0}, LeasesOutliveOpens: {CLIENT: 1, SERVER: 1},
+
+
+class Found(NamedTuple):
+    believed: int
+    granted: int
+
+
+FOUND: dict[type[FaultyServer], dict[str, Found]] = {
+    GrantsWhatIsWanted: {CLIENT: Found(29, 4), SERVER: Found(19, 14)}, BreaksNothing: {CLIENT: Found(28, 12), SERVER: Found(8, 31)},
+    WaitsForNobody: {CLIENT: Found(17, 17), SERVER: Found(0, 34)}, LeasesOutliveOpens: {CLIENT: Found(1, 1), SERVER: Found(1, 1)},
 }
 
 
-def charged(program: str, run: Run) -> list[str]:
-    """The sides at which a run is charged."""
+class Charges(NamedTuple):
+    """The sides at which a run is charged by what clients believed, and those at which it is by what the server granted alone."""
+
+    believed: list[str]
+    granted: list[str]
+
+
+def charged(program: str, run: Run) -> Charges:
     taps = run.runs()
-    found = {side: judged(program, taps.text(side), side).status for side in SIDES}
-    assert set(found.values()) <= {SAFE, UNSAFE, NOTHING_JUDGED}
-    return [side for side, status in found.items() if status == UNSAFE]
+    found = {side: judged(program, taps.text(side), side) for side in SIDES}
+    assert {it.status for it in found.values()} <= {SAFE, UNSAFE, NOTHING_JUDGED}
+    unsafe = [side for side, it in found.items() if it.status == UNSAFE]
+    believed = [side for side in unsafe if any(": unsafe, " in line for line in found[side].said)]
+    return Charges(believed, [side for side in unsafe if side not in believed])
 
 
 class Faulty(NamedTuple):
-    """Runs with such a server: of each whether what clients believed clashed, and the sides at which it is charged."""
+    """Runs with such a server: of each whether what clients believed clashed, and at which sides it is charged."""
 
     kind: type[FaultyServer]
-    runs: list[tuple[bool, list[str]]]
+    runs: list[tuple[bool, Charges]]
 
 
 @pytest.fixture(name="faulty", scope="module", params=FOUND)
@@ -69,11 +87,11 @@ def _faulty(program: str, request: pytest.FixtureRequest) -> Faulty:
     return Faulty(request.param, [(run.clashed, one) for run, one in zip(runs, sides)])
 
 
-@pytest.mark.parametrize("count", [RUNS, pytest.param(MANY_RUNS, marks=pytest.mark.long)])
+@pytest.mark.parametrize("runs", [RUNS, pytest.param(MANY_RUNS, marks=pytest.mark.long)])
 @pytest.mark.parametrize("name", INNOCENT)
-def test_nobody_is_charged(name: str, count: int, program: str, request: pytest.FixtureRequest) -> None:
-    seeds = [f"{request.config.getoption('seed')} {name} {count} {number}" for number in range(count)]
-    assert {seed: sides for seed in seeds if (sides := charged(program, Run(seed, INNOCENT[name])))} == {}
+def test_nobody_is_charged(name: str, runs: int, program: str, request: pytest.FixtureRequest) -> None:
+    seeds = [f"{request.config.getoption('seed')} {name} {runs} {number}" for number in range(runs)]
+    assert {seed: sides for seed in seeds if any(sides := charged(program, Run(seed, INNOCENT[name])))} == {}
 
 
 def test_much_is_judged(program: str) -> None:
@@ -83,15 +101,23 @@ def test_much_is_judged(program: str) -> None:
 
 
 def test_faults_are_found(faulty: Faulty) -> None:
-    found = {side: sum(side in sides for _, sides in faulty.runs) for side in SIDES}
+    found = {side: Found(sum(side in sides.believed for _, sides in faulty.runs), sum(side in sides.granted for _, sides in faulty.runs))
+             for side in SIDES}
     assert found == FOUND[faulty.kind]
 
 
 def test_faults_that_nobody_felt(faulty: Faulty) -> None:
     """What clients believed is one of the orders that fit a capture made at the server: where that never clashed, nobody is
-    charged. At a client grants count where they arrive, which is before its machine takes them."""
-    assert [sides for has_clash, sides in faulty.runs if not has_clash and SERVER in sides] == []
+    charged by it. At a client grants count where they arrive, which is before its machine takes them."""
+    assert [sides for has_clash, sides in faulty.runs if not has_clash and SERVER in sides.believed] == []
     assert sum(not has_clash for has_clash, _ in faulty.runs) >= 15
+
+
+def test_grants_that_are_raised(program: str, request: pytest.FixtureRequest) -> None:
+    """In 50 captures made at a server one grant beside a lease that is there still is raised to RWH: each is found."""
+    seed = request.config.getoption("seed")
+    texts = (text for number in count() for text in raised(Run(f"{seed} raised {number}", Ways()).runs().text(SERVER)))
+    assert [text for text in islice(texts, 50) if judged(program, text, SERVER).status != UNSAFE] == []
 
 
 @pytest.mark.parametrize("one, side", [pytest.param(one, side, id=f"{one.run.__name__}-{side}") for one in CHARGED

@@ -1,6 +1,6 @@
 -- What is said of a capture: of each file what is decided of it, and of the whole a verdict. Lines, and messages that are seen,
 -- have the newest one first.
-use Rattle.std.specs.Prelude.{◌≡◌, ◌≢◌, ◌-◌, ◌/◌, ℕ, nat_lt, Bool, true, false, if◌then◌else◌, ◌==◌, List, [], ◌∷◌, length}
+use Rattle.std.specs.Prelude.{◌≡◌, ◌≢◌, ◌-◌, ◌/◌, ℕ, nat_lt, Bool, true, false, not, ◌&&◌, if◌then◌else◌, ◌==◌, List, [], ◌∷◌, length}
 use Rattle.std.specs.Prelude.{map, filter, reverse, Option, Some, None, slice_get}
 use Rattle.std.specs.List.{list_any, AllZip}
 use Rattle.std.specs.Option.{option_map}
@@ -13,6 +13,7 @@ use Rattle.capture_judge.specs.declared.values.Chain.{Chain}
 use Rattle.capture_judge.specs.declared.values.Level.{Level}
 use Rattle.capture_judge.specs.declared.values.Step.{Step}
 use Rattle.capture_walk.specs.Chains.{chains_on, files_in}
+use Rattle.capture_walk.specs.Tables.{tables_on}
 use Rattle.capture_walk.specs.Events.{events}
 use Rattle.capture_walk.specs.Files.{lives, place_of_life, Place}
 use Rattle.capture_walk.specs.declared.event.Event.{Event}
@@ -38,6 +39,15 @@ use Rattle.capture_texts.specs.declared.line.Moment.{Moment}
 use Rattle.capture_texts.specs.declared.line.Side.{Side}
 
 -- ---- what is decided of a file, by its chains
+
+abbrev pub is_unsafe : Judged → Bool
+is_unsafe (judged.Unsafe moment) = true
+is_unsafe (judged.Granted moment) = true
+is_unsafe _ = false
+
+abbrev pub is_safe : Judged → Bool
+is_safe judged.Safe = true
+is_safe _ = false
 
 -- the moment of the line that has a position: the first line has 1 and 2
 abbrev pub moment_at : ℕ → List Moment → Option Moment
@@ -73,9 +83,35 @@ IsJudged known chains beliefs judged.Safe =
 IsJudged known chains beliefs (judged.Unsafe moment) =
     (position : ℕ) × IsUnsafe chains position × (moment ≡ moment_at position known)
     × (steps : List Step) × IsStory known chains beliefs steps × IsCleanBefore chains position (reverse steps)
+IsJudged known chains beliefs (judged.Granted moment) = ⊥
 IsJudged known chains beliefs judged.Contradictory =
     ((steps : List Step) → IsPlacement chains steps → ⊥) × (beliefs ≡ [])
 IsJudged known chains beliefs judged.TooMany = IsCrowded chains × (beliefs ≡ [])
+
+-- ---- and by those of the server's own table
+
+-- Where what its clients cached clashes, it is unsafe; where only what the server held for them does, by what that granted. It is
+-- safe only by both.
+abbrev pub with_held : Judged → Judged → Judged
+with_held believed (judged.Unsafe moment) = judged.Granted moment
+with_held believed held = if is_safe believed then held else believed
+
+abbrev pub joined : Judged → Judged → Judged
+joined believed held = if is_unsafe believed then believed else with_held believed held
+
+abbrev pub beliefs_told : Judged → Judged → List Belief → List Belief → List Belief
+beliefs_told believed held cached granted = if is_unsafe held && not (is_unsafe believed) then granted else cached
+
+-- The file with these chains and these of the server's table is judged so.
+pub record IsJudgedBy (known : List Moment) (chains tables : List Chain) (beliefs : List Belief) (decided : Judged) : Type 0 where
+  pub believed : Judged
+  pub held : Judged
+  pub cached : List Belief
+  pub granted : List Belief
+  pub by-clients : IsJudged known chains cached believed
+  pub by-server : IsJudged known tables granted held
+  pub decided-is : decided ≡ joined believed held
+  pub told : beliefs ≡ beliefs_told believed held cached granted
 
 -- ---- files
 
@@ -97,8 +133,10 @@ pub record IsFound (past : List Line) (seen : List Seen) (file : ℕ) (finding :
   pub file_is : finding.file ≡ file
   pub place_is : finding.place ≡ option_map (place_named (servers past)) (place_of_life file (lives seen))
   pub chains : List Chain
+  pub tables : List Chain
   pub shows : map shown chains ≡ chains_on file (events seen)
-  pub judged_is : IsJudged (moments past) chains finding.beliefs.items finding.judged
+  pub holds : map shown tables ≡ tables_on file (events seen)
+  pub judged_is : IsJudgedBy (moments past) chains tables finding.beliefs.items finding.judged
   pub clients_are : map number_named finding.clients.items ≡ map chain_client chains
 
 -- one for each file, in their order
@@ -151,14 +189,6 @@ abbrev pub AreEpochsFound : List Line → List Misnumbered → List EpochFinding
 AreEpochsFound past found findings = AllZip (IsEpochFound (moments past)) found findings
 
 -- ---- the whole
-
-abbrev pub is_unsafe : Judged → Bool
-is_unsafe (judged.Unsafe moment) = true
-is_unsafe _ = false
-
-abbrev pub is_safe : Judged → Bool
-is_safe judged.Safe = true
-is_safe _ = false
 
 -- the verdict on a capture, by what is found of its files
 abbrev pub verdict_of : List FileFinding → CaptureVerdict

@@ -1,9 +1,10 @@
-ghost use Rattle.std.specs.Prelude.{◌≡◌, List, IfOk, OnOk, map, filter, length};
+ghost use Rattle.std.specs.Prelude.{◌≡◌, if◌then◌else◌, List, IfOk, OnOk, map, filter, length};
 ghost use Rattle.std.specs.List.{position};
 ghost use Rattle.capture_texts.specs.Captures.{Knows, HasSeen, moment_kept, is_frame_kept, is_unread};
-ghost use Rattle.capture_texts.specs.Reports.{IsReport, IsFound, AreFound, IsBelief, AreBeliefs, IsJudged, moment_at, moment_since};
+ghost use Rattle.capture_texts.specs.Reports.{IsReport, IsFound, AreFound, IsBelief, AreBeliefs, IsJudged, joined, beliefs_told, moment_at, moment_since};
 ghost use Rattle.capture_texts.specs.Reports.{losses, with_loss, greater, is_of, IsClientFound, AreClientsFound};
 ghost use Rattle.capture_texts.specs.Reports.{epochs, IsEpochFound, AreEpochsFound, place_named, number_named, chain_client};
+ghost use Rattle.capture_texts.specs.Reports.{IsJudgedBy, is_safe};
 ghost use Rattle.capture_texts.specs.declared.line.Line.{Line};
 ghost use Rattle.capture_walk.specs.Chains.{files_in};
 ghost use Rattle.capture_walk.specs.Events.{events};
@@ -16,7 +17,7 @@ use crate::finding::{
 };
 use crate::line::Moment;
 use capture_judge::{Chain, Level, Placing, Step, judge_placing, levels_after};
-use capture_walk::{Event, Loss, Misnumbered, Place, chains_on, files_in};
+use capture_walk::{Event, Loss, Misnumbered, Place, chains_on, files_in, tables_on};
 use lease_state::{Bytes, Memory};
 use std::alloc::Global;
 
@@ -80,7 +81,7 @@ fn beliefs_by(
     Ok(beliefs)
 }
 
-// What is decided of a file, by its chains, and what its clients cache.
+// What is decided of chains, and what clients cache by them.
 fn judge(alloc: Global, chains: &[Chain], kept: &[Kept]) -> Result<(Judged, Vec<Belief>), Memory>
     ensures { IfOk result (λ told. IsJudged (map moment_kept kept.now) chains.now told.1.items told.0) }
 {
@@ -99,6 +100,57 @@ fn judge(alloc: Global, chains: &[Chain], kept: &[Kept]) -> Result<(Judged, Vec<
         }
         Placing::TooMany => Ok((Judged::TooMany, Vec::new(alloc))),
     }
+}
+
+// What isn't safe, if one of these isn't.
+fn less_sure(believed: Judged, held: Judged) -> Judged
+    ensures { result ≡ (if is_safe believed then held else believed) }
+{
+    if believed.is_safe() { held } else { believed }
+}
+
+// What is decided of a file, by what is of the clients' chains and of the server's.
+fn joined(believed: Judged, held: Judged) -> Judged
+    ensures { result ≡ joined believed held }
+{
+    if believed.is_unsafe() {
+        return believed;
+    }
+    match held {
+        Judged::Unsafe(moment) => Judged::Granted(moment),
+        other => less_sure(believed, other),
+    }
+}
+
+// What is told of a file: what its clients cache, or where the server alone is charged what it held for them.
+fn beliefs_told(
+    believed: &Judged,
+    held: &Judged,
+    cached: Vec<Belief>,
+    granted: Vec<Belief>,
+) -> Vec<Belief>
+    ensures { result.items ≡ beliefs_told believed.now held.now cached.items granted.items }
+{
+    if held.is_unsafe() && !believed.is_unsafe() {
+        granted
+    } else {
+        cached
+    }
+}
+
+// What is decided of a file, by what its clients cached and by what the server held for them.
+fn judge_both(
+    alloc: Global,
+    chains: &[Chain],
+    tables: &[Chain],
+    kept: &[Kept],
+) -> Result<(Judged, Vec<Belief>), Memory>
+    ensures { IfOk result (λ told. IsJudgedBy (map moment_kept kept.now) chains.now tables.now told.1.items told.0) }
+{
+    let (believed, cached) = judge(alloc, chains, kept)?;
+    let (held, granted) = judge(alloc, tables, kept)?;
+    let beliefs = beliefs_told(&believed, &held, cached, granted);
+    Ok((joined(believed, held), beliefs))
 }
 
 // The place of the loss of a client.
@@ -198,11 +250,12 @@ impl Capture {
             → IsFound past seen file finding) }
     {
         let chains = chains_on(alloc, file, self.walking.walk.events())?;
+        let tables = tables_on(alloc, file, self.walking.walk.events())?;
         let place = match self.walking.walk.place_of(file) {
             Some(place) => Some(self.file_place(alloc, place)?),
             None => None,
         };
-        let (judged, beliefs) = judge(alloc, &chains, &self.kept)?;
+        let (judged, beliefs) = judge_both(alloc, &chains, &tables, &self.kept)?;
         Ok(FileFinding {
             file,
             place,

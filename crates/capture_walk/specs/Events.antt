@@ -123,12 +123,23 @@ is_of lease (Some other) = is_same other lease
 abbrev pub keeps : Seen → Lease → Open → Bool
 keeps seen lease one = not (ends seen one) && is_of lease one.lease
 
+-- the MessageId of a CLOSE
+abbrev pub closing : Note → Option ℕ
+closing (note.Close name) = Some name.id
+closing _ = None
+
 -- the lease ends where no open under it is left
 abbrev pub ended_lease : Seen → List Open → Option Lease → List Event
 ended_lease seen held None = []
 ended_lease seen held (Some lease) =
     if list_any (keeps seen lease) held then []
-    else event.Ended (record { lease = lease; first = seen.earliest; last = seen.latest }) ∷ []
+    else event.Ended (record {
+      lease = lease;
+      first = seen.earliest;
+      last = seen.latest;
+      connection = seen.connection;
+      closing = closing seen.note;
+    }) ∷ []
 
 abbrev pub closed : ℕ → Option Lease → List Event
 closed number None = []
@@ -246,15 +257,15 @@ strayed lease connection asked before =
 
 -- ---- grants and breaks
 
-abbrev pub grant_of : Seen → LeaseGiven → Lease → Grant
-grant_of seen given lease =
-    record { lease = lease; level = given.level; sent = sent_at seen; epoch = given.epoch }
+abbrev pub grant_of : Seen → LeaseGiven → Lease → ℕ → Grant
+grant_of seen given lease asked =
+    record { lease = lease; level = given.level; sent = sent_at seen; asked = asked; epoch = given.epoch }
 
 abbrev pub granted_lease : Seen → LeaseGiven → Lease → ℕ → Option Said → List Event
 granted_lease seen given lease asked said =
     if given.breaking then []
-    else ordered lease said (said_by_grant (grant_of seen given lease)) (Some asked)
-    ++ event.Granted (grant_of seen given lease) ∷ []
+    else ordered lease said (said_by_grant (grant_of seen given lease asked)) (Some asked)
+    ++ event.Granted (grant_of seen given lease asked) ∷ []
 
 abbrev pub granted_open : Seen → LeaseGiven → ℕ → Option Lease → List Open → List Event → List Event
 granted_open seen given asked None held before = []

@@ -1,4 +1,5 @@
 pub mod Chains
+pub mod Tables
 pub mod Clients
 pub mod Sides
 pub mod Notes

@@ -28,8 +28,8 @@ fn is_before(since: u64, event: &Event) -> bool
     }
 }
 
-// Whether an event counts, where something may be missing from a position on.
-fn is_known(since: Option<u64>, event: &Event) -> bool
+/// Whether an event counts, where something may be missing from a position on.
+pub(crate) fn is_known(since: Option<u64>, event: &Event) -> bool
     ensures { result ≡ is_known since event.now }
 {
     match since {
@@ -85,8 +85,12 @@ fn is_accepted(lease: Lease, given: &Acknowledged, later: &[Event], since: Optio
         && answer(lease, given.connection, given.id, later, since).unwrap_or(false)
 }
 
-// The acknowledgment of a break of a lease that the server accepts.
-fn acknowledgment(lease: Lease, later: &[Event], since: Option<u64>) -> Option<Acknowledged>
+/// The acknowledgment of a break of a lease that the server accepts.
+pub(crate) fn acknowledgment(
+    lease: Lease,
+    later: &[Event],
+    since: Option<u64>,
+) -> Option<Acknowledged>
     ensures { result ≡ acknowledgment lease (filter (is_known since) later.now) }
 {
     for (index, event) in later.iter().enumerate() {
@@ -188,11 +192,18 @@ fn shown_before(broken: &Break, found: Option<Asked>) -> Option<Asked>
     }
 }
 
-// The last request that shows a lease after a message of the server.
-fn last_shown(lease: Lease, sent: Sent, later: &[Event], since: Option<u64>) -> Option<Asked>
-    ensures { result ≡ last_shown lease sent false None (filter (is_known since) later.now) }
+/// The last request that shows a lease after a message of the server, where the open that was made with the message is known to
+/// be there or not.
+pub(crate) fn last_shown(
+    lease: Lease,
+    sent: Sent,
+    is_there: bool,
+    later: &[Event],
+    since: Option<u64>,
+) -> Option<Asked>
+    ensures { result ≡ last_shown lease sent is_there None (filter (is_known since) later.now) }
 {
-    let mut is_live = false;
+    let mut is_live = is_there;
     let mut found: Option<Asked> = None;
     for (index, event) in later.iter().enumerate() {
         match event {
@@ -213,8 +224,12 @@ fn last_shown(lease: Lease, sent: Sent, later: &[Event], since: Option<u64>) -> 
     found
 }
 
-// From a position on the client may have lost its lease.
-fn push_doubt(changes: &mut Vec<Change>, is_doubtful: bool, position: u64) -> Result<(), Memory>
+/// From a position on the client may have lost its lease.
+pub(crate) fn push_doubt(
+    changes: &mut Vec<Change>,
+    is_doubtful: bool,
+    position: u64,
+) -> Result<(), Memory>
     ensures { OnOk result (changes.new.items ≡ changes.old.items ++ doubt is_doubtful position) }
 {
     if is_doubtful {
@@ -249,7 +264,7 @@ fn push_granted(
         (taken grant.now.sent (filter (is_known since) later.now))
         (last_shown grant.now.lease grant.now.sent false None (filter (is_known since) later.now))) }
 {
-    let shown = last_shown(grant.lease, grant.sent, later, since);
+    let shown = last_shown(grant.lease, grant.sent, false, later, since);
     changes.push(Change {
         level: grant.level,
         first: grant.sent.position,
@@ -261,7 +276,8 @@ fn push_granted(
     }
 }
 
-fn kept_until(last: u64, shown: Option<Asked>) -> u64
+/// The position of an acknowledgment that the server accepted, or of a later request that shows the lease to be there.
+pub(crate) fn kept_until(last: u64, shown: Option<Asked>) -> u64
     ensures { result ≡ kept_until last shown }
 {
     match shown {
@@ -289,7 +305,7 @@ fn push_broken(
                 first,
                 last: Some(given.last),
             })?;
-            let shown = last_shown(broken.lease, broken.sent, later, since);
+            let shown = last_shown(broken.lease, broken.sent, false, later, since);
             push_doubt(changes, true, kept_until(given.last, shown))
         }
         None if broken.acknowledged => Ok(()),
@@ -360,8 +376,8 @@ fn earliest(found: Option<u64>, since: u64) -> u64
     }
 }
 
-// From which position on something of a lease's client may be missing, or its file may be another one.
-fn lost_since(lease: Lease, events: &[Event]) -> Option<u64>
+/// From which position on something of a lease's client may be missing, or its file may be another one.
+pub(crate) fn lost_since(lease: Lease, events: &[Event]) -> Option<u64>
     ensures { result ≡ lost_since lease None events.now }
 {
     let mut found: Option<u64> = None;
@@ -379,7 +395,8 @@ fn lost_since(lease: Lease, events: &[Event]) -> Option<u64>
     found
 }
 
-fn cut_off(since: Option<u64>, changes: &mut Vec<Change>) -> Result<(), Memory>
+/// From where on something may be missing any lease may be lost.
+pub(crate) fn cut_off(since: Option<u64>, changes: &mut Vec<Change>) -> Result<(), Memory>
     ensures { OnOk result (changes.new.items ≡ cut_off since changes.old.items) }
 {
     let Some(since) = since else {
@@ -406,8 +423,8 @@ fn is_among(leases: &[Lease], lease: Lease) -> bool
     leases.iter().any(|one| lease.is(*one))
 }
 
-// The leases on a file.
-fn leases_on(alloc: Global, file: u64, events: &[Event]) -> Result<Vec<Lease>, Memory>
+/// The leases on a file.
+pub(crate) fn leases_on(alloc: Global, file: u64, events: &[Event]) -> Result<Vec<Lease>, Memory>
     ensures { IfOk result (λ leases. leases.items ≡ leases_on file events.now) }
 {
     let mut leases: Vec<Lease> = Vec::new(alloc);
@@ -421,7 +438,12 @@ fn leases_on(alloc: Global, file: u64, events: &[Event]) -> Result<Vec<Lease>, M
     Ok(leases)
 }
 
-fn push_chain(chains: &mut Vec<Chain>, client: u64, changes: Vec<Change>) -> Result<(), Memory>
+/// The chain of a lease, where any changes of it are known.
+pub(crate) fn push_chain(
+    chains: &mut Vec<Chain>,
+    client: u64,
+    changes: Vec<Change>,
+) -> Result<(), Memory>
     ensures { OnOk result (map shown chains.new.items ≡ map shown chains.old.items ++ chain_by client changes.items) }
 {
     if !changes.is_empty() {

@@ -35,6 +35,7 @@ mod opens;
 mod reading;
 mod renames;
 mod sides;
+mod tables;
 mod telling;
 mod trees;
 mod walk;
@@ -53,4 +54,5 @@ pub use note::{
     TreeGiven, TreeName,
 };
 pub use reading::{Ids, Named, closed_behind, ids_of, level_of, note_of};
+pub use tables::tables_on;
 pub use walk::Walk;

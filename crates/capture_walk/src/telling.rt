@@ -7,7 +7,7 @@ ghost use Rattle.capture_walk.specs.Events.{last_said, without_epoch, is_newer, 
 ghost use Rattle.capture_walk.specs.Events.{has_order, follows_on, misnumbered, ordered, new_epoch, grant_of, break_of};
 ghost use Rattle.capture_walk.specs.Events.{dispute, is_stray_of, strayed, stray};
 ghost use Rattle.capture_walk.specs.Events.{granted_lease, granted_of, lost_under, broken_of, broken, lost_of, lost_at, missing};
-ghost use Rattle.capture_walk.specs.Events.{last_asked, gone, acknowledged, closed, asked_of, asked_by, answer_by, heard, told_remade, told_by, is_under, is_of, all_taken};
+ghost use Rattle.capture_walk.specs.Events.{closing, last_asked, gone, acknowledged, closed, asked_of, asked_by, answer_by, heard, told_remade, told_by, is_under, is_of, all_taken};
 ghost use Rattle.capture_walk.specs.declared.event.Event.TheVariants as event;
 
 use crate::event::{
@@ -175,6 +175,16 @@ fn is_kept(seen: &Seen<'_>, opens: &[Open], lease: Lease) -> bool
         .any(|one| !one.ends(seen) && is_of(lease, one.lease))
 }
 
+// The MessageId of a CLOSE.
+fn closing(seen: &Seen<'_>) -> Option<u64>
+    ensures { result ≡ closing seen.now.note }
+{
+    match seen.note {
+        Note::Close(name) => Some(name.id),
+        _ => None,
+    }
+}
+
 // The end of the lease of an open that ends.
 fn push_ended_lease(
     events: &mut Vec<Event>,
@@ -196,6 +206,8 @@ fn push_ended_lease(
             lease,
             first: seen.earliest,
             last: seen.latest,
+            connection: seen.connection,
+            closing: closing(seen),
         }))?;
     }
     Ok(())
@@ -422,13 +434,14 @@ fn push_strayed(events: &mut Vec<Event>, lease: Lease, is_strayed: bool) -> Resu
     Ok(())
 }
 
-fn grant_of(seen: &Seen<'_>, given: LeaseGiven, lease: Lease) -> Grant
-    ensures { result ≡ grant_of seen.now given lease }
+fn grant_of(seen: &Seen<'_>, given: LeaseGiven, lease: Lease, asked: u64) -> Grant
+    ensures { result ≡ grant_of seen.now given lease asked }
 {
     Grant {
         lease,
         level: given.level,
         sent: sent_at(seen),
+        asked,
         epoch: given.epoch,
     }
 }
@@ -446,7 +459,7 @@ fn push_granted_lease(
     if given.breaking {
         return Ok(());
     }
-    let grant = grant_of(seen, given, lease);
+    let grant = grant_of(seen, given, lease, asked);
     push_order(events, lease, said, grant.said(), Some(asked))?;
     events.push(Event::Granted(grant))?;
     Ok(())

@@ -4,6 +4,7 @@ mod contents;
 mod messages;
 mod records_of_captures;
 mod requests;
+mod tables;
 mod walks;
 mod words;
 

@@ -8,10 +8,11 @@ from enum import Enum
 
 _UNDECIDED = ("no client of it is", "what is shown can't have happened", "it can have happened in too many ways")
 # A name may have any character, and the words behind it have no colon with a space.
-_JUDGED = rf"safe|unsafe(?:, packet \d+ at [0-9.]+)?|not judged, (?:{'|'.join(_UNDECIDED)})"
+_GRANTED = "unsafe by the server's grants"
+_JUDGED = rf"safe|(?:unsafe|{_GRANTED})(?:, packet \d+ at [0-9.]+)?|not judged, (?:{'|'.join(_UNDECIDED)})"
 _FILE = re.compile(rf"file(?P<place>.*): (?P<judged>{_JUDGED})(?P<clients>(?:, [!-~]+)*)")
 _AT = r"packet (?P<packet>\d+) at (?P<seconds>[0-9.]+)"
-_WORDS = re.compile(rf"(?P<verdict>safe|unsafe|not judged)(?:, {_AT}|, (?P<reason>.*))?")
+_WORDS = re.compile(rf"(?P<verdict>safe|unsafe|not judged)(?P<granted> by the server's grants)?(?:, {_AT}|, (?P<reason>.*))?")
 _CLIENT = re.compile(rf"client (?P<address>[!-~]+): not judged(?: after {_AT})?, (?P<reason>.*)")
 _COUNTS = re.compile(r"(?P<connections>\d+) connections, (?P<frames>\d+) frames, (?P<unread>\d+) of them unreadable")
 _REMARK = "# "
@@ -65,6 +66,11 @@ class FileFinding:
     def seconds(self) -> str | None:
         """The time of that packet, in seconds from the first one."""
         return self._words["seconds"]
+
+    @property
+    def is_granted(self) -> bool:
+        """Whether it is unsafe by what the server granted, whatever its clients took."""
+        return bool(self._words["granted"])
 
     @property
     def is_safe(self) -> bool:

@@ -11,7 +11,8 @@ from smblease.drive.capture_findings import ClientFinding, FileFinding, Findings
 
 
 class FileObject(TypedDict):
-    """A file: its place, what is decided, why where nothing is, where it is unsafe its packet and time, and its clients."""
+    """A file: its place, what is decided, why where nothing is, where it is unsafe its packet and time and whether it is by what
+    the server granted, and its clients."""
 
     server: str
     path: str
@@ -19,6 +20,7 @@ class FileObject(TypedDict):
     reason: Optional[str]
     packet: Optional[int]
     seconds: Optional[str]
+    granted: bool
     clients: Sequence[str]
 
 
@@ -47,7 +49,7 @@ class CaptureObject(TypedDict):
 def _file(found: FileFinding) -> FileObject:
     server, _, path = found.place.strip().partition(" ")
     return {"server": server, "path": path, "verdict": found.verdict, "reason": found.reason, "packet": found.packet,
-            "seconds": found.seconds, "clients": found.clients}
+            "seconds": found.seconds, "granted": found.is_granted, "clients": found.clients}
 
 
 def _client(found: ClientFinding) -> ClientObject:

@@ -21,7 +21,7 @@ pub(crate) struct Cast {
 fn is_unsafe(file: &FileFinding) -> bool
     ensures { result ≡ reports.is_unsafe file.now.judged }
 {
-    matches!(file.judged, Judged::Unsafe(_))
+    file.judged.is_unsafe()
 }
 
 fn has_unsafe(files: &[FileFinding]) -> bool
@@ -35,7 +35,7 @@ fn is_wanted(are_unsafe: bool, file: &FileFinding) -> bool
     ensures { result ≡ is_wanted are_unsafe file.now }
 {
     match file.judged {
-        Judged::Unsafe(_) => are_unsafe,
+        Judged::Unsafe(_) | Judged::Granted(_) => are_unsafe,
         Judged::Safe => !are_unsafe,
         Judged::NoClient | Judged::Contradictory | Judged::TooMany => false,
     }

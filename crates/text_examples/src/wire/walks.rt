@@ -13,13 +13,13 @@ use std::alloc::Global;
 use std::test::Fail;
 
 // The client at each end of a connection has a key and a session of its own, both by the connection's number.
-fn key(connection: u8) -> LeaseKey {
+pub(super) fn key(connection: u8) -> LeaseKey {
     let mut key = KEY;
     key.0[0] = connection;
     key
 }
 
-fn open_name(id: u64, connection: u8) -> OpenName {
+pub(super) fn open_name(id: u64, connection: u8) -> OpenName {
     OpenName {
         id,
         session: u64::from(connection),
@@ -31,7 +31,7 @@ fn open_name(id: u64, connection: u8) -> OpenName {
 }
 
 // A message with a number: its client sent it just before the position that is twice that, and the server at it.
-fn seen<'a>(number: u64, connection: u8, note: Note<'a>) -> Seen<'a> {
+pub(super) fn seen<'a>(number: u64, connection: u8, note: Note<'a>) -> Seen<'a> {
     let position = number.saturating_mul(2);
     let at = match note {
         Note::TreeGiven(_) | Note::CreateGiven(_) | Note::Break(_) | Note::Done(_) => position,
@@ -48,14 +48,14 @@ fn seen<'a>(number: u64, connection: u8, note: Note<'a>) -> Seen<'a> {
 }
 
 // A client connects.
-fn join(walk: &mut Walk, number: u64, connection: u8, client: u8) -> Result<(), Memory> {
+pub(super) fn join(walk: &mut Walk, number: u64, connection: u8, client: u8) -> Result<(), Memory> {
     let mut guid = Guid(*b"guid of a client");
     guid.0[0] = client;
     walk.take(&seen(number, connection, Note::Negotiate(guid)))
 }
 
 // A client connects, and asks for a lease on a file: four messages from a number on.
-fn ask(walk: &mut Walk, number: u64, connection: u8, name: &[u8]) -> Result<(), Memory> {
+pub(super) fn ask(walk: &mut Walk, number: u64, connection: u8, name: &[u8]) -> Result<(), Memory> {
     join(walk, number, connection, connection)?;
     let asked = TreeAsked {
         id: 1,
@@ -84,7 +84,12 @@ fn ask(walk: &mut Walk, number: u64, connection: u8, name: &[u8]) -> Result<(), 
 }
 
 // The server grants it.
-fn grant(walk: &mut Walk, number: u64, connection: u8, level: Level) -> Result<(), Memory> {
+pub(super) fn grant(
+    walk: &mut Walk,
+    number: u64,
+    connection: u8,
+    level: Level,
+) -> Result<(), Memory> {
     grant_numbered(walk, number, connection, level, None)
 }
 
@@ -115,7 +120,7 @@ fn grant_numbered(
 }
 
 // The client uses what it opened, so that it has the lease.
-fn ask_by_open(walk: &mut Walk, number: u64, connection: u8) -> Result<(), Memory> {
+pub(super) fn ask_by_open(walk: &mut Walk, number: u64, connection: u8) -> Result<(), Memory> {
     walk.take(&seen(
         number,
         connection,
@@ -124,12 +129,12 @@ fn ask_by_open(walk: &mut Walk, number: u64, connection: u8) -> Result<(), Memor
 }
 
 // The server does what a request asks that had the number as its MessageId.
-fn answer(walk: &mut Walk, number: u64, connection: u8, id: u64) -> Result<(), Memory> {
+pub(super) fn answer(walk: &mut Walk, number: u64, connection: u8, id: u64) -> Result<(), Memory> {
     walk.take(&seen(number, connection, Note::Done(id)))
 }
 
 // The client uses what it opened, and the server does what it asks: two messages from a number on.
-fn use_open(walk: &mut Walk, number: u64, connection: u8) -> Result<(), Memory> {
+pub(super) fn use_open(walk: &mut Walk, number: u64, connection: u8) -> Result<(), Memory> {
     ask_by_open(walk, number, connection)?;
     answer(walk, number.saturating_add(1), connection, number)
 }
@@ -376,7 +381,7 @@ fn an_acknowledgment_shows_what_was_taken(rt: HostRuntime) -> Result<(), Fail> {
 }
 
 // The first client's acknowledgment of a break.
-fn keeps<'a>(id: u64, level: Level) -> Note<'a> {
+pub(super) fn keeps<'a>(id: u64, level: Level) -> Note<'a> {
     Note::Acknowledge(KeyLevel {
         id,
         key: key(1),
@@ -385,7 +390,7 @@ fn keeps<'a>(id: u64, level: Level) -> Note<'a> {
 }
 
 // A break of the first client's lease.
-fn break_to<'a>(level: Level, epoch: u16) -> Note<'a> {
+pub(super) fn break_to<'a>(level: Level, epoch: u16) -> Note<'a> {
     Note::Break(BreakNote {
         key: key(1),
         level,

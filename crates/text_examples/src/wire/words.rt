@@ -10,14 +10,15 @@ use std::test::Fail;
 fn what_is_decided_of_a_file_has_words(rt: HostRuntime) -> Result<(), Fail> {
     let alloc = rt.alloc();
     let words = format!(in alloc;
-        "{}; {}; {}",
+        "{}; {}; {}; {}",
         Judged::Safe,
         Judged::Unsafe(None),
+        Judged::Granted(None),
         Judged::NoClient
     )?;
     assert_eq!(&rt;
         words.as_str(),
-        "safe; unsafe; not judged, no client of it is"
+        "safe; unsafe; unsafe by the server's grants; not judged, no client of it is"
     );
     let words = format!(in alloc; "{}", Judged::Contradictory)?;
     assert_eq!(&rt;

@@ -7,6 +7,7 @@ mod contents;
 mod messages;
 mod records_of_captures;
 mod requests;
+mod tables;
 mod walks;
 mod words;
 

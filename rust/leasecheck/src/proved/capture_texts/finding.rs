@@ -36,6 +36,9 @@ pub enum Judged {
     Safe,
     /// Up to this moment two clients cached what doesn't go together, whatever happened between the packets.
     Unsafe(Option<Moment>),
+    /// Up to this moment the server had granted two clients what doesn't go together, whatever they took and whatever happened
+    /// between the packets.
+    Granted(Option<Moment>),
     /// What the capture shows can't have happened.
     Contradictory,
     /// There are too many ways in which it can have happened.
@@ -65,7 +68,8 @@ pub struct FileFinding {
     /// The clients that are judged, if only up to some moment: one for each lease.
     pub clients: Vec<ClientName>,
     /// What they cache, change by change, in an order that fits the capture: one by which the file is safe, where it is, and
-    /// where it is unsafe one by which it is up to then. Nothing where it isn't judged.
+    /// where it is unsafe one by which it is up to then; where it is by what the server granted, what the server held for them.
+    /// Nothing where what they cache isn't judged.
     pub beliefs: Vec<Belief>,
 }
 
@@ -124,12 +128,24 @@ pub struct Report {
     pub counts: Counts,
 }
 
+impl Judged {
+    /// Whether clients clash, by what they cached or by what the server granted.
+    pub fn is_unsafe(&self) -> bool {
+        matches!(self, Judged::Unsafe(_) | Judged::Granted(_))
+    }
+
+    /// Whether none do.
+    pub fn is_safe(&self) -> bool {
+        matches!(self, Judged::Safe)
+    }
+}
+
 fn is_unsafe(finding: &FileFinding) -> bool {
-    matches!(finding.judged, Judged::Unsafe(_))
+    finding.judged.is_unsafe()
 }
 
 fn is_safe(finding: &FileFinding) -> bool {
-    matches!(finding.judged, Judged::Safe)
+    finding.judged.is_safe()
 }
 
 fn has_unsafe(files: &[FileFinding]) -> bool {

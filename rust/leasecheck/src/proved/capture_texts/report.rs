@@ -8,7 +8,7 @@ use crate::proved::capture_texts::finding::{
     Belief, ClientFinding, ClientName, Counts, EpochFinding, FileFinding, FilePlace, Judged, Report,
 };
 use crate::proved::capture_texts::line::Moment;
-use crate::proved::capture_walk::{Event, Loss, Misnumbered, Place, chains_on, files_in};
+use crate::proved::capture_walk::{Event, Loss, Misnumbered, Place, chains_on, files_in, tables_on};
 use smblease::proved::lease_state::{Bytes, Memory};
 use std::alloc::Global;
 
@@ -51,7 +51,7 @@ fn beliefs_by(alloc: Global, chains: &[Chain], steps: &[Step], kept: &[Kept]) ->
     Ok(beliefs)
 }
 
-// What is decided of a file, by its chains, and what its clients cache.
+// What is decided of chains, and what clients cache by them.
 fn judge(alloc: Global, chains: &[Chain], kept: &[Kept]) -> Result<(Judged, Vec<Belief>), Memory> {
     if chains.is_empty() {
         return Ok((Judged::NoClient, Vec::new(alloc)));
@@ -65,6 +65,35 @@ fn judge(alloc: Global, chains: &[Chain], kept: &[Kept]) -> Result<(Judged, Vec<
         }
         Placing::TooMany => Ok((Judged::TooMany, Vec::new(alloc))),
     }
+}
+
+// What isn't safe, if one of these isn't.
+fn less_sure(believed: Judged, held: Judged) -> Judged {
+    if believed.is_safe() { held } else { believed }
+}
+
+// What is decided of a file, by what is of the clients' chains and of the server's.
+fn joined(believed: Judged, held: Judged) -> Judged {
+    if believed.is_unsafe() {
+        return believed;
+    }
+    match held {
+        Judged::Unsafe(moment) => Judged::Granted(moment),
+        other => less_sure(believed, other),
+    }
+}
+
+// What is told of a file: what its clients cache, or where the server alone is charged what it held for them.
+fn beliefs_told(believed: &Judged, held: &Judged, cached: Vec<Belief>, granted: Vec<Belief>) -> Vec<Belief> {
+    if held.is_unsafe() && !believed.is_unsafe() { granted } else { cached }
+}
+
+// What is decided of a file, by what its clients cached and by what the server held for them.
+fn judge_both(alloc: Global, chains: &[Chain], tables: &[Chain], kept: &[Kept]) -> Result<(Judged, Vec<Belief>), Memory> {
+    let (believed, cached) = judge(alloc, chains, kept)?;
+    let (held, granted) = judge(alloc, tables, kept)?;
+    let beliefs = beliefs_told(&believed, &held, cached, granted);
+    Ok((joined(believed, held), beliefs))
 }
 
 // The place of the loss of a client.
@@ -145,11 +174,12 @@ impl Capture {
     // What is found of a file.
     fn file_finding(&self, alloc: Global, file: u64) -> Result<FileFinding, Memory> {
         let chains = chains_on(alloc, file, self.walking.walk.events())?;
+        let tables = tables_on(alloc, file, self.walking.walk.events())?;
         let place = match self.walking.walk.place_of(file) {
             Some(place) => Some(self.file_place(alloc, place)?),
             None => None,
         };
-        let (judged, beliefs) = judge(alloc, &chains, &self.kept)?;
+        let (judged, beliefs) = judge_both(alloc, &chains, &tables, &self.kept)?;
         Ok(FileFinding { file, place, judged, clients: self.clients_of(alloc, &chains)?, beliefs })
     }
 

@@ -122,6 +122,8 @@ impl fmt::Display for Judged {
             Judged::Safe => f.write_str("safe"),
             Judged::Unsafe(Some(moment)) => write!(f, "unsafe, {moment}"),
             Judged::Unsafe(None) => f.write_str("unsafe"),
+            Judged::Granted(Some(moment)) => write!(f, "unsafe by the server's grants, {moment}"),
+            Judged::Granted(None) => f.write_str("unsafe by the server's grants"),
             Judged::Contradictory => f.write_str("not judged, what is shown can't have happened"),
             Judged::TooMany => f.write_str("not judged, it can have happened in too many ways"),
         }

@@ -21,8 +21,8 @@ fn is_before(since: u64, event: &Event) -> bool {
     }
 }
 
-// Whether an event counts, where something may be missing from a position on.
-fn is_known(since: Option<u64>, event: &Event) -> bool {
+/// Whether an event counts, where something may be missing from a position on.
+pub(crate) fn is_known(since: Option<u64>, event: &Event) -> bool {
     match since {
         Some(since) => is_before(since, event),
         None => true,
@@ -60,8 +60,8 @@ fn is_accepted(lease: Lease, given: &Acknowledged, later: &[Event], since: Optio
     given.lease.is(lease) && answer(lease, given.connection, given.id, later, since).unwrap_or(false)
 }
 
-// The acknowledgment of a break of a lease that the server accepts.
-fn acknowledgment(lease: Lease, later: &[Event], since: Option<u64>) -> Option<Acknowledged> {
+/// The acknowledgment of a break of a lease that the server accepts.
+pub(crate) fn acknowledgment(lease: Lease, later: &[Event], since: Option<u64>) -> Option<Acknowledged> {
     for (index, event) in later.iter().enumerate() {
         match event {
             _ if !is_known(since, event) => {}
@@ -134,9 +134,10 @@ fn shown_before(broken: &Break, found: Option<Asked>) -> Option<Asked> {
     if one.connection == broken.sent.connection { Some(one) } else { None }
 }
 
-// The last request that shows a lease after a message of the server.
-fn last_shown(lease: Lease, sent: Sent, later: &[Event], since: Option<u64>) -> Option<Asked> {
-    let mut is_live = false;
+/// The last request that shows a lease after a message of the server, where the open that was made with the message is known to
+/// be there or not.
+pub(crate) fn last_shown(lease: Lease, sent: Sent, is_there: bool, later: &[Event], since: Option<u64>) -> Option<Asked> {
+    let mut is_live = is_there;
     let mut found: Option<Asked> = None;
     for (index, event) in later.iter().enumerate() {
         match event {
@@ -157,8 +158,8 @@ fn last_shown(lease: Lease, sent: Sent, later: &[Event], since: Option<u64>) -> 
     found
 }
 
-// From a position on the client may have lost its lease.
-fn push_doubt(changes: &mut Vec<Change>, is_doubtful: bool, position: u64) -> Result<(), Memory> {
+/// From a position on the client may have lost its lease.
+pub(crate) fn push_doubt(changes: &mut Vec<Change>, is_doubtful: bool, position: u64) -> Result<(), Memory> {
     if is_doubtful {
         changes.push(Change { level: Level::Nothing, first: position, last: None })?;
     }
@@ -172,7 +173,7 @@ fn sure_by(last: Option<u64>, shown: Option<Asked>) -> Option<u64> {
 
 // What a grant gives, where these events come after it.
 fn push_granted(changes: &mut Vec<Change>, grant: &Grant, later: &[Event], since: Option<u64>) -> Result<(), Memory> {
-    let shown = last_shown(grant.lease, grant.sent, later, since);
+    let shown = last_shown(grant.lease, grant.sent, false, later, since);
     changes.push(Change {
         level: grant.level,
         first: grant.sent.position,
@@ -184,7 +185,8 @@ fn push_granted(changes: &mut Vec<Change>, grant: &Grant, later: &[Event], since
     }
 }
 
-fn kept_until(last: u64, shown: Option<Asked>) -> u64 {
+/// The position of an acknowledgment that the server accepted, or of a later request that shows the lease to be there.
+pub(crate) fn kept_until(last: u64, shown: Option<Asked>) -> u64 {
     match shown {
         Some(one) if last < one.position => one.position,
         _ => last,
@@ -197,7 +199,7 @@ fn push_broken(changes: &mut Vec<Change>, broken: &Break, later: &[Event], since
     match acknowledgment(broken.lease, later, since) {
         Some(given) => {
             changes.push(Change { level: given.level, first, last: Some(given.last) })?;
-            let shown = last_shown(broken.lease, broken.sent, later, since);
+            let shown = last_shown(broken.lease, broken.sent, false, later, since);
             push_doubt(changes, true, kept_until(given.last, shown))
         }
         None if broken.acknowledged => Ok(()),
@@ -246,8 +248,8 @@ fn earliest(found: Option<u64>, since: u64) -> u64 {
     }
 }
 
-// From which position on something of a lease's client may be missing, or its file may be another one.
-fn lost_since(lease: Lease, events: &[Event]) -> Option<u64> {
+/// From which position on something of a lease's client may be missing, or its file may be another one.
+pub(crate) fn lost_since(lease: Lease, events: &[Event]) -> Option<u64> {
     let mut found: Option<u64> = None;
     for event in events {
         match event {
@@ -263,7 +265,8 @@ fn lost_since(lease: Lease, events: &[Event]) -> Option<u64> {
     found
 }
 
-fn cut_off(since: Option<u64>, changes: &mut Vec<Change>) -> Result<(), Memory> {
+/// From where on something may be missing any lease may be lost.
+pub(crate) fn cut_off(since: Option<u64>, changes: &mut Vec<Change>) -> Result<(), Memory> {
     let Some(since) = since else {
         return Ok(());
     };
@@ -283,8 +286,8 @@ fn is_among(leases: &[Lease], lease: Lease) -> bool {
     leases.iter().any(|one| lease.is(*one))
 }
 
-// The leases on a file.
-fn leases_on(alloc: Global, file: u64, events: &[Event]) -> Result<Vec<Lease>, Memory> {
+/// The leases on a file.
+pub(crate) fn leases_on(alloc: Global, file: u64, events: &[Event]) -> Result<Vec<Lease>, Memory> {
     let mut leases: Vec<Lease> = Vec::new(alloc);
     for event in events {
         if let Event::Granted(grant) = event {
@@ -296,7 +299,8 @@ fn leases_on(alloc: Global, file: u64, events: &[Event]) -> Result<Vec<Lease>, M
     Ok(leases)
 }
 
-fn push_chain(chains: &mut Vec<Chain>, client: u64, changes: Vec<Change>) -> Result<(), Memory> {
+/// The chain of a lease, where any changes of it are known.
+pub(crate) fn push_chain(chains: &mut Vec<Chain>, client: u64, changes: Vec<Change>) -> Result<(), Memory> {
     if !changes.is_empty() {
         chains.push(Chain { client, changes })?;
     }

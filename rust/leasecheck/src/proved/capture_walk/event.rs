@@ -36,6 +36,8 @@ pub struct Grant {
     pub lease: Lease,
     pub level: Level,
     pub sent: Sent,
+    /// The last position at which the client sent the request, before which the server can't have taken it.
+    pub asked: u64,
     /// Epoch, where the lease is of version 2.
     pub epoch: Option<u16>,
 }
@@ -97,6 +99,10 @@ pub struct End {
     pub first: u64,
     /// The last one.
     pub last: u64,
+    /// The connection of the message that ends it.
+    pub connection: u64,
+    /// Its MessageId, where it is a CLOSE.
+    pub closing: Option<u64>,
 }
 
 /// What shows which of the server's messages a client had taken on a connection.

@@ -118,6 +118,14 @@ fn is_kept(seen: &Seen<'_>, opens: &[Open], lease: Lease) -> bool {
     opens.iter().any(|one| !one.ends(seen) && is_of(lease, one.lease))
 }
 
+// The MessageId of a CLOSE.
+fn closing(seen: &Seen<'_>) -> Option<u64> {
+    match seen.note {
+        Note::Close(name) => Some(name.id),
+        _ => None,
+    }
+}
+
 // The end of the lease of an open that ends.
 fn push_ended_lease(events: &mut Vec<Event>, seen: &Seen<'_>, opens: &[Open], one: &Open) -> Result<(), Memory> {
     if !one.ends(seen) {
@@ -128,7 +136,13 @@ fn push_ended_lease(events: &mut Vec<Event>, seen: &Seen<'_>, opens: &[Open], on
     };
     events.push(Event::Closed(Closed { opened: one.number }))?;
     if !is_kept(seen, opens, lease) {
-        events.push(Event::Ended(End { lease, first: seen.earliest, last: seen.latest }))?;
+        events.push(Event::Ended(End {
+            lease,
+            first: seen.earliest,
+            last: seen.latest,
+            connection: seen.connection,
+            closing: closing(seen),
+        }))?;
     }
     Ok(())
 }
@@ -272,8 +286,8 @@ fn push_strayed(events: &mut Vec<Event>, lease: Lease, is_strayed: bool) -> Resu
     Ok(())
 }
 
-fn grant_of(seen: &Seen<'_>, given: LeaseGiven, lease: Lease) -> Grant {
-    Grant { lease, level: given.level, sent: sent_at(seen), epoch: given.epoch }
+fn grant_of(seen: &Seen<'_>, given: LeaseGiven, lease: Lease, asked: u64) -> Grant {
+    Grant { lease, level: given.level, sent: sent_at(seen), asked, epoch: given.epoch }
 }
 
 fn push_granted_lease(
@@ -287,7 +301,7 @@ fn push_granted_lease(
     if given.breaking {
         return Ok(());
     }
-    let grant = grant_of(seen, given, lease);
+    let grant = grant_of(seen, given, lease, asked);
     push_order(events, lease, said, grant.said(), Some(asked))?;
     events.push(Event::Granted(grant))?;
     Ok(())

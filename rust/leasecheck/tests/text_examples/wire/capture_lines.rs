@@ -212,12 +212,13 @@ fn closed_late(alloc: Global, acknowledged: u8) -> Result<Report, Fail> {
     Ok(capture.report(alloc)?)
 }
 
+// It may have sent it before the second one had its lease; but the server granted that before it had the CLOSE.
 #[test]
 fn a_close_may_have_been_sent_before_it_came() {
     std::test::passes(|| -> Result<(), Fail> {
         let rt = HostRuntime::host();
         let report = closed_late(rt.alloc(), 3)?;
-        assert_eq!(report.verdict(), CaptureVerdict::Safe);
+        assert!(matches!(decided(&report), Some(Judged::Granted(Some(moment))) if moment.packet == 25));
         Ok(())
     })
 }
@@ -228,6 +229,7 @@ fn a_close_was_sent_after_what_its_host_acknowledged() {
         let rt = HostRuntime::host();
         let report = closed_late(rt.alloc(), 4)?;
         assert_eq!(report.verdict(), CaptureVerdict::Unsafe);
+        assert!(matches!(decided(&report), Some(Judged::Unsafe(_))));
         Ok(())
     })
 }

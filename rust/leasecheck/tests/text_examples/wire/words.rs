@@ -15,12 +15,13 @@ fn what_is_decided_of_a_file_has_words() {
         let rt = HostRuntime::host();
         let alloc = rt.alloc();
         let words = format!(in alloc;
-            "{}; {}; {}",
+            "{}; {}; {}; {}",
             Judged::Safe,
             Judged::Unsafe(None),
+            Judged::Granted(None),
             Judged::NoClient
         )?;
-        assert_eq!(words.as_str(), "safe; unsafe; not judged, no client of it is");
+        assert_eq!(words.as_str(), "safe; unsafe; unsafe by the server's grants; not judged, no client of it is");
         let words = format!(in alloc; "{}", Judged::Contradictory)?;
         assert_eq!(words.as_str(), "not judged, what is shown can't have happened");
         Ok(())

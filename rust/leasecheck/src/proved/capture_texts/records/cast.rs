@@ -16,7 +16,7 @@ pub(crate) struct Cast {
 }
 
 fn is_unsafe(file: &FileFinding) -> bool {
-    matches!(file.judged, Judged::Unsafe(_))
+    file.judged.is_unsafe()
 }
 
 fn has_unsafe(files: &[FileFinding]) -> bool {
@@ -26,7 +26,7 @@ fn has_unsafe(files: &[FileFinding]) -> bool {
 // Whether the record is of the file, by whether it is of unsafe ones.
 fn is_wanted(are_unsafe: bool, file: &FileFinding) -> bool {
     match file.judged {
-        Judged::Unsafe(_) => are_unsafe,
+        Judged::Unsafe(_) | Judged::Granted(_) => are_unsafe,
         Judged::Safe => !are_unsafe,
         Judged::NoClient | Judged::Contradictory | Judged::TooMany => false,
     }

@@ -1,0 +1,171 @@
+// What the server holds for two clients, by the notes of its messages: where it grants the second one a lease beside the first
+// one's, and what may have taken that away before. Whatever they took, it is charged where they clash.
+use crate::wire::walks::{answer, ask, break_to, grant, keeps, key, open_name, seen};
+use capture_judge::{Charge, Level, Placing, judge_placing};
+use capture_walk::{BreakNote, Note, Walk, chains_on, tables_on};
+use lease_state::Memory;
+use std::alloc::Global;
+use std::test::Fail;
+
+// The first client has a lease on the file 5, and the second one asks for another.
+fn beside(alloc: Global, level: Level) -> Result<Walk, Memory> {
+    let mut walk = Walk::new(alloc);
+    ask(&mut walk, 1, 1, b"f\0")?;
+    grant(&mut walk, 5, 1, level)?;
+    ask(&mut walk, 8, 2, b"f\0")?;
+    Ok(walk)
+}
+
+// The first client's connection is there: the server answers an ECHO.
+fn is_heard(walk: &mut Walk, number: u64) -> Result<(), Memory> {
+    walk.take(&seen(number, 1, Note::Asked(number)))?;
+    answer(walk, number.saturating_add(1), 1, number)
+}
+
+fn judged(alloc: Global, walk: &Walk) -> Result<Placing, Memory> {
+    judge_placing(alloc, &tables_on(alloc, 5, walk.events())?)
+}
+
+// Neither client is shown to have taken its lease, but the server granted both by 24.
+#[test]
+fn a_grant_beside_a_lease_is_the_servers(rt: HostRuntime) -> Result<(), Fail> {
+    let alloc = rt.alloc();
+    let mut walk = beside(alloc, Level::Writes)?;
+    grant(&mut walk, 12, 2, Level::Something)?;
+    is_heard(&mut walk, 13)?;
+    assert!(&rt;
+        matches!(
+            judged(alloc, &walk)?,
+            Placing::Unsafe(Charge { position: 24, .. })
+        )
+    );
+    let chains = chains_on(alloc, 5, walk.events())?;
+    assert!(&rt; matches!(judge_placing(alloc, &chains)?, Placing::Clean(_)));
+    Ok(())
+}
+
+// The first client may be gone, without a word, by the time of the second one's grant.
+#[test]
+fn a_client_that_is_not_heard_any_more_may_be_gone(rt: HostRuntime) -> Result<(), Fail> {
+    let alloc = rt.alloc();
+    let mut walk = beside(alloc, Level::Writes)?;
+    grant(&mut walk, 12, 2, Level::Something)?;
+    assert!(&rt; matches!(judged(alloc, &walk)?, Placing::Clean(_)));
+    Ok(())
+}
+
+// The first client acknowledges a break. The server may grant the other lease before it answers that, and not before it has it.
+#[test]
+fn an_acknowledgment_makes_room(rt: HostRuntime) -> Result<(), Fail> {
+    let alloc = rt.alloc();
+    let mut walk = beside(alloc, Level::Writes)?;
+    walk.take(&seen(12, 1, break_to(Level::Something, 0)))?;
+    walk.take(&seen(13, 1, keeps(13, Level::Something)))?;
+    grant(&mut walk, 14, 2, Level::Something)?;
+    answer(&mut walk, 15, 1, 13)?;
+    is_heard(&mut walk, 16)?;
+    assert!(&rt; matches!(judged(alloc, &walk)?, Placing::Clean(_)));
+    Ok(())
+}
+
+#[test]
+fn a_grant_before_the_acknowledgment_is_too_early(rt: HostRuntime) -> Result<(), Fail> {
+    let alloc = rt.alloc();
+    let mut walk = beside(alloc, Level::Writes)?;
+    walk.take(&seen(12, 1, break_to(Level::Something, 0)))?;
+    grant(&mut walk, 13, 2, Level::Something)?;
+    walk.take(&seen(14, 1, keeps(14, Level::Something)))?;
+    answer(&mut walk, 15, 1, 14)?;
+    assert!(&rt;
+        matches!(
+            judged(alloc, &walk)?,
+            Placing::Unsafe(Charge { position: 26, .. })
+        )
+    );
+    Ok(())
+}
+
+// Nobody acknowledges the break: when its timer runs out the server may take all of the lease away.
+#[test]
+fn a_break_that_is_not_acknowledged_may_time_out(rt: HostRuntime) -> Result<(), Fail> {
+    let alloc = rt.alloc();
+    let mut walk = beside(alloc, Level::Writes)?;
+    walk.take(&seen(12, 1, break_to(Level::Something, 0)))?;
+    grant(&mut walk, 13, 2, Level::Writes)?;
+    is_heard(&mut walk, 14)?;
+    assert!(&rt; matches!(judged(alloc, &walk)?, Placing::Clean(_)));
+    Ok(())
+}
+
+// A lease for reads alone goes with its break, by the time at which that is sent.
+#[test]
+fn a_break_of_reads_alone_makes_room(rt: HostRuntime) -> Result<(), Fail> {
+    let alloc = rt.alloc();
+    let mut walk = beside(alloc, Level::Something)?;
+    let taken_away = BreakNote {
+        key: key(1),
+        level: Level::Nothing,
+        acknowledged: false,
+        epoch: 0,
+    };
+    walk.take(&seen(12, 1, Note::Break(taken_away)))?;
+    grant(&mut walk, 13, 2, Level::Writes)?;
+    is_heard(&mut walk, 14)?;
+    assert!(&rt; matches!(judged(alloc, &walk)?, Placing::Clean(_)));
+    Ok(())
+}
+
+#[test]
+fn a_lease_for_reads_stays_without_a_break(rt: HostRuntime) -> Result<(), Fail> {
+    let alloc = rt.alloc();
+    let mut walk = beside(alloc, Level::Something)?;
+    grant(&mut walk, 12, 2, Level::Writes)?;
+    is_heard(&mut walk, 13)?;
+    assert!(&rt;
+        matches!(
+            judged(alloc, &walk)?,
+            Placing::Unsafe(Charge { position: 24, .. })
+        )
+    );
+    Ok(())
+}
+
+// The last open is closed between its CLOSE and the answer.
+#[test]
+fn a_close_makes_room(rt: HostRuntime) -> Result<(), Fail> {
+    let alloc = rt.alloc();
+    let mut walk = beside(alloc, Level::Writes)?;
+    walk.take(&seen(12, 1, Note::Close(open_name(12, 1))))?;
+    grant(&mut walk, 13, 2, Level::Writes)?;
+    answer(&mut walk, 14, 1, 12)?;
+    assert!(&rt; matches!(judged(alloc, &walk)?, Placing::Clean(_)));
+    Ok(())
+}
+
+#[test]
+fn a_grant_before_the_close_is_too_early(rt: HostRuntime) -> Result<(), Fail> {
+    let alloc = rt.alloc();
+    let mut walk = beside(alloc, Level::Writes)?;
+    grant(&mut walk, 12, 2, Level::Writes)?;
+    walk.take(&seen(13, 1, Note::Close(open_name(13, 1))))?;
+    answer(&mut walk, 14, 1, 13)?;
+    assert!(&rt;
+        matches!(
+            judged(alloc, &walk)?,
+            Placing::Unsafe(Charge { position: 24, .. })
+        )
+    );
+    Ok(())
+}
+
+// What is open may end with its connection, from then on.
+#[test]
+fn the_end_of_a_connection_makes_room(rt: HostRuntime) -> Result<(), Fail> {
+    let alloc = rt.alloc();
+    let mut walk = beside(alloc, Level::Writes)?;
+    is_heard(&mut walk, 12)?;
+    walk.take(&seen(14, 1, Note::End))?;
+    grant(&mut walk, 15, 2, Level::Writes)?;
+    assert!(&rt; matches!(judged(alloc, &walk)?, Placing::Clean(_)));
+    Ok(())
+}
