@@ -8,12 +8,30 @@ ReadRequest(file_id=7)
 """
 from __future__ import annotations
 
+import re
 from collections.abc import Callable
 from dataclasses import fields
 from typing import Any, Mapping
 
 from smblease import outs, replies, requests, steps
 from smblease.values import Access, LeaseState, Share, read_status, status_word
+
+_DECIMAL = re.compile("0|[1-9][0-9]*")
+_BYTES_IN_HEX = re.compile("(?:[0-9a-fA-F]{2})+")
+
+
+def read_number(word: str) -> int:
+    """The number that a line has as this word: decimal digits, without a sign and without leading zeros.
+
+    >>> read_number("1_000")
+    Traceback (most recent call last):
+    ...
+    ValueError: '1_000' is no number
+    """
+    if not _DECIMAL.fullmatch(word):
+        raise ValueError(f"{word[:200]!r} is no number")
+    return int(word)
+
 
 def digits(data: bytes) -> str:
     """Bytes as lines have them.
@@ -30,7 +48,11 @@ def read_digits(word: str) -> bytes:
     >>> read_digits("616263"), read_digits("-")
     (b'abc', b'')
     """
-    return b"" if word == "-" else bytes.fromhex(word)
+    if word == "-":
+        return b""
+    if not _BYTES_IN_HEX.fullmatch(word):
+        raise ValueError(f"{word[:200]!r} isn't bytes in hexadecimal digits")
+    return bytes.fromhex(word)
 
 
 ACCESS = {"r": Access.READ, "w": Access.WRITE, "rw": Access.READ_WRITE}
@@ -46,7 +68,7 @@ def _one_of(words: Mapping[str, Any]) -> tuple[Callable[[Any], str], Callable[[s
     return names.__getitem__, words.__getitem__
 
 
-_NUMBER, _BYTES = (str, int), (digits, read_digits)
+_NUMBER, _BYTES = (str, read_number), (digits, read_digits)
 # How each field is written and read.
 _FIELDS: dict[str, tuple[Callable[[Any], str], Callable[[str], Any]]] = {
     **dict.fromkeys(("file", "client", "file_id", "number", "offset"), _NUMBER),
@@ -148,7 +170,7 @@ def read_note(text: str) -> tuple[int, steps.Note]:
     (2, Believes(file=1, state=<LeaseState RH>))
     """
     word, client, rest = (text.split(" ", 2) + ["", ""])[:3]
-    return int(client), _read(_NOTES, f"{word} {rest}")
+    return read_number(client), _read(_NOTES, f"{word} {rest}")
 
 
 def out_words(out: outs.Out) -> str:
@@ -167,7 +189,7 @@ def read_out(text: str) -> outs.Out:
     Sent(client=2, reply=Closed(file_id=7))
     """
     word, client, rest = (text.split(" ", 2) + ["", ""])[:3]
-    return outs.Sent(int(client), read_reply(rest)) if word == "sent" else _read(_CHANGES, text)
+    return outs.Sent(read_number(client), read_reply(rest)) if word == "sent" else _read(_CHANGES, text)
 
 
 def read_answer(text: str) -> steps.Answer:

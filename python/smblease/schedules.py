@@ -6,7 +6,7 @@ from dataclasses import dataclass, replace
 from enum import Enum
 
 from smblease.faults import ToolFault
-from smblease.lines import digits, read_digits
+from smblease.lines import digits, read_digits, read_number
 
 
 class EventKind(Enum):
@@ -42,7 +42,7 @@ class Event:
     @classmethod
     def read(cls, line: str) -> Event:
         kind, client, *words = line.split(" ")
-        return cls(EventKind(kind), int(client), tuple(words))
+        return cls(EventKind(kind), read_number(client), tuple(words))
 
     @property
     def text(self) -> str:

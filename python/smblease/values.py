@@ -2,6 +2,7 @@
 from __future__ import annotations
 
 import enum
+import re
 from typing import NamedTuple, Optional
 
 from smblease._library import library
@@ -254,6 +255,6 @@ def read_status(word: str) -> int:
     """
     if word in _BY_WORD:
         return _BY_WORD[word]
-    if len(word) != 8:
+    if not re.fullmatch("[0-9a-fA-F]{8}", word):
         raise ValueError(f"{word!r} is no status")
     return int(word, 16)

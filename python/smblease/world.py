@@ -14,7 +14,7 @@ from enum import Enum
 from typing import Any, Generic, Protocol, TypeVar
 
 from smblease.client import Client, lease_key
-from smblease.lines import ACCESS, SHARE, digits, note_words, out_words, read_digits, read_request, reply_words
+from smblease.lines import ACCESS, SHARE, digits, note_words, out_words, read_digits, read_number, read_request, reply_words
 from smblease.outs import Out, Sent
 from smblease.processes import LineClients
 from smblease.replies import Reply
@@ -74,12 +74,12 @@ class ClientObjects:
 
 
 _COMMANDS: dict[EventKind, Callable[[Client, tuple[str, ...]], Step]] = {
-    EventKind.OPEN: lambda client, words: client.open(int(words[0]), ACCESS[words[1]], SHARE[words[2]],
+    EventKind.OPEN: lambda client, words: client.open(read_number(words[0]), ACCESS[words[1]], SHARE[words[2]],
                                                       LeaseState.of(words[3]), durable=words[4:] == ("durable",)),
-    EventKind.CLOSE: lambda client, words: client.close_file(int(words[0])),
-    EventKind.READ: lambda client, words: client.read(int(words[0])),
-    EventKind.FLUSH: lambda client, words: client.flush(int(words[0])),
-    EventKind.WRITE: lambda client, words: client.write(int(words[0]), int(words[1]), read_digits(words[2])),
+    EventKind.CLOSE: lambda client, words: client.close_file(read_number(words[0])),
+    EventKind.READ: lambda client, words: client.read(read_number(words[0])),
+    EventKind.FLUSH: lambda client, words: client.flush(read_number(words[0])),
+    EventKind.WRITE: lambda client, words: client.write(read_number(words[0]), read_number(words[1]), read_digits(words[2])),
     EventKind.CONNECT: lambda client, words: client.connect(),
     EventKind.NOTICE: lambda client, words: client.notice(),
 }
@@ -114,7 +114,7 @@ class World(ABC, Generic[AnyPeer]):
         if peer is None:
             return False
         if event.kind in _APPLICATION:
-            return int(event.words[0]) in self.files and self._step(event.client, lambda: self._clients.step(event))
+            return read_number(event.words[0]) in self.files and self._step(event.client, lambda: self._clients.step(event))
         if event.kind in (EventKind.EXPIRE, EventKind.SCAVENGE):
             return self._end_timer(event)
         may, does = self._doings[event.kind]
@@ -168,7 +168,7 @@ class World(ABC, Generic[AnyPeer]):
         peer.requests.append(request)
 
     def _end_timer(self, event: Event) -> bool:
-        file, ends = int(event.words[0]), self._expire if event.kind is EventKind.EXPIRE else self._scavenge
+        file, ends = read_number(event.words[0]), self._expire if event.kind is EventKind.EXPIRE else self._scavenge
         return file in self.files and ends(event.client, file)
 
     @abstractmethod

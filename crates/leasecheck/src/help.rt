@@ -145,13 +145,14 @@ pub(crate) const CAPTURE: &str =
     "Reads a capture of SMB2 as lines, one for each frame of the transport, and prints
 'safe' (status 0), 'unsafe' (status 3) or 'nothing judged' (status 4). 'unsafe'
 is said only where in every order that fits the capture two clients cache a file
-of which one caches writes; 'safe' where there is an order in which none do. Then
-it prints a line for each file on which leases were granted, one for each client
-that isn't judged, and how much was read. With --record it prints a record, of
-what the clients cached of the unsafe files or else of the safe ones, with a
-comment line before each fact that names its packet; and the verdict and the rest
-as comment lines after it. drive/capture in the project's repository makes such
-lines of a file that tshark reads.";
+of which one caches writes, or hold leases on it that allow that, whatever they
+took of these ('unsafe by the server's grants'); 'safe' where there is an order
+of either in which none do. Then it prints a line for each file on which leases
+were granted, one for each client that isn't judged, and how much was read. With
+--record it prints a record, of what the clients cached of the unsafe files or
+else of the safe ones, with a comment line before each fact that names its
+packet; and the verdict and the rest as comment lines after it. drive/capture in
+the project's repository makes such lines of a file that tshark reads.";
 
 pub(crate) const CAPTURE_END: &str = "Example:
   $ printf 'end 1 0.5 1\\n' | leasecheck capture -
