@@ -16,7 +16,7 @@ import smblease
 import smblease.manager_decisions
 from tests.paths import EXAMPLE, PACKAGES, RUNS, TOP
 
-MODULES = [it.name for it in pkgutil.iter_modules(smblease.__path__)]
+MODULES = [it.name for it in pkgutil.iter_modules(smblease.__path__) if not it.ispkg]
 GIVEN = [it for module in (smblease, smblease.manager_decisions)
          for it in map(vars(module).get, module.__all__) if inspect.isclass(it) or inspect.isfunction(it)]
 EXAMPLES = TOP / "examples/python"
