@@ -15,8 +15,9 @@ from smblease.steps import (Answer, Believes, CachedRead, Done, Failed, FileByte
                             Settlement, Step, Waiting, Wrote)
 from smblease.values import (Access, LeaseState, Order, Rise, Rules, Share, Status, granted_form, is_within,
                              needs_acknowledgment, opens_conflict)
+from smblease.version import VERSION
 
-__version__ = "0.3.0"
+__version__ = VERSION
 __all__ = [
     "Access", "AcknowledgeDone", "AcknowledgeFailed", "AcknowledgeRequest", "Acknowledgment", "Answer", "Believes", "Break",
     "CachedRead", "Changed", "Client", "Closed", "CloseFailed", "CloseRequest", "Context", "CreateAnswer", "CreateAsk",

@@ -6,12 +6,10 @@ import os
 from typing import Any, Iterator
 
 from smblease import _functions
+from smblease.version import MAJOR, MINOR
 
-# The version of the headers that this package was written for. A library of the same first number fits, where its second one is
-# no lower.
-MAJOR, MINOR = 0, 3
 VARIABLE = "SMBLEASE_LIBRARY"
-REMEDY = ("To have it, run `make install` or `pip install --no-build-isolation .` at the top of the repository, or set"
+REMEDY = ("To have it, run `make install` or `pip install .` at the top of the repository, or set"
           f" {VARIABLE} to the path of its libsmblease.so")
 SONAME = f"libsmblease.so.{MAJOR}"
 HERE = os.path.dirname(os.path.realpath(__file__))

@@ -5,7 +5,7 @@ import os
 import re
 import shutil
 import subprocess
-from collections.abc import Sequence
+from collections.abc import Iterator, Sequence
 from dataclasses import dataclass
 
 from smblease._library import HERE, TOP
@@ -16,16 +16,28 @@ NAME = "leasecheck"
 SECONDS = 600
 
 
+def _brought() -> Iterator[str]:
+    """Where the program stands that came with this package: in the repository, or where an installer noted that it was put."""
+    if os.path.exists(os.path.join(TOP, "crates.txt")):
+        yield os.path.join(TOP, NAME)
+    # (it takes as long to load as all the rest of this package, and only what is installed needs it)
+    from importlib.metadata import distributions  # pylint: disable=import-outside-toplevel
+    folder = os.path.dirname(HERE)
+    for found in distributions(name="smblease", path=[folder]):
+        yield from (str(found.locate_file(it)) for it in found.files or () if it.name == NAME and it.parent.name == "bin")
+    # (what pip noted for --target isn't so)
+    yield os.path.join(folder, "bin", NAME)
+
+
 def find_program() -> str:
-    """The path of the program: the one that the package brings, else that of the repository which the package stands in, else the
-    one that is installed.
+    """The path of the program: the one that came with the package, else the one on the path.
 
     >>> import os
     >>> os.path.basename(find_program())
     'leasecheck'
     """
-    own = next(filter(os.path.isfile, (os.path.join(HERE, NAME), os.path.join(TOP, NAME))), None)
-    return own or shutil.which(NAME) or NAME
+    own = next(filter(os.path.isfile, _brought()), None)
+    return os.path.normpath(own) if own else shutil.which(NAME) or NAME
 
 
 @dataclass(frozen=True)

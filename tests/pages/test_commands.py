@@ -24,14 +24,14 @@ OWN = "make check"
 # What is run in the folder as it is run at the top of the repository.
 LINKS = (
     "CHANGELOG.md", "COPYING.md", "Makefile", "SECURITY.md", "completion", "crates", "crates.txt", "dist", "docs", "drive",
-    "examples", "include", "kit.txt", "leasecheck", "man", "out", "pyproject.toml", "python", "rust", "serve", "setup.py",
-    "tests", "tools")
+    "examples", "include", "kit.txt", "leasecheck", "man", "out", "pyproject.toml", "python", "rust", "serve", "tests",
+    "tools")
 PAGES = ("README.md", "docs/SESSIONS.md", "docs/PROFILE.md")
 # Commands that have these words need these programs.
 NEEDS = {"pkg-config": "pkg-config", "out/c/": "pkg-config", "./lend": "pkg-config", "drive/capture": "tshark",
          "man leasecheck": "man"}
 # And these need these packages of /usr/bin/python3.
-PACKAGES = {"environment": ("ensurepip", "setuptools", "wheel")}
+PACKAGES = {"environment": ("ensurepip", "hatchling")}
 MOST_LINES = 150
 MOST_LINES_OF_A_USE = 200
 MARK = "-- the end of what the command printed:"

@@ -30,4 +30,3 @@ print(smblease.__version__, f"{has.major}.{has.minor}.{has.patch}")
     env = {"PYTHONPATH": PACKAGES, "PATH": "/usr/bin:/bin"}
     printed = subprocess.run([sys.executable, "-c", program], env=env, stdout=subprocess.PIPE, text=True, check=True).stdout
     assert printed == f"{VERSION} {VERSION}\n"
-    assert f'\nversion = "{VERSION}"\n' in (TOP / "pyproject.toml").read_text(encoding="utf-8")

@@ -17,7 +17,7 @@ from tests.paths import TOP
 BUILT = f"{TOP}/out/c/libsmblease.so"
 PROVED, DIST, PLAIN = "out/proved", "dist/x86_64-linux", "out/plain"
 UNSET = ("SMBLEASE_LIBRARY", "SMBLEASE_BUILD", "LD_LIBRARY_PATH")
-REMEDY = (" To have it, run `make install` or `pip install --no-build-isolation .` at the top of the repository, or set"
+REMEDY = (" To have it, run `make install` or `pip install .` at the top of the repository, or set"
           " SMBLEASE_LIBRARY to the path of its libsmblease.so")
 
 

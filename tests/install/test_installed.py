@@ -1,0 +1,63 @@
+"""The wheel, installed without a network into a fresh environment of each Python at hand."""
+from __future__ import annotations
+
+from pathlib import Path
+
+import pytest
+
+from tests import needs
+from tests.install.making import MARKS, printed, pythons, ran
+from tests.paths import EXAMPLE, TOP
+from tests.program.ran import ACKNOWLEDGMENT, BREAK, run
+from tests.program.test_version import VERSION
+
+pytestmark = [*MARKS, pytest.mark.long, pytest.mark.xdist_group("installed")]
+CAPTURE = TOP / "drive" / "captures" / "two_clients_share_a_file.pcapng"
+
+
+@pytest.fixture(scope="module", name="programs", params=pythons(), ids=lambda it: f"{it.parent.parent.name}-{it.name}")
+def programs_of_an_environment(request: pytest.FixtureRequest, tmp_path_factory: pytest.TempPathFactory, wheel: Path) -> Path:
+    """The folder of the environment's programs."""
+    folder = tmp_path_factory.mktemp("installed")
+    made = ran([request.param, "-m", "venv", folder / "environment"], folder)
+    assert made.returncode == 0, made
+    programs = folder / "environment" / "bin"
+    made = ran([programs / "python", "-m", "pip", "install", "--quiet", wheel], folder)
+    assert made.returncode == 0, made
+    return programs
+
+
+def test_program(programs: Path, tmp_path: Path) -> None:
+    assert printed([programs / "leasecheck", "ack", BREAK], tmp_path) == f"{ACKNOWLEDGMENT}\n"
+
+
+def test_library(programs: Path, tmp_path: Path) -> None:
+    program = f"import smblease; print(smblease.Notification.read(bytes.fromhex('{BREAK}')).acknowledgment().write().hex())"
+    assert printed([programs / "python", "-c", program], tmp_path) == f"{ACKNOWLEDGMENT}\n"
+
+
+def test_version(programs: Path, tmp_path: Path) -> None:
+    program = "import smblease, importlib.metadata as it; print(smblease.__version__, it.version('smblease'))"
+    assert printed([programs / "python", "-c", program], tmp_path) == f"{VERSION} {VERSION}\n"
+
+
+def test_package_finds_its_own_program(programs: Path, tmp_path: Path) -> None:
+    """Also where the environment's programs aren't on the path."""
+    program = "from smblease.program import find_program; print(find_program())"
+    assert printed([programs / "python", "-c", program], tmp_path) == f"{programs / 'leasecheck'}\n"
+
+
+def test_package_runs_its_program(programs: Path, tmp_path: Path) -> None:
+    program = ("from smblease.program import find_program, replay\n"
+               "print('\\n'.join(replay(find_program(), open('schedule').read())))")
+    (tmp_path / "schedule").write_bytes(EXAMPLE.read_bytes())
+    record = run(["replay", EXAMPLE]).out.decode()
+    assert printed([programs / "python", "-c", program], tmp_path) == record.removesuffix("# safe\n")
+
+
+@needs.program("tshark")
+def test_capture(programs: Path, tmp_path: Path) -> None:
+    """Nothing but tshark has to be there, and no client of the kept capture cached what another one changed."""
+    said = printed([programs / "smblease-capture", CAPTURE, "--record", "record"], tmp_path)
+    assert said.splitlines()[0] == "safe"
+    assert printed([programs / "leasecheck", "judge", "record"], tmp_path) == "safe\n"

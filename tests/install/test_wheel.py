@@ -1,0 +1,114 @@
+"""What is in the wheel and the sdist, and what the wheel says of the systems that it is for."""
+from __future__ import annotations
+
+import importlib.util
+import re
+import struct
+import subprocess
+import sysconfig
+import tarfile
+import zipfile
+from pathlib import Path
+from types import ModuleType
+
+import pytest
+
+from tests import needs
+from tests.install.making import MARKS, made_wheel
+from tests.paths import TOP, built_program
+from tests.program.test_version import VERSION
+
+pytestmark = [*MARKS, pytest.mark.xdist_group("installed")]
+COMMANDS = ("capture", "compare", "explore", "run", "serve", "torture")
+DIST = TOP / "dist" / "x86_64-linux"
+PROVED = pytest.mark.skipif(needs.IS_BY_CARGO, reason="what cargo builds needs the glibc that it was built with")
+
+
+def contents(wheel: Path) -> dict[str, bytes]:
+    with zipfile.ZipFile(wheel) as opened:
+        return {name: opened.read(name) for name in opened.namelist()}
+
+
+def needed_glibc(file: Path) -> set[tuple[int, ...]]:
+    """The versions of glibc that a program's or a library's symbols have."""
+    told = subprocess.run(["objdump", "-T", file], stdout=subprocess.PIPE, text=True, check=True).stdout
+    return {tuple(map(int, it.split("."))) for it in re.findall(r"\bGLIBC_([\d.]+)", told)}
+
+
+@PROVED
+def test_name(wheel: Path) -> None:
+    """Any Python 3, on x86-64 Linux with glibc 2.34 or later."""
+    assert wheel.name == f"smblease-{VERSION}-py3-none-manylinux_2_34_x86_64.whl"
+    said = contents(wheel)[f"smblease-{VERSION}.dist-info/WHEEL"].decode()
+    assert re.findall(r"^Tag: (.*)$", said, re.M) == ["py3-none-manylinux_2_34_x86_64"]
+
+
+@PROVED
+@needs.DIST
+@needs.program("objdump")
+def test_no_newer_glibc_is_needed() -> None:
+    assert max(needed_glibc(DIST / "leasecheck")) == (2, 34)
+    assert max(needed_glibc(DIST / "libsmblease.so")) <= (2, 34)
+
+
+def test_what_tools_current_finds_is_in_it(wheel: Path) -> None:
+    program = Path(built_program())
+    has = contents(wheel)
+    assert has["smblease/libsmblease.so"] == (program.parent / "libsmblease.so").read_bytes()
+    assert has[f"smblease-{VERSION}.data/scripts/leasecheck"] == program.read_bytes()
+    with zipfile.ZipFile(wheel) as opened:
+        assert opened.getinfo(f"smblease-{VERSION}.data/scripts/leasecheck").external_attr >> 16 & 0o111 == 0o111
+
+
+def test_all_of_the_package_is_in_it(wheel: Path) -> None:
+    files = subprocess.run(["git", "ls-files", "python"], cwd=TOP, stdout=subprocess.PIPE, text=True, check=False).stdout.split()
+    assert {it.removeprefix("python/") for it in files if (TOP / it).exists()} <= set(contents(wheel))
+
+
+def test_its_commands(wheel: Path) -> None:
+    said = contents(wheel)[f"smblease-{VERSION}.dist-info/entry_points.txt"].decode()
+    assert re.findall(r"^smblease-(\w+) = ", said, re.M) == list(COMMANDS)
+
+
+def test_the_sdist_has_what_dist_is_found_by(sdist: Path) -> None:
+    with tarfile.open(sdist) as opened:
+        names = set(opened.getnames())
+    top = f"smblease-{VERSION}"
+    assert {f"{top}/dist/x86_64-linux/{it.name}" for it in DIST.iterdir()} <= names
+    assert {f"{top}/{it}" for it in ("docs/PYTHON.md", "README.md", "COPYING.md", "rust/Cargo.lock", "tools/current")} <= names
+    assert not [it for it in names if "/out/" in it or "/.git/" in it]
+
+
+def test_a_wheel_of_the_sdist_is_that_of_the_clone(wheel: Path, sdist: Path, tmp_path: Path) -> None:
+    assert contents(made_wheel(sdist, tmp_path)) == contents(wheel)
+
+
+@pytest.fixture(name="hook", scope="module")
+def build_hook() -> ModuleType:
+    spec = importlib.util.spec_from_file_location("hatch_build", TOP / "tools" / "hatch_build.py")
+    assert spec and spec.loader
+    made = importlib.util.module_from_spec(spec)
+    spec.loader.exec_module(made)
+    return made
+
+
+def a_file(path: Path, machine: int, *symbols: str) -> Path:
+    """An ELF header of 64 bits, and a table of names."""
+    header = struct.pack("<16sHHI40x", b"\x7fELF\2\1\1", 3, machine, 1)
+    path.write_bytes(header + b"".join(b"\0" + it.encode() for it in symbols) + b"\0")
+    return path
+
+
+def test_newer_symbols_need_a_newer_system(hook: ModuleType, tmp_path: Path) -> None:
+    old = a_file(tmp_path / "old", 62, "GLIBC_2.2.5", "GLIBC_2.14")
+    new = a_file(tmp_path / "new", 62, "GLIBC_2.2.5", "GLIBC_2.38", "GLIBC_PRIVATE")
+    assert hook.platform_of([old]) == "manylinux_2_14_x86_64"
+    assert hook.platform_of([old, new]) == "manylinux_2_38_x86_64"
+    assert hook.platform_of([a_file(tmp_path / "other", 183, "GLIBC_2.17")]) == "manylinux_2_17_aarch64"
+
+
+@pytest.mark.parametrize("machine, symbols", [(62, ()), (8, ("GLIBC_2.17",))], ids=["no_glibc", "another_machine"])
+def test_what_is_no_manylinux_is_of_this_system_alone(hook: ModuleType, tmp_path: Path, machine: int,
+                                                      symbols: tuple[str, ...]) -> None:
+    own = re.sub(r"\W", "_", sysconfig.get_platform())
+    assert hook.platform_of([a_file(tmp_path / "one", machine, *symbols)]) == own

@@ -1,0 +1,41 @@
+"""Puts the program and the library for C into the wheel, as tools/current finds them, and names the systems that run them."""
+from __future__ import annotations
+
+import re
+import struct
+import subprocess
+import sysconfig
+from pathlib import Path
+from typing import Any, Sequence
+
+from hatchling.builders.hooks.plugin.interface import BuildHookInterface
+
+LIBRARY, PROGRAM = "libsmblease.so", "leasecheck"
+# The versions of glibc whose symbols a file needs, as its table of names has them.
+GLIBC = re.compile(rb"\0GLIBC_2\.(\d+)(?:\.\d+)?(?=\0)")
+MACHINES = {62: "x86_64", 183: "aarch64"}
+
+
+def platform_of(files: Sequence[Path]) -> str:
+    """The tag of the systems that run all of these: each Linux of their processor with the glibc that they need (PEP 600)."""
+    contents = [it.read_bytes() for it in files]
+    machines = {struct.unpack_from("<H", it, 18)[0] if it.startswith(b"\x7fELF\2\1") else 0 for it in contents}
+    needed = [int(number) for it in contents for number in GLIBC.findall(it)]
+    machine = MACHINES.get(machines.pop()) if len(machines) == 1 else None
+    if machine is None or not needed:
+        return re.sub(r"\W", "_", sysconfig.get_platform())
+    return f"manylinux_2_{max(needed)}_{machine}"
+
+
+class WheelHook(BuildHookInterface[Any]):
+    def initialize(self, version: str, build_data: dict[str, Any]) -> None:
+        """`version` is what kind of wheel it is; an editable one leads to the repository, which has both."""
+        if self.target_name != "wheel" or version == "editable":
+            return
+        top = Path(self.root)
+        found = subprocess.run([top / "tools" / "current"], stdout=subprocess.PIPE, check=True, text=True).stdout.strip()
+        library, program = (Path(found) / name for name in (LIBRARY, PROGRAM))
+        build_data["pure_python"] = False
+        build_data["tag"] = f"py3-none-{platform_of([library, program])}"
+        scripts = f"{self.build_config.builder.project_id}.data/scripts"
+        build_data["force_include"].update({str(library): f"smblease/{LIBRARY}", str(program): f"{scripts}/{PROGRAM}"})
