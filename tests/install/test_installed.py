@@ -1,6 +1,8 @@
 """The wheel, installed without a network into a fresh environment of each Python at hand."""
 from __future__ import annotations
 
+import re
+import zipfile
 from pathlib import Path
 
 import pytest
@@ -12,6 +14,7 @@ from tests.program.ran import ACKNOWLEDGMENT, BREAK, run
 from tests.program.test_version import VERSION
 
 pytestmark = [*MARKS, pytest.mark.long, pytest.mark.xdist_group("installed")]
+COMMANDS = ("run", "explore", "compare", "capture", "serve", "torture")
 CAPTURE = TOP / "drive" / "captures" / "two_clients_share_a_file.pcapng"
 
 
@@ -53,6 +56,34 @@ def test_package_runs_its_program(programs: Path, tmp_path: Path) -> None:
     (tmp_path / "schedule").write_bytes(EXAMPLE.read_bytes())
     record = run(["replay", EXAMPLE]).out.decode()
     assert printed([programs / "python", "-c", program], tmp_path) == record.removesuffix("# safe\n")
+
+
+@pytest.mark.parametrize("command", COMMANDS)
+def test_command(programs: Path, tmp_path: Path, command: str) -> None:
+    """Help and version need nothing but the package, and know the name that was called."""
+    name = f"smblease-{command}"
+    assert printed([programs / name, "--help"], tmp_path).startswith(f"usage: {name} [-h] [--version] ")
+    assert printed([programs / name, "--version"], tmp_path) == f"{name} {VERSION}\n"
+
+
+@pytest.mark.parametrize("command, words", [("run", ["schedule"]), ("compare", ["schedule"]),
+                                            ("explore", ["--seed", "1", "--count", "1"])])
+def test_missing_extra(programs: Path, tmp_path: Path, command: str, words: list[str]) -> None:
+    (tmp_path / "schedule").write_bytes(EXAMPLE.read_bytes())
+    done = ran([programs / f"smblease-{command}", *words, "--served"], tmp_path)
+    said = f"smblease-{command}: impacket is missing: pip install 'smblease[servers]'\n"
+    assert (done.returncode, done.stdout, done.stderr) == (1, "", said)
+
+
+def test_extra_is_said_of_the_package(wheel: Path) -> None:
+    with zipfile.ZipFile(wheel) as opened:
+        said = opened.read(f"smblease-{VERSION}.dist-info/METADATA").decode()
+    assert "\nProvides-Extra: servers\n" in said and re.search(r"^Requires-Dist: impacket.*; extra == 'servers'$", said, re.M)
+
+
+def test_usage_is_refused_by_that_name(programs: Path, tmp_path: Path) -> None:
+    done = ran([programs / "smblease-serve", "--port", "70000", "--share", "s"], tmp_path)
+    assert (done.returncode, done.stderr) == (2, "smblease-serve: --port is from 0 to 65535\n")
 
 
 @needs.program("tshark")

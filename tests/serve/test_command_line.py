@@ -22,7 +22,7 @@ RUN = TOP / "serve/run"
 PLACE = ["--port", "0", "--share", "s"]
 # Python with the standard library alone: no folder of packages is looked into.
 BARE = (sys.executable, "-I", "-S")
-NO_IMPACKET = "serve/run: --user needs impacket, which can't be imported (tools/setup installs it); guests don't need it\n"
+NO_IMPACKET = "serve/run: impacket is missing, which --user needs: tools/setup installs it\n"
 ODD = (sys.executable, str(TOP / "tests/serve/odd_servers.py"))
 
 

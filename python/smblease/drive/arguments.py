@@ -5,6 +5,7 @@ import argparse
 import os
 from collections.abc import Callable
 
+from smblease.drive.called import name_of, need
 from smblease.drive.commands import rules_of
 from smblease.drive.faults import Usage
 from smblease.drive.login import login_of
@@ -23,7 +24,8 @@ EXPIRING = 8
 
 def server_arguments(parser: argparse.ArgumentParser) -> None:
     parser.add_argument("--smbd", action="store_true", help="a private smbd, started afresh for each schedule and ended")
-    parser.add_argument("--served", action="store_true", help="the proved server (serve/run), started and ended likewise")
+    parser.add_argument("--served", action="store_true",
+                        help=f"the proved server ({name_of('serve/run')}), started and ended likewise")
     parser.add_argument("--rules", default=str(Rules()), metavar="RULES",
                         help="the rules of the proved server, and of what its record is compared with: by-client or by-key, a "
                              "comma, and as-free or whole; or profile, which are those that it has without this word")
@@ -48,6 +50,7 @@ def server_arguments(parser: argparse.ArgumentParser) -> None:
 
 def runner_of(arguments: argparse.Namespace, slots: Slots | None = None) -> Runner:
     """How the schedules are run that a command line asks for; `slots` has the one that a run lends while it waits for a timer."""
+    need("impacket")
     expect = None if arguments.expect is None else rules_of(arguments.expect, "--expect")
     return Runner(arguments.leasecheck, _server_maker(arguments, slots), arguments.skip, rules=rules_of(arguments.rules),
                   expect=expect, stays=bool(arguments.server))

@@ -4,6 +4,7 @@ from __future__ import annotations
 import xml.etree.ElementTree as xml
 from collections.abc import Sequence
 
+from smblease.drive.called import name_of
 from smblease.drive.explored import Row
 
 
@@ -12,7 +13,8 @@ def junit(rows: Sequence[Row], seed: int) -> bytes:
     results = [(row, *row.result()) for row in rows]
     counts = {name: sum(kind == it for _, kind, _ in results)
               for name, it in (("failures", "failure"), ("errors", "error"), ("skipped", "skipped"))}
-    suite = xml.Element("testsuite", {"name": "drive/explore", "tests": str(len(rows)), **{it: str(counts[it]) for it in counts}})
+    numbers = {"tests": str(len(rows)), **{it: str(counts[it]) for it in counts}}
+    suite = xml.Element("testsuite", {"name": name_of("drive/explore"), **numbers})
     for row, kind, why in results:
         case = xml.SubElement(suite, "testcase", {"classname": f"seed {seed}", "name": f"schedule {row.number}"})
         if kind:

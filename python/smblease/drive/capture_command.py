@@ -9,6 +9,7 @@ from collections import Counter
 from collections.abc import Iterable, Iterator, Sequence
 from dataclasses import replace
 
+from smblease.drive.called import parser_of
 from smblease.drive.capture_connections import LeftOut, Overview, overview_of
 from smblease.drive.capture_files import file_at, keys_in, session_key
 from smblease.drive.capture_findings import Verdict, findings_in, parted
@@ -41,8 +42,7 @@ def key_given(text: str) -> SessionKey:
 
 
 def parser() -> argparse.ArgumentParser:
-    made = argparse.ArgumentParser(prog="drive/capture", description="Judges what a capture of SMB2 shows of leases.",
-                                   epilog=EPILOG, formatter_class=argparse.RawDescriptionHelpFormatter)
+    made = parser_of("drive/capture", "Judges what a capture of SMB2 shows of leases.", EPILOG)
     made.add_argument("capture", metavar="FILE", help="a capture that tshark reads, as pcapng; - for standard input")
     made.add_argument("--record", metavar="OUT", help="write the record there")
     shown = made.add_mutually_exclusive_group()

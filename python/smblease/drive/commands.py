@@ -41,6 +41,10 @@ def ended(parser: argparse.ArgumentParser, main: Callable[[argparse.Namespace], 
     except ToolFault as fault:
         print(f"{parser.prog}: {fault}", file=sys.stderr)
         return NOT_DRIVEN
+    except ImportError as fault:
+        # (of a package that is there in part)
+        print(f"{parser.prog}: {fault}", file=sys.stderr)
+        return NOT_DRIVEN
     except OSError as fault:
         # Standard output doesn't take it; nor shall the interpreter try again at its end.
         os.dup2(os.open(os.devnull, os.O_WRONLY), sys.stdout.fileno())

@@ -6,6 +6,7 @@ import difflib
 from collections.abc import Sequence
 
 from smblease.drive.arguments import runner_of, server_arguments
+from smblease.drive.called import name_of, parser_of
 from smblease.drive.commands import NOT_DRIVEN, SAFE, ended, rules_of, schedule_in
 from smblease.drive.explanations import NONE, Run, likeness_of
 from smblease.drive.faults import DriveFault, Usage
@@ -22,10 +23,9 @@ is refused."""
 
 
 def parser() -> argparse.ArgumentParser:
-    made = argparse.ArgumentParser(prog="drive/compare", description="Compares a driven record with the profile's.",
-                                   epilog=EPILOG, formatter_class=argparse.RawDescriptionHelpFormatter)
+    made = parser_of("drive/compare", "Compares a driven record with the profile's.", EPILOG)
     made.add_argument("schedule", metavar="SCHEDULE", help="a file with a schedule, - for standard input")
-    made.add_argument("--record", metavar="FILE", help="its record, as drive/run wrote it")
+    made.add_argument("--record", metavar="FILE", help=f"its record, as {name_of('drive/run')} wrote it")
     server_arguments(made)
     return made
 

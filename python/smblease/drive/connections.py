@@ -8,7 +8,6 @@ import struct
 import time
 from collections.abc import Iterator
 from contextlib import contextmanager, suppress
-from dataclasses import dataclass
 from socket import SHUT_WR
 from typing import Any
 
@@ -22,6 +21,7 @@ from smblease.drive import headers
 from smblease.drive.faults import DriveFault
 from smblease.drive.headers import HEADER
 from smblease.drive.place import Place
+from smblease.drive.received import PATIENCE, FileId, Message
 from smblease.replies import AcknowledgeDone, Closed, Created, ReadDone, Reply, WriteDone, failed
 from smblease.requests import CloseRequest, CreateRequest, ReadRequest, Request, WriteRequest
 from smblease.values import LARGEST_FILE, Access, Status
@@ -29,11 +29,8 @@ from smblease.values import LARGEST_FILE, Access, Status
 # The header of a request that isn't signed (2.2.1.2), and the body of an ECHO (2.2.28).
 REQUEST, PROTOCOL = struct.Struct("<4sHHLHHLLQLLQ16s"), b"\xfeSMB"
 ECHO, CREDITS = struct.pack("<HH", 4, 0), 127
-NOTIFICATION_ID = 0xFFFFFFFFFFFFFFFF
 OPLOCK_LEVEL_LEASE = 0xFF
 CREDIT_BYTES = 65536
-# A server may stand still for some seconds (smbd does while it retries a lock).
-PATIENCE = 25.0
 # How long a server may take to close a connection that its client has closed.
 ENDING = 0.5
 SESSION_TRIES = 20
@@ -65,21 +62,6 @@ def _why(fault: Exception) -> str:
         return _why(fault.strerror)
     text = str((isinstance(fault, OSError) and fault.strerror) or fault)
     return (text.splitlines() or [type(fault).__name__])[0][:120]
-
-
-@dataclass(frozen=True)
-class FileId:
-    persistent: int
-    volatile: int
-
-
-@dataclass(frozen=True)
-class Message:
-    """What came: `number` is that of the request, or NOTIFICATION_ID."""
-
-    number: int
-    status: int
-    data: bytes
 
 
 class Protocol(SMB3):  # type: ignore[misc]

@@ -7,7 +7,7 @@ import uuid
 from dataclasses import replace
 
 import smblease
-from smblease.drive.connections import Connection
+from smblease.drive.connecting import connected
 from smblease.drive.exchange import Exchange
 from smblease.drive.expectation import Step
 from smblease.drive.faults import DriveFault, Undrivable
@@ -73,7 +73,7 @@ class Driver(World[DrivenPeer]):
 
     def _joined(self, client: int) -> None:
         peer = self.peers[client]
-        peer.connection = Connection(self._server.place, self._names.of(peer.guid.bytes))
+        peer.connection = connected(self._server.place, self._names.of(peer.guid.bytes))
         peer.process = self._server.new_process()
 
     def _dropped(self, client: int) -> None:
@@ -171,7 +171,7 @@ class Driver(World[DrivenPeer]):
 
 def files_made(schedule: Schedule, server: Server) -> None:
     """Makes the files over SMB: smbd refuses durable reconnects to a file that was made on its disk."""
-    connection = Connection(server.place, uuid.uuid4().bytes)
+    connection = connected(server.place, uuid.uuid4().bytes)
     for file, data in enumerate(schedule.files, 1):
         connection.make_file(server.name_of(file), data)
     connection.end()
@@ -181,7 +181,7 @@ def files_made(schedule: Schedule, server: Server) -> None:
 def files_removed(schedule: Schedule, server: Server) -> None:
     """Removes them again. What can't be removed is reported, and left."""
     try:
-        connection = Connection(server.place, uuid.uuid4().bytes)
+        connection = connected(server.place, uuid.uuid4().bytes)
         for file in range(1, len(schedule.files) + 1):
             connection.remove_file(server.name_of(file))
         connection.close()

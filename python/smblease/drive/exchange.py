@@ -4,9 +4,10 @@ from __future__ import annotations
 import time
 
 import smblease
-from smblease.drive.connections import NOTIFICATION_ID, PATIENCE, FileId, Message, reply_of
+from smblease.drive.connecting import reply_of
 from smblease.drive.faults import DriveFault
 from smblease.drive.peers import DrivenPeer, Unanswered
+from smblease.drive.received import NOTIFICATION_ID, PATIENCE, FileId, Message
 from smblease.drive.records import Arrival
 from smblease.drive.tried import Tried
 from smblease.drive.wire_names import WireNames

@@ -15,6 +15,7 @@ from pathlib import Path
 
 from smblease.drive.arguments import EXPIRING, options_text, runner_of, server_arguments, server_text
 from smblease.drive.build_server import junit
+from smblease.drive.called import parser_of
 from smblease.drive.commands import INTERRUPTED, NOT_DRIVEN, NOTHING_TRIED, SAFE, UNSAFE, ended, write
 from smblease.drive.explanations import UNEXPLAINED
 from smblease.drive.exploration import Explorer
@@ -55,8 +56,7 @@ driven; 2 the command line is refused; 3 a record is unsafe, or not as expected;
 
 
 def parser() -> argparse.ArgumentParser:
-    made = argparse.ArgumentParser(prog="drive/explore", description="Drives a server through random schedules.",
-                                   epilog=EPILOG, formatter_class=argparse.RawDescriptionHelpFormatter)
+    made = parser_of("drive/explore", "Drives a server through random schedules.", EPILOG)
     made.add_argument("--seed", required=True, metavar="S", help="what the schedules are drawn from; or S:N, one of them alone")
     made.add_argument("--count", type=int, metavar="N", help="how many")
     made.add_argument("--folder", metavar="FOLDER", help="where the table and what is unsafe go (explored-S)")

@@ -3,11 +3,15 @@ from __future__ import annotations
 
 import uuid
 from dataclasses import dataclass, field
+from typing import TYPE_CHECKING
 
 import smblease
-from smblease.drive.connections import Connection, FileId
+from smblease.drive.received import FileId
 from smblease.requests import AcknowledgeRequest, CreateRequest, Request
 from smblease.world import Peer
+
+if TYPE_CHECKING:
+    from smblease.drive.connections import Connection
 
 
 @dataclass(frozen=True)

@@ -6,6 +6,7 @@ import sys
 from collections.abc import Sequence
 
 from smblease.drive.arguments import runner_of, server_arguments
+from smblease.drive.called import parser_of
 from smblease.drive.commands import NOT_DRIVEN, NOTHING_TRIED, SAFE, UNSAFE, ended, schedule_in, write
 from smblease.drive.runner import Outcome
 
@@ -21,8 +22,7 @@ record is unsafe, or not as expected; 4 it is safe, and no lease was granted."""
 
 
 def parser() -> argparse.ArgumentParser:
-    made = argparse.ArgumentParser(prog="drive/run", description="Drives a real SMB 2.1 server through a schedule.",
-                                   epilog=EPILOG, formatter_class=argparse.RawDescriptionHelpFormatter)
+    made = parser_of("drive/run", "Drives a real SMB 2.1 server through a schedule.", EPILOG)
     made.add_argument("schedule", metavar="SCHEDULE", help="a file with a schedule (docs/FORMATS.md), - for standard input")
     made.add_argument("--record", metavar="FILE", help="write the record there")
     made.add_argument("--messages", action="store_true",

@@ -11,8 +11,9 @@ import time
 import uuid
 from contextlib import nullcontext
 
+from smblease.drive.called import where_from
 from smblease.drive.clock import Clocks, library
-from smblease.drive.connections import password_hash
+from smblease.drive.connecting import password_hash
 from smblease.drive.faults import DriveFault, Undrivable
 from smblease.drive.place import Place, Server, Timers
 from smblease.drive.slots import Slots
@@ -106,7 +107,7 @@ class PrivateServer(Server):
         """`log` is a file that gets smbd's log, at level 10, when it is ended; `protocol` is the one dialect that it speaks, as
         smb.conf names it; `more` are other lines of that file, those of the share first."""
         if os.geteuid() != 0 or not os.path.exists(SMBD):
-            raise DriveFault("a private smbd needs root and /usr/sbin/smbd (tools/setup installs it)")
+            raise DriveFault(f"a private smbd needs root and {SMBD} ({where_from('samba')})")
         clock = library()
         self._log = log
         self._folder = tempfile.mkdtemp(prefix="leasecheck-drive-")

@@ -10,6 +10,7 @@ from dataclasses import dataclass, replace
 from decimal import Decimal
 from typing import IO
 
+from smblease.drive.called import where_from
 from smblease.drive.faults import DriveFault
 from smblease.drive.progress import Progress
 
@@ -105,7 +106,7 @@ def _started(words: list[str], faults: IO[str]) -> Iterator[subprocess.Popen[str
 
 
 def _missing(program: str, fault: OSError) -> DriveFault:
-    return DriveFault(f"{program}: {fault.strerror} (tools/setup installs it)")
+    return DriveFault(f"{program}: {fault.strerror} ({where_from('tshark')})")
 
 
 def _fault(program: str, status: int, text: str) -> str | None:

@@ -12,6 +12,7 @@ import sys
 from collections.abc import Mapping, Sequence
 from typing import TYPE_CHECKING
 
+from smblease.drive.called import need, parser_of
 from smblease.drive.commands import NOT_DRIVEN, SAFE, UNSAFE, ended, rules_of
 from smblease.drive.faults import DriveFault, Usage
 from smblease.program import find_program, judge
@@ -44,8 +45,7 @@ refused; 3 the record is unsafe."""
 
 
 def parser() -> argparse.ArgumentParser:
-    made = argparse.ArgumentParser(prog="serve/run", description="Serves SMB 2.1 by the proved manager of leases, on a port.",
-                                   epilog=EPILOG, formatter_class=argparse.RawDescriptionHelpFormatter)
+    made = parser_of("serve/run", "Serves SMB 2.1 by the proved manager of leases, on a port.", EPILOG)
     made.add_argument("--port", type=int, required=True, metavar="N", help="the port; 0 for a free one")
     made.add_argument("--share", required=True, metavar="NAME", help="the name of the share")
     made.add_argument("--address", default="127.0.0.1", metavar="A", help="where to listen (127.0.0.1)")
@@ -104,12 +104,9 @@ def user_of(user: str | None, file: str | None, variables: Mapping[str, str]) ->
         raise Usage("--user USER%PASSWORD and --password-file both have a password: one is enough")
     if not percent:
         password = password_of(name, file, variables)
-    try:
-        # Guests are served without that package.
-        from smblease.serve.named_user import NamedUser  # pylint: disable=import-outside-toplevel
-    except ImportError:
-        raise DriveFault("--user needs impacket, which can't be imported (tools/setup installs it); "
-                         "guests don't need it") from None
+    # Guests are served without that package.
+    need("impacket", "--user")
+    from smblease.serve.named_user import NamedUser  # pylint: disable=import-outside-toplevel
     return NamedUser(name, password)
 
 

@@ -10,17 +10,15 @@ from concurrent.futures import ThreadPoolExecutor
 from contextlib import closing
 from dataclasses import dataclass
 from enum import Enum
-from typing import TYPE_CHECKING
 
+from smblease.drive.called import name_of, need, parser_of, where_from
 from smblease.drive.clock import library
 from smblease.drive.commands import NOT_DRIVEN, SAFE, ended
 from smblease.drive.faults import DriveFault, Usage
+from smblease.drive.servers import PrivateServer
 from smblease.program import find_program
 from smblease.serve.run_command import RULES
 from smblease.serve.server_process import ServerProcess
-
-if TYPE_CHECKING:
-    from smblease.drive.servers import PrivateServer
 
 # A session is ended by another one of its user alone, which no guest is.
 USER, PASSWORD = "torture", "torture"
@@ -49,11 +47,11 @@ class Row:
 
 
 def parser() -> argparse.ArgumentParser:
-    made = argparse.ArgumentParser(prog="serve/torture", description="Runs tests of smbtorture against the server of serve/run.",
-                                   epilog=EPILOG, formatter_class=argparse.RawDescriptionHelpFormatter)
+    served = name_of("serve/run")
+    made = parser_of("serve/torture", f"Runs tests of smbtorture against the server of {served}.", EPILOG)
     made.add_argument("name", metavar="NAME", nargs="*", help="a test, as smb2.lease.request; all of the suites where none is")
     made.add_argument("--smbd", action="store_true", help="against a private smbd, for comparison; needs root")
-    made.add_argument("--rules", default=RULES, metavar="RULES", help=f"with serve/run --rules RULES ({RULES})")
+    made.add_argument("--rules", default=RULES, metavar="RULES", help=f"with {served} --rules RULES ({RULES})")
     made.add_argument("--limit", type=float, default=150.0, metavar="S", help="seconds that a test may take (150)")
     made.add_argument("--jobs", type=int, default=2, metavar="N", help="how many at a time (2)")
     made.add_argument("--record", metavar="PREFIX", help="keep the records as PREFIX followed by the test's name")
@@ -73,7 +71,7 @@ def _ran(words: list[str], limit: float) -> subprocess.CompletedProcess[str]:
         return subprocess.run(words, stdin=subprocess.DEVNULL, capture_output=True, text=True, errors="replace", timeout=limit,
                               check=False)
     except OSError as fault:
-        raise DriveFault(f"smbtorture: {fault.strerror} (tools/setup installs it)") from None
+        raise DriveFault(f"smbtorture: {fault.strerror} ({where_from('samba-testsuite')})") from None
 
 
 def run_test(name: str, server: Callable[[str], ServerProcess | PrivateServer], limit: float) -> Row:
@@ -105,16 +103,10 @@ def _last_status(output: str) -> str:
     return " ".join((lines or output.splitlines() or ["nothing"])[-1].split())
 
 
-def private_server() -> PrivateServer:
-    try:
-        # The proved server is tested without impacket.
-        from smblease.drive import servers  # pylint: disable=import-outside-toplevel
-    except ImportError:
-        raise DriveFault("--smbd needs impacket, which can't be imported (tools/setup installs it)") from None
-    return servers.PrivateServer()
-
-
 def torture(arguments: argparse.Namespace) -> int:
+    if arguments.smbd:
+        # The proved server is tested without that package.
+        need("impacket", "--smbd")
     known = known_tests()
     unknown = [name for name in arguments.name if name not in known]
     if unknown or arguments.jobs < 1:
@@ -122,7 +114,7 @@ def torture(arguments: argparse.Namespace) -> int:
 
     def server(name: str) -> ServerProcess | PrivateServer:
         if arguments.smbd:
-            return private_server()
+            return PrivateServer()
         record = f"{arguments.record}{name}" if arguments.record else None
         words = ["--rules", arguments.rules, "--user", f"{USER}%{PASSWORD}", "--guests"]
         return ServerProcess(arguments.leasecheck, record, words, USER, PASSWORD)
