@@ -6,7 +6,7 @@
 #   make check                  runs the tests that need no kit, in some six minutes; tools/setup installs what they need
 #   make check-long             runs those of these tests that take longer
 #   make lint                   has mypy and pylint look at all Python
-#   make man                    writes the man pages anew, from --help, docs/C.md and the headers; needs pandoc
+#   make man                    writes the man pages and completions anew, from --help, docs/C.md and the headers; needs pandoc
 #   make rust                   writes rust/ anew from the crates; needs rustfmt
 #   make check-rust             looks whether rust/ is that, and runs its tests and clippy, and over what cargo builds of it the tests of make check that
 #                               ask the program and the library; SMBLEASE_BUILD=plain make check runs all of them over that
@@ -41,6 +41,7 @@ HEADERS := $(notdir $(wildcard include/*.h))
 # What is installed of the pages and examples: what a user reads, and COPYING.md on the licence.
 PAGES := CHANGELOG.md COPYING.md SECURITY.md $(patsubst %,docs/%.md,BUILDING C CAPTURES FORMATS FOUND_ON_SMBD MODEL PROFILE PROOF PYTHON \
          REAL_SERVERS RUST SERVE SERVE_TRIED SESSIONS)
+MANUAL := man1/leasecheck.1 $(patsubst man/%,%,$(wildcard man/man3/*.3))
 EXAMPLES := $(patsubst examples/%,%,$(wildcard examples/*.txt examples/c/*.c examples/c/file_server/*.txt examples/python/*.py))
 
 # What was made from these sources stands in one folder, which tools/current prints, and is copied only where it changed. Each file is made beside
@@ -64,15 +65,14 @@ install: all
 	sed -e 's|@PREFIX@|$(PREFIX)|' -e 's|@LIBDIR@|$(subst $(PREFIX)/,$${prefix}/,$(LIBDIR))|' \
 	    -e 's|@INCLUDEDIR@|$(subst $(PREFIX)/,$${prefix}/,$(INCLUDEDIR))|' -e 's|@VERSION@|$(VERSION)|' include/smblease.pc.in \
 	    > "$(DESTDIR)$(LIBDIR)/pkgconfig/smblease.pc"
-	install -D -m 644 man/leasecheck.1 "$(DESTDIR)$(MANDIR)/man1/leasecheck.1"
-	install -D -m 644 man/smblease.3 "$(DESTDIR)$(MANDIR)/man3/smblease.3"
+	for page in $(MANUAL); do install -D -m 644 man/$$page "$(DESTDIR)$(MANDIR)/$$page" || exit 1; done
 	install -D -m 644 completion/leasecheck "$(DESTDIR)$(COMPLETIONDIR)/leasecheck"
 	for page in $(PAGES); do install -D -m 644 $$page "$(DESTDIR)$(DOCDIR)/$${page##*/}" || exit 1; done
 	for name in $(EXAMPLES); do install -D -m 644 examples/$$name "$(DESTDIR)$(DOCDIR)/examples/$$name" || exit 1; done
 
 uninstall:
 	rm -f "$(DESTDIR)$(BINDIR)/leasecheck" "$(DESTDIR)$(LIBDIR)/pkgconfig/smblease.pc" "$(DESTDIR)$(COMPLETIONDIR)/leasecheck"
-	rm -f "$(DESTDIR)$(MANDIR)/man1/leasecheck.1" "$(DESTDIR)$(MANDIR)/man3/smblease.3"
+	for page in $(MANUAL); do rm -f "$(DESTDIR)$(MANDIR)/$$page"; done
 	for name in libsmblease.a libsmblease.so $(SONAME) $(SHARED); do rm -f "$(DESTDIR)$(LIBDIR)/$$name"; done
 	for header in $(HEADERS); do rm -f "$(DESTDIR)$(INCLUDEDIR)/$$header"; done
 	for page in $(PAGES); do rm -f "$(DESTDIR)$(DOCDIR)/$${page##*/}"; done
@@ -89,7 +89,9 @@ lint:
 	tools/lint
 
 man:
+	rm -f man/man1/* man/man3/*
 	tools/manual man
+	tools/completion completion
 
 rust:
 	tools/plain_rust

@@ -52,7 +52,10 @@ def test_no_other_names_are_given_out(prefix: Path) -> None:
 
 
 @needs.program("man")
-@pytest.mark.parametrize("page, name", [("leasecheck", "leasecheck - "), ("smblease", "smblease - ")])
+@pytest.mark.parametrize("page, name", [
+    ("leasecheck", "leasecheck - "), ("smblease", "smblease - "), ("smblease_read_create_ask", "smblease_read_create_ask, "),
+    ("smblease_find_context", "smblease_read_context, smblease_find_context, "),
+    ("smblease_manager_cut", "smblease_manager_join, ")])
 def test_man_finds_the_pages(prefix: Path, page: str, name: str) -> None:
     shown = run("man", page, variables={"MANPATH": f"{prefix}/share/man", "MANWIDTH": "100", "LC_ALL": "C.UTF-8"})
     assert shown.status == 0 and name in shown.output
@@ -68,7 +71,7 @@ def test_completion_is_found_by_its_program(prefix: Path) -> None:
 def test_pages_for_users(prefix: Path) -> None:
     """Each page that the man pages name is there, and what may be passed on."""
     folder = prefix / "share/doc/smblease"
-    named = {name for page in (TOP / "man").iterdir()
+    named = {name for page in (TOP / "man").glob("*/*")
              for name in re.findall(r"docs/([A-Z_]{2,}\.md)", page.read_text(encoding="utf-8")) if name != "NAME.md"}
     assert len(named) > 5 and named <= {it.name for it in folder.iterdir()}
     assert "Nobody may pass this software on" in (folder / "COPYING.md").read_text(encoding="utf-8")

@@ -70,6 +70,13 @@ def test_its_commands(wheel: Path) -> None:
     assert re.findall(r"^smblease-(\w+) = ", said, re.M) == list(COMMANDS)
 
 
+def test_each_command_has_its_page_and_its_completion(wheel: Path) -> None:
+    share, has = f"smblease-{VERSION}.data/data/share", contents(wheel)
+    for name in ("leasecheck", *(f"smblease-{it}" for it in COMMANDS)):
+        assert has[f"{share}/man/man1/{name}.1"] == (TOP / "man" / "man1" / f"{name}.1").read_bytes()
+        assert has[f"{share}/bash-completion/completions/{name}"] == (TOP / "completion" / name).read_bytes()
+
+
 def test_the_sdist_has_what_dist_is_found_by(sdist: Path) -> None:
     with tarfile.open(sdist) as opened:
         names = set(opened.getnames())

@@ -1,8 +1,6 @@
 """What bash completes of a command line of the program, by the file that `make install` installs."""
 from __future__ import annotations
 
-import os
-import pty
 import re
 import subprocess
 from pathlib import Path
@@ -11,11 +9,10 @@ import pytest
 
 from tests import needs
 from tests.paths import TOP
+from tests.program import completed
 
 pytestmark = needs.program("bash")
 COMPLETION = TOP / "completion" / "leasecheck"
-# A function in the place of the program, which prints its arguments.
-ECHO = "leasecheck() { printf '<%s>' \"$@\"; echo; }"
 COMMAND = re.compile(r"^  (\w+)  +\S", re.M)
 OPTION = re.compile(r"(?<![\w-])--?[a-zA-Z]\w*")
 
@@ -31,26 +28,7 @@ def part_of(text: str, heading: str) -> str:
 
 
 def offered(*words: str) -> set[str]:
-    """What is offered for the last of these words, by the function itself."""
-    asked = 'COMP_WORDS=("$@") COMP_CWORD=$(($# - 1)); _leasecheck leasecheck "${@: -1}"; printf "%s\\n" "${COMPREPLY[@]}"'
-    done = subprocess.run(["bash", "--norc", "-c", f". {COMPLETION}; {asked}", "bash", "leasecheck", *words],
-                          stdout=subprocess.PIPE, check=True, text=True)
-    return set(done.stdout.split("\n")) - {""}
-
-
-def typed(line: str, folder: Path) -> str:
-    """What a line gives its program when it is typed into bash, with its tabs."""
-    keyboard, terminal = pty.openpty()
-    shell = subprocess.Popen(["bash", "--norc", "--noprofile", "-i"], stdin=terminal, stdout=subprocess.PIPE, stderr=terminal,
-                             cwd=folder, start_new_session=True, text=True, env={"PATH": os.environ["PATH"], "TERM": "dumb",
-                                                                                 "INPUTRC": "/dev/null", "HOME": str(folder)})
-    os.close(terminal)
-    os.write(keyboard, f". {COMPLETION}; {ECHO}\n{line}\nexit\n".encode())
-    try:
-        return shell.communicate(timeout=60)[0]
-    finally:
-        shell.kill()
-        os.close(keyboard)
+    return completed.offered(COMPLETION, "_leasecheck", "leasecheck", *words)
 
 
 @pytest.fixture(name="folder")
@@ -105,4 +83,4 @@ def test_each_kind_is_known(program: str) -> None:
     pytest.param("leasecheck other sh\t", "<other><sh>", id="no such command"),
 ])
 def test_what_is_typed(folder: Path, line: str, given: str) -> None:
-    assert typed(line, folder) == f"{given}\n"
+    assert completed.typed(COMPLETION, line, folder) == f"{given}\n"
