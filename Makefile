@@ -1,7 +1,9 @@
 # The program leasecheck, and the library for C: libsmblease.a and libsmblease.so.
 #
 #   make                        has both at hand: from dist/ where that fits these sources and this machine, else proved and built here
-#   make install PREFIX=DIR     installs them, with headers, smblease.pc, man pages, completion for bash and pages of docs/ (DESTDIR is put before DIR)
+#   make install PREFIX=DIR     installs them, with headers, smblease.pc, what CMake finds, man pages, completion for bash and pages of docs/
+#                               (DESTDIR is put before DIR)
+#   make install-python         installs the package for Python and its commands too, by pip and without a network; needs hatchling
 #   make uninstall              removes all that; give it the same PREFIX
 #   make check                  runs the tests that need no kit, in some six minutes; tools/setup installs what they need
 #   make check-long             runs those of these tests that take longer
@@ -42,7 +44,8 @@ HEADERS := $(notdir $(wildcard include/*.h))
 PAGES := CHANGELOG.md COPYING.md SECURITY.md $(patsubst %,docs/%.md,BUILDING C CAPTURES FORMATS FOUND_ON_SMBD MODEL PROFILE PROOF PYTHON \
          REAL_SERVERS RUST SERVE SERVE_TRIED SESSIONS)
 MANUAL := man1/leasecheck.1 $(patsubst man/%,%,$(wildcard man/man3/*.3))
-EXAMPLES := $(patsubst examples/%,%,$(wildcard examples/*.txt examples/c/*.c examples/c/file_server/*.txt examples/python/*.py))
+CMAKE := smblease-config.cmake smblease-config-version.cmake
+EXAMPLES := $(patsubst examples/%,%,$(wildcard examples/*.txt examples/c/*.c examples/c/CMakeLists.txt examples/c/file_server/*.txt examples/python/*.py))
 
 # What was made from these sources stands in one folder, which tools/current prints, and is copied only where it changed. Each file is made beside
 # its place and then moved there, since programs that are started at once may each have it made.
@@ -55,7 +58,7 @@ all: FORCE
 	@ln -s $(SONAME) $(OUT)/libsmblease.so.$$$$ && mv -T $(OUT)/libsmblease.so.$$$$ $(OUT)/libsmblease.so
 
 install: all
-	mkdir -p "$(DESTDIR)$(BINDIR)" "$(DESTDIR)$(LIBDIR)/pkgconfig" "$(DESTDIR)$(INCLUDEDIR)"
+	mkdir -p "$(DESTDIR)$(BINDIR)" "$(DESTDIR)$(LIBDIR)/pkgconfig" "$(DESTDIR)$(LIBDIR)/cmake/smblease" "$(DESTDIR)$(INCLUDEDIR)"
 	install -m 755 $(OUT)/leasecheck "$(DESTDIR)$(BINDIR)/leasecheck"
 	install -m 644 $(OUT)/libsmblease.a "$(DESTDIR)$(LIBDIR)/libsmblease.a"
 	install -m 755 $(OUT)/$(SHARED) "$(DESTDIR)$(LIBDIR)/$(SHARED)"
@@ -65,14 +68,23 @@ install: all
 	sed -e 's|@PREFIX@|$(PREFIX)|' -e 's|@LIBDIR@|$(subst $(PREFIX)/,$${prefix}/,$(LIBDIR))|' \
 	    -e 's|@INCLUDEDIR@|$(subst $(PREFIX)/,$${prefix}/,$(INCLUDEDIR))|' -e 's|@VERSION@|$(VERSION)|' include/smblease.pc.in \
 	    > "$(DESTDIR)$(LIBDIR)/pkgconfig/smblease.pc"
+	for file in $(CMAKE); do sed -e 's|@VERSION@|$(VERSION)|' -e 's|@MAJOR@|$(call number,MAJOR)|' -e 's|@SHARED@|$(SHARED)|' -e 's|@SONAME@|$(SONAME)|' \
+	    -e "s|@HEADERS@|$$(realpath -m --relative-to="$(LIBDIR)" "$(INCLUDEDIR)")|" include/$$file.in \
+	    > "$(DESTDIR)$(LIBDIR)/cmake/smblease/$$file" || exit 1; done
 	for page in $(MANUAL); do install -D -m 644 man/$$page "$(DESTDIR)$(MANDIR)/$$page" || exit 1; done
 	install -D -m 644 completion/leasecheck "$(DESTDIR)$(COMPLETIONDIR)/leasecheck"
 	for page in $(PAGES); do install -D -m 644 $$page "$(DESTDIR)$(DOCDIR)/$${page##*/}" || exit 1; done
 	for name in $(EXAMPLES); do install -D -m 644 examples/$$name "$(DESTDIR)$(DOCDIR)/examples/$$name" || exit 1; done
 
+install-python: install
+	$(PYTHON) tools/install_python "$(PREFIX)" "$(DESTDIR)"
+
 uninstall:
+	[ ! -x "$(PYTHON)" ] || $(PYTHON) tools/install_python --remove "$(PREFIX)" "$(DESTDIR)"
 	rm -f "$(DESTDIR)$(BINDIR)/leasecheck" "$(DESTDIR)$(LIBDIR)/pkgconfig/smblease.pc" "$(DESTDIR)$(COMPLETIONDIR)/leasecheck"
 	for page in $(MANUAL); do rm -f "$(DESTDIR)$(MANDIR)/$$page"; done
+	for file in $(CMAKE); do rm -f "$(DESTDIR)$(LIBDIR)/cmake/smblease/$$file"; done
+	rmdir "$(DESTDIR)$(LIBDIR)/cmake/smblease" 2>/dev/null || :
 	for name in libsmblease.a libsmblease.so $(SONAME) $(SHARED); do rm -f "$(DESTDIR)$(LIBDIR)/$$name"; done
 	for header in $(HEADERS); do rm -f "$(DESTDIR)$(INCLUDEDIR)/$$header"; done
 	for page in $(PAGES); do rm -f "$(DESTDIR)$(DOCDIR)/$${page##*/}"; done
@@ -124,4 +136,4 @@ clean:
 
 FORCE:
 
-.PHONY: all install uninstall check check-aarch64 check-long check-rust lint man prove dist rust clean FORCE
+.PHONY: all install install-python uninstall check check-aarch64 check-long check-rust lint man prove dist rust clean FORCE
