@@ -34,6 +34,7 @@ NEEDS = {"pkg-config": "pkg-config", "out/c/": "pkg-config", "./lend": "pkg-conf
 PACKAGES = {"environment": ("ensurepip", "hatchling")}
 MOST_LINES = 150
 MOST_LINES_OF_A_USE = 200
+MOST_LINES_OF_A_PAGE = 480
 MARK = "-- the end of what the command printed:"
 
 
@@ -143,6 +144,24 @@ def test_readme_is_short() -> None:
 def test_pages_on_servers_are_short(name: str) -> None:
     """Each is about one use."""
     assert page(f"docs/{name}.md").count("\n") <= MOST_LINES_OF_A_USE
+
+
+def test_no_page_is_long() -> None:
+    lines = {it: it.read_text(encoding="utf-8").count("\n") for it in [*TOP.glob("*.md"), *TOP.glob("docs/*.md")]}
+    assert {it.name: count for it, count in lines.items() if count > MOST_LINES_OF_A_PAGE} == {}
+
+
+def test_readme_begins_with_an_answer() -> None:
+    """What is asked first, and its answer, stand before any other word."""
+    first = next(blocks(page("README.md")))
+    assert first[0].startswith("$ ./leasecheck ack ") and len(bytes.fromhex(first[1])) == 36
+    assert page("README.md").split("\n    ")[0].count("\n") == 1
+
+
+def test_readme_explains_each_byte_of_that_answer() -> None:
+    answer = next(blocks(page("README.md")))[1]
+    cells = re.findall(r"^\| ((?:`[0-9a-f]+`(?:, )?)+) \|", page("README.md"), re.M)
+    assert "".join(re.findall(r"[0-9a-f]+", " ".join(cells))) == answer
 
 
 def test_sessions_show_the_example() -> None:
