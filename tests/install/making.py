@@ -26,12 +26,24 @@ def pythons() -> list[Path]:
     return [Path(sys.executable), *(it for it in found if it.exists())]
 
 
+def label(python: Path) -> str:
+    """What a Python is called in the name of a case."""
+    return python.parent.parent.name
+
+
 def ran(words: list[object], folder: Path, **variables: str) -> subprocess.CompletedProcess[str]:
     """A command in a folder, which finds nothing of this repository by its environment."""
     build = {it: os.environ[it] for it in ("SMBLEASE_BUILD",) if it in os.environ}
     env = {**VARIABLES, "HOME": str(folder), **build, **variables}
     return subprocess.run(list(map(str, words)), cwd=folder, env=env, stdin=subprocess.DEVNULL, capture_output=True, text=True,
                           check=False, timeout=300)
+
+
+def environment(python: Path, folder: Path) -> Path:
+    """The folder of programs of a fresh environment."""
+    made = ran([python, "-m", "venv", folder / "environment"], folder)
+    assert made.returncode == 0, made
+    return folder / "environment" / "bin"
 
 
 def printed(words: list[object], folder: Path) -> str:
@@ -49,8 +61,8 @@ def made_wheel(source: Path, folder: Path) -> Path:
 
 
 def made_sdist(folder: Path) -> Path:
-    program = f"import os, hatchling.build; os.chdir({str(TOP)!r}); hatchling.build.build_sdist({str(folder)!r})"
-    done = ran([sys.executable, "-c", program], folder)
+    program = f"import os, build_backend; os.chdir({str(TOP)!r}); build_backend.build_sdist({str(folder)!r})"
+    done = ran([sys.executable, "-c", program], folder, PYTHONPATH=str(TOP / "tools"))
     assert done.returncode == 0, done
     [sdist] = folder.glob("*.tar.gz")
     return sdist

@@ -8,7 +8,7 @@ from pathlib import Path
 import pytest
 
 from tests import needs
-from tests.install.making import MARKS, printed, pythons, ran
+from tests.install.making import MARKS, environment, label, printed, pythons, ran
 from tests.paths import EXAMPLE, TOP
 from tests.program.ran import ACKNOWLEDGMENT, BREAK, run
 from tests.program.test_version import VERSION
@@ -18,13 +18,11 @@ COMMANDS = ("run", "explore", "compare", "capture", "serve", "torture")
 CAPTURE = TOP / "drive" / "captures" / "two_clients_share_a_file.pcapng"
 
 
-@pytest.fixture(scope="module", name="programs", params=pythons(), ids=lambda it: f"{it.parent.parent.name}-{it.name}")
+@pytest.fixture(scope="module", name="programs", params=pythons(), ids=label)
 def programs_of_an_environment(request: pytest.FixtureRequest, tmp_path_factory: pytest.TempPathFactory, wheel: Path) -> Path:
     """The folder of the environment's programs."""
     folder = tmp_path_factory.mktemp("installed")
-    made = ran([request.param, "-m", "venv", folder / "environment"], folder)
-    assert made.returncode == 0, made
-    programs = folder / "environment" / "bin"
+    programs = environment(request.param, folder)
     made = ran([programs / "python", "-m", "pip", "install", "--quiet", wheel], folder)
     assert made.returncode == 0, made
     return programs

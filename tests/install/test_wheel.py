@@ -5,6 +5,7 @@ import importlib.util
 import re
 import struct
 import subprocess
+import sys
 import sysconfig
 import tarfile
 import zipfile
@@ -90,13 +91,29 @@ def test_a_wheel_of_the_sdist_is_that_of_the_clone(wheel: Path, sdist: Path, tmp
     assert contents(made_wheel(sdist, tmp_path)) == contents(wheel)
 
 
-@pytest.fixture(name="hook", scope="module")
-def build_hook() -> ModuleType:
-    spec = importlib.util.spec_from_file_location("hatch_build", TOP / "tools" / "hatch_build.py")
+def module_of(name: str) -> ModuleType:
+    spec = importlib.util.spec_from_file_location(name, TOP / "tools" / f"{name}.py")
     assert spec and spec.loader
     made = importlib.util.module_from_spec(spec)
     spec.loader.exec_module(made)
     return made
+
+
+@pytest.fixture(name="hook", scope="module")
+def build_hook() -> ModuleType:
+    return module_of("hatch_build")
+
+
+@pytest.mark.parametrize("is_there", [True, False])
+def test_hatchling_is_asked_for_only_where_it_is_missing(tmp_path: Path, monkeypatch: pytest.MonkeyPatch, is_there: bool) -> None:
+    """In an environment that pip made for the backend nothing but Debian's folder can have it."""
+    backend = module_of("build_backend")
+    monkeypatch.setattr(backend, "DEBIAN", str(tmp_path))
+    monkeypatch.setattr(backend, "MODULES", ["hatchling_of_a_test"])
+    monkeypatch.setattr(sys, "path", list(sys.path))
+    if is_there:
+        (tmp_path / "hatchling_of_a_test.py").touch()
+    assert backend.get_requires_for_build_wheel() == ([] if is_there else ["hatchling>=1.12"])
 
 
 def a_file(path: Path, machine: int, *symbols: str) -> Path:
