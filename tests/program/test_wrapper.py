@@ -84,8 +84,9 @@ def test_modules_of_other_sources(copied: Path) -> None:
 @pytest.mark.long
 def test_cargo_builds_it(copied: Path) -> None:
     """Where dist/ doesn't fit, cargo's program takes its place, and is there for the second run."""
-    shutil.rmtree(copied / "out", ignore_errors=True)
-    (copied / "stand_ins").mkdir(exist_ok=True)
+    for name in ("out", "stand_ins"):
+        shutil.rmtree(copied / name, ignore_errors=True)
+    (copied / "stand_ins").mkdir()
     (copied / "stand_ins" / "uname").write_text("#!/bin/sh\necho 'Linux aarch64'\n", encoding="ascii")
     (copied / "stand_ins" / "uname").chmod(0o755)
     env = {"PATH": f"{copied}/stand_ins:{os.environ['PATH']}", "HOME": os.environ["HOME"]}
