@@ -30,3 +30,9 @@ print(smblease.__version__, f"{has.major}.{has.minor}.{has.patch}")
     env = {"PYTHONPATH": PACKAGES, "PATH": "/usr/bin:/bin"}
     printed = subprocess.run([sys.executable, "-c", program], env=env, stdout=subprocess.PIPE, text=True, check=True).stdout
     assert printed == f"{VERSION} {VERSION}\n"
+
+
+def test_versions_of_plain_rust() -> None:
+    found = {path: re.findall(r'^version = "(.*)"$', path.read_text(encoding="utf-8"), re.M)
+             for path in TOP.glob("rust/*/Cargo.toml")}
+    assert found and set(map(tuple, found.values())) == {(VERSION,)}
