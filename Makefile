@@ -80,7 +80,7 @@ install-python: install
 	$(PYTHON) tools/install_python "$(PREFIX)" "$(DESTDIR)"
 
 uninstall:
-	[ ! -x "$(PYTHON)" ] || $(PYTHON) tools/install_python --remove "$(PREFIX)" "$(DESTDIR)"
+	! command -v "$(PYTHON)" >/dev/null || $(PYTHON) tools/install_python --remove "$(PREFIX)" "$(DESTDIR)"
 	rm -f "$(DESTDIR)$(BINDIR)/leasecheck" "$(DESTDIR)$(LIBDIR)/pkgconfig/smblease.pc" "$(DESTDIR)$(COMPLETIONDIR)/leasecheck"
 	for page in $(MANUAL); do rm -f "$(DESTDIR)$(MANDIR)/$$page"; done
 	for file in $(CMAKE); do rm -f "$(DESTDIR)$(LIBDIR)/cmake/smblease/$$file"; done
