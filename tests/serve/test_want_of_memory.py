@@ -8,7 +8,7 @@ from pathlib import Path
 import pytest
 
 from smblease import Rules, Status
-from smblease.serve import connection
+from smblease.serve import chains
 from smblease.serve.event_loop import Loop
 from smblease.serve.packets import Response, framed
 from smblease.serve.server_process import ServerProcess
@@ -37,7 +37,7 @@ def test_an_answer_that_there_is_no_memory_for(tmp_path: Path, monkeypatch: pyte
         if any(it.data for it in responses):
             raise MemoryError
         return framed(responses)
-    monkeypatch.setattr(connection, "framed", without_memory)
+    monkeypatch.setattr(chains, "framed", without_memory)
     (tmp_path / "share").mkdir()
     (tmp_path / "streams").mkdir()
     with server_in(tmp_path / "share", tmp_path / "streams", Rules()) as server:

@@ -12,8 +12,9 @@ from typing import TYPE_CHECKING
 from smblease import LeaseState, Status
 from smblease.manager_decisions import Breaks
 from smblease.serve.asks import Steps, closing
+from smblease.serve.chains import Pending
 from smblease.serve.commands import Commands
-from smblease.serve.connection import Connection, Pending
+from smblease.serve.connection import Connection
 from smblease.serve.forced_breaks import ForcedBreaks
 from smblease.serve.leases import Leases
 from smblease.serve.manager_clients import ManagerClients

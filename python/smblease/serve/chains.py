@@ -1,0 +1,94 @@
+"""Requests of a compound, which are done one after the other, and their answers."""
+from __future__ import annotations
+
+from dataclasses import dataclass, replace
+from typing import TYPE_CHECKING
+
+from smblease import Status
+from smblease.drive.headers import Command
+from smblease.serve.manager_host import Task
+from smblease.serve.packets import Answer, RequestMessage, Response, framed
+from smblease.serve.request import Request
+
+if TYPE_CHECKING:
+    from smblease.serve.connection import Connection
+
+# Past so many bytes that a client hasn't read its requests wait.
+UNREAD = 1 << 20
+
+
+@dataclass(eq=False)
+class Pending:
+    """A request that isn't answered for good."""
+
+    request: Request
+    chain: Chain
+    async_id: int | None = None
+    is_answered: bool = False
+    task: Task | None = None
+
+
+class Chain:
+    """A request and those that are related to it, which are done one after the other."""
+
+    def __init__(self, connection: Connection, requests: list[RequestMessage]) -> None:
+        self._connection = connection
+        self._requests = requests
+        self._responses: list[Response] = []
+        # the bytes of answers that wait for those after them
+        self.held = 0
+        self._session, self._tree = requests[0].session, requests[0].tree
+        self._previous: int | None = None
+        # The first request of a frame is related to none (3.3.5.2.7.2).
+        self._failed: Status | None = Status.INVALID_PARAMETER if requests[0].is_related else None
+        self._is_waiting = self._is_going = False
+
+    def go_on(self) -> None:
+        """Begins each request once the one before it is answered, until it is others' turn; sends the answers after the last."""
+        self._is_going = True
+        while self._requests and not self._is_waiting and self._connection.is_open:
+            self._is_waiting = True
+            self._connection.begin(Pending(self._asked(self._requests.pop(0)), self), self._failed)
+            if not self._is_waiting and not self._connection.has_turn:
+                break
+        self._is_going = False
+        if self._requests and not self._is_waiting:
+            self._connection.go_on_later(self)
+
+    def _asked(self, message: RequestMessage) -> Request:
+        request = Request(message, self._connection, self._connection.server, self._session, self._tree, self._previous)
+        if not message.is_related:
+            request.session_id, request.tree_id = message.session, message.tree
+        return request
+
+    def take_answers(self) -> bytes:
+        """A frame of the answers that there are."""
+        responses, self._responses, self.held = self._responses, [], 0
+        return _framed(responses)
+
+    def answered(self, pending: Pending, answer: Answer) -> None:
+        message = pending.request.message
+        self._session = answer.session or pending.request.session_id
+        self._tree = answer.tree or pending.request.tree_id
+        opened = answer.opened if answer.opened is not None else pending.request.named
+        self._previous = self._previous if opened is None else opened
+        if message.command is Command.CREATE and answer.status >> 30 == 3:
+            self._failed = answer.status
+        self._responses.append(self._connection.response(pending, answer, self._session, self._tree))
+        self.held += self._responses[-1].length
+        self._connection.hold(self)
+        # The last answer goes at once: what is decided next may be for the same client.
+        if not self._requests or not self._is_going or self.held > UNREAD:
+            self._connection.send_held()
+        self._is_waiting = False
+        if self._requests and not self._is_going:
+            self._connection.go_on_later(self)
+
+
+def _framed(responses: list[Response]) -> bytes:
+    """A frame; where there is no memory for it, one that has no bytes of files."""
+    try:
+        return framed(responses)
+    except MemoryError:
+        refused = Answer(Status.INSUFFICIENT_RESOURCES)
+        return framed([replace(it, status=refused.status, body=refused.body, data=b"") if it.data else it for it in responses])
