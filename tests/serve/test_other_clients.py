@@ -19,6 +19,8 @@ TORTURED = ["smb2.lease.request", "smb2.lease.upgrade", "smb2.lease.upgrade2", "
             "smb2.durable-open.oplock", "smb2.durable-open.reopen2-lease", "smb2.lease.complex1", "smb2.lease.timeout-disconnect",
             "smb2.lease.breaking1", "smb2.lease.breaking6", "smb2.lease.upgrade3", "smb2.durable-open.read-only",
             "smb2.lock.valid-request", "smb2.lock.cancel-logoff", "smb2.lock.stacking"]
+OF_A_USER = ["smb2.durable-open.reopen1a", "smb2.durable-open.reopen1a-lease", "smb2.session.reauth1", "smb2.session.reauth2",
+             "smb2.session.reauth3", "smb2.session.reauth6"]
 USER = "somebody%secret"
 
 
@@ -47,10 +49,13 @@ def test_smbtorture(program: str, name: str, words: list[str], interpreter: tupl
 
 @needs.program("smbtorture")
 @needs.package("impacket")
-@pytest.mark.parametrize("name", ["smb2.durable-open.reopen1a", "smb2.durable-open.reopen1a-lease"])
-def test_smbtorture_of_a_user(program: str, name: str) -> None:
-    """A session that is named by the next one of its user is over."""
-    row = run_test(name, lambda _: ServerProcess(program, None, ["--user", USER, "--guests"], *USER.split("%")), 60.0)
+@pytest.mark.parametrize("name, words", [
+    *(pytest.param(it, ["--guests"], id=it) for it in OF_A_USER),
+    *(pytest.param(it, [], id=f"{it}-without_guests") for it in ("smb2.durable-open.reopen1a", "smb2.session.reauth6")),
+])
+def test_smbtorture_of_a_user(program: str, name: str, words: list[str]) -> None:
+    """A session that is named by the next one of its user is over; one that authenticates again is the same."""
+    row = run_test(name, lambda _: ServerProcess(program, None, ["--user", USER, *words], *USER.split("%")), 60.0)
     assert row.kind is Kind.PASSED, row.text
 
 

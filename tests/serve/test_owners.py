@@ -10,13 +10,14 @@ from typing import TYPE_CHECKING
 import pytest
 
 from smblease import Context, CreateAsk, LeaseState, Rules, Status, append_context
-from smblease.drive.headers import Command, Message
+from smblease.drive.headers import Command
 from smblease.serve.server_process import ServerProcess
 from tests import needs
 from tests.serve.conftest import Connect, Start
 from tests.serve.in_process import FrameClient, Sent, server_in
-from tests.serve.requests import (ECHO, KEY, Body, acknowledgment, close, create, frame, header, leased, negotiate, ntlm_tokens,
-                                  query_directory, read, session_setup, tree_connect)
+from tests.serve.requests import (ECHO, KEY, Body, acknowledgment, close, create, frame, header, leased, negotiate,
+                                  query_directory, read, tree_connect)
+from tests.serve.signing_in import set_up
 from tests.serve.test_other_clients import USER, ended, smbclient
 
 if TYPE_CHECKING:
@@ -26,27 +27,6 @@ BATCH = 9
 SIGNING_ENABLED, SIGNING_REQUIRED = 1, 2
 LIST: Body = create("", access=0x81, disposition=1, options=1)
 NAME, PASSWORD = USER.split("%")
-
-
-def set_up(client: "WireClient", name: str, previous: int = 0, password: str | None = None) -> Message:
-    """A session of this name on a connection that has one already, a guest's where it has no password; the last answer."""
-    used, client.session = client.session, 0
-    message = client.ask(session_setup(ntlm_tokens(name)[0], previous))
-    if message.status == Status.MORE_PROCESSING_REQUIRED:
-        client.session = message.session
-        proof = ntlm_tokens(name)[1] if password is None else proved(message, name, password)
-        message = client.ask(session_setup(proof, previous))
-    client.session = used
-    return message
-
-
-def proved(challenge: Message, name: str, password: str) -> bytes:
-    """An AUTHENTICATE_MESSAGE that a password was used for."""
-    from impacket import ntlm  # pylint: disable=import-outside-toplevel
-    first = ntlm.NTLMAuthNegotiate()
-    first.fromString(ntlm_tokens(name)[0])
-    token = challenge.part(challenge.number(68, 2), challenge.number(70, 2))
-    return bytes(ntlm.getNTLMSSPType3(first, token, name, password, "")[0].getData())
 
 
 @pytest.mark.parametrize("name", ["guest", "GUEST", "other"])

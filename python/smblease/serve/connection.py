@@ -13,6 +13,7 @@ from smblease.drive.headers import UNASKED as NOTIFICATION
 from smblease.drive.headers import Command, Unreadable
 from smblease.serve.asks import Handling
 from smblease.serve.chains import UNREAD, Chain, Pending
+from smblease.serve.former_keys import FormerKeys
 from smblease.serve.manager_host import Task
 from smblease.serve.opens import ManagerClient
 from smblease.serve.packets import (LONGEST_FRAME, LONGEST_WITHOUT_SESSION, MOST_IN_FRAME, Answer, Credits, Frames,
@@ -47,6 +48,7 @@ class Connection(asyncio.Protocol):  # pylint: disable=too-many-instance-attribu
         self.is_open = True
         self.client: ManagerClient | None = None
         self.sessions: dict[int, Session] = {}
+        self.former_keys = FormerKeys()
         self._transport = asyncio.Transport()
         self._frames = Frames()
         self._credits = Credits()
@@ -253,7 +255,7 @@ class Connection(asyncio.Protocol):  # pylint: disable=too-many-instance-attribu
     def response(self, pending: Pending, answer: Answer, session: int, tree: int) -> Response:
         message = pending.request.message
         found = self.sessions.get(session)
-        key = answer.key or (found.key if found and message.is_signed else None)
+        key = answer.key or (found.key if found else self.former_keys.of(session)) if message.is_signed or answer.key else None
         granted = self._credits.grant(message.credits_asked) if pending.async_id is None else 0
         flags = FROM_SERVER | (message.flags & 4)
         return Response(message.number(12, 2), answer.status, message.identifier, granted, session, tree, answer.body,

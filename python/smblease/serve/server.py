@@ -143,12 +143,16 @@ class Server:  # pylint: disable=too-many-instance-attributes  # its parts find 
                 return found
 
     def end_session(self, session: Session) -> None:
-        """With the last one of a client's last connection the client is gone."""
+        """With the last one of a client's last connection the client is gone. What another one has open is closed."""
         connection = session.connection
         connection.sessions.pop(session.identifier, None)
         self.sessions.pop(session.identifier, None)
+        if session.key:
+            connection.former_keys.keep(session.identifier, session.key)
         if connection.client and not any(it.is_ready for it in connection.sessions.values()):
             self._disconnect_client(connection, connection.client)
+        elif connection.is_open:
+            self.start(self.close_all(lambda it: it.session is session, True))
         connection.count_without_session()
 
     def _disconnect_client(self, connection: Connection, client: ManagerClient) -> None:

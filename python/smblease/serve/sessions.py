@@ -79,7 +79,8 @@ class Sessions(Handlers):
         return negotiated(self._server, DIALECT)
 
     def set_up(self, request: Request) -> Answer:
-        """One exchange of messages of NTLM; with the last one the client joins."""
+        """One exchange of messages of NTLM; with the last one the client joins. Where they fail the session is over, one that was
+        there before too (3.3.5.5.3)."""
         message, connection = request.message, request.connection
         token = message.buffer(HEADER + 12, message.number(HEADER + 14, 2))
         if message.number(HEADER + 2, 1) & BINDING or connection.guid is None:
@@ -93,21 +94,24 @@ class Sessions(Handlers):
             settings.user, settings.has_guests, self._server.brake, connection.address)
         try:
             reply = current.reply(token)
-            if current.is_over:
-                self._establish(session, current, message)
-                session.authentication = None
-            if not connection.count_without_session():
-                raise StatusError(Status.INSUFFICIENT_RESOURCES)
         except (StatusError, Unreadable):
-            session.authentication = None
-            if not session.is_ready:
-                self._server.end_session(session)
-            connection.count_without_session()
+            self._server.end_session(session)
             raise
+        if current.is_over:
+            self._establish(session, current, message)
+        if not connection.count_without_session():
+            self._give_up(session)
+            raise StatusError(Status.INSUFFICIENT_RESOURCES)
         status = Status.SUCCESS if current.is_over else Status.MORE_PROCESSING_REQUIRED
-        flags = IS_GUEST if current.is_over and not session.key else 0
+        flags = IS_GUEST if current.is_over and not current.key else 0
         body = struct.pack("<HHHH", 9, flags, HEADER + 8, len(reply)) + reply
         return Answer(status, body, session=session.identifier, key=session.key if current.is_over else None)
+
+    def _give_up(self, session: Session) -> None:
+        session.authentication = None
+        if not session.is_ready:
+            self._server.end_session(session)
+        session.connection.count_without_session()
 
     def _new(self, connection: Connection) -> Session:
         if len(connection.sessions) == MOST_SESSIONS:
@@ -119,15 +123,14 @@ class Sessions(Handlers):
 
     def _establish(self, session: Session, proved: Authentication, message: RequestMessage) -> None:
         """An earlier session of the same user that is named is over (3.3.5.5.3); no guest is the same user as another one. A
-        client is connected once."""
-        if session.is_ready and session.owner != proved.owner:
-            raise StatusError(Status.ACCESS_DENIED)
+        session that is authenticated again keeps its key (3.3.5.5.2). A client is connected once."""
+        session.authentication = None
         old = self._server.sessions.get(message.number(HEADER + 16, 8))
         if old and old is not session and proved.key and old.owner == proved.owner:
             self._server.end_session(old)
         if not session.is_ready:
             self._server.connect_client(session.connection)
-        session.is_ready, session.owner, session.key = True, proved.owner, proved.key
+        session.is_ready, session.owner, session.key = True, proved.owner, session.key or proved.key
         wants_to_sign = message.number(HEADER + 3, 1) & SIGNING_REQUIRED or not self._server.settings.has_guests
         session.signs = session.signs or bool(proved.key and wants_to_sign)
 

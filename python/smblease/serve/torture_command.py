@@ -47,9 +47,11 @@ class Row:
 
 
 def parser() -> argparse.ArgumentParser:
-    served = name_of("serve/run")
-    made = parser_of("serve/torture", f"Runs tests of smbtorture against the server of {served}.", EPILOG)
-    made.add_argument("name", metavar="NAME", nargs="*", help="a test, as smb2.lease.request; all of the suites where none is")
+    made = argparse.ArgumentParser(prog="serve/torture", description="Runs tests of smbtorture against the server of serve/run.",
+                                   epilog=EPILOG, formatter_class=argparse.RawDescriptionHelpFormatter)
+    made.add_argument("name", metavar="NAME", nargs="*",
+                      help=f"a test, as smb2.lease.request, or a suite, as smb2.session ({', '.join(SUITES)})")
+    made.add_argument("--no-guests", action="store_true", help="with its user alone, so that all is signed")
     made.add_argument("--smbd", action="store_true", help="against a private smbd, for comparison; needs root")
     made.add_argument("--rules", default=RULES, metavar="RULES", help=f"with {served} --rules RULES ({RULES})")
     made.add_argument("--limit", type=float, default=150.0, metavar="S", help="seconds that a test may take (150)")
@@ -59,11 +61,17 @@ def parser() -> argparse.ArgumentParser:
     return made
 
 
-def known_tests() -> list[str]:
-    """The tests of the suites, as smbtorture lists them: with the last name twice."""
-    output = _ran(["smbtorture", "--list"], 60.0).stdout
-    names = [line.strip().rpartition(".")[0] for line in output.splitlines()]
-    return [name for name in names if name.rpartition(".")[0] in SUITES]
+def chosen_tests(names: Sequence[str]) -> list[str]:
+    """Tests, and those of suites, of all that smbtorture lists: with the last name twice."""
+    listed = _ran(["smbtorture", "--list"], 60.0).stdout.split()
+    known = [line.rpartition(".")[0] for line in listed]
+    found: list[str] = []
+    for name in names:
+        tests = [it for it in known if name in (it, it.rpartition(".")[0])]
+        if not tests:
+            raise Usage(f"smbtorture has no test and no suite of this name: {name}")
+        found += tests
+    return found
 
 
 def _ran(words: list[str], limit: float) -> subprocess.CompletedProcess[str]:
@@ -104,26 +112,22 @@ def _last_status(output: str) -> str:
 
 
 def torture(arguments: argparse.Namespace) -> int:
-    if arguments.smbd:
-        # The proved server is tested without that package.
-        need("impacket", "--smbd")
-    known = known_tests()
-    unknown = [name for name in arguments.name if name not in known]
-    if unknown or arguments.jobs < 1:
-        raise Usage(f"no test of {', '.join(SUITES)}: {unknown[0]}" if unknown else "--jobs is at least 1")
+    tests = chosen_tests(arguments.name or SUITES)
+    if arguments.jobs < 1:
+        raise Usage("--jobs is at least 1")
 
     def server(name: str) -> ServerProcess | PrivateServer:
         if arguments.smbd:
             return PrivateServer()
         record = f"{arguments.record}{name}" if arguments.record else None
-        words = ["--rules", arguments.rules, "--user", f"{USER}%{PASSWORD}", "--guests"]
+        words = ["--rules", arguments.rules, "--user", f"{USER}%{PASSWORD}", *([] if arguments.no_guests else ["--guests"])]
         return ServerProcess(arguments.leasecheck, record, words, USER, PASSWORD)
     if arguments.smbd:
         # Compiled once, before servers are made side by side.
         library()
     rows: list[Row] = []
     with ThreadPoolExecutor(arguments.jobs) as pool:
-        for row in pool.map(lambda name: run_test(name, server, arguments.limit), arguments.name or known):
+        for row in pool.map(lambda name: run_test(name, server, arguments.limit), tests):
             rows.append(row)
             print(row.text, flush=True)
     counts = [sum(row.kind is kind for row in rows) for kind in Kind]
