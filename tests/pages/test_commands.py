@@ -140,7 +140,7 @@ def test_readme_is_short() -> None:
     assert page("README.md").count("\n") <= MOST_LINES
 
 
-@pytest.mark.parametrize("name", ["REAL_SERVERS", "FOUND_ON_SMBD", "CAPTURES", "SERVE", "SERVE_TRIED"])
+@pytest.mark.parametrize("name", ["REAL_SERVERS", "FOUND_ON_SMBD", "CAPTURES", "SERVE", "SERVE_TRIED", "CLIENT_TESTS"])
 def test_pages_on_servers_are_short(name: str) -> None:
     """Each is about one use."""
     assert page(f"docs/{name}.md").count("\n") <= MOST_LINES_OF_A_USE

@@ -17,6 +17,7 @@ tokens = pytest.importorskip("impacket.spnego")
 KERBEROS = tokens.TypesMech["KRB5 - Kerberos 5"]
 LENGTHS = (1, 100, 127, 128, 255, 256, 70000)
 NONCE = bytes(range(8))
+MOMENT = 0x01BF53EB256D4000
 RANDOM = 1000
 
 
@@ -97,19 +98,19 @@ def negotiate(flags: int) -> bytes:
 
 def test_a_challenge() -> None:
     """A CHALLENGE_MESSAGE as impacket reads it, and as it writes it again."""
-    data = ntlm.challenge(negotiate(0xFDFFFFFF), NONCE)
+    data = ntlm.challenge(negotiate(0xFDFFFFFF), NONCE, MOMENT)
     message = theirs.NTLMAuthChallenge()
     message.fromString(data)
     pairs, name = theirs.AV_PAIRS(message["TargetInfoFields"]), ntlm.NAME.encode("utf-16le")
     assert (message["flags"], message["challenge"], message["reserved"]) == (0xE28A8237, NONCE, bytes(8))
     assert (message["domain_name"], message["domain_max_len"], message["Version"]) == (name, len(name), ntlm.VERSION)
     assert message["TargetInfoFields_max_len"] == len(message["TargetInfoFields"])
-    assert [pairs[it] for it in (1, 2, 3, 4)] == [(len(name), name)] * 4 and pairs[7][0] == 8
+    assert [pairs[it] for it in (1, 2, 3, 4)] == [(len(name), name)] * 4 and pairs[7] == (8, MOMENT.to_bytes(8, "little"))
     assert bytes(message.getData()) == data
 
 
 def test_flags_that_nobody_asks_for() -> None:
-    assert int.from_bytes(ntlm.challenge(negotiate(0), NONCE)[20:24], "little") == 0x02820204
+    assert int.from_bytes(ntlm.challenge(negotiate(0), NONCE, MOMENT)[20:24], "little") == 0x02820204
 
 
 def authenticate(name: str) -> bytes:
@@ -127,7 +128,7 @@ def user_name(data: bytes) -> object:
 
 
 def challenge(data: bytes) -> object:
-    return ntlm.challenge(data, NONCE)
+    return ntlm.challenge(data, NONCE, MOMENT)
 
 
 def unwrapped(data: bytes) -> object:

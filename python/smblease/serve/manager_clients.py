@@ -3,7 +3,9 @@ from __future__ import annotations
 
 import itertools
 from typing import TYPE_CHECKING
+from uuid import UUID
 
+from smblease.serve.chance import Chance
 from smblease.serve.opens import ManagerClient
 
 if TYPE_CHECKING:
@@ -16,7 +18,8 @@ SHELLS = 1 << 62
 class ManagerClients:
     """Numbers count up, and none is given twice."""
 
-    def __init__(self) -> None:
+    def __init__(self, chance: Chance) -> None:
+        self._chance = chance
         self._next, self._next_of_shell = itertools.count(1), itertools.count(SHELLS)
         self._by_number: dict[int, ManagerClient] = {}
         self._by_guid: dict[bytes, ManagerClient] = {}
@@ -31,7 +34,8 @@ class ManagerClients:
         return [it for it in self._by_number.values() if connection in it.connections]
 
     def take(self, guid: bytes | None, is_shells: bool = False) -> ManagerClient:
-        client = ManagerClient(next(self._next_of_shell if is_shells else self._next), guid)
+        number, key = next(self._next_of_shell if is_shells else self._next), UUID(bytes=b"oplock" + self._chance.take(10))
+        client = ManagerClient(number, guid, own_key=key)
         self._by_number[client.number] = client
         if guid is not None:
             self._by_guid[guid] = client

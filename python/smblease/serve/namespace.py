@@ -12,9 +12,10 @@ from smblease.serve.file_numbers import FileNumbers
 from smblease.serve.folder_names import names_in
 from smblease.serve.kept_attributes import WRITABLE
 from smblease.serve.names import folded, joined, sent_name, split
-from smblease.serve.node import Node, node_of
+from smblease.serve.node import Node
+from smblease.serve.shown_files import ON_DISK, ShownFiles
 from smblease.serve.status_error import StatusError
-from smblease.serve.streams import Streams
+from smblease.serve.streams import Identity, Streams
 
 LOG = logging.getLogger("serve")
 MOST_WARNINGS = 1000
@@ -24,8 +25,8 @@ class Namespace:
     """A name is looked up on disk each time. What is held has a descriptor, by which it stays the same whatever becomes of its
     name."""
 
-    def __init__(self, disk: Disk, streams: Streams) -> None:
-        self.disk, self._streams = disk, streams
+    def __init__(self, disk: Disk, streams: Streams, shown: ShownFiles = ON_DISK) -> None:
+        self.disk, self._streams, self._shown = disk, streams, shown
         # by their paths
         self._held: dict[str, Node] = {}
         self._numbers = FileNumbers()
@@ -42,12 +43,17 @@ class Namespace:
         located = self.disk.locate(base)
         if located is None:
             return None
-        return self._find_stream(located, stream) if colon else self._known(node_of(located))
+        return self._find_stream(located, stream) if colon else self._known(self._node(located))
+
+    def _node(self, located: Located) -> Node:
+        return Node(located.path, located.stat, shown=self._shown)
 
     def _find_stream(self, base: Located, name: str) -> Node | None:
-        found = self._streams.find(node_of(base).identity, name)
+        found = self._streams.find(self._node(base).identity, name)
         located = self._streams.disk.locate(found.place) if found else None
-        return self._known(Node(f"{base.path}:{found.name}", located.stat, found.place)) if found and located else None
+        if found is None or located is None:
+            return None
+        return self._known(Node(f"{base.path}:{found.name}", located.stat, found.place, self._shown))
 
     def _known(self, node: Node) -> Node:
         """The one that is held, unless something else has its name by now."""
@@ -96,9 +102,9 @@ class Namespace:
     def has_below(folder: Node) -> bool:
         return bool(names_in(folder.file))
 
-    @staticmethod
-    def stat_below(folder: Node, name: str) -> os.stat_result | None:
-        return stat_in(folder.file, name)
+    def stat_below(self, folder: Node, name: str) -> os.stat_result | None:
+        found = stat_in(folder.file, name)
+        return self._shown.shown(found) if found else None
 
     # What is held
 
@@ -165,7 +171,8 @@ class Namespace:
             descriptor = self.disk.open_folder(made)
         else:
             descriptor = self.disk.make_file(made, is_read_only)
-        return self._made(Node(made, os.fstat(descriptor)), descriptor)
+        self._names_changed(made)
+        return self._made(Node(made, os.fstat(descriptor), shown=self._shown), descriptor)
 
     def _make_stream(self, path: str, name: str) -> Node:
         """Its file is made too, where it isn't there."""
@@ -175,12 +182,20 @@ class Namespace:
         assert base
         stream = self._streams.make(base.identity, name)
         descriptor = self._streams.disk.make_file(stream.place, False)
-        return self._made(Node(f"{base.path}:{stream.name}", os.fstat(descriptor), stream.place), descriptor)
+        return self._made(Node(f"{base.path}:{stream.name}", os.fstat(descriptor), stream.place, self._shown), descriptor)
 
     def _made(self, node: Node, descriptor: int) -> Node:
         self._begin(node, descriptor, not node.is_folder)
         node.users = 1
+        self._shown.made(node.identity)
         return node
+
+    def _names_changed(self, path: str) -> None:
+        """In the folder of this path."""
+        def folder() -> Identity | None:
+            located = self.disk.locate(split(path)[0])
+            return (located.stat.st_dev, located.stat.st_ino) if located else None
+        self._shown.names_changed(folder)
 
     def may_remove(self, node: Node) -> bool:
         return node.is_stream or self.disk.may_change(split(node.path)[0])
@@ -189,6 +204,8 @@ class Namespace:
         """A file goes with its streams, those that somebody has open at their last close."""
         disk = self._streams.disk if node.is_stream else self.disk
         disk.remove(node.place, node.identity, node.is_folder)
+        if not node.is_stream:
+            self._names_changed(node.path)
         self._gone(node)
 
     def _gone(self, node: Node) -> None:
@@ -204,7 +221,7 @@ class Namespace:
         if held and held.stream_place == place:
             held.is_deleting = True
         elif located:
-            self.remove(Node(path, located.stat, place))
+            self.remove(Node(path, located.stat, place, self._shown))
 
     def rename(self, node: Node, path: str, replaced: Node | None = None) -> None:
         """What is in the place of the new name goes by that, and by nothing before; its name may differ in case."""
@@ -218,6 +235,8 @@ class Namespace:
     def _move(self, node: Node, new: str) -> None:
         old = node.path
         self.disk.rename(old, new, node.identity)
+        self._names_changed(old)
+        self._names_changed(new)
         below = (f"{old}\\", f"{old}:")
         for one in [it for it in self._held.values() if it is node or it.path.startswith(below)]:
             del self._held[one.path]

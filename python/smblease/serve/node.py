@@ -6,8 +6,8 @@ import stat
 from dataclasses import dataclass, field
 from typing import TYPE_CHECKING
 
-from smblease.serve.disk import Located
 from smblease.serve.kept_attributes import FOLDER, NORMAL, NOTHING, READ_ONLY, WRITABLE, Kept, kept_at
+from smblease.serve.shown_files import ON_DISK, ShownFiles
 
 if TYPE_CHECKING:
     from smblease.serve.asks import Pause
@@ -24,6 +24,7 @@ class Node:
     found: os.stat_result
     # of a stream: where it is in the streams' folder
     stream_place: str | None = None
+    shown: ShownFiles = ON_DISK
     # the manager's number of a file that is held
     number: int = 0
     descriptor: int | None = None
@@ -60,7 +61,8 @@ class Node:
 
     @property
     def stat(self) -> os.stat_result:
-        return self.found if self.descriptor is None else os.fstat(self.descriptor)
+        """As clients are shown it."""
+        return self.shown.shown(self.found if self.descriptor is None else os.fstat(self.descriptor))
 
     @property
     def kept(self) -> Kept:
@@ -75,10 +77,6 @@ class Node:
         """The descriptor of what is held."""
         assert self.descriptor is not None
         return self.descriptor
-
-
-def node_of(located: Located) -> Node:
-    return Node(located.path, located.stat)
 
 
 def is_read_only(found: os.stat_result) -> bool:

@@ -3,7 +3,6 @@
 impacket has these messages too. They stand here so that guests are served by Python's standard library alone."""
 from __future__ import annotations
 
-import os
 import struct
 from typing import TYPE_CHECKING
 
@@ -12,9 +11,9 @@ from smblease.drive.headers import Unreadable
 from smblease.serve import spnego
 from smblease.serve.password_brake import PasswordBrake
 from smblease.serve.status_error import StatusError
-from smblease.serve.times import now
 
 if TYPE_CHECKING:
+    from smblease.serve.chance import Chance
     from smblease.serve.named_user import NamedUser
 
 NAME = "LEASECHECK"
@@ -38,9 +37,10 @@ END, COMPUTER, DOMAIN, DNS_COMPUTER, DNS_DOMAIN, TIME = 0, 1, 2, 3, 4, 7
 class Authentication:
     """The messages of one authentication. `owner` is who proved to be there; `key` that of a session that may be signed."""
 
-    def __init__(self, user: NamedUser | None, has_guests: bool, brake: PasswordBrake, address: str) -> None:
+    def __init__(self, user: NamedUser | None, has_guests: bool, brake: PasswordBrake, address: str, chance: Chance) -> None:
         self._user = user
         self._has_guests = has_guests
+        self._chance = chance
         self._brake, self._address = brake, address
         self._negotiate = self._challenge = self._mechanisms = b""
         self.owner = ""
@@ -62,7 +62,7 @@ class Authentication:
             return spnego.wrapped(b"", spnego.REQUEST_MIC, True)
         kind = int.from_bytes(message[8:12], "little")
         if kind == NEGOTIATE:
-            self._negotiate, self._challenge = message, challenge(message, os.urandom(8))
+            self._negotiate, self._challenge = message, challenge(message, self._chance.take(8), self._chance.now())
             return spnego.wrapped(self._challenge, spnego.INCOMPLETE, True) if is_wrapped else self._challenge
         if kind != AUTHENTICATE or not self._challenge:
             raise StatusError(Status.INVALID_PARAMETER)
@@ -93,14 +93,14 @@ class Authentication:
         return self._user.mic(self.key, flags, self._mechanisms, "Server")
 
 
-def challenge(negotiate: bytes, nonce: bytes) -> bytes:
+def challenge(negotiate: bytes, nonce: bytes, moment: int) -> bytes:
     """The answer to a NEGOTIATE_MESSAGE (2.2.1.1): a CHALLENGE_MESSAGE (2.2.1.2)."""
     if len(negotiate) < NEGOTIATE_SIZE:
         raise Unreadable
     flags = int.from_bytes(negotiate[12:16], "little")
     name = NAME.encode("utf-16le")
     pairs = [(it, name) for it in (COMPUTER, DNS_COMPUTER, DOMAIN, DNS_DOMAIN)]
-    pairs += [(TIME, now().to_bytes(8, "little")), (END, b"")]
+    pairs += [(TIME, moment.to_bytes(8, "little")), (END, b"")]
     target = b"".join(struct.pack("<HH", kind, len(value)) + value for kind, value in pairs)
     head = HEAD.pack(SIGNATURE, CHALLENGE, len(name), len(name), HEAD.size, flags & KEPT | ADDED, nonce, len(target), len(target),
                      HEAD.size + len(name), VERSION)

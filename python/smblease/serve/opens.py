@@ -1,7 +1,6 @@
 """Opens, as the shell has them, and the manager's clients that they belong to."""
 from __future__ import annotations
 
-import os
 from asyncio import TimerHandle
 from dataclasses import dataclass, field
 from typing import TYPE_CHECKING
@@ -143,7 +142,7 @@ class ManagerClient:
     # a break timer of it ran out, which the manager remembers until it joins again
     has_expired: bool = False
     # the key of an oplock's lease
-    own_key: UUID = field(default_factory=lambda: UUID(bytes=b"oplock" + os.urandom(10)))
+    own_key: UUID = UUID(bytes=b"oplock" + bytes(10))
 
     @property
     def is_connected(self) -> bool:

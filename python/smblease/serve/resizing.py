@@ -19,6 +19,7 @@ def resizing(record: Record, opened: Open, size: int, fits: bool = True) -> Step
     def change() -> None:
         before = node.stat.st_size
         os.ftruncate(node.file, size)
+        node.shown.changed(node.identity)
         if is_longer and size > before:
             record.changed(client, node, number, size - 1, b"\0")
         elif size < before:

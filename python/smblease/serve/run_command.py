@@ -16,6 +16,7 @@ from smblease.drive.called import need, parser_of
 from smblease.drive.commands import NOT_DRIVEN, SAFE, UNSAFE, ended, rules_of
 from smblease.drive.faults import DriveFault, Usage
 from smblease.program import find_program, judge
+from smblease.serve.chance import Chance, SeededChance
 from smblease.serve.connection import Connection
 from smblease.serve.disk import Disk
 from smblease.serve.disk_bytes import LARGEST
@@ -67,6 +68,8 @@ def parser() -> argparse.ArgumentParser:
     made.add_argument("--rules", default=RULES, metavar="RULES",
                       help="by-client or by-key, a comma, and as-free or whole; or profile, the rules of docs/PROFILE.md "
                            f"({RULES}, as Windows and Samba have it)")
+    made.add_argument("--seed", type=int, metavar="N",
+                      help="draw session ids, the server's id, challenges and times from it, so that a run can be had again")
     made.add_argument("--control", type=int, metavar="FD", help="read lines there that end a timer now")
     made.add_argument("--leasecheck", metavar="PATH", default=find_program(), help="the program leasecheck")
     made.add_argument("--verbose", action="store_true", help="say more on standard error")
@@ -121,11 +124,14 @@ def settings_of(arguments: argparse.Namespace) -> Settings:
         raise Usage(f"--limit is from 1 to {LARGEST}")
     if arguments.writable and arguments.folder is None:
         raise Usage("--writable goes with --folder")
+    if arguments.seed is not None and arguments.seed < 0:
+        raise Usage("--seed is a number from 0 on")
     if arguments.guests and arguments.user is None:
         raise Usage("--guests goes with --user; without one all are guests")
     return Settings(arguments.share, user_of(arguments.user, arguments.password_file, os.environ),
                     arguments.break_timer, arguments.durable_timer, arguments.session_timer,
-                    arguments.guests or arguments.user is None, rules_of(arguments.rules), arguments.limit)
+                    arguments.guests or arguments.user is None, rules_of(arguments.rules), arguments.limit,
+                    Chance() if arguments.seed is None else SeededChance(arguments.seed))
 
 
 def allow_descriptors() -> None:
@@ -154,7 +160,7 @@ def serve(arguments: argparse.Namespace) -> int:
         with contextlib.closing(Record(arguments.record)) as record, \
                 served_folders(arguments.folder, arguments.writable) as folders, \
                 contextlib.closing(Disk(folders.share)) as disk, contextlib.closing(Disk(folders.streams)) as streams:
-            server = Server(settings, loop.events, record, Namespace(disk, Streams(streams)))
+            server = Server(settings, loop.events, record, Namespace(disk, Streams(streams), settings.chance.files()))
             if arguments.control is not None:
                 TimerControl(server, arguments.control)
             print(f"port {port}", flush=True)

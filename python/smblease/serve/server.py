@@ -4,7 +4,6 @@ from __future__ import annotations
 import asyncio
 import itertools
 import logging
-import secrets
 import uuid
 from collections.abc import Callable
 from typing import TYPE_CHECKING
@@ -42,9 +41,9 @@ class Server:  # pylint: disable=too-many-instance-attributes  # its parts find 
 
     def __init__(self, settings: Settings, loop: asyncio.AbstractEventLoop, record: Record, names: Namespace) -> None:
         self.settings, self.loop, self.record, self.names = settings, loop, record, names
-        self.guid = uuid.uuid4().bytes
+        self.guid = settings.chance.take(16)
         self.host = ManagerHost(settings.rules, self)
-        self.clients = ManagerClients()
+        self.clients = ManagerClients(settings.chance)
         self.opens: dict[int, Open] = {}
         # the opens that are kept, the one that was left first before the others
         self._kept: dict[int, Open] = {}
@@ -136,9 +135,9 @@ class Server:  # pylint: disable=too-many-instance-attributes  # its parts find 
             self.join(client, connection, str(uuid.UUID(bytes=connection.guid)))
 
     def next_session_id(self) -> int:
-        """One that nobody can guess."""
+        """One that nobody can guess, unless he knows a seed."""
         while True:
-            found = secrets.randbits(64)
+            found = self.settings.chance.number()
             if found not in self.sessions and found not in NO_SESSION_IDS:
                 return found
 

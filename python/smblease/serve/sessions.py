@@ -14,7 +14,6 @@ from smblease.serve.packets import LONGEST_TRANSFER, Answer, RequestMessage, sig
 from smblease.serve.request import Handlers, Request
 from smblease.serve.spnego import offered
 from smblease.serve.status_error import StatusError
-from smblease.serve.times import now
 
 if TYPE_CHECKING:
     from smblease.serve.connection import Connection
@@ -61,7 +60,7 @@ def negotiated(server: Server, dialect: int) -> Answer:
     needs_signing = server.settings.user and not server.settings.has_guests
     mode = SIGNING_ENABLED | (SIGNING_REQUIRED if needs_signing else 0)
     fixed = struct.pack("<HHHH16sLLLLQQHHL", 65, mode, dialect, 0, server.guid, LEASING | LARGE_MTU, LONGEST_TRANSFER,
-                        LONGEST_TRANSFER, LONGEST_TRANSFER, now(), 0, HEADER + 64, len(token), 0)
+                        LONGEST_TRANSFER, LONGEST_TRANSFER, server.settings.chance.now(), 0, HEADER + 64, len(token), 0)
     return Answer(Status.SUCCESS, fixed + token)
 
 
@@ -91,7 +90,7 @@ class Sessions(Handlers):
         settings = self._server.settings
         session.check_signature(message)
         current = session.authentication = session.authentication or Authentication(
-            settings.user, settings.has_guests, self._server.brake, connection.address)
+            settings.user, settings.has_guests, self._server.brake, connection.address, settings.chance)
         try:
             reply = current.reply(token)
         except (StatusError, Unreadable):

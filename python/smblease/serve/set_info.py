@@ -67,6 +67,7 @@ class SetInfo(Handlers):
             found = node.stat
             os.utime(node.file, ns=(found.st_atime_ns if accessed is None else on_disk(accessed),
                                     found.st_mtime_ns if written is None else on_disk(written)))
+            node.shown.times_set(node.identity, *(None if it is None else on_disk(it) for it in (accessed, written)))
         if attributes and not node.is_folder:
             self._server.names.set_read_only(node, bool(attributes & READ_ONLY))
 

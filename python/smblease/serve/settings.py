@@ -5,6 +5,7 @@ from dataclasses import dataclass
 from typing import TYPE_CHECKING
 
 from smblease import Rules
+from smblease.serve.chance import Chance
 from smblease.serve.disk_bytes import LARGEST
 
 if TYPE_CHECKING:
@@ -23,3 +24,4 @@ class Settings:
     rules: Rules = Rules()
     # the most bytes of a file
     limit: int = LARGEST
+    chance: Chance = Chance()

@@ -79,6 +79,7 @@ class Transfers(Handlers):
         def change() -> None:
             if data:
                 write_bytes(node.file, offset, data)
+                node.shown.changed(node.identity)
             record.changed(client, node, number, offset, data)
         yield from writing(client, node, opened.file_id, change, fits)
         if opened.writes_through or message.number(HEADER + 44, 4) & WRITE_THROUGH:
