@@ -40,7 +40,7 @@ class Chain:
         self._session, self._tree = requests[0].session, requests[0].tree
         self._previous: int | None = None
         # The first request of a frame is related to none (3.3.5.2.7.2).
-        self._failed: Status | None = Status.INVALID_PARAMETER if requests[0].is_related else None
+        self._failed: int | None = Status.INVALID_PARAMETER if requests[0].is_related else None
         self._is_waiting = self._is_going = False
 
     def go_on(self) -> None:
@@ -61,6 +61,10 @@ class Chain:
             request.session_id, request.tree_id = message.session, message.tree
         return request
 
+    @property
+    def has_answers(self) -> bool:
+        return bool(self._responses)
+
     def take_answers(self) -> bytes:
         """A frame of the answers that there are."""
         responses, self._responses, self.held = self._responses, [], 0
@@ -74,8 +78,10 @@ class Chain:
         self._previous = self._previous if opened is None else opened
         if message.command is Command.CREATE and answer.status >> 30 == 3:
             self._failed = answer.status
-        self._responses.append(self._connection.response(pending, answer, self._session, self._tree))
-        self.held += self._responses[-1].length
+        response = self._connection.response(pending, answer, self._session, self._tree)
+        if not self._connection.outgoing.keeps_back(message.name, response):
+            self._responses.append(response)
+            self.held += response.length
         self._connection.hold(self)
         # The last answer goes at once: what is decided next may be for the same client.
         if not self._requests or not self._is_going or self.held > UNREAD:

@@ -8,33 +8,29 @@ from collections import deque
 from typing import TYPE_CHECKING
 
 from smblease import Status
-from smblease.drive.headers import ASYNC, FROM_SERVER
-from smblease.drive.headers import UNASKED as NOTIFICATION
-from smblease.drive.headers import Command, Unreadable
+from smblease.drive.headers import ASYNC, FROM_SERVER, UNASKED, Command, Unreadable
 from smblease.serve.asks import Handling
-from smblease.serve.chains import UNREAD, Chain, Pending
+from smblease.serve.chains import Chain, Pending
+from smblease.serve.faults_on_demand import NOTIFICATION, REFUSES, Peer
 from smblease.serve.former_keys import FormerKeys
 from smblease.serve.manager_host import Task
 from smblease.serve.opens import ManagerClient
+from smblease.serve.outgoing import Outgoing
 from smblease.serve.packets import (LONGEST_FRAME, LONGEST_WITHOUT_SESSION, MOST_IN_FRAME, Answer, Credits, Frames,
                                     RequestMessage, Response, framed, split_compound)
 from smblease.serve.request import WITHOUT_SESSION, Request
 from smblease.serve.sessions import ANY_DIALECT, Session, negotiated
-from smblease.serve.status_error import EXHAUSTED, StatusError
+from smblease.serve.status_error import EXHAUSTED, StatusError, name_of
 
 if TYPE_CHECKING:
     from smblease.serve.server import Server
 
 LOG = logging.getLogger("serve")
-# Past so many bytes that a client hasn't read it is closed, or where all have too many.
-MOST_UNREAD, MOST_UNREAD_OF_ALL = 1 << 24, 1 << 27
 MOST_PENDING = 512
 # Seconds after which others are served, between two requests.
 TURN = 0.002
 # Bytes that the server has in memory for those without a session, and what it takes one for that is half made.
 MOST_WITHOUT_SESSION, HALF_MADE = 1 << 26, 2048
-# So many answers go in one piece, if none of them is large.
-MOST_TOGETHER, LARGE = 32, 4096
 OLD_PROTOCOL = b"\xffSMB"
 OLD_NEGOTIATE = 0x72
 
@@ -63,13 +59,18 @@ class Connection(asyncio.Protocol):  # pylint: disable=too-many-instance-attribu
         self._holding: dict[Chain, None] = {}
         self._turn_ends = 0.0
         self._is_due = False
-        self._outgoing: list[bytes] = []
+        self.outgoing = Outgoing(self)
         self._pending: dict[int, Pending] = {}
 
     @property
     def unread(self) -> int:
         """Bytes that the client hasn't read yet."""
-        return self._transport.get_write_buffer_size() + sum(it.held for it in self._holding) if self.is_open else 0
+        return self.outgoing.unread + sum(it.held for it in self._holding) if self.is_open else 0
+
+    @property
+    def peer(self) -> Peer:
+        client = self.client or (self.server.clients.of_guid(self.guid) if self.guid else None)
+        return Peer(client.number if client else None, self.guid)
 
     @property
     def has_turn(self) -> bool:
@@ -84,7 +85,7 @@ class Connection(asyncio.Protocol):  # pylint: disable=too-many-instance-attribu
     def connection_made(self, transport: asyncio.BaseTransport) -> None:
         assert isinstance(transport, asyncio.Transport)
         self._transport, self.address = transport, str((transport.get_extra_info("peername") or [""])[0])
-        transport.set_write_buffer_limits(UNREAD)
+        self.outgoing.begin(transport)
         self.heard = self.server.loop.time()
         self.await_session()
         self.server.connect(self)
@@ -141,11 +142,11 @@ class Connection(asyncio.Protocol):  # pylint: disable=too-many-instance-attribu
                     self._give_turn()
                     break
         except (Unreadable, *EXHAUSTED):
-            self._flush()
+            self.outgoing.flush()
             self.close()
         finally:
             self._is_taking = False
-            self._flush()
+            self.outgoing.flush()
 
     def _take_next(self) -> bool:
         """What is left of a frame, else the next one; whether there was any."""
@@ -182,7 +183,8 @@ class Connection(asyncio.Protocol):  # pylint: disable=too-many-instance-attribu
         """What chains have been answered goes before what is decided later."""
         holding, self._holding = self._holding, {}
         for chain in holding:
-            self.send(chain.take_answers())
+            if chain.has_answers:
+                self.send(chain.take_answers())
 
     def _take(self, frame: bytes) -> None:
         if frame[:4] == OLD_PROTOCOL:
@@ -217,7 +219,7 @@ class Connection(asyncio.Protocol):  # pylint: disable=too-many-instance-attribu
         answer = negotiated(self.server, ANY_DIALECT)
         self.send(framed([Response(Command.NEGOTIATE, answer.status, 0, self._credits.grant(1), 0, 0, answer.body)]))
 
-    def begin(self, pending: Pending, failed: Status | None) -> None:
+    def begin(self, pending: Pending, failed: int | None) -> None:
         message = pending.request.message
         self._pending[message.identifier] = pending
         handling = self._handle(pending.request, failed if message.is_related else None)
@@ -226,7 +228,7 @@ class Connection(asyncio.Protocol):  # pylint: disable=too-many-instance-attribu
         self.server.host.start(pending.task)
         self.server.send_interim_responses()
 
-    def _handle(self, request: Request, failed: Status | None) -> Handling:
+    def _handle(self, request: Request, failed: int | None) -> Handling:
         """`failed` is what became of the create that the request is related to."""
         if failed:
             raise StatusError(failed)
@@ -236,18 +238,25 @@ class Connection(asyncio.Protocol):  # pylint: disable=too-many-instance-attribu
             raise StatusError(Status.INSUFFICIENT_RESOURCES)
         if message.command not in WITHOUT_SESSION:
             request.session.check_signature(message)
+        self._check_refusal(message)
         handler = self.server.commands.handler(request)
         message.check_size()
         message.check_charge()
         handled = handler(request)
         return handled if isinstance(handled, Answer) else (yield from handled)
 
+    def _check_refusal(self, message: RequestMessage) -> None:
+        """Somebody may want it to be refused."""
+        fault = self.server.faults.take(REFUSES, message.name, self.peer) if self.server.faults else None
+        if fault:
+            raise StatusError(fault.status)
+
     def _answered(self, pending: Pending, answer: Answer) -> None:
         message = pending.request.message
         self._pending.pop(message.identifier, None)
         if LOG.isEnabledFor(logging.DEBUG):
             LOG.debug("client %s: %s %d: %s", self.client.number if self.client else "-", message.name, message.identifier,
-                      answer.status.name)
+                      name_of(answer.status))
         pending.is_answered = True
         if self.is_open:
             pending.chain.answered(pending, answer)
@@ -290,25 +299,12 @@ class Connection(asyncio.Protocol):  # pylint: disable=too-many-instance-attribu
     def notify(self, body: bytes) -> None:
         """A break (2.2.23)."""
         self.send_held()
-        self.send(framed([Response(Command.OPLOCK_BREAK, Status.SUCCESS, NOTIFICATION, 0, 0, 0, body)]))
+        response = Response(Command.OPLOCK_BREAK, Status.SUCCESS, UNASKED, 0, 0, 0, body)
+        if not self.outgoing.keeps_back(NOTIFICATION, response):
+            self.send(framed([response]))
 
     def send(self, data: bytes) -> None:
-        self._outgoing.append(data)
-        if not self._is_taking or len(self._outgoing) == MOST_TOGETHER or len(data) > LARGE:
-            self._flush()
-
-    def _flush(self) -> None:
-        outgoing, self._outgoing = self._outgoing, []
-        if not outgoing or not self.is_open or self._transport.is_closing():
-            return
-        try:
-            self._transport.write(b"".join(outgoing) if len(outgoing) > 1 else outgoing[0])
-        except MemoryError:
-            # What is missing there would be taken for what was answered.
-            self.server.loop.call_soon(self.close)
-        unread = self.unread
-        if unread > MOST_UNREAD or unread > UNREAD and sum(it.unread for it in self.server.connections) > MOST_UNREAD_OF_ALL:
-            self.server.loop.call_soon(self.close)
+        self.outgoing.send(data, not self._is_taking)
 
     def close(self) -> None:
         if self.is_open:

@@ -85,7 +85,7 @@ class RequestMessage(Message):
 class Answer:
     """What a request is answered: a status, and the body where that isn't an error's."""
 
-    status: Status
+    status: int
     body: bytes = ERROR_BODY
     # what follows the body, as the bytes of a file
     data: bytes = b""

@@ -98,12 +98,12 @@ class Record:
         elif client.number < SHELLS:
             self._clients += 1
 
-    def strayed(self, client: ManagerClient) -> None:
-        """A client has one more connection: nothing is promised to it from here on."""
+    def strayed(self, client: ManagerClient, why: str) -> None:
+        """Nothing is promised to a client from here on: it has one more connection, say."""
         if not client.has_strayed:
             client.has_strayed = True
             if self._has(client):
-                self.remark(f"client {client.number} has several connections")
+                self.remark(f"client {client.number} {why}")
                 self.fact(f"strayed {client.number}")
 
     def dropped(self, client: ManagerClient) -> None:

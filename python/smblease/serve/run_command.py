@@ -18,6 +18,7 @@ from smblease.drive.faults import DriveFault, Usage
 from smblease.program import find_program, judge
 from smblease.serve.chance import Chance, SeededChance
 from smblease.serve.connection import Connection
+from smblease.serve.control import controlled
 from smblease.serve.disk import Disk
 from smblease.serve.disk_bytes import LARGEST
 from smblease.serve.event_loop import Loop, ending_signals
@@ -28,7 +29,6 @@ from smblease.serve.served_folder import served_folders
 from smblease.serve.server import Server
 from smblease.serve.settings import Settings
 from smblease.serve.streams import Streams
-from smblease.serve.timer_control import TimerControl
 
 if TYPE_CHECKING:
     from smblease.serve.named_user import NamedUser as User
@@ -70,7 +70,9 @@ def parser() -> argparse.ArgumentParser:
                            f"({RULES}, as Windows and Samba have it)")
     made.add_argument("--seed", type=int, metavar="N",
                       help="draw session ids, the server's id, challenges and times from it, so that a run can be had again")
-    made.add_argument("--control", type=int, metavar="FD", help="read lines there that end a timer now")
+    made.add_argument("--control", type=int, metavar="FD", help="read lines there that steer the server (docs/CLIENT_TESTS.md)")
+    made.add_argument("--control-socket", metavar="PATH", help="the same over a Unix socket of this name")
+    made.add_argument("--script", metavar="FILE", help="do the lines of this file, each as soon as that can be done")
     made.add_argument("--leasecheck", metavar="PATH", default=find_program(), help="the program leasecheck")
     made.add_argument("--verbose", action="store_true", help="say more on standard error")
     return made
@@ -161,10 +163,9 @@ def serve(arguments: argparse.Namespace) -> int:
                 served_folders(arguments.folder, arguments.writable) as folders, \
                 contextlib.closing(Disk(folders.share)) as disk, contextlib.closing(Disk(folders.streams)) as streams:
             server = Server(settings, loop.events, record, Namespace(disk, Streams(streams), settings.chance.files()))
-            if arguments.control is not None:
-                TimerControl(server, arguments.control)
-            print(f"port {port}", flush=True)
-            loop.run()
+            with controlled(server, arguments.control, arguments.control_socket, arguments.script):
+                print(f"port {port}", flush=True)
+                loop.run()
     return verdict(arguments)
 
 

@@ -14,6 +14,7 @@ from smblease.serve.asks import Steps, closing
 from smblease.serve.chains import Pending
 from smblease.serve.commands import Commands
 from smblease.serve.connection import Connection
+from smblease.serve.faults_on_demand import Faults
 from smblease.serve.forced_breaks import ForcedBreaks
 from smblease.serve.leases import Leases
 from smblease.serve.manager_clients import ManagerClients
@@ -28,6 +29,7 @@ from smblease.serve.status_error import EXHAUSTED, StatusError
 
 if TYPE_CHECKING:
     from smblease.serve.node import Node
+    from smblease.serve.script import Script
 
 LOG = logging.getLogger("serve")
 # Durable opens that are kept without a connection: those of one client, and of all; the newest of them.
@@ -53,6 +55,8 @@ class Server:  # pylint: disable=too-many-instance-attributes  # its parts find 
         # bytes that are kept for connections without a session, and for sessions that are half made
         self.without_session = 0
         self.brake = PasswordBrake()
+        self.faults = Faults()
+        self.script: Script | None = None
         self.tree_ids, self.async_ids, self.own_file_ids = (itertools.count(it + 1) for it in (0, 0, OWN_FILE_IDS))
         self.leases = Leases(self)
         self.forced_breaks = ForcedBreaks(self)
@@ -105,6 +109,8 @@ class Server:  # pylint: disable=too-many-instance-attributes  # its parts find 
         for pending in begun:
             if pending.task and not pending.task.is_over:
                 pending.request.connection.send_interim_response(pending)
+        if self.script:
+            self.script.go_on()
 
     def start(self, handling: Steps) -> None:
         """Something that nobody waits for."""
@@ -130,7 +136,7 @@ class Server:  # pylint: disable=too-many-instance-attributes  # its parts find 
         connection.client = client
         if client.is_connected:
             client.connections.append(connection)
-            self.record.strayed(client)
+            self.record.strayed(client, "has several connections")
         else:
             self.join(client, connection, str(uuid.UUID(bytes=connection.guid)))
 
