@@ -116,6 +116,16 @@ def test_a_signal_ends_it(start: Start, connect: Connect, tmp_path: Path, number
     assert server.verdict == "safe"
 
 
+def test_a_signal_that_comes_at_once(program: str) -> None:
+    """As soon as the port is printed it ends as it does later."""
+    found = []
+    for _ in range(5):
+        server = ServerProcess(program)
+        server.close()
+        found.append(server.status)
+    assert found == [0] * 5
+
+
 def test_a_signal_that_it_was_started_to_pass_over(start: Start, connect: Connect) -> None:
     """As nohup does for SIGHUP."""
     before = signal.signal(signal.SIGHUP, signal.SIG_IGN)

@@ -59,9 +59,12 @@ class Loop:
             raise DriveFault(f"{address}, port {port}: {os.strerror(fault.errno or 0)}") from None
         return int(listening.getsockname()[1])
 
-    def run(self) -> None:
+    def heed_signals(self) -> None:
+        """From here on a signal ends it, even before it runs."""
         for number in ending_signals():
             self.events.add_signal_handler(number, self.events.stop)
+
+    def run(self) -> None:
         self.events.run_forever()
         if isinstance(self._fault, ToolFault):
             raise self._fault

@@ -164,6 +164,7 @@ def serve(arguments: argparse.Namespace) -> int:
                 contextlib.closing(Disk(folders.share)) as disk, contextlib.closing(Disk(folders.streams)) as streams:
             server = Server(settings, loop.events, record, Namespace(disk, Streams(streams), settings.chance.files()))
             with controlled(server, arguments.control, arguments.control_socket, arguments.script):
+                loop.heed_signals()
                 print(f"port {port}", flush=True)
                 loop.run()
     return verdict(arguments)
