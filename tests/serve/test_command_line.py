@@ -49,6 +49,8 @@ def wait_for_end(server: ServerProcess) -> None:
     pytest.param([*PLACE, "--user", "u", "--password-file", "/nowhere"], 1, "serve/run: /nowhere", id="no file"),
     pytest.param([*PLACE, "--address", "nowhere"], 2, "serve/run: --address", id="--address"),
     pytest.param([*PLACE, "--rules", "whole"], 2, "serve/run: --rules: 'whole'", id="--rules"),
+    pytest.param([*PLACE, "--json"], 2, "serve/run: --json", id="--json"),
+    pytest.param([*PLACE, "--log", "/nowhere/log"], 1, "serve/run: /nowhere/log", id="--log"),
     pytest.param([*PLACE, "--seed", "-1"], 2, "serve/run: --seed", id="--seed"),
     pytest.param([*PLACE, "--limit", "0"], 2, "serve/run: --limit", id="--limit"),
     pytest.param([*PLACE, "--writable"], 2, "serve/run: --writable", id="--writable"),

@@ -26,6 +26,9 @@ class Pending:
     async_id: int | None = None
     is_answered: bool = False
     task: Task | None = None
+    # what a log has of it from its beginning: the client's number, and the name of a file
+    number: int | None = None
+    name: str | None = None
 
 
 class Chain:

@@ -38,7 +38,8 @@ OLD_NEGOTIATE = 0x72
 class Connection(asyncio.Protocol):  # pylint: disable=too-many-instance-attributes  # it has what came and what goes
     def __init__(self, server: Server) -> None:
         self.server = server
-        self.address = ""
+        # of IP, and with its port
+        self.address = self.place = ""
         self.guid: bytes | None = None
         self.is_negotiated = False
         self.is_open = True
@@ -84,7 +85,9 @@ class Connection(asyncio.Protocol):  # pylint: disable=too-many-instance-attribu
 
     def connection_made(self, transport: asyncio.BaseTransport) -> None:
         assert isinstance(transport, asyncio.Transport)
-        self._transport, self.address = transport, str((transport.get_extra_info("peername") or [""])[0])
+        self._transport = transport
+        self.address, port = (*(transport.get_extra_info("peername") or ("", 0)),)[:2]
+        self.place = f"{self.address}:{port}"
         self.outgoing.begin(transport)
         self.heard = self.server.loop.time()
         self.await_session()
@@ -224,6 +227,8 @@ class Connection(asyncio.Protocol):  # pylint: disable=too-many-instance-attribu
         self._pending[message.identifier] = pending
         handling = self._handle(pending.request, failed if message.is_related else None)
         pending.task = Task(handling, lambda answer: self._answered(pending, answer))
+        if self.server.log:
+            self.server.log.begun(pending)
         self.server.begun.append(pending)
         self.server.host.start(pending.task)
         self.server.send_interim_responses()
@@ -257,6 +262,8 @@ class Connection(asyncio.Protocol):  # pylint: disable=too-many-instance-attribu
         if LOG.isEnabledFor(logging.DEBUG):
             LOG.debug("client %s: %s %d: %s", self.client.number if self.client else "-", message.name, message.identifier,
                       name_of(answer.status))
+        if self.server.log:
+            self.server.log.answered(pending, answer)
         pending.is_answered = True
         if self.is_open:
             pending.chain.answered(pending, answer)

@@ -5,7 +5,7 @@ import asyncio
 import itertools
 from collections import deque
 from collections.abc import Callable
-from dataclasses import dataclass
+from dataclasses import dataclass, field
 from typing import TYPE_CHECKING, Union
 
 from smblease import MachineLost, Manager, Rules, Status
@@ -34,6 +34,8 @@ class Task:
     asked: Asked | None = None
     tag: int = 0
     pause: Pause | None = None
+    # what the manager decided of it, and whose leases it broke by that
+    decided: list[Decision] = field(default_factory=list)
 
 
 class ManagerHost:
@@ -143,6 +145,8 @@ class ManagerHost:
 
     def _decided(self, decision: Tagged) -> None:
         task = self._taken(decision.client, decision.tag)
+        if task:
+            task.decided.append(decision)
         if task is None or task.asked is None:
             # Its client was cut before this was carried out. What nobody knows of nobody can close.
             if isinstance(decision, Opened):
@@ -217,7 +221,9 @@ class ManagerHost:
         tag = next(self._tags)
         task.asked, task.tag = asked, tag
         self._waiting.setdefault(asked.client.number, {})[tag] = task
-        return bool(self.call(lambda manager: asked.call(manager, tag)))
+        decisions = self.call(lambda manager: asked.call(manager, tag))
+        task.decided += (it for it in decisions if isinstance(it, (Breaks, Waits)))
+        return bool(decisions)
 
     def _acknowledge(self, task: Task, asked: Acknowledging) -> bool:
         """It is answered first."""
@@ -226,6 +232,7 @@ class ManagerHost:
         decisions = self._called(lambda manager: manager.acknowledge(client, message) if message
                                  else manager.acknowledge_malformed(client))
         self._decisions.extend((it, None if place else task) for place, it in enumerate(decisions))
+        task.decided += (it for it in decisions if isinstance(it, (Acknowledged, Breaks)))
         return bool(decisions)
 
     def _wait_for(self, task: Task, asked: Meanwhile) -> None:

@@ -9,7 +9,7 @@ import resource
 import shutil
 import signal
 import sys
-from collections.abc import Mapping, Sequence
+from collections.abc import Iterator, Mapping, Sequence
 from typing import TYPE_CHECKING
 
 from smblease.drive.called import need, parser_of
@@ -25,6 +25,7 @@ from smblease.serve.event_loop import Loop, ending_signals
 from smblease.serve.names import FORBIDDEN
 from smblease.serve.namespace import Namespace
 from smblease.serve.record import Record
+from smblease.serve.request_log import RequestLog
 from smblease.serve.served_folder import served_folders
 from smblease.serve.server import Server
 from smblease.serve.settings import Settings
@@ -74,6 +75,8 @@ def parser() -> argparse.ArgumentParser:
     made.add_argument("--control-socket", metavar="PATH", help="the same over a Unix socket of this name")
     made.add_argument("--script", metavar="FILE", help="do the lines of this file, each as soon as that can be done")
     made.add_argument("--leasecheck", metavar="PATH", default=find_program(), help="the program leasecheck")
+    made.add_argument("--log", metavar="FILE", help="write a line there for each request that is answered; - is standard error")
+    made.add_argument("--json", action="store_true", help="with --log: make each line an object of JSON")
     made.add_argument("--verbose", action="store_true", help="say more on standard error")
     return made
 
@@ -126,6 +129,8 @@ def settings_of(arguments: argparse.Namespace) -> Settings:
         raise Usage(f"--limit is from 1 to {LARGEST}")
     if arguments.writable and arguments.folder is None:
         raise Usage("--writable goes with --folder")
+    if arguments.json and arguments.log is None:
+        raise Usage("--json goes with --log")
     if arguments.seed is not None and arguments.seed < 0:
         raise Usage("--seed is a number from 0 on")
     if arguments.guests and arguments.user is None:
@@ -148,6 +153,15 @@ def end_early(_: int, __: object) -> None:
     sys.exit(NOT_DRIVEN)
 
 
+@contextlib.contextmanager
+def request_log(arguments: argparse.Namespace) -> Iterator[RequestLog | None]:
+    if arguments.log is None:
+        yield None
+        return
+    with contextlib.closing(RequestLog(arguments.log, arguments.json)) as made:
+        yield made
+
+
 def serve(arguments: argparse.Namespace) -> int:
     settings = settings_of(arguments)
     for number in {signal.SIGHUP, signal.SIGQUIT}.intersection(ending_signals()):
@@ -159,10 +173,11 @@ def serve(arguments: argparse.Namespace) -> int:
     loop = Loop()
     with contextlib.closing(loop.events):
         port = loop.listen(arguments.address, arguments.port, lambda: Connection(server))
-        with contextlib.closing(Record(arguments.record)) as record, \
+        with contextlib.closing(Record(arguments.record)) as record, request_log(arguments) as log, \
                 served_folders(arguments.folder, arguments.writable) as folders, \
                 contextlib.closing(Disk(folders.share)) as disk, contextlib.closing(Disk(folders.streams)) as streams:
             server = Server(settings, loop.events, record, Namespace(disk, Streams(streams), settings.chance.files()))
+            server.log = log
             with controlled(server, arguments.control, arguments.control_socket, arguments.script):
                 loop.heed_signals()
                 print(f"port {port}", flush=True)

@@ -29,6 +29,7 @@ from smblease.serve.status_error import EXHAUSTED, StatusError
 
 if TYPE_CHECKING:
     from smblease.serve.node import Node
+    from smblease.serve.request_log import RequestLog
     from smblease.serve.script import Script
 
 LOG = logging.getLogger("serve")
@@ -57,6 +58,7 @@ class Server:  # pylint: disable=too-many-instance-attributes  # its parts find 
         self.brake = PasswordBrake()
         self.faults = Faults()
         self.script: Script | None = None
+        self.log: RequestLog | None = None
         self.tree_ids, self.async_ids, self.own_file_ids = (itertools.count(it + 1) for it in (0, 0, OWN_FILE_IDS))
         self.leases = Leases(self)
         self.forced_breaks = ForcedBreaks(self)
