@@ -1,6 +1,8 @@
 """A fixture of pytest for tests of SMB clients: a share on loopback, and what steers its server (docs/CLIENT_TESTS.md).
 
-A conftest.py has `pytest_plugins = ["smblease.testing"]`. Nothing else of this package needs pytest.
+Nothing else of this package needs pytest. A conftest.py has
+
+>>> pytest_plugins = ["smblease.testing"]
 """
 from __future__ import annotations
 

@@ -231,8 +231,7 @@ class RandomRequests:
         asked for."""
         host: Any = self.server.host
         closing = {it.asked.closes for it in host.waiting}
-        # pylint: disable-next=protected-access  # which opens are left behind is seen nowhere else
-        ours = {it.file_id: it.file_id not in self.server._kept for it in self.server.opens.values() if it.client}
+        ours = {it.file_id: it.file_id not in self.server.kept for it in self.server.opens.values() if it.client}
         listed = {it.file_id: it.connected for it in host.manager.opens() if it.client < SHELLS}
         assert set(listed) - closing == set(ours) - closing
         assert all(ours[it] is listed[it] for it in set(ours) & set(listed))

@@ -219,7 +219,7 @@ def is_closed(client: "WireClient") -> bool:
 
 @pytest.mark.parametrize("line", [
     "", "break", "break 1 61 R", f"break 1 {KEY.hex}", f"break 1 {KEY.hex} W", f"break 1 {KEY.hex} R R", "logoff", "logoff 1 2",
-    "logoff one", "disconnect", "drop", "drop SOMETHING", "drop read", "drop READ 1 2", "drop READ one", "delay READ",
+    "logoff one", "disconnect", "drop", "drop SOMETHING", "drop read", "drop READ 1 2", "drop CANCEL", "drop READ one", "delay READ",
     "delay -1 READ", "delay nan READ", "delay 5000 READ", "refuse READ", "refuse SUCCESS READ", "refuse PENDING READ",
     "refuse NOTHING READ", "refuse 0xc0 READ", "refuse 0x100000000 READ", "refuse DISK_FULL NOTIFICATION", "reorder", "wait READ",
     "halt"])
@@ -229,16 +229,20 @@ def test_a_line_that_is_refused(shared: ServerProcess, line: str) -> None:
 
 
 def test_the_record_of_a_fault(start: Start, connect: Connect, tmp_path: Path) -> None:
-    """From there on nothing is promised to the client."""
+    """From there on nothing is promised to the client. One that is refused something is as any that is."""
     record = tmp_path / "record"
     server = start(record=record)
-    one = connect(server)
-    assert server.tell("drop ECHO")
+    one, other = connect(server), connect(server)
+    one.open(create("file", level=BATCH))
+    for line in ("refuse DISK_FULL ECHO 2", "drop ECHO 1"):
+        assert server.tell(line)
     one.send(ECHO)
-    one.ask(ECHO)
+    for client in (one, other):
+        client.ask(ECHO)
     server.close()
     assert server.verdict == "safe"
     lines = record.read_text(encoding="utf-8").splitlines()
+    assert [it for it in lines if it.startswith("strayed")] == ["strayed 1", "strayed 3"], "it, and its oplock"
     assert lines[lines.index("strayed 1") - 1] == "# client 1 doesn't get what is sent as it is sent: drop"
 
 

@@ -13,7 +13,7 @@ import pytest
 from smblease import Context, CreateAsk, LeaseState, Rules, Status, append_context
 from smblease.drive.faults import DriveFault
 from smblease.drive.headers import RELATED, Command, Message
-from smblease.serve import connection
+from smblease.serve import connection, session_wait
 from smblease.serve.password_brake import SECONDS, TRIES, PasswordBrake
 from smblease.serve.server_process import ServerProcess
 from smblease.serve.status_error import StatusError
@@ -90,7 +90,7 @@ def answer_of(stream: socket.socket) -> Message:
 
 def test_halves_of_frames(tmp_path: Path, monkeypatch: pytest.MonkeyPatch) -> None:
     """Those of clients without a session are bounded for all together; past that the newest is closed."""
-    monkeypatch.setattr(connection, "MOST_WITHOUT_SESSION", 3 * 60000)
+    monkeypatch.setattr(session_wait, "MOST_WITHOUT_SESSION", 3 * 60000)
     with server_in(*folders(tmp_path), Rules()) as server:
         member = FrameClient(server, b"1" * 16, [])
         there = [connection.Connection(server) for _ in range(4)]

@@ -71,7 +71,7 @@ class Chain:
     def take_answers(self) -> bytes:
         """A frame of the answers that there are."""
         responses, self._responses, self.held = self._responses, [], 0
-        return _framed(responses)
+        return frame_of(responses)
 
     def answered(self, pending: Pending, answer: Answer) -> None:
         message = pending.request.message
@@ -85,16 +85,16 @@ class Chain:
         if not self._connection.outgoing.keeps_back(message.name, response):
             self._responses.append(response)
             self.held += response.length
-        self._connection.hold(self)
+        self._connection.outgoing.hold(self)
         # The last answer goes at once: what is decided next may be for the same client.
         if not self._requests or not self._is_going or self.held > UNREAD:
-            self._connection.send_held()
+            self._connection.outgoing.send_held()
         self._is_waiting = False
         if self._requests and not self._is_going:
             self._connection.go_on_later(self)
 
 
-def _framed(responses: list[Response]) -> bytes:
+def frame_of(responses: list[Response]) -> bytes:
     """A frame; where there is no memory for it, one that has no bytes of files."""
     try:
         return framed(responses)

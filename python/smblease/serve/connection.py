@@ -19,6 +19,7 @@ from smblease.serve.outgoing import Outgoing
 from smblease.serve.packets import (LONGEST_FRAME, LONGEST_WITHOUT_SESSION, MOST_IN_FRAME, Answer, Credits, Frames,
                                     RequestMessage, Response, framed, split_compound)
 from smblease.serve.request import WITHOUT_SESSION, Request
+from smblease.serve.session_wait import SessionWait
 from smblease.serve.sessions import ANY_DIALECT, Session, negotiated
 from smblease.serve.status_error import EXHAUSTED, StatusError, name_of
 
@@ -29,8 +30,6 @@ LOG = logging.getLogger("serve")
 MOST_PENDING = 512
 # Seconds after which others are served, between two requests.
 TURN = 0.002
-# Bytes that the server has in memory for those without a session, and what it takes one for that is half made.
-MOST_WITHOUT_SESSION, HALF_MADE = 1 << 26, 2048
 OLD_PROTOCOL = b"\xffSMB"
 OLD_NEGOTIATE = 0x72
 
@@ -46,27 +45,29 @@ class Connection(asyncio.Protocol):  # pylint: disable=too-many-instance-attribu
         self.client: ManagerClient | None = None
         self.sessions: dict[int, Session] = {}
         self.former_keys = FormerKeys()
+        self.waiting = SessionWait(self)
         self._transport = asyncio.Transport()
         self._frames = Frames()
         self._credits = Credits()
-        # bytes that count for those without a session
-        self._without_session = 0
         # when bytes came last
         self.heard = 0.0
-        self._timer: asyncio.TimerHandle | None = None
-        self._is_unread = self._is_taking = False
-        # those of a frame that aren't begun or go on, and those with answers that aren't sent
+        self._is_unread = False
+        # those of a frame that aren't begun or go on
         self._chains: deque[Chain] = deque()
-        self._holding: dict[Chain, None] = {}
         self._turn_ends = 0.0
         self._is_due = False
         self.outgoing = Outgoing(self)
         self._pending: dict[int, Pending] = {}
 
     @property
+    def unfinished(self) -> int:
+        """Bytes of a frame that hasn't come whole."""
+        return len(self._frames)
+
+    @property
     def unread(self) -> int:
         """Bytes that the client hasn't read yet."""
-        return self.outgoing.unread + sum(it.held for it in self._holding) if self.is_open else 0
+        return self.outgoing.unread if self.is_open else 0
 
     @property
     def peer(self) -> Peer:
@@ -90,35 +91,15 @@ class Connection(asyncio.Protocol):  # pylint: disable=too-many-instance-attribu
         self.place = f"{self.address}:{port}"
         self.outgoing.begin(transport)
         self.heard = self.server.loop.time()
-        self.await_session()
+        self.waiting.begin()
         self.server.connect(self)
-
-    def await_session(self) -> None:
-        """It has none, and is closed unless it gets one in time."""
-        self._timer = self.server.loop.call_later(self.server.settings.session_timer, self.close)
-
-    def stop_waiting(self) -> None:
-        if self._timer:
-            self._timer.cancel()
-            self._timer = None
 
     def data_received(self, data: bytes) -> None:
         self.heard = self.server.loop.time()
         self._frames.add(data)
         self._take_frames()
-        if not self.client and not self.count_without_session():
+        if not self.client and not self.waiting.count():
             self.close()
-
-    def count_without_session(self) -> bool:
-        """Counts what is kept here without a session, or for one that is half made; whether it is within what all may have."""
-        kept = 0
-        if self.is_open:
-            kept = 0 if self.client else len(self._frames) + self.unread
-            kept += sum(HALF_MADE + it.authentication.kept for it in self.sessions.values() if it.authentication)
-        more = kept - self._without_session
-        self._without_session = kept
-        self.server.without_session += more
-        return more <= 0 or self.server.without_session <= MOST_WITHOUT_SESSION
 
     def eof_received(self) -> None:
         self.close()
@@ -138,7 +119,7 @@ class Connection(asyncio.Protocol):  # pylint: disable=too-many-instance-attribu
     def _take_frames(self) -> None:
         """What came, one after the other, as long as the client reads what it is answered, and until others have their turn.
         Small answers go together."""
-        self._is_taking, self._turn_ends = True, time.monotonic() + TURN
+        self.outgoing.collects, self._turn_ends = True, time.monotonic() + TURN
         try:
             while self.is_open and not self._is_unread and self._take_next():
                 if not self.has_turn:
@@ -148,7 +129,7 @@ class Connection(asyncio.Protocol):  # pylint: disable=too-many-instance-attribu
             self.outgoing.flush()
             self.close()
         finally:
-            self._is_taking = False
+            self.outgoing.collects = False
             self.outgoing.flush()
 
     def _take_next(self) -> bool:
@@ -176,18 +157,8 @@ class Connection(asyncio.Protocol):  # pylint: disable=too-many-instance-attribu
 
     def go_on_later(self, chain: Chain) -> None:
         self._chains.appendleft(chain)
-        if not self._is_taking:
+        if not self.outgoing.collects:
             self._give_turn()
-
-    def hold(self, chain: Chain) -> None:
-        self._holding[chain] = None
-
-    def send_held(self) -> None:
-        """What chains have been answered goes before what is decided later."""
-        holding, self._holding = self._holding, {}
-        for chain in holding:
-            if chain.has_answers:
-                self.send(chain.take_answers())
 
     def _take(self, frame: bytes) -> None:
         if frame[:4] == OLD_PROTOCOL:
@@ -220,7 +191,7 @@ class Connection(asyncio.Protocol):  # pylint: disable=too-many-instance-attribu
         if self.is_negotiated or not is_one or not self._credits.take(0, 1):
             raise Unreadable
         answer = negotiated(self.server, ANY_DIALECT)
-        self.send(framed([Response(Command.NEGOTIATE, answer.status, 0, self._credits.grant(1), 0, 0, answer.body)]))
+        self.outgoing.send(framed([Response(Command.NEGOTIATE, answer.status, 0, self._credits.grant(1), 0, 0, answer.body)]))
 
     def begin(self, pending: Pending, failed: int | None) -> None:
         message = pending.request.message
@@ -281,12 +252,12 @@ class Connection(asyncio.Protocol):  # pylint: disable=too-many-instance-attribu
         """STATUS_PENDING, for a request that waits (3.3.4.2)."""
         if pending.is_answered or not self.is_open:
             return
-        self.send_held()
+        self.outgoing.send_held()
         message = pending.request.message
         interim = self.response(pending, Answer(Status.PENDING), pending.request.session_id, pending.request.tree_id)
         pending.async_id = interim.async_id = next(self.server.async_ids)
         interim.flags = FROM_SERVER | ASYNC | (message.flags & 4)
-        self.send(framed([interim]))
+        self.outgoing.send(framed([interim]))
 
     def _cancel(self, message: RequestMessage) -> None:
         """A request that waits in the manager is taken back."""
@@ -305,22 +276,19 @@ class Connection(asyncio.Protocol):  # pylint: disable=too-many-instance-attribu
 
     def notify(self, body: bytes) -> None:
         """A break (2.2.23)."""
-        self.send_held()
+        self.outgoing.send_held()
         response = Response(Command.OPLOCK_BREAK, Status.SUCCESS, UNASKED, 0, 0, 0, body)
         if not self.outgoing.keeps_back(NOTIFICATION, response):
-            self.send(framed([response]))
-
-    def send(self, data: bytes) -> None:
-        self.outgoing.send(data, not self._is_taking)
+            self.outgoing.send(framed([response]))
 
     def close(self) -> None:
         if self.is_open:
             self.is_open = False
             self._chains.clear()
-            self._holding.clear()
+            self.outgoing.forget()
             self._transport.abort()
-            self.stop_waiting()
+            self.waiting.end()
             self.server.connections.discard(self)
             for session in list(self.sessions.values()):
                 self.server.end_session(session)
-            self.count_without_session()
+            self.waiting.count()

@@ -13,7 +13,7 @@ from smblease.serve.server import Server
 @contextlib.contextmanager
 def controlled(server: Server, descriptor: int | None, path: str | None, script: str | None) -> Iterator[None]:
     """Each of them where it is given."""
-    answers = ControlLines(server).do
+    answers = ControlLines(server).answer
     if descriptor is not None:
         ControlDescriptor(server.loop, descriptor, answers)
     with contextlib.ExitStack() as ending:

@@ -48,9 +48,10 @@ def status_of(word: str) -> int:
 
 
 def kind_of(word: str, is_of_requests: bool = False) -> str:
-    if word == NOTIFICATION and not is_of_requests:
-        return word
-    return Command[word].name
+    """A command that is answered, or a break."""
+    if word == Command.CANCEL.name:
+        raise ValueError
+    return word if word == NOTIFICATION and not is_of_requests else Command[word].name
 
 
 class ControlLines:
@@ -68,7 +69,7 @@ class ControlLines:
         word, *words = line.split(" ")
         return self._readers[word](words)
 
-    def do(self, line: str) -> str:
+    def answer(self, line: str) -> str:
         try:
             return self.read(line)().value
         except (ValueError, KeyError, IndexError):
@@ -118,7 +119,7 @@ class ControlLines:
         def deed() -> Outcome:
             sessions = [it for it in self._server.sessions.values() if self._is_of(named, it.connection.client)]
             for session in sessions:
-                session.connection.outgoing.flush()
+                session.connection.outgoing.send_all()
                 self._server.end_session(session)
             self._server.settle()
             return _done(bool(sessions))
@@ -130,7 +131,7 @@ class ControlLines:
         def deed() -> Outcome:
             connections = [it for it in self._server.connections if self._is_of(named, it.client)]
             for connection in connections:
-                connection.outgoing.flush()
+                connection.outgoing.send_all()
                 connection.close()
             return _done(bool(connections))
         return deed

@@ -260,7 +260,7 @@ class Create(Handlers):
         except StatusError:
             self._server.forget_open(opened)
             raise
-        self._server.connected_again(opened)
+        self._server.kept.let_go(opened)
         opened.connection, opened.session, opened.tree = request.connection, request.session, request.tree
         if opened.client:
             self._server.leases.granted(opened.client, opened, decided.answer)

@@ -2,12 +2,11 @@
 from __future__ import annotations
 
 import asyncio
-from collections.abc import Callable
 from typing import TYPE_CHECKING
 
-from smblease.serve.chains import UNREAD
+from smblease.serve.chains import UNREAD, Chain, frame_of
 from smblease.serve.faults_on_demand import ON_ANSWERS, WAITS, Action, Fault
-from smblease.serve.packets import Response, framed
+from smblease.serve.packets import Response
 
 if TYPE_CHECKING:
     from smblease.serve.connection import Connection
@@ -19,11 +18,14 @@ MOST_TOGETHER, LARGE = 32, 4096
 
 
 class Outgoing:
-    """Frames that go together, and those that a fault has go later."""
+    """Answers that wait for others of their compound, frames that go together, and those that a fault has go later."""
 
     def __init__(self, connection: Connection) -> None:
         self._connection = connection
         self._transport = asyncio.Transport()
+        # whether small frames wait for others
+        self.collects = False
+        self._holding: dict[Chain, None] = {}
         self._frames: list[bytes] = []
         self._after_next: list[bytes] = []
 
@@ -33,12 +35,29 @@ class Outgoing:
 
     @property
     def unread(self) -> int:
-        return self._transport.get_write_buffer_size()
+        return self._transport.get_write_buffer_size() + sum(it.held for it in self._holding)
 
-    def send(self, data: bytes, goes_at_once: bool) -> None:
+    def hold(self, chain: Chain) -> None:
+        self._holding[chain] = None
+
+    def send_held(self) -> None:
+        """What chains have been answered goes before what is decided later."""
+        holding, self._holding = self._holding, {}
+        for chain in holding:
+            if chain.has_answers:
+                self.send(chain.take_answers())
+
+    def send_all(self) -> None:
+        self.send_held()
+        self.flush()
+
+    def forget(self) -> None:
+        self._holding.clear()
+
+    def send(self, data: bytes) -> None:
         later, self._after_next = self._after_next, []
         self._frames += [data, *later]
-        if goes_at_once or len(self._frames) >= MOST_TOGETHER or len(data) > LARGE:
+        if not self.collects or len(self._frames) >= MOST_TOGETHER or len(data) > LARGE:
             self.flush()
 
     def flush(self) -> None:
@@ -64,15 +83,14 @@ class Outgoing:
         fault = faults.take(ON_ANSWERS, kind, connection.peer)
         if fault is None:
             return False
-        if connection.client:
-            connection.server.record.strayed(connection.client, f"doesn't get what is sent as it is sent: {fault.action.value}")
+        for client in connection.server.clients.of(connection):
+            connection.server.record.strayed(client, f"doesn't get what is sent as it is sent: {fault.action.value}")
         if fault.action is not Action.DROP:
-            self._keep(fault, framed([response]))
+            self._keep(fault, frame_of([response]))
         return True
 
     def _keep(self, fault: Fault, data: bytes) -> None:
         if fault.action is Action.DELAY:
-            send: Callable[[bytes], None] = self._connection.send
-            self._connection.server.loop.call_later(fault.seconds, send, data)
+            self._connection.server.loop.call_later(fault.seconds, self.send, data)
         else:
             self._after_next.append(data)

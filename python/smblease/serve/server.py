@@ -16,6 +16,7 @@ from smblease.serve.commands import Commands
 from smblease.serve.connection import Connection
 from smblease.serve.faults_on_demand import Faults
 from smblease.serve.forced_breaks import ForcedBreaks
+from smblease.serve.kept_opens import KeptOpens
 from smblease.serve.leases import Leases
 from smblease.serve.manager_clients import ManagerClients
 from smblease.serve.manager_host import ManagerHost, Task
@@ -33,8 +34,6 @@ if TYPE_CHECKING:
     from smblease.serve.script import Script
 
 LOG = logging.getLogger("serve")
-# Durable opens that are kept without a connection: those of one client, and of all; the newest of them.
-MOST_KEPT, MOST_KEPT_OF_ALL = 64, 4096
 # What a SessionId never is: none (2.2.1.2), and that of the request before it in a compound (3.3.5.2.7.2).
 NO_SESSION_IDS = (0, (1 << 64) - 1)
 
@@ -48,8 +47,7 @@ class Server:  # pylint: disable=too-many-instance-attributes  # its parts find 
         self.host = ManagerHost(settings.rules, self)
         self.clients = ManagerClients(settings.chance)
         self.opens: dict[int, Open] = {}
-        # the opens that are kept, the one that was left first before the others
-        self._kept: dict[int, Open] = {}
+        self.kept = KeptOpens(self)
         self.sessions: dict[int, Session] = {}
         self.begun: list[Pending] = []
         self.connections: set[Connection] = set()
@@ -133,7 +131,7 @@ class Server:  # pylint: disable=too-many-instance-attributes  # its parts find 
         """All connections of a ClientGuid are one client."""
         if connection.client or connection.guid is None:
             return
-        connection.stop_waiting()
+        connection.waiting.end()
         client = self.clients.of_guid(connection.guid) or self.clients.take(connection.guid)
         connection.client = client
         if client.is_connected:
@@ -160,14 +158,14 @@ class Server:  # pylint: disable=too-many-instance-attributes  # its parts find 
             self._disconnect_client(connection, connection.client)
         elif connection.is_open:
             self.start(self.close_all(lambda it: it.session is session, True))
-        connection.count_without_session()
+        connection.waiting.count()
 
     def _disconnect_client(self, connection: Connection, client: ManagerClient) -> None:
         opens = [it for it in self.opens.values() if it.connection is connection]
         connected = [client, *(it for it in self.clients.of(connection) if it is not client)]
         connection.client = None
         if connection.is_open:
-            connection.await_session()
+            connection.waiting.begin()
         for one in connected:
             one.connections.remove(connection)
         cut = [it for it in connected if not it.is_connected]
@@ -175,7 +173,7 @@ class Server:  # pylint: disable=too-many-instance-attributes  # its parts find 
             self._cut(one)
         for opened in opens:
             self._leave(opened)
-        self._limit_kept([it for it in opens if it.file_id in self._kept])
+        self.kept.limit([it for it in opens if it.file_id in self.kept])
         # The last one first: none goes on because one before it is taken back.
         for task in reversed(connection.tasks if client.is_connected else []):
             self.host.withdraw(task)
@@ -195,17 +193,9 @@ class Server:  # pylint: disable=too-many-instance-attributes  # its parts find 
         if opened.client and opened.client.is_connected:
             self.start(self.close_open(opened))
         elif opened.client and self.host.manager.left_behind(opened.file_id):
-            opened.timer = self.loop.call_later(self.settings.durable_timer, lambda: self.scavenge(opened.file_id))
-            self._kept[opened.file_id] = opened
+            self.kept.keep(opened)
         else:
             self.forget_open(opened)
-
-    def _limit_kept(self, opens: list[Open]) -> None:
-        """The newest of these are kept, which one client left, and of all that are kept."""
-        for opened in opens[:-MOST_KEPT]:
-            self.scavenge(opened.file_id)
-        while len(self._kept) > MOST_KEPT_OF_ALL:
-            self.scavenge(next(iter(self._kept)))
 
     def _drop(self, client: ManagerClient) -> None:
         """A client of a ClientGuid that left nothing is as one that never came."""
@@ -219,10 +209,6 @@ class Server:  # pylint: disable=too-many-instance-attributes  # its parts find 
             self.host.call(lambda manager: manager.join(client.number))
             self.host.call(lambda manager: manager.cut(client.number))
         self.clients.free(client)
-
-    def connected_again(self, opened: Open) -> None:
-        self.stop_timer(opened)
-        self._kept.pop(opened.file_id, None)
 
     # What becomes of opens
 
@@ -261,7 +247,7 @@ class Server:  # pylint: disable=too-many-instance-attributes  # its parts find 
         if self.opens.pop(opened.file_id, None) is None:
             return
         node = opened.node
-        self.connected_again(opened)
+        self.kept.let_go(opened)
         node.opens.remove(opened)
         self.host.resume(node.pauses)
         node.is_deleting = (node.is_deleting or opened.deletes) and not (node.is_folder and self.names.has_below(node))

@@ -98,7 +98,7 @@ class Sessions(Handlers):
             raise
         if current.is_over:
             self._establish(session, current, message)
-        if not connection.count_without_session():
+        if not connection.waiting.count():
             self._give_up(session)
             raise StatusError(Status.INSUFFICIENT_RESOURCES)
         status = Status.SUCCESS if current.is_over else Status.MORE_PROCESSING_REQUIRED
@@ -110,7 +110,7 @@ class Sessions(Handlers):
         session.authentication = None
         if not session.is_ready:
             self._server.end_session(session)
-        session.connection.count_without_session()
+        session.connection.waiting.count()
 
     def _new(self, connection: Connection) -> Session:
         if len(connection.sessions) == MOST_SESSIONS:
