@@ -10,6 +10,7 @@ from typing import Any, Dict, List
 from smblease import Status
 from smblease.drive.headers import Command
 from smblease.serve.server_process import ServerProcess
+from tests.paths import TOP
 from tests.serve.conftest import Connect, Start
 from tests.serve.requests import ECHO, KEY, acknowledgment, close, compound, create, leased, lock, read, rename, write
 
@@ -112,6 +113,24 @@ def test_lines(start: Start, connect: Connect, tmp_path: Path) -> None:
     assert re.fullmatch(r"\d{4}-\d\d-\d\dT\d\d:\d\d:\d\d\.\d{6}\+00:00", time)
     place = re.escape(f"{host}:{port}")
     assert re.fullmatch(rf'client 2 {place} WRITE \d+ "a b" 5 at 5 SUCCESS breaks client 1 {KEY.hex} R to none', rest)
+
+
+def test_the_lines_of_the_page(start: Start, connect: Connect, tmp_path: Path) -> None:
+    """docs/CLIENT_TESTS.md has those of this conversation, at other times and ports."""
+    path = tmp_path / "log"
+    (tmp_path / "share").mkdir()
+    (tmp_path / "share" / "file").write_bytes(b"bytes")
+    server = start("--log", str(path), "--folder", str(tmp_path / "share"))
+    one, other = connect(server), connect(server)
+    one.open(leased("file", KEY, "RWH"))
+    number = other.send(create("file"))
+    one.receive()
+    one.ask(acknowledgment(KEY, "RH"))
+    other.ask(read(other.answer_to(number).number(128, 8), 4096))
+    page = (TOP / "docs/CLIENT_TESTS.md").read_text(encoding="utf-8")
+    written, shown = (re.findall(r"^ *\d\S+ (client \d 127\.0\.0\.1:)\d+ (\w+ \d+ .*)$", it, re.M)
+                      for it in (path.read_text(encoding="utf-8"), page))
+    assert [it for it in written if it[1].split(" ")[0] in ("CREATE", "OPLOCK_BREAK", "READ")] == shown
 
 
 def test_standard_error(program: str, connect: Connect) -> None:
