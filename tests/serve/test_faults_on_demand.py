@@ -55,6 +55,24 @@ def test_a_lease_is_lowered(served: ServerProcess, connect: Connect, state: str,
     assert other.status(create("file", share=0)) == Status.SUCCESS
 
 
+def test_the_record_of_a_lease_that_is_lowered(start: Start, connect: Connect, tmp_path: Path) -> None:
+    """It has what its client is sent and believes, and nothing of who asked."""
+    record = tmp_path / "record"
+    server = start(record=record)
+    one = connect(server)
+    one.open(leased("file", KEY, "RWH"))
+    assert server.tell(f"break 1 {KEY.hex} none")
+    for lowered in ("RH", "none"):
+        one.receive()
+        one.ask(acknowledgment(KEY, lowered))
+    one.ask(ECHO)
+    server.close()
+    assert server.verdict == "safe"
+    lines = [it for it in record.read_text(encoding="utf-8").splitlines() if not it.startswith("#")]
+    assert [it for it in lines if it.startswith("believes")] == [f"believes 1 1 {it}" for it in ("RWH", "RH", "none")]
+    assert {it.split(" ")[1] for it in lines if not it.startswith("start")} == {"1"}
+
+
 def test_a_lease_is_lowered_while_others_have_it_open(served: ServerProcess, connect: Connect) -> None:
     """They are asked for what that costs, as by any client."""
     one, other = connect(served), connect(served)
@@ -219,10 +237,10 @@ def is_closed(client: "WireClient") -> bool:
 
 @pytest.mark.parametrize("line", [
     "", "break", "break 1 61 R", f"break 1 {KEY.hex}", f"break 1 {KEY.hex} W", f"break 1 {KEY.hex} R R", "logoff", "logoff 1 2",
-    "logoff one", "disconnect", "drop", "drop SOMETHING", "drop read", "drop READ 1 2", "drop CANCEL", "drop READ one", "delay READ",
-    "delay -1 READ", "delay nan READ", "delay 5000 READ", "refuse READ", "refuse SUCCESS READ", "refuse PENDING READ",
-    "refuse NOTHING READ", "refuse 0xc0 READ", "refuse 0x100000000 READ", "refuse DISK_FULL NOTIFICATION", "reorder", "wait READ",
-    "halt"])
+    "logoff one", "disconnect", "drop", "drop SOMETHING", "drop read", "drop READ 1 2", "drop CANCEL", "drop READ one",
+    "delay READ", "delay -1 READ", "delay nan READ", "delay 5000 READ", "refuse READ", "refuse SUCCESS READ",
+    "refuse PENDING READ", "refuse NOTHING READ", "refuse 0xc0 READ", "refuse 0x100000000 READ", "refuse DISK_FULL NOTIFICATION",
+    "reorder", "wait READ", "halt"])
 def test_a_line_that_is_refused(shared: ServerProcess, line: str) -> None:
     with pytest.raises(DriveFault, match="refused"):
         shared.tell(line)

@@ -14,6 +14,7 @@ from tests.paths import TOP
 from tests.serve.conftest import Connect, Start
 from tests.serve.requests import ECHO, KEY, acknowledgment, close, compound, create, leased, lock, read, rename, write
 
+EXCLUSIVE, UNLOCK = 2, 4
 Entries = List[Dict[str, Any]]
 NOTHING: Dict[str, Any] = {"name": None, "offset": None, "length": None, "state": None, "waited": False, "breaks": []}
 
@@ -53,6 +54,21 @@ def test_what_the_manager_decides(start: Start, connect: Connect, tmp_path: Path
 
 def broken(was: str, becomes: str) -> Entries:
     return [{"client": 1, "key": KEY.hex, "was": was, "becomes": becomes}]
+
+
+def test_a_lock_that_waits(start: Start, connect: Connect, tmp_path: Path) -> None:
+    path = tmp_path / "log"
+    server = start("--log", str(path), "--json")
+    one, other = connect(server), connect(server)
+    first, second = one.open(create("file")), other.open(create("file"))
+    one.ask(lock(first))
+    number = other.send(lock(second, flags=EXCLUSIVE))
+    assert other.receive().status == Status.PENDING
+    one.ask(lock(first, flags=UNLOCK))
+    assert other.answer_to(number).status == Status.SUCCESS
+    of_range: Dict[str, Any] = {"name": "file", "offset": 0, "length": 1}
+    assert entries(path, "LOCK") == [entry(1, "LOCK", **of_range), entry(1, "LOCK", **of_range),
+                                     entry(2, "LOCK", waited=True, **of_range)]
 
 
 def test_names_and_ranges(start: Start, connect: Connect, tmp_path: Path) -> None:

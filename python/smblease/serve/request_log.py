@@ -49,6 +49,7 @@ class Entry:
     status: str
     # the state that the manager grants, or leaves after an acknowledgment
     state: str | None = None
+    # for the manager, or for anything else after STATUS_PENDING
     waited: bool = False
     breaks: list[Broken] = field(default_factory=list)
 
@@ -96,7 +97,8 @@ class RequestLog:
         offset, length = _range(request)
         number = pending.number if connection.peer.number is None else connection.peer.number
         entry = Entry(datetime.now(timezone.utc).isoformat(timespec="microseconds"), number, connection.place, message.name,
-                      message.identifier, pending.name, offset, length, name_of(answer.status))
+                      message.identifier, pending.name, offset, length, name_of(answer.status),
+                      waited=pending.async_id is not None)
         for decision in pending.task.decided if pending.task else ():
             entry.add(decision)
         self._write(json.dumps(asdict(entry), ensure_ascii=False) if self._is_json else entry.text)
