@@ -12,6 +12,7 @@ from smblease.serve.server_process import ServerProcess
 from smblease.serve.torture_command import Kind, run_test
 from tests import needs
 from tests.serve.conftest import Start
+from tests.serve.listened import Listened
 from tests.serve.test_command_line import BARE
 
 TORTURED = ["smb2.lease.request", "smb2.lease.upgrade", "smb2.lease.upgrade2", "smb2.lease.statopen3", "smb2.lease.rename_wait",
@@ -24,7 +25,8 @@ OF_A_USER = ["smb2.durable-open.reopen1a", "smb2.durable-open.reopen1a-lease", "
 USER = "somebody%secret"
 
 
-def smbclient(server: ServerProcess, commands: str, user: str = "guest%", words: Sequence[str] = ()) -> "subprocess.Popen[str]":
+def smbclient(server: ServerProcess | Listened, commands: str, user: str = "guest%",
+              words: Sequence[str] = ()) -> "subprocess.Popen[str]":
     place = server.place
     command = ["smbclient", f"//{place.host}/{place.share}", "-p", str(place.port), "-U", user, "-m", "SMB2_10", *words]
     return subprocess.Popen([*command, "-c", commands], stdin=subprocess.DEVNULL, stdout=subprocess.PIPE,

@@ -77,6 +77,16 @@ def test_a_users_session_that_becomes_a_guests(start: Start, connect: Connect) -
         assert [asked(one, it) for it in (write(held), LIST)] == [(Status.SUCCESS, True)] * 2
 
 
+def test_a_guests_session_that_becomes_the_users(start: Start, connect: Connect) -> None:
+    """It had no key, and has one from there on."""
+    one = connect(start("--user", USER, "--guests"))
+    held = one.open(create("file"))
+    message, one.key = exchange(one, NAME, PASSWORD)
+    assert (message.status, message.number(HEADER + 2, 2), one.is_signed(message)) == (Status.SUCCESS, 0, True)
+    assert [asked(one, it) for it in (write(held), LIST)] == [(Status.SUCCESS, True)] * 2
+    assert one.answer_to(one.send(LIST, signs=True, damages=True)).status == Status.ACCESS_DENIED
+
+
 def test_a_guests_session_that_becomes_anothers(served: ServerProcess, connect: Connect) -> None:
     one = connect(served)
     held = one.open(create("file"))

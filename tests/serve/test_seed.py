@@ -9,9 +9,10 @@ import pytest
 
 from tests import needs
 from tests.serve.conftest import Start
+from tests.serve.listened import listened
 from tests.serve.requests import create, negotiate, query_info, write
 from tests.serve.seeded import Speaker, converse
-from tests.serve.test_other_clients import USER
+from tests.serve.test_other_clients import USER, ended, smbclient
 
 NAME, PASSWORD = USER.split("%")
 # 2030-01-01 is 1,893,456,000 s after 1970, which is 11,644,473,600 s after 1601. SMB counts 10,000,000ths.
@@ -42,6 +43,23 @@ def test_two_runs(start: Start, words: list[str], set_up: Callable[[Speaker], No
     assert sent("--seed", "7") == first
     assert all(one != other for one, other in zip(sent("--seed", "8"), first))
     assert all(one != other for one, other in zip(sent(), sent()))
+
+
+@needs.program("smbclient")
+def test_two_runs_of_smbclient(start: Start, tmp_path: Path) -> None:
+    """What it makes up itself, as its ClientGuid, is in no answer."""
+    (tmp_path / "given").write_bytes(b"bytes" * 1000)
+    commands = (f"mkdir d; put {tmp_path / 'given'} d\\x; cd d; allinfo x; get x {tmp_path / 'got'}; rename x y; del y; "
+                "cd ..; rmdir d")
+
+    def sent(seed: str) -> bytes:
+        server = start("--seed", seed)
+        with listened(server.place) as found:
+            status, output = ended(smbclient(found, commands))
+        assert (status, "NT_STATUS" in output) == (0, False), output
+        return bytes(found.sent)
+    first = sent("7")
+    assert len(first) > 5000 and sent("7") == first != sent("8")
 
 
 def times(client: Speaker, file: int) -> tuple[int, ...]:
