@@ -37,6 +37,12 @@ def test_library(programs: Path, tmp_path: Path) -> None:
     assert printed([programs / "python", "-c", program], tmp_path) == f"{ACKNOWLEDGMENT}\n"
 
 
+def test_fixture(programs: Path, tmp_path: Path) -> None:
+    """The module of the fixture for pytest comes with it."""
+    program = "import smblease.testing; print(smblease.testing.__file__)"
+    assert printed([programs / "python", "-c", program], tmp_path).startswith(str(programs.parent))
+
+
 def test_version(programs: Path, tmp_path: Path) -> None:
     program = "import smblease, importlib.metadata as it; print(smblease.__version__, it.version('smblease'))"
     assert printed([programs / "python", "-c", program], tmp_path) == f"{VERSION} {VERSION}\n"
